@@ -1,0 +1,4 @@
+pub mod Contents
+pub mod Moments
+mod Rewinding
+mod Stops

@@ -1,0 +1,9 @@
+pub mod Device
+pub mod Crash
+pub mod Memory
+pub mod Rewound
+pub mod Event
+pub mod Note
+pub mod Raw
+pub mod Left
+pub mod Stopped

@@ -1,0 +1,116 @@
+//! The calls of a file, one of the system each, noted with the answer.
+//!
+//! **What is not proved**, for a device over a file: that each method of `HostFile` makes the call that it
+//! notes, and that the system and its disk keep the model: nobody else writes the file, a read gives what was
+//! written (each promise on bytes that were read has this as its premise, `honest`), between two syncs that
+//! succeed only the ranges written in between can be lost, and a sync that succeeds has made them last.
+//! So the few lines of `HostFile` are to be read.
+ghost use Rattle.std.specs.Prelude.{◌≡◌, ◌∷◌, [], List, length, OnOk, OnErr};
+ghost use Rattle.disk.specs.Event.{Event, Loaded, Gave, GaveNone, Took, TookNone, Synced, SyncedNone};
+
+use crate::Fault;
+use crate::record::Record;
+use std::fs::{File, OpenFile};
+use std::os::unix::fs::FileExt;
+
+/// A file whose calls are kept, with their answers.
+pub trait RawFile: Drop {
+    /// The calls and their answers, newest first.
+    ghost events: { Self → List Event };
+
+    /// Reads the next bytes of a file that is being opened.
+    fn load(&mut self, at: u64, out: &mut [u8]) -> Result<(), Fault>
+        ensures good { OnOk result (events self.new ≡ Loaded at out.new ∷ events self.old) }
+        ensures failed { OnErr result (events self.new ≡ GaveNone ∷ events self.old) };
+
+    fn read_at(&mut self, at: u64, out: &mut [u8]) -> Result<(), Fault>
+        ensures good { OnOk result (events self.new ≡ Gave at out.new ∷ events self.old) }
+        ensures failed { OnErr result (events self.new ≡ GaveNone ∷ events self.old) };
+
+    fn write_at(&mut self, at: u64, bytes: &[u8]) -> Result<(), Fault>
+        ensures good { OnOk result (events self.new ≡ Took at bytes.now ∷ events self.old) }
+        ensures failed { OnErr result (events self.new ≡ TookNone at (length bytes.now) ∷ events self.old) };
+
+    fn sync(&mut self) -> Result<(), Fault>
+        ensures good { OnOk result (events self.new ≡ Synced ∷ events self.old) }
+        ensures failed { OnErr result (events self.new ≡ SyncedNone ∷ events self.old) };
+}
+
+/// A file of the operating system.
+#[derive(Drop)]
+pub struct HostFile {
+    file: File,
+    record: Record,
+}
+
+impl HostFile {
+    ghost use Rattle.disk.specs.Raw.{events_of};
+
+    /// A file that has been opened for reads and writes. Nothing is noted yet.
+    pub(crate) fn new(file: File) -> HostFile
+        ensures { events_of result ≡ [] }
+    {
+        HostFile {
+            file,
+            record: Record::new(),
+        }
+    }
+}
+
+impl RawFile for HostFile {
+    ghost use Rattle.disk.specs.Raw.{events_of};
+
+    ghost events = { events_of };
+
+    fn load(&mut self, at: u64, out: &mut [u8]) -> Result<(), Fault> {
+        match self.file.read_exact_at(out, at) {
+            Ok(()) => {
+                self.record.loaded(at, out);
+                Ok(())
+            }
+            Err(_) => {
+                self.record.gave_none();
+                Err(Fault)
+            }
+        }
+    }
+
+    fn read_at(&mut self, at: u64, out: &mut [u8]) -> Result<(), Fault> {
+        match self.file.read_exact_at(out, at) {
+            Ok(()) => {
+                self.record.gave(at, out);
+                Ok(())
+            }
+            Err(_) => {
+                self.record.gave_none();
+                Err(Fault)
+            }
+        }
+    }
+
+    fn write_at(&mut self, at: u64, bytes: &[u8]) -> Result<(), Fault> {
+        match self.file.write_all_at(bytes, at) {
+            Ok(()) => {
+                self.record.took(at, bytes);
+                Ok(())
+            }
+            Err(_) => {
+                self.record.took_none(at, bytes.len() as u64);
+                Err(Fault)
+            }
+        }
+    }
+
+    fn sync(&mut self) -> Result<(), Fault> {
+        match self.file.sync_all() {
+            Ok(()) => {
+                self.record.synced();
+                Ok(())
+            }
+            Err(_) => {
+                self.record.synced_none();
+                Err(Fault)
+            }
+        }
+    }
+}
