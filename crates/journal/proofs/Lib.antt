@@ -1,0 +1,12 @@
+pub mod Inserting
+pub mod Lookups
+pub mod Gated
+pub mod Areas
+pub mod Records
+pub mod Widths
+pub mod Worked
+pub mod Units
+pub mod Entries
+pub mod Numbers
+pub mod Texts
+pub mod Batches

@@ -1,0 +1,25 @@
+use Rattle.std.proofs.Common.{refl}
+use Rattle.disk.specs.Crash.{history_of}
+use Rattle.disk.proofs.Moments.{goes_on_sync}
+use Rattle.journal.proofs.Gated.{behind, kept, opened}
+use Rattle.journal.proofs.gate.write_gated.Goals as goal
+
+pub returns-in_err-write_at-clause-any_moment : goal.returns-in_err-write_at-clause-any_moment
+returns-in_err-write_at-clause-any_moment g c synced =
+    behind _ _ _ c.requires.fits (history_of g.D.Disk c.args.disk.now) (history_of g.D.Disk c.write_at.new.self) refl synced c.write_at.ensures.time
+
+pub returns-in_err-sync-clause-any_moment : goal.returns-in_err-sync-clause-any_moment
+returns-in_err-sync-clause-any_moment g c synced =
+    goes_on_sync (behind _ _ _ c.requires.fits (history_of g.D.Disk c.args.disk.now) (history_of g.D.Disk c.write_at.new.self) refl synced c.write_at.ensures.time) c.sync.ensures.time
+
+pub returns-in_err-write_at-2-clause-any_moment : goal.returns-in_err-write_at-2-clause-any_moment
+returns-in_err-write_at-2-clause-any_moment g c synced =
+    let rests = kept _ _ _ c.requires.fits (history_of g.D.Disk c.args.disk.now) (history_of g.D.Disk c.write_at.new.self) (history_of g.D.Disk c.sync.new.self) refl synced c.write_at.ensures.time
+    c.in_ok-write_at.ensures.written c.sync.ensures.time c.sync.ensures.seen c.in_ok-sync.ensures.closed in
+    opened _ _ _ c.requires.fits _ _ (history_of g.D.Disk c.write_at-2.new.self) rests c.write_at-2.ensures.time
+
+pub returns-clause-any_moment : goal.returns-clause-any_moment
+returns-clause-any_moment g c synced =
+    let rests = kept _ _ _ c.requires.fits (history_of g.D.Disk c.args.disk.now) (history_of g.D.Disk c.write_at.new.self) (history_of g.D.Disk c.sync.new.self) refl synced c.write_at.ensures.time
+    c.in_ok-write_at.ensures.written c.sync.ensures.time c.sync.ensures.seen c.in_ok-sync.ensures.closed in
+    goes_on_sync (opened _ _ _ c.requires.fits _ _ (history_of g.D.Disk c.write_at-2.new.self) rests c.write_at-2.ensures.time) c.sync-2.ensures.time

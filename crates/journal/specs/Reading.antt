@@ -1,0 +1,116 @@
+-- Reading of spellings on lists: a value with the bytes behind it, or none. Private to the reader's proof.
+use Rattle.std.specs.Prelude.{◌≡◌, ℕ, zero, suc, ◌==◌, nat_le, nat_lt, if◌then◌else◌, Bool, Option, Some, None, Result, Ok, Err, List, [], ◌∷◌, length, take, drop}
+use Rattle.std.specs.Option.{option_and_then}
+use Rattle.std.specs.Str.{is_utf8}
+use Rattle.std.specs.Int.{Width, w16, w32, w64, byte_len, from_le_bytes}
+use Rattle.document.specs.Delta.{Operation, inserting}
+use Rattle.journal.specs.declared.batch.unread.Unread.{Unread}
+use Rattle.journal.specs.declared.batch.unread.Unread.TheVariants.{Malformed, NoMemory}
+use Rattle.journal.specs.Name.{is_source_name, is_document_name}
+use Rattle.journal.specs.Command.{Taken}
+
+infixl 10 ◌>>=◌
+abbrev pub ◌>>=◌ : {A B : Type 0} → Option A → (A → Option B) → Option B
+o >>= f = option_and_then f o
+
+-- what a reader answers, seen by view, is what reading gives, unless memory ran out
+abbrev pub Fails : {B : Type 0} → Unread → Option B → Type 0
+Fails Malformed read = read ≡ None
+Fails NoMemory read = Unit {0}
+
+abbrev pub Gives : {A B : Type 0} → (A → B) → Result A Unread → Option B → Type 0
+Gives view (Ok x) read = read ≡ Some (view x)
+Gives view (Err e) read = Fails e read
+
+-- that many bytes
+unfoldable pub part_at : ℕ → List ℕ → Option (List ℕ × List ℕ)
+part_at count bytes = if nat_le count (length bytes) then Some (take count bytes, drop count bytes) else None
+
+-- a number
+unfoldable pub number_at : Width → List ℕ → Option (ℕ × List ℕ)
+number_at width bytes = do
+  part ← part_at (byte_len width) bytes
+  Some (from_le_bytes width part.0, part.1)
+
+-- this number and no other
+unfoldable pub fixed_at : Width → ℕ → List ℕ → Option (List ℕ)
+fixed_at width wanted bytes = do
+  n ← number_at width bytes
+  if n.0 == wanted then Some n.1 else None
+
+-- this byte and no other
+unfoldable pub tag_at : ℕ → List ℕ → Option (List ℕ)
+tag_at wanted [] = None
+tag_at wanted (tag ∷ rest) = if tag == wanted then Some rest else None
+
+-- these bytes, where they are UTF-8
+unfoldable pub utf8_at : List ℕ → Option (List ℕ)
+utf8_at bytes = if is_utf8 bytes then Some bytes else None
+
+-- a text behind its length
+unfoldable pub text_at : Width → List ℕ → Option (List ℕ × List ℕ)
+text_at width bytes = do
+  count ← number_at width bytes
+  part ← part_at count.0 count.1
+  text ← utf8_at part.0
+  Some (text, part.1)
+
+-- a name behind its length
+unfoldable pub name_at : (List ℕ → Bool) → List ℕ → Option (List ℕ × List ℕ)
+name_at is_valid bytes = do
+  text ← text_at w16 bytes
+  if is_valid text.0 then Some text else None
+
+-- the text of an insertion
+unfoldable pub insertion_at : List ℕ → Option (List ℕ × List ℕ)
+insertion_at bytes = do
+  tagged ← tag_at 1 bytes
+  text ← text_at w32 tagged
+  rest ← fixed_at w32 0 text.1
+  if nat_lt 0 (length text.0) then Some (text.0, rest) else None
+
+-- as many operations as were counted: none or one
+abbrev pub operations_at : ℕ → List ℕ → Option (List Operation × List ℕ)
+operations_at zero bytes = Some ([], bytes)
+operations_at (suc zero) bytes = do
+  text ← insertion_at bytes
+  Some (inserting text.0, text.1)
+operations_at (suc (suc n)) bytes = None
+
+-- a delta
+unfoldable pub delta_at : List ℕ → Option (List Operation × List ℕ)
+delta_at bytes = do
+  count ← number_at w32 bytes
+  operations_at count.0 count.1
+
+-- a creation
+unfoldable pub entry_at : List ℕ → Option (Taken × List ℕ)
+entry_at bytes = do
+  tagged ← tag_at 1 bytes
+  document ← number_at w32 tagged
+  revised ← fixed_at w64 1 document.1
+  source ← name_at is_source_name revised
+  numbered ← fixed_at w64 1 source.1
+  name ← name_at is_document_name numbered
+  delta ← delta_at name.1
+  Some (record { document = document.0; name = Some name.0; revision = 1; source = source.0; number = 1; delta = delta.0 }, delta.1)
+
+-- so many entries
+unfoldable pub entries_at : ℕ → List ℕ → Option (List Taken × List ℕ)
+entries_at zero bytes = Some ([], bytes)
+entries_at (suc n) bytes = do
+  first ← entry_at bytes
+  others ← entries_at n first.1
+  Some (first.0 ∷ others.0, others.1)
+
+-- a batch, and what is behind it
+unfoldable pub batch_at : List ℕ → Option (List Taken × List ℕ)
+batch_at bytes = do
+  count ← number_at w32 bytes
+  if nat_lt 0 count.0 then entries_at count.0 count.1 else None
+
+-- a batch and nothing behind it
+unfoldable pub whole_at : List ℕ → Option (List Taken)
+whole_at bytes = do
+  batch ← batch_at bytes
+  if length batch.1 == 0 then Some batch.0 else None

@@ -1,0 +1,254 @@
+//! Reading: each part of the spelling has one function, which answers what it read and the bytes behind it.
+ghost use Rattle.std.specs.Prelude.{◌≡◌, ◌<◌, ◌^◌, List, true, length, IfOk, IfErr, IfSome, IfNone};
+ghost use Rattle.std.specs.Int.{w16, w32, w64};
+ghost use Rattle.document.specs.Delta.{inserting};
+ghost use Rattle.journal.specs.Name.{is_source_name, is_document_name};
+ghost use Rattle.journal.specs.Command as command;
+ghost use Rattle.journal.specs.Command.{is_delta};
+ghost use Rattle.journal.specs.Spelling as spelling;
+ghost use Rattle.journal.specs.Reading.{Gives, part_at, number_at, fixed_at, tag_at, utf8_at, text_at, name_at, insertion_at, delta_at, entry_at, entries_at, batch_at, whole_at};
+
+use super::unread::Unread;
+use crate::revision::{Name, Taken};
+use document::Delta;
+use refusal::Refusal;
+use std::alloc::{AllocError, Global};
+use std::str;
+
+/// The revision that a creation makes.
+const FIRST_REVISION: u64 = 1;
+
+/// The number that a source gives to a creation.
+const FIRST_NUMBER: u64 = 1;
+
+/// The batch that the bytes spell, all of them, or none.
+pub fn decode_batch(alloc: Global, bytes: &[u8]) -> Result<Option<Vec<Taken>>, AllocError>
+    ensures found { IfOk result (λ found. IfSome found
+        (λ batch. spelling.IsBatch batch.items × (bytes.now ≡ spelling.batch batch.items))) }
+    ensures none { IfOk result (λ found. IfNone found
+        ((batch : List command.Taken) → spelling.IsBatch batch → bytes.now ≡ spelling.batch batch → ⊥)) }
+{
+    match whole(alloc, bytes) {
+        Ok(batch) => Ok(Some(batch)),
+        Err(Unread::Malformed) => Ok(None),
+        Err(Unread::NoMemory) => Err(AllocError),
+    }
+}
+
+#[tactic(auto, unfolding(crate::specs::Reading::whole_at))]
+fn whole(alloc: Global, bytes: &[u8]) -> Result<Vec<Taken>, Unread>
+    ensures { Gives (λ batch. batch.items) result (whole_at bytes.now) }
+{
+    let (batch, rest) = batch_of(alloc, bytes)?;
+    if !rest.is_empty() {
+        return Err(Unread::Malformed);
+    }
+    Ok(batch)
+}
+
+#[tactic(auto, unfolding(crate::specs::Reading::batch_at))]
+fn batch_of(alloc: Global, bytes: &[u8]) -> Result<(Vec<Taken>, &[u8]), Unread>
+    ensures { Gives (λ x. (x.0.items, x.1.now)) result (batch_at bytes.now) }
+{
+    let (count, rest) = number32(bytes)?;
+    if count == 0 {
+        return Err(Unread::Malformed);
+    }
+    entries(alloc, count, rest)
+}
+
+fn entries(alloc: Global, count: u32, bytes: &[u8]) -> Result<(Vec<Taken>, &[u8]), Unread>
+    ensures { Gives (λ x. (x.0.items, x.1.now)) result (entries_at count bytes.now) }
+{
+    let mut batch = Vec::new(alloc);
+    let mut rest = bytes;
+    for _ in 0..count {
+        let (taken, after) = entry(alloc, rest)?;
+        batch.push(taken)?;
+        rest = after;
+    }
+    Ok((batch, rest))
+}
+
+#[tactic(auto, unfolding(crate::specs::Reading::entry_at))]
+fn entry(alloc: Global, bytes: &[u8]) -> Result<(Taken, &[u8]), Unread>
+    ensures { Gives (λ x. (x.0, x.1.now)) result (entry_at bytes.now) }
+{
+    let rest = tag(1, bytes)?;
+    let (document, rest) = number32(rest)?;
+    let rest = fixed64(FIRST_REVISION, rest)?;
+    let (source, rest) = source_name(alloc, rest)?;
+    let rest = fixed64(FIRST_NUMBER, rest)?;
+    let (name, rest) = document_name(alloc, rest)?;
+    let (delta, rest) = delta(alloc, rest)?;
+    Ok((Taken::creation(document, name, source, delta), rest))
+}
+
+#[tactic(auto, unfolding(crate::specs::Reading::name_at))]
+fn source_name(alloc: Global, bytes: &[u8]) -> Result<(Name, &[u8]), Unread>
+    ensures read { Gives (λ x. (x.0, x.1.now)) result (name_at is_source_name bytes.now) }
+    ensures valid { IfOk result (λ x. is_source_name x.0 ≡ true) }
+{
+    let (text, rest) = text16(bytes)?;
+    match Name::source(alloc, text) {
+        Ok(name) => Ok((name, rest)),
+        Err(Refusal::NoMemory) => Err(Unread::NoMemory),
+        Err(_) => Err(Unread::Malformed),
+    }
+}
+
+#[tactic(auto, unfolding(crate::specs::Reading::name_at))]
+fn document_name(alloc: Global, bytes: &[u8]) -> Result<(Name, &[u8]), Unread>
+    ensures read { Gives (λ x. (x.0, x.1.now)) result (name_at is_document_name bytes.now) }
+    ensures valid { IfOk result (λ x. is_document_name x.0 ≡ true) }
+{
+    let (text, rest) = text16(bytes)?;
+    match Name::doc(alloc, text) {
+        Ok(name) => Ok((name, rest)),
+        Err(Refusal::NoMemory) => Err(Unread::NoMemory),
+        Err(_) => Err(Unread::Malformed),
+    }
+}
+
+#[tactic(auto, unfolding(crate::specs::Reading::delta_at))]
+fn delta(alloc: Global, bytes: &[u8]) -> Result<(Delta, &[u8]), Unread>
+    ensures read { Gives (λ x. (x.0, x.1.now)) result (delta_at bytes.now) }
+    ensures valid { IfOk result (λ x. is_delta x.0 ≡ true) }
+{
+    let (count, rest) = number32(bytes)?;
+    match count {
+        0 => Ok((delta_of(alloc, "")?, rest)),
+        1 => {
+            let (text, rest) = insertion(rest)?;
+            Ok((delta_of(alloc, text)?, rest))
+        }
+        _ => Err(Unread::Malformed),
+    }
+}
+
+fn delta_of(alloc: Global, text: &str) -> Result<Delta, Unread>
+    requires { length text.now < 2 ^ 32 }
+    ensures delta { IfOk result (λ delta. delta ≡ inserting text.now) }
+    ensures valid { IfOk result (λ delta. is_delta delta ≡ true) }
+    ensures only { IfErr result (λ e. e ≡ Unread.NoMemory) }
+{
+    match Delta::inserting(String::from_str(alloc, text)?) {
+        Ok(delta) => Ok(delta),
+        Err(_) => unreachable!(),
+    }
+}
+
+#[tactic(auto, unfolding(crate::specs::Reading::insertion_at))]
+fn insertion(bytes: &[u8]) -> Result<(&str, &[u8]), Unread>
+    ensures read { Gives (λ x. (x.0.now, x.1.now)) result (insertion_at bytes.now) }
+    ensures short { IfOk result (λ x. length x.0.now < 2 ^ 32) }
+{
+    let rest = tag(1, bytes)?;
+    let (text, rest) = text32(rest)?;
+    let rest = fixed32(0, rest)?;
+    if text.is_empty() {
+        return Err(Unread::Malformed);
+    }
+    Ok((text, rest))
+}
+
+#[tactic(auto, unfolding(crate::specs::Reading::text_at))]
+fn text16(bytes: &[u8]) -> Result<(&str, &[u8]), Unread>
+    ensures { Gives (λ x. (x.0.now, x.1.now)) result (text_at w16 bytes.now) }
+{
+    let (count, rest) = number16(bytes)?;
+    let (text, rest) = part(count as usize, rest)?;
+    Ok((utf8(text)?, rest))
+}
+
+#[tactic(auto, unfolding(crate::specs::Reading::text_at))]
+fn text32(bytes: &[u8]) -> Result<(&str, &[u8]), Unread>
+    ensures read { Gives (λ x. (x.0.now, x.1.now)) result (text_at w32 bytes.now) }
+    ensures short { IfOk result (λ x. length x.0.now < 2 ^ 32) }
+{
+    let (count, rest) = number32(bytes)?;
+    let (text, rest) = part(count as usize, rest)?;
+    Ok((utf8(text)?, rest))
+}
+
+#[tactic(auto, unfolding(crate::specs::Reading::utf8_at))]
+fn utf8(bytes: &[u8]) -> Result<&str, Unread>
+    ensures read { Gives (λ text. text.now) result (utf8_at bytes.now) }
+    ensures same { IfOk result (λ text. text.now ≡ bytes.now) }
+{
+    match str::from_utf8(bytes) {
+        Ok(text) => Ok(text),
+        Err(_) => Err(Unread::Malformed),
+    }
+}
+
+#[tactic(auto, unfolding(crate::specs::Reading::tag_at))]
+fn tag(wanted: u8, bytes: &[u8]) -> Result<&[u8], Unread>
+    ensures { Gives (λ rest. rest.now) result (tag_at wanted bytes.now) }
+{
+    match bytes {
+        [tag, rest @ ..] if *tag == wanted => Ok(rest),
+        _ => Err(Unread::Malformed),
+    }
+}
+
+#[tactic(auto, unfolding(crate::specs::Reading::fixed_at))]
+fn fixed32(wanted: u32, bytes: &[u8]) -> Result<&[u8], Unread>
+    ensures { Gives (λ rest. rest.now) result (fixed_at w32 wanted bytes.now) }
+{
+    let (number, rest) = number32(bytes)?;
+    if number != wanted {
+        return Err(Unread::Malformed);
+    }
+    Ok(rest)
+}
+
+#[tactic(auto, unfolding(crate::specs::Reading::fixed_at))]
+fn fixed64(wanted: u64, bytes: &[u8]) -> Result<&[u8], Unread>
+    ensures { Gives (λ rest. rest.now) result (fixed_at w64 wanted bytes.now) }
+{
+    let (number, rest) = number64(bytes)?;
+    if number != wanted {
+        return Err(Unread::Malformed);
+    }
+    Ok(rest)
+}
+
+#[tactic(auto, unfolding(crate::specs::Reading::number_at))]
+fn number16(bytes: &[u8]) -> Result<(u16, &[u8]), Unread>
+    ensures { Gives (λ x. (x.0, x.1.now)) result (number_at w16 bytes.now) }
+{
+    let (front, rest) = part(2, bytes)?;
+    Ok((u16::from_le_bytes([front[0], front[1]]), rest))
+}
+
+#[tactic(auto, unfolding(crate::specs::Reading::number_at))]
+fn number32(bytes: &[u8]) -> Result<(u32, &[u8]), Unread>
+    ensures { Gives (λ x. (x.0, x.1.now)) result (number_at w32 bytes.now) }
+{
+    let (front, rest) = part(4, bytes)?;
+    let number = u32::from_le_bytes([front[0], front[1], front[2], front[3]]);
+    Ok((number, rest))
+}
+
+#[tactic(auto, unfolding(crate::specs::Reading::number_at))]
+fn number64(bytes: &[u8]) -> Result<(u64, &[u8]), Unread>
+    ensures { Gives (λ x. (x.0, x.1.now)) result (number_at w64 bytes.now) }
+{
+    let (front, rest) = part(8, bytes)?;
+    let number = u64::from_le_bytes([
+        front[0], front[1], front[2], front[3], front[4], front[5], front[6], front[7],
+    ]);
+    Ok((number, rest))
+}
+
+#[tactic(auto, unfolding(crate::specs::Reading::part_at))]
+fn part(count: usize, bytes: &[u8]) -> Result<(&[u8], &[u8]), Unread>
+    ensures read { Gives (λ x. (x.0.now, x.1.now)) result (part_at count bytes.now) }
+    ensures length { IfOk result (λ x. length x.0.now ≡ count) }
+{
+    if count > bytes.len() {
+        return Err(Unread::Malformed);
+    }
+    Ok(bytes.split_at(count))
+}

@@ -1,0 +1,117 @@
+//! Writing: each part of the spelling has one function.
+ghost use Rattle.std.specs.Prelude.{◌≡◌, ◌≤◌, ◌<◌, ◌^◌, ◌++◌, true, length, option_map, OnOk, IfOk};
+ghost use Rattle.std.specs.Int.{w16, w32, w64};
+ghost use Rattle.document.specs.Delta.{Insert};
+ghost use Rattle.journal.specs.Command.{IsTaken, is_delta};
+ghost use Rattle.journal.specs.Spelling as spelling;
+
+use crate::revision::{Name, Taken};
+use document::Delta;
+use std::alloc::{AllocError, Global};
+
+/// The spelling of a batch of 1 to 2^32 - 1 commands.
+pub fn encode_batch(alloc: Global, batch: &[Taken]) -> Result<Vec<u8>, AllocError>
+    requires some { 1 ≤ length batch.now }
+    requires short { length batch.now < 2 ^ 32 }
+    ensures spelled { IfOk result (λ v. v.items ≡ spelling.batch batch.now) }
+    ensures width { IfOk result (λ v. length v.items ≡ spelling.batch_width batch.now) }
+    ensures batch { OnOk result (spelling.IsBatch batch.now) }
+{
+    let mut out = Vec::new(alloc);
+    put_number32(&mut out, batch.len() as u32)?;
+    for taken in batch {
+        put_entry(&mut out, taken)?;
+    }
+    Ok(out)
+}
+
+#[tactic(auto, unfolding(crate::specs::Spelling::entry))]
+fn put_entry(out: &mut Vec<u8>, taken: &Taken) -> Result<(), AllocError>
+    ensures spelled { OnOk result (out.new.items ≡ out.old.items ++ spelling.entry taken.now) }
+    ensures taken { OnOk result (IsTaken taken.now) }
+{
+    out.push(if taken.name().is_some() { 1 } else { 2 })?;
+    put_number32(out, taken.document())?;
+    put_number64(out, taken.revision())?;
+    put_name(out, taken.source())?;
+    put_number64(out, taken.number())?;
+    put_created_name(out, taken.name())?;
+    put_delta(out, taken.delta())?;
+    Ok(())
+}
+
+#[tactic(auto, unfolding(crate::specs::Spelling::created_name))]
+fn put_created_name(out: &mut Vec<u8>, name: Option<&Name>) -> Result<(), AllocError>
+    ensures { OnOk result
+        (out.new.items ≡ out.old.items ++ spelling.created_name (option_map (λ n. n.now) name.entry)) }
+{
+    match name {
+        Some(name) => put_name(out, name),
+        None => Ok(()),
+    }
+}
+
+#[tactic(auto, unfolding(crate::specs::Spelling::delta))]
+fn put_delta(out: &mut Vec<u8>, delta: &Delta) -> Result<(), AllocError>
+    requires { is_delta delta.now ≡ true }
+    ensures { OnOk result (out.new.items ≡ out.old.items ++ spelling.delta delta.now) }
+{
+    let text = delta.text();
+    if text.is_empty() {
+        return put_number32(out, 0);
+    }
+    put_number32(out, 1)?;
+    put_insertion(out, text)?;
+    Ok(())
+}
+
+#[tactic(auto, unfolding(crate::specs::Spelling::operation, crate::specs::Spelling::attributes))]
+fn put_insertion(out: &mut Vec<u8>, text: &str) -> Result<(), AllocError>
+    requires { length text.now < 2 ^ 32 }
+    ensures { OnOk result (out.new.items ≡ out.old.items ++ spelling.operation (Insert text.now)) }
+{
+    out.push(1)?;
+    put_text32(out, text)?;
+    put_number32(out, 0)?;
+    Ok(())
+}
+
+#[tactic(auto, unfolding(crate::specs::Spelling::text16))]
+fn put_name(out: &mut Vec<u8>, name: &Name) -> Result<(), AllocError>
+    ensures { OnOk result (out.new.items ≡ out.old.items ++ spelling.text16 name.now) }
+{
+    put_number16(out, name.len() as u16)?;
+    out.extend_from_slice(name.as_str().as_bytes())?;
+    Ok(())
+}
+
+#[tactic(auto, unfolding(crate::specs::Spelling::text32))]
+fn put_text32(out: &mut Vec<u8>, text: &str) -> Result<(), AllocError>
+    requires { length text.now < 2 ^ 32 }
+    ensures { OnOk result (out.new.items ≡ out.old.items ++ spelling.text32 text.now) }
+{
+    put_number32(out, text.len() as u32)?;
+    out.extend_from_slice(text.as_bytes())?;
+    Ok(())
+}
+
+#[tactic(auto, unfolding(crate::specs::Spelling::number))]
+fn put_number16(out: &mut Vec<u8>, n: u16) -> Result<(), AllocError>
+    ensures { OnOk result (out.new.items ≡ out.old.items ++ spelling.number w16 n) }
+{
+    out.extend_from_slice(&n.to_le_bytes())
+}
+
+#[tactic(auto, unfolding(crate::specs::Spelling::number))]
+fn put_number32(out: &mut Vec<u8>, n: u32) -> Result<(), AllocError>
+    ensures { OnOk result (out.new.items ≡ out.old.items ++ spelling.number w32 n) }
+{
+    out.extend_from_slice(&n.to_le_bytes())
+}
+
+#[tactic(auto, unfolding(crate::specs::Spelling::number))]
+fn put_number64(out: &mut Vec<u8>, n: u64) -> Result<(), AllocError>
+    ensures { OnOk result (out.new.items ≡ out.old.items ++ spelling.number w64 n) }
+{
+    out.extend_from_slice(&n.to_le_bytes())
+}

@@ -1,0 +1,16 @@
+//! Laws of the spelling of batches, for the layers above. Each is a function that does nothing: its contract is the law.
+ghost use Rattle.std.specs.Prelude.{◌≡◌, ℕ, ◌++◌, List, length};
+ghost use Rattle.journal.specs.Command.{Taken, width_of};
+ghost use Rattle.journal.specs.Spelling as spelling;
+
+/// Two batches whose spellings begin one list of bytes are equal, and so is what is behind them.
+pub fn one_spelling()
+    ensures { (a b : List Taken) (x y : List ℕ) → spelling.IsBatch a → spelling.IsBatch b
+        → spelling.batch a ++ x ≡ spelling.batch b ++ y → (a ≡ b) × (x ≡ y) }
+{}
+
+/// A command's spelling is as wide as the rule of acceptance counts it, and a batch's is four bytes wider than its commands.
+pub fn batch_width()
+    ensures entry { (taken : Taken) → length (spelling.entry taken) ≡ width_of taken }
+    ensures batch { (batch : List Taken) → length (spelling.batch batch) ≡ spelling.batch_width batch }
+{}
