@@ -1,0 +1,64 @@
+-- What a content stands for after an append to the first slot.
+use Rattle.std.proofs.Common.{◌≡◌, ◌⊎◌, inl, inr, ⊎_elim, ℕ, true, Option, List, [], ◌∷◌, ◌++◌, sym, ◌∙◌, ap, subst}
+use Rattle.disk.specs.Device.{SameOutside}
+use Rattle.journal.specs.Command.{Taken}
+use Rattle.journal.specs.Spelling.{IsBatch, batch}
+use Rattle.journal.specs.State.{State, folded, all_grow}
+use Rattle.recovery.specs.declared.shape.Shape.{Shape}
+use Rattle.recovery.specs.declared.segments.Ring.{Ring}
+use Rattle.recovery.specs.Shape.{slot_place}
+use Rattle.recovery.specs.Slot.{Segment, HoldsSlot, bodies_of}
+use Rattle.recovery.specs.Layout.{IsLaidOut}
+use Rattle.recovery.specs.Found.{StandFor, Found}
+use Rattle.recovery.specs.Ring.{HasBeforeOrAfter, HasAfter, HasKept, FitsSlot}
+use Rattle.recovery.specs.Open.{IsWithOrWithout}
+use Rattle.recovery.proofs.Layouts.{laid_out_again}
+use Rattle.recovery.proofs.Folds.{stand_more}
+
+module _ (old : List ℕ) (shape : Shape) (ring : Ring) (slot : Option Segment) (batches : List (List Taken)) (state : State)
+    (at : ring.at ≡ slot_place shape 0) (size : ring.size ≡ shape.slot) (laid_out : IsLaidOut old shape slot) (stand : StandFor shape (bodies_of slot) batches state) where
+  -- outside the ring's slot is outside the first slot of the layout
+  outside_slot : (content : List ℕ) → SameOutside ring.at ring.size old content → SameOutside (slot_place shape 0) shape.slot old content
+  outside_slot content same = subst (λ n. SameOutside n shape.slot old content) at (subst (λ n. SameOutside ring.at n old content) size same)
+
+  in_slot : (content : List ℕ) (now : Option Segment) → HoldsSlot ring.at ring.size content now → HoldsSlot (slot_place shape 0) shape.slot content now
+  in_slot content now holds = subst (λ n. HoldsSlot n shape.slot content now) at (subst (λ n. HoldsSlot ring.at n content now) size holds)
+
+  -- the layout with another segment in the first slot
+  pub again : (content : List ℕ) (now : Option Segment) → SameOutside ring.at ring.size old content → HoldsSlot ring.at ring.size content now → IsLaidOut content shape now
+  again content now same holds = laid_out_again old content shape slot now laid_out (outside_slot content same) (in_slot content now holds)
+
+  -- the content before
+  pub found_before : Found old state
+  found_before = record { shape = shape; slot = slot; batches = batches; laid_out = laid_out; stand = stand }
+
+  -- the same bodies stand for the same state
+  pub same_bodies : (now : Option Segment) → bodies_of now ≡ bodies_of slot → StandFor shape (bodies_of now) batches state
+  same_bodies now kept = subst (λ (b : List (List ℕ)). StandFor shape b batches state) (sym kept) stand
+
+  module _ (commands : List Taken) (is_batch : IsBatch commands) (grow : all_grow state commands ≡ true) where
+    more_bodies : (now : Option Segment) → bodies_of now ≡ bodies_of slot ++ batch commands ∷ [] → StandFor shape (bodies_of now) (batches ++ commands ∷ []) (folded state commands)
+    more_bodies now kept = subst (λ (b : List (List ℕ)). StandFor shape b (batches ++ commands ∷ []) (folded state commands)) (sym kept) (stand_more shape (bodies_of slot) batches state commands stand is_batch grow)
+
+    -- a crash within the append
+    pub with_or_without : (content : List ℕ) → HasBeforeOrAfter ring.at ring.size old (bodies_of slot) (batch commands) content → IsWithOrWithout state commands content
+    with_or_without content left =
+        let there = again content left.slot left.outside left.holds in
+        ⊎_elim (λ kept. inl (record { shape = shape; slot = left.slot; batches = batches; laid_out = there; stand = same_bodies left.slot kept }))
+        (λ added. inr (record { shape = shape; slot = left.slot; batches = batches ++ commands ∷ []; laid_out = there; stand = more_bodies left.slot added }))
+        left.kept
+
+    pub added_bodies : (now : Option Segment) → bodies_of now ≡ bodies_of slot ++ batch commands ∷ [] → StandFor shape (bodies_of now) (batches ++ commands ∷ []) (folded state commands)
+    added_bodies now added = more_bodies now added
+
+    -- the layout after an append that is done
+    pub laid_out_after : (new : List ℕ) (later : Ring) → later.at ≡ ring.at → later.size ≡ ring.size → (after : HasAfter old ring (bodies_of slot) (batch commands) new later) → IsLaidOut new shape after.slot
+    laid_out_after new later at_same size_same after =
+        again new after.slot after.outside
+        (subst (λ n. HoldsSlot n ring.size new after.slot) at_same (subst (λ n. HoldsSlot later.at n new after.slot) size_same after.fits.holds))
+
+  -- and after one that was given up
+  pub laid_out_kept : (bodies : List (List ℕ)) (new : List ℕ) (later : Ring) → later.at ≡ ring.at → later.size ≡ ring.size → (kept : HasKept old ring bodies new later) → IsLaidOut new shape kept.slot
+  laid_out_kept bodies new later at_same size_same kept =
+      again new kept.slot kept.outside
+      (subst (λ n. HoldsSlot n ring.size new kept.slot) at_same (subst (λ n. HoldsSlot later.at n new kept.slot) size_same kept.fits.holds))

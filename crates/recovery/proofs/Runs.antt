@@ -1,0 +1,53 @@
+-- Steps of a run, and what contents stand for within it.
+use Rattle.std.proofs.Common.{◌≡◌, ◌⊎◌, inl, inr, ℕ, ◌+◌, ◌≤◌, ◌<◌, List, [], ◌∷◌, ◌++◌, length, take, get_or, refl, sym, ◌∙◌, ap, subst, arith}
+use Rattle.std.proofs.lemmas.List.{take_more, take_all}
+use Rattle.disk.specs.declared.device.Disk.{Ghosts}
+use Rattle.journal.specs.Command.{Taken}
+use Rattle.journal.specs.State.{State, folded}
+use Rattle.recovery.specs.declared.run.StoreStep.{StoreStep}
+use Rattle.recovery.specs.declared.store.Store.{Store}
+use Rattle.recovery.specs.Found.{Found}
+use Rattle.recovery.specs.Open.{IsOpen, IsWithOrWithout, state_of}
+use Rattle.recovery.specs.Run.{batch_of, state_after, IsAfterSome}
+
+-- the content under a store that is open stands for its state
+pub found_open : {D : Type 0} {disk : Ghosts D} (store : Store D disk) → IsOpen store → Found (disk.seen store.device) store.state
+found_open store is_open = record { shape = store.shape; slot = is_open.slot; batches = is_open.batches; laid_out = is_open.laid_out; stand = is_open.stand }
+
+pub state_after-append : (state : State) (first second : List StoreStep) → state_after state (first ++ second) ≡ state_after (state_after state first) second
+state_after-append state [] second = refl
+state_after-append state (step ∷ first) second = state_after-append (folded state (batch_of step)) first second
+
+module _ (state : State) (steps : List StoreStep) (i : ℕ) (step : StoreStep) (inside : i < length steps) (is : step ≡ get_or steps i step) where
+  -- the state after one step more
+  pub state_after-more : state_after state (take (i + 1) steps) ≡ folded (state_after state (take i steps)) (batch_of step)
+  state_after-more =
+      ap (state_after state) (take_more steps i step inside) ∙ state_after-append state (take i steps) (get_or steps i step ∷ [])
+      ∙ ap (λ (s : StoreStep). folded (state_after state (take i steps)) (batch_of s)) (sym is)
+
+  -- within a step: before it, or after it
+  pub within_step : (now : State) (batch : List Taken) (content : List ℕ) → now ≡ state_after state (take i steps) → batch ≡ batch_of step → IsWithOrWithout now batch content → IsAfterSome i state steps content
+  within_step now batch content here same (inl found) = record { count = i; enough = omega arith; within = omega arith; found = subst (Found content) here found }
+  within_step now batch content here same (inr found) = record {
+    count = i + 1;
+    enough = omega arith;
+    within = omega arith;
+    found = subst (Found content) (ap (λ (s : State). folded s batch) here ∙ ap (folded (state_after state (take i steps))) same ∙ sym state_after-more) found;
+  }
+
+-- no fewer than some are no fewer than none
+pub some_of : (least : ℕ) (state : State) (steps : List StoreStep) (content : List ℕ) → IsAfterSome least state steps content → IsAfterSome 0 state steps content
+some_of least state steps content after = record { count = after.count; enough = omega arith; within = after.within; found = after.found }
+
+-- before the first step
+pub before_all : (state : State) (steps : List StoreStep) (content : List ℕ) → Found content state → IsAfterSome 0 state steps content
+before_all state steps content found = record { count = 0; enough = omega arith; within = omega arith; found = found }
+
+-- after the last
+pub after_all : (state now : State) (steps : List StoreStep) (content : List ℕ) → now ≡ state_after state steps → Found content now → IsAfterSome (length steps) state steps content
+after_all state now steps content is found = record {
+  count = length steps;
+  enough = omega arith;
+  within = omega arith;
+  found = subst (Found content) (is ∙ ap (state_after state) (sym (take_all (length steps) steps (omega arith)))) found;
+}

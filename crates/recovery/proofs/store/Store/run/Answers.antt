@@ -1,0 +1,71 @@
+use Rattle.std.proofs.Common.{◌≡◌, ◌∙◌, ◌+◌, List, ℕ, length, take, drop, refl, sym, ap, subst, arith}
+use Rattle.disk.specs.Crash.{history_of}
+use Rattle.disk.proofs.Contents.{synced_leaves}
+use Rattle.disk.proofs.Moments.{begins, leaves_map, goes_on_run}
+use Rattle.journal.specs.State.{State, folded}
+use Rattle.recovery.specs.declared.run.StoreStep.{StoreStep}
+use Rattle.std.proofs.lemmas.List.{at_drop_more, take_all}
+use Rattle.recovery.specs.Found.{Found}
+use Rattle.recovery.specs.Run.{batch_of, state_after}
+use Rattle.recovery.proofs.Runs.{found_open, state_after-more, within_step, some_of, before_all, after_all}
+use Rattle.recovery.proofs.store.Store.run.Goals as goal
+
+pub loop-at-init : goal.loop-at-init
+loop-at-init g c = record {
+  rest = refl;
+  so_far = refl;
+  unfailed = λ u. u;
+  honest = (λ h. h, λ h. h);
+  is_open = λ o. o;
+  moments = λ u o. begins (history_of g.D.Disk c.args.self.now.device) o.synced (before_all c.args.self.now.state c.args.steps.now _ (found_open c.args.self.now o));
+}
+
+pub returns-in-Err-clause-kept : goal.returns-in-Err-clause-kept
+returns-in-Err-clause-kept g c not_fault is_open = c.in-Err.ensures.kept not_fault (c.loop-at.invariant.is_open is_open)
+
+pub returns-in-Err-clause-any_moment : goal.returns-in-Err-clause-any_moment
+returns-in-Err-clause-any_moment g c unfailed is_open =
+    let step = c.index-steps-at.result in
+    goes_on_run (c.loop-at.invariant.moments unfailed is_open)
+    (leaves_map (λ content left. some_of c.loop-at.at c.args.self.now.state c.args.steps.now content
+    (within_step c.args.self.now.state c.args.steps.now c.loop-at.at step c.loop-at-test.true c.index-steps-at.is c.loop-at.self.state c.batch.result.now content c.loop-at.invariant.so_far c.batch.ensures left))
+    (c.commit.ensures.any_moment (c.loop-at.invariant.unfailed unfailed) (c.loop-at.invariant.is_open is_open)))
+
+pub returns-in-Err-clause-acknowledged_before : goal.returns-in-Err-clause-acknowledged_before
+returns-in-Err-clause-acknowledged_before g c unfailed is_open content left =
+    let step = c.index-steps-at.result in
+    within_step c.args.self.now.state c.args.steps.now c.loop-at.at step c.loop-at-test.true c.index-steps-at.is c.loop-at.self.state c.batch.result.now content c.loop-at.invariant.so_far c.batch.ensures
+    ((c.commit.ensures.any_moment (c.loop-at.invariant.unfailed unfailed) (c.loop-at.invariant.is_open is_open)).last content left)
+
+pub loop-at-preserved : goal.loop-at-preserved
+loop-at-preserved g c =
+    let step = c.index-steps-at.result in
+    let now = c.loop-at.self.state in
+    let steps = c.args.steps.now in
+    let at = c.loop-at.at in
+    let state : c.commit.new.self.state ≡ folded now (batch_of step) = c.in_default.ensures.state ∙ ap (folded now) c.batch.ensures in
+    record {
+      rest =
+          ap (λ (s : State). state_after s (drop (at + 1) steps)) (state ∙ ap (λ (s : StoreStep). folded now (batch_of s)) c.index-steps-at.is)
+          ∙ sym (at_drop_more (state_after now) steps at step c.loop-at-test.true) ∙ c.loop-at.invariant.rest;
+      so_far =
+          state ∙ ap (λ (s : State). folded s (batch_of step)) c.loop-at.invariant.so_far
+          ∙ sym (state_after-more c.args.self.now.state steps at step c.loop-at-test.true c.index-steps-at.is);
+      unfailed = λ unfailed. c.in_default.ensures.works;
+      honest = (λ h. c.loop-at.invariant.honest.0 (c.commit.ensures.honest.0 h), λ h. c.commit.ensures.honest.1 (c.loop-at.invariant.honest.1 h));
+      is_open = λ is_open. c.in_default.ensures.done (c.loop-at.invariant.is_open is_open);
+      moments = λ unfailed is_open.
+          goes_on_run (c.loop-at.invariant.moments unfailed is_open)
+          (leaves_map (λ content left. some_of at c.args.self.now.state steps content
+          (within_step c.args.self.now.state steps at step c.loop-at-test.true c.index-steps-at.is now c.batch.result.now content c.loop-at.invariant.so_far c.batch.ensures left))
+          (c.commit.ensures.any_moment (c.loop-at.invariant.unfailed unfailed) (c.loop-at.invariant.is_open is_open)));
+    }
+
+pub returns-clause-acknowledged : goal.returns-clause-acknowledged
+returns-clause-acknowledged g c unfailed is_open content left =
+    let store = c.loop-at.self in
+    let now_open = c.loop-at.invariant.is_open is_open in
+    let all : take c.loop-at.at c.args.steps.now ≡ c.args.steps.now = take_all c.loop-at.at c.args.steps.now (omega arith) in
+    let seen : content ≡ g.D.Disk.seen store.device = synced_leaves _ content now_open.synced left in
+    after_all c.args.self.now.state store.state c.args.steps.now content (c.loop-at.invariant.so_far ∙ ap (state_after c.args.self.now.state) all)
+    (subst (λ (l : List ℕ). Found l store.state) (sym seen) (found_open store now_open))

@@ -1,0 +1,15 @@
+use Rattle.std.proofs.Common.{◌≡◌, ◌↔◌, false, length, take, drop}
+use Rattle.disk.specs.Crash.{LeavesOnly}
+use Rattle.recovery.specs.Open.{IsOpen, device_of, state_of, has_failed}
+use Rattle.recovery.specs.Run.{IsAfterSome, state_after}
+use Rattle.recovery.proofs.store.Store.run.Given as goal
+
+abbrev pub invariant-loop-at : goal.invariant-loop-at
+invariant-loop-at g l = record {
+  rest : state_after (state_of l.self) (drop l.at l.steps) ≡ state_after (state_of l.fn.self) l.steps;
+  so_far : state_of l.self ≡ state_after (state_of l.fn.self) (take l.at l.steps);
+  unfailed : has_failed l.fn.self ≡ false → has_failed l.self ≡ false;
+  honest : g.D.Disk.honest (device_of l.self) ↔ g.D.Disk.honest (device_of l.fn.self);
+  is_open : IsOpen l.fn.self → IsOpen l.self;
+  moments : has_failed l.fn.self ≡ false → IsOpen l.fn.self → LeavesOnly g.D.Disk (IsAfterSome 0 (state_of l.fn.self) l.steps) (device_of l.fn.self) (device_of l.self);
+}

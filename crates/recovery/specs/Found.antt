@@ -1,0 +1,37 @@
+-- Which state the content of a device stands for.
+use Rattle.std.specs.Prelude.{◌≡◌, ℕ, ◌-◌, true, Option, List, [], map, All}
+use Rattle.std.specs.List.{flat_map}
+use Rattle.journal.specs.Command.{Taken}
+use Rattle.journal.specs.Spelling.{IsBatch, batch}
+use Rattle.journal.specs.State.{State, folded, all_grow}
+use Rattle.journal.specs.declared.revision.state.Limits.{Limits}
+use Rattle.recovery.specs.declared.shape.Shape.{Shape}
+use Rattle.recovery.specs.Slot.{Segment, bodies_of}
+use Rattle.recovery.specs.Layout.{IsLaidOut}
+
+-- how much a store of this shape may hold
+abbrev pub limits_of : Shape → Limits
+limits_of shape = record { docs = shape.docs; sources = shape.sources; weight = shape.cell - 128; width = shape.slot - 19; keep = shape.keep }
+
+-- a store of this shape without documents
+abbrev pub empty_state : Shape → State
+empty_state shape = record { limits = limits_of shape; documents = [] }
+
+-- the commands of batches, in order
+abbrev pub commands_of : List (List Taken) → List Taken
+commands_of batches = flat_map (λ commands. commands) batches
+
+-- Bodies stand for a state: they are spelled batches, of which each command continues what those before it made.
+pub record StandFor (shape : Shape) (bodies : List (List ℕ)) (batches : List (List Taken)) (state : State) : Type 0 where
+  pub spelled : bodies ≡ map batch batches
+  pub each : All IsBatch batches
+  pub grow : all_grow (empty_state shape) (commands_of batches) ≡ true
+  pub fold : state ≡ folded (empty_state shape) (commands_of batches)
+
+-- The state that the whole content of a device stands for. Where a rule fails there is none.
+pub record Found (content : List ℕ) (state : State) : Type 0 where
+  pub shape : Shape
+  pub slot : Option Segment
+  pub batches : List (List Taken)
+  pub laid_out : IsLaidOut content shape slot
+  pub stand : StandFor shape (bodies_of slot) batches state

@@ -1,0 +1,46 @@
+-- A store that is open, and what a crash within a commit leaves of it.
+use Rattle.std.specs.Prelude.{◌≡◌, ◌⊎◌, ℕ, Bool, Option, List, []}
+use Rattle.disk.specs.declared.device.Disk.{Ghosts}
+use Rattle.journal.specs.Command.{Taken}
+use Rattle.journal.specs.Spelling.{batch_width}
+use Rattle.journal.specs.State.{State, folded}
+use Rattle.recovery.specs.declared.store.Store.{Store}
+use Rattle.recovery.specs.Shape.{slot_place}
+use Rattle.recovery.specs.Slot.{Segment, bodies_of}
+use Rattle.recovery.specs.Layout.{IsLaidOut}
+use Rattle.recovery.specs.Found.{StandFor, Found}
+use Rattle.recovery.specs.Ring.{FitsSlot}
+use Rattle.recovery.specs.Room.{has_room_for}
+
+-- a content that stands for the state before a batch, or for the one with it
+abbrev pub IsWithOrWithout : State → List Taken → List ℕ → Type 0
+IsWithOrWithout state batch content = Found content state ⊎ Found content (folded state batch)
+
+module _ {D : Type 0} {disk : Ghosts D} where
+  -- the device under a store
+  abbrev pub device_of : Store D disk → D
+  device_of store = store.device
+
+  -- the state that a store holds
+  abbrev pub state_of : Store D disk → State
+  state_of store = store.state
+
+  -- a call of the device has failed since the store was opened
+  abbrev pub has_failed : Store D disk → Bool
+  has_failed store = store.failed
+
+  -- a batch fits behind what is there
+  abbrev pub has_room : Store D disk → List Taken → Bool
+  has_room store batch = has_room_for store.ring.size store.ring.newest (batch_width batch)
+
+  -- The device is synced, its content stands for the state that the store holds, and the ring knows where its first
+  -- slot ends.
+  pub record IsOpen (store : Store D disk) : Type 0 where
+    pub synced : disk.unsynced store.device ≡ []
+    pub slot : Option Segment
+    pub batches : List (List Taken)
+    pub laid_out : IsLaidOut (disk.seen store.device) store.shape slot
+    pub fits : FitsSlot (disk.seen store.device) store.ring slot
+    pub ring_at : store.ring.at ≡ slot_place store.shape 0
+    pub ring_size : store.ring.size ≡ store.shape.slot
+    pub stand : StandFor store.shape (bodies_of slot) batches store.state

@@ -1,0 +1,173 @@
+//! Formatting a device.
+ghost use Rattle.std.specs.Prelude.{◌≡◌, ◌⊎◌, ◌↔◌, ◌+◌, ◌*◌, ◌<◌, ◌≤◌, ◌^◌, ℕ, [], length, IsTrue, Err, OnOk, OnErr, IfOk, IfErr, slice_index};
+ghost use Rattle.disk.specs.Device.{Rose};
+ghost use Rattle.disk.specs.Crash.{LeavesIn, LeavesOnly, history_of};
+ghost use Rattle.journal.specs.Area.{open_gate};
+ghost use Rattle.recovery.specs.Shape.{superblock};
+ghost use Rattle.recovery.specs.Layout.{IsClosed, IsFormatted};
+ghost use Rattle.recovery.specs.Formatting.{Fits, IsUnformatted, IsEmptyStore, IsUnformattedOrEmpty, IsPrepared, IsOnlySynced, LeavesFromSync};
+
+use crate::shape::Shape;
+use crate::superblock::{SUPERBLOCK_LEN, write_superblock};
+use disk::{Disk, Fault};
+use journal::{CLOSED, OPEN};
+use refusal::Refusal;
+use std::alloc::Global;
+
+/// Makes a device a store of this shape without documents. Refused with `BadShape` where the device has less than 64
+/// bytes; then it syncs and reads, and answers `AlreadyFormatted` where the superblock's gate is open, and `BadShape`
+/// where the shape is out of range or the device shorter than its layout. `NoMemory` comes before the first write.
+/// After a `Fault` a device that was not formatted still is not, or is the store without documents.
+pub fn format_device<D: Disk>(alloc: Global, disk: &mut D, shape: Shape) -> Result<(), Refusal>
+    // A crash at any moment leaves a device that is not formatted, or the empty store: on a device that is synced, and
+    // on any other one from the call's first sync on.
+    ensures any_moment { D.unsynced disk.old ≡ [] → IsUnformatted (D.seen disk.old)
+        → LeavesOnly ⟦<D as Disk>⟧ (IsUnformattedOrEmpty shape) disk.old disk.new }
+    ensures from_sync { IsUnformatted (D.seen disk.old)
+        → LeavesFromSync (IsUnformattedOrEmpty shape) (history_of ⟦<D as Disk>⟧ disk.old) (history_of ⟦<D as Disk>⟧ disk.new) }
+    ensures done { OnOk result (IsEmptyStore shape (D.seen disk.new)) }
+    ensures synced { OnOk result (D.unsynced disk.new ≡ []) }
+
+    // A device that is formatted already stays so, and is told of.
+    ensures kept { D.honest disk.new → IsFormatted (D.seen disk.old)
+        → IsOnlySynced (history_of ⟦<D as Disk>⟧ disk.old) (history_of ⟦<D as Disk>⟧ disk.new) }
+    ensures formatted { D.honest disk.new → IsFormatted (D.seen disk.old)
+        → (result ≡ Err Refusal.AlreadyFormatted) ⊎ (result ≡ Err Refusal.Fault) }
+    ensures already_formatted { result ≡ Err Refusal.AlreadyFormatted → D.honest disk.new → IsFormatted (D.seen disk.old) }
+
+    ensures too_short { length (D.seen disk.old) < 64 → (result ≡ Err Refusal.BadShape) × (disk.new ≡ disk.old) }
+    ensures bad_shape { result ≡ Err Refusal.BadShape → ¬ Fits shape (length (D.seen disk.old)) }
+    ensures unfit { ¬ Fits shape (length (D.seen disk.old))
+        → (result ≡ Err Refusal.BadShape) ⊎ ((result ≡ Err Refusal.AlreadyFormatted) ⊎ (result ≡ Err Refusal.Fault)) }
+
+    // No other refusal comes, and all but `Fault` come before the first write.
+    ensures refusals { IfErr result (λ e. (e ≡ Refusal.BadShape) ⊎ ((e ≡ Refusal.AlreadyFormatted)
+        ⊎ ((e ≡ Refusal.NoMemory) ⊎ (e ≡ Refusal.Fault)))) }
+    ensures refused { OnErr result ((result ≡ Err Refusal.Fault)
+        ⊎ IsOnlySynced (history_of ⟦<D as Disk>⟧ disk.old) (history_of ⟦<D as Disk>⟧ disk.new)) }
+
+    ensures length { length (D.seen disk.new) ≡ length (D.seen disk.old) }
+    ensures honest { D.honest disk.new → D.honest disk.old }
+    ensures good { (result ≡ Err Refusal.Fault) ⊎ (D.faults disk.new ≡ D.faults disk.old) }
+    ensures failed { result ≡ Err Refusal.Fault → Rose (D.faults disk.old) (D.faults disk.new) }
+{
+    if disk.len() < SUPERBLOCK_LEN {
+        return Err(Refusal::BadShape);
+    }
+    let Ok(is_open) = reads_open_gate(disk) else {
+        return Err(Refusal::Fault);
+    };
+    if is_open {
+        return Err(Refusal::AlreadyFormatted);
+    }
+    if !shape.is_in_range() || disk.len() < shape.device_len() {
+        return Err(Refusal::BadShape);
+    }
+    let body = write_superblock(alloc, &shape)?;
+    let Ok(()) = write_all(disk, &shape, &body) else {
+        return Err(Refusal::Fault);
+    };
+    Ok(())
+}
+
+// Syncs, and reads whether the superblock's gate is open.
+fn reads_open_gate<D: Disk>(disk: &mut D) -> Result<bool, Fault>
+    requires { 1 ≤ length (D.seen disk.old) }
+    ensures is_open { IfOk result (λ b. D.honest disk.new → (IsTrue b ↔ (slice_index (D.seen disk.old) 0 ≡ open_gate))) }
+    ensures only_synced { IsOnlySynced (history_of ⟦<D as Disk>⟧ disk.old) (history_of ⟦<D as Disk>⟧ disk.new) }
+    ensures synced { OnOk result (D.unsynced disk.new ≡ []) }
+    ensures honest { D.honest disk.new → D.honest disk.old }
+    ensures good { OnOk result (D.faults disk.new ≡ D.faults disk.old) }
+    ensures failed { OnErr result (Rose (D.faults disk.old) (D.faults disk.new)) }
+{
+    disk.sync()?;
+    let mut gate = [0u8];
+    disk.read(0, &mut gate)?;
+    Ok(gate[0] == OPEN)
+}
+
+// Prepares all but the superblock's gate, and opens that last, when the rest is synced.
+fn write_all<D: Disk>(disk: &mut D, shape: &Shape, body: &[u8]) -> Result<(), Fault>
+    requires fits { Fits shape.now (length (D.seen disk.old)) }
+    requires body { body.now ≡ superblock shape.now }
+    ensures any_moment { D.unsynced disk.old ≡ [] → IsUnformatted (D.seen disk.old)
+        → LeavesOnly ⟦<D as Disk>⟧ (IsUnformattedOrEmpty shape.now) disk.old disk.new }
+    ensures done { OnOk result (IsEmptyStore shape.now (D.seen disk.new)) }
+    ensures synced { OnOk result (D.unsynced disk.new ≡ []) }
+    ensures length { length (D.seen disk.new) ≡ length (D.seen disk.old) }
+    ensures honest { D.honest disk.new ↔ D.honest disk.old }
+    ensures good { OnOk result (D.faults disk.new ≡ D.faults disk.old) }
+    ensures failed { OnErr result (Rose (D.faults disk.old) (D.faults disk.new)) }
+{
+    prepare(disk, shape, body)?;
+    disk.sync()?;
+    disk.write_at(0, &[OPEN])?;
+    disk.sync()
+}
+
+// Closes the gates of the cells and the slots, and writes the superblock behind its gate.
+fn prepare<D: Disk>(disk: &mut D, shape: &Shape, body: &[u8]) -> Result<(), Fault>
+    requires fits { Fits shape.now (length (D.seen disk.old)) }
+    requires body { body.now ≡ superblock shape.now }
+    ensures any_moment { LeavesIn IsUnformatted (history_of ⟦<D as Disk>⟧ disk.old).now
+        → LeavesOnly ⟦<D as Disk>⟧ IsUnformatted disk.old disk.new }
+    ensures prepared { OnOk result (IsPrepared shape.now (D.seen disk.new)) }
+    ensures length { length (D.seen disk.new) ≡ length (D.seen disk.old) }
+    ensures honest { D.honest disk.new ↔ D.honest disk.old }
+    ensures good { OnOk result (D.faults disk.new ≡ D.faults disk.old) }
+    ensures failed { OnErr result (Rose (D.faults disk.old) (D.faults disk.new)) }
+{
+    let docs = u64::from(shape.docs);
+    let cell = u64::from(shape.cell);
+    close_gates(disk, SUPERBLOCK_LEN, cell, 2 * docs)?;
+    let slots = SUPERBLOCK_LEN + 2 * docs * cell;
+    close_gates(disk, slots, u64::from(shape.slot), u64::from(shape.slots))?;
+    disk.write_at(1, body)
+}
+
+// Closes the gates of so many parts of one size, which stand one behind another, and opens none.
+fn close_gates<D: Disk>(disk: &mut D, at: u64, size: u64, count: u64) -> Result<(), Fault>
+    requires behind { 1 ≤ at }
+    requires within { at + count * size ≤ length (D.seen disk.old) }
+    requires some { 1 ≤ size }
+    requires bound { at + count * size < 2 ^ 63 }
+    ensures any_moment { LeavesIn IsUnformatted (history_of ⟦<D as Disk>⟧ disk.old).now
+        → LeavesOnly ⟦<D as Disk>⟧ IsUnformatted disk.old disk.new }
+    ensures closed { OnOk result ((k : ℕ) → k < count → IsClosed (D.seen disk.new) (at + k * size)) }
+    ensures others { OnOk result ((place : ℕ) → IsClosed (D.seen disk.old) place → IsClosed (D.seen disk.new) place) }
+    ensures length { length (D.seen disk.new) ≡ length (D.seen disk.old) }
+    ensures honest { D.honest disk.new ↔ D.honest disk.old }
+    ensures good { OnOk result (D.faults disk.new ≡ D.faults disk.old) }
+    ensures failed { OnErr result (Rose (D.faults disk.old) (D.faults disk.new)) }
+{
+    for k in 0..count {
+        disk.write_at(at + k * size, &[CLOSED])?;
+    }
+    Ok(())
+}
+
+#[cfg(test)]
+mod tests {
+    use super::*;
+    use disk::MemDisk;
+    use std::test::Fail;
+
+    // With ample memory a device is formatted, and then no more.
+    #[test]
+    fn formats_once(rt: HostRuntime) -> Result<(), Fail> {
+        let shape = Shape {
+            slots: 2,
+            slot: 256,
+            docs: 1,
+            cell: 256,
+            sources: 1,
+            keep: 1,
+        };
+        let mut disk = MemDisk::new(rt.alloc(), 1_088)?;
+        let first = format_device(rt.alloc(), &mut disk, shape);
+        assert_eq!(rt; first, Ok(()));
+        let second = format_device(rt.alloc(), &mut disk, shape);
+        assert_eq!(rt; second, Err(Refusal::AlreadyFormatted));
+        Ok(())
+    }
+}

@@ -1,0 +1,126 @@
+//! Reading the content of a device: the superblock, the gates, and the batches of the first slot.
+ghost use Rattle.std.specs.Prelude.{◌≡◌, ◌⊎◌, ◌↔◌, ◌≤◌, true, [], length, IsTrue, OnOk, OnErr, IfOk, IfErr, IsErrOf};
+ghost use Rattle.disk.specs.Device.{Closes, GoesOn, Rose};
+ghost use Rattle.disk.specs.Crash.{history_of};
+ghost use Rattle.journal.specs.State.{State as StateValue};
+ghost use Rattle.recovery.specs.declared.shape.Shape.{Shape as ShapeValue};
+ghost use Rattle.recovery.specs.Shape.{is_in_range, layout_length, slot_place};
+ghost use Rattle.recovery.specs.Layout.{IsFormatted};
+ghost use Rattle.recovery.specs.Found.{Found};
+ghost use Rattle.recovery.specs.Reading.{Names, IsReadAs};
+
+mod first_slot;
+mod gates;
+mod replay;
+
+use crate::segments::Ring;
+use crate::shape::Shape;
+use crate::superblock::{BODY_LEN, SUPERBLOCK_LEN, read_superblock};
+use disk::Disk;
+use first_slot::read_first_slot;
+use gates::{are_others_closed, is_open, read_at};
+use journal::State;
+use refusal::Refusal;
+use replay::replayed;
+use std::alloc::Global;
+
+/// What a device stands for, and where its next batch goes.
+#[derive(Drop)]
+pub struct Parts {
+    pub shape: Shape,
+    pub ring: Ring,
+    pub state: State,
+}
+
+/// Reads a device after a sync of it, and writes nothing. `NotFormatted` comes where the superblock's gate is closed or
+/// the device has less than 64 bytes, and `Damaged` where it is formatted and its content stands for no state.
+pub fn read_store<D: Disk>(alloc: Global, disk: &mut D) -> Result<Parts, Refusal>
+    ensures read { IfOk result (λ parts. D.honest disk.new → IsReadAs (D.seen disk.old) parts) }
+    ensures place { IfOk result (λ parts. (parts.ring.at ≡ slot_place parts.shape 0) × (parts.ring.size ≡ parts.shape.slot)) }
+    ensures in_range { IfOk result (λ parts. is_in_range parts.shape ≡ true) }
+    ensures within { IfOk result (λ parts. layout_length parts.shape ≤ length (D.seen disk.old)) }
+
+    ensures not_formatted { IfErr result (λ e. e ≡ Refusal.NotFormatted → D.honest disk.new → ¬ IsFormatted (D.seen disk.old)) }
+    ensures formatted { IfErr result (λ e. e ≡ Refusal.Damaged → D.honest disk.new → IsFormatted (D.seen disk.old)) }
+    ensures damaged { IfErr result (λ e. e ≡ Refusal.Damaged → D.honest disk.new → (found : StateValue) → ¬ Found (D.seen disk.old) found) }
+    ensures only { IfErr result (λ e. (e ≡ Refusal.NotFormatted) ⊎ ((e ≡ Refusal.Damaged) ⊎ ((e ≡ Refusal.NoMemory) ⊎ (e ≡ Refusal.Fault)))) }
+
+    // The sync alone moves the device on.
+    ensures seen { D.seen disk.new ≡ D.seen disk.old }
+    ensures synced { OnOk result (D.unsynced disk.new ≡ []) }
+    ensures time { GoesOn Closes (history_of ⟦<D as Disk>⟧ disk.old) (history_of ⟦<D as Disk>⟧ disk.new) }
+    ensures honest { D.honest disk.new → D.honest disk.old }
+    ensures good { OnOk result (D.faults disk.new ≡ D.faults disk.old) }
+    ensures failed { IsErrOf result Refusal.Fault → Rose (D.faults disk.old) (D.faults disk.new) }
+{
+    disk.sync().map_err(|_| Refusal::Fault)?;
+    read_content(alloc, disk)
+}
+
+// Reads what stands on the device. No call of it moves the device on.
+fn read_content<D: Disk>(alloc: Global, disk: &mut D) -> Result<Parts, Refusal>
+    ensures read { IfOk result (λ parts. D.honest disk.new → IsReadAs (D.seen disk.old) parts) }
+    ensures place { IfOk result (λ parts. (parts.ring.at ≡ slot_place parts.shape 0) × (parts.ring.size ≡ parts.shape.slot)) }
+    ensures in_range { IfOk result (λ parts. is_in_range parts.shape ≡ true) }
+    ensures within { IfOk result (λ parts. layout_length parts.shape ≤ length (D.seen disk.old)) }
+    ensures not_formatted { IfErr result (λ e. e ≡ Refusal.NotFormatted → D.honest disk.new → ¬ IsFormatted (D.seen disk.old)) }
+    ensures formatted { IfErr result (λ e. e ≡ Refusal.Damaged → D.honest disk.new → IsFormatted (D.seen disk.old)) }
+    ensures damaged { IfErr result (λ e. e ≡ Refusal.Damaged → D.honest disk.new → (found : StateValue) → ¬ Found (D.seen disk.old) found) }
+    ensures only { IfErr result (λ e. (e ≡ Refusal.NotFormatted) ⊎ ((e ≡ Refusal.Damaged) ⊎ ((e ≡ Refusal.NoMemory) ⊎ (e ≡ Refusal.Fault)))) }
+    ensures stays { history_of ⟦<D as Disk>⟧ disk.new ≡ history_of ⟦<D as Disk>⟧ disk.old }
+    ensures honest { D.honest disk.new → D.honest disk.old }
+    ensures good { OnOk result (D.faults disk.new ≡ D.faults disk.old) }
+    ensures failed { IsErrOf result Refusal.Fault → Rose (D.faults disk.old) (D.faults disk.new) }
+{
+    let shape = read_shape(disk)?;
+    if !are_others_closed(disk, &shape)? {
+        return Err(Refusal::Damaged);
+    }
+    let (ring, bodies) = read_first_slot(alloc, disk, &shape)?;
+    let state = replayed(alloc, &shape, &bodies)?;
+    Ok(Parts { shape, ring, state })
+}
+
+// The shape that the superblock names.
+fn read_shape<D: Disk>(disk: &mut D) -> Result<Shape, Refusal>
+    ensures named { IfOk result (λ shape. D.honest disk.new → Names (D.seen disk.old) shape) }
+    ensures in_range { IfOk result (λ shape. is_in_range shape ≡ true) }
+    ensures within { IfOk result (λ shape. layout_length shape ≤ length (D.seen disk.old)) }
+    ensures not_formatted { IfErr result (λ e. e ≡ Refusal.NotFormatted → D.honest disk.new → ¬ IsFormatted (D.seen disk.old)) }
+    ensures formatted { IfErr result (λ e. e ≡ Refusal.Damaged → D.honest disk.new → IsFormatted (D.seen disk.old)) }
+    ensures damaged { IfErr result (λ e. e ≡ Refusal.Damaged → D.honest disk.new → (shape : ShapeValue) → ¬ Names (D.seen disk.old) shape) }
+    ensures only { IfErr result (λ e. (e ≡ Refusal.NotFormatted) ⊎ ((e ≡ Refusal.Damaged) ⊎ (e ≡ Refusal.Fault))) }
+    ensures stays { history_of ⟦<D as Disk>⟧ disk.new ≡ history_of ⟦<D as Disk>⟧ disk.old }
+    ensures honest { D.honest disk.new → D.honest disk.old }
+    ensures good { OnOk result (D.faults disk.new ≡ D.faults disk.old) }
+    ensures failed { IsErrOf result Refusal.Fault → Rose (D.faults disk.old) (D.faults disk.new) }
+{
+    if !is_formatted(disk)? {
+        return Err(Refusal::NotFormatted);
+    }
+    let mut body = [0u8; BODY_LEN];
+    read_at(disk, 1, &mut body)?;
+    let Some(shape) = read_superblock(&body) else {
+        return Err(Refusal::Damaged);
+    };
+    if disk.len() < shape.device_len() {
+        return Err(Refusal::Damaged);
+    }
+    Ok(shape)
+}
+
+// Whether the device has a superblock, and its gate is open.
+fn is_formatted<D: Disk>(disk: &mut D) -> Result<bool, Refusal>
+    ensures formatted { IfOk result (λ b. D.honest disk.new → (IsTrue b ↔ IsFormatted (D.seen disk.old))) }
+    ensures long { IfOk result (λ b. IsTrue b → 64 ≤ length (D.seen disk.old)) }
+    ensures only { IfErr result (λ e. e ≡ Refusal.Fault) }
+    ensures stays { history_of ⟦<D as Disk>⟧ disk.new ≡ history_of ⟦<D as Disk>⟧ disk.old }
+    ensures honest { D.honest disk.new → D.honest disk.old }
+    ensures good { OnOk result (D.faults disk.new ≡ D.faults disk.old) }
+    ensures failed { OnErr result (Rose (D.faults disk.old) (D.faults disk.new)) }
+{
+    if disk.len() < SUPERBLOCK_LEN {
+        return Ok(false);
+    }
+    is_open(disk, 0)
+}

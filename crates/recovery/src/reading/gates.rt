@@ -1,0 +1,82 @@
+//! Reading gates.
+ghost use Rattle.std.specs.Prelude.{◌≡◌, ◌↔◌, ◌+◌, ◌*◌, ◌<◌, ◌≤◌, ◌^◌, true, length, take, drop, slice_index, IsTrue, OnOk, OnErr, IfOk, IfErr};
+ghost use Rattle.disk.specs.Device.{Rose};
+ghost use Rattle.disk.specs.Crash.{history_of};
+ghost use Rattle.journal.specs.Area.{open_gate};
+ghost use Rattle.recovery.specs.Shape.{is_in_range, layout_length};
+ghost use Rattle.recovery.specs.Reading.{AreClosed, OthersClosed};
+
+use crate::shape::Shape;
+use crate::superblock::SUPERBLOCK_LEN;
+use disk::Disk;
+use journal::OPEN;
+use refusal::Refusal;
+
+/// Fills `out` with the bytes from this place on.
+pub(super) fn read_at<D: Disk>(disk: &mut D, at: u64, out: &mut [u8]) -> Result<(), Refusal>
+    requires { at + length out.old ≤ length (D.seen disk.old) }
+    ensures bytes { OnOk result (D.honest disk.new → out.new ≡ take (length out.old) (drop at (D.seen disk.old))) }
+    ensures only { IfErr result (λ e. e ≡ Refusal.Fault) }
+    ensures stays { history_of ⟦<D as Disk>⟧ disk.new ≡ history_of ⟦<D as Disk>⟧ disk.old }
+    ensures honest { D.honest disk.new → D.honest disk.old }
+    ensures good { OnOk result (D.faults disk.new ≡ D.faults disk.old) }
+    ensures failed { OnErr result (Rose (D.faults disk.old) (D.faults disk.new)) }
+{
+    disk.read(at, out).map_err(|_| Refusal::Fault)
+}
+
+/// Whether the gate at this place is open.
+pub(super) fn is_open<D: Disk>(disk: &mut D, at: u64) -> Result<bool, Refusal>
+    requires { at + 1 ≤ length (D.seen disk.old) }
+    ensures gate { IfOk result (λ b. D.honest disk.new → (IsTrue b ↔ (slice_index (D.seen disk.old) at ≡ open_gate))) }
+    ensures only { IfErr result (λ e. e ≡ Refusal.Fault) }
+    ensures stays { history_of ⟦<D as Disk>⟧ disk.new ≡ history_of ⟦<D as Disk>⟧ disk.old }
+    ensures honest { D.honest disk.new → D.honest disk.old }
+    ensures good { OnOk result (D.faults disk.new ≡ D.faults disk.old) }
+    ensures failed { OnErr result (Rose (D.faults disk.old) (D.faults disk.new)) }
+{
+    let mut gate = [0u8];
+    read_at(disk, at, &mut gate)?;
+    Ok(gate[0] == OPEN)
+}
+
+/// Whether each cell's gate is closed, and that of each slot behind the first.
+pub(super) fn are_others_closed<D: Disk>(disk: &mut D, shape: &Shape) -> Result<bool, Refusal>
+    requires in_range { is_in_range shape.now ≡ true }
+    requires within { layout_length shape.now ≤ length (D.seen disk.old) }
+    ensures closed { IfOk result (λ b. D.honest disk.new → (IsTrue b ↔ OthersClosed (D.seen disk.old) shape.now)) }
+    ensures only { IfErr result (λ e. e ≡ Refusal.Fault) }
+    ensures stays { history_of ⟦<D as Disk>⟧ disk.new ≡ history_of ⟦<D as Disk>⟧ disk.old }
+    ensures honest { D.honest disk.new → D.honest disk.old }
+    ensures good { OnOk result (D.faults disk.new ≡ D.faults disk.old) }
+    ensures failed { OnErr result (Rose (D.faults disk.old) (D.faults disk.new)) }
+{
+    let cells = 2 * u64::from(shape.docs);
+    let cell = u64::from(shape.cell);
+    let slot = u64::from(shape.slot);
+    if !are_closed(disk, SUPERBLOCK_LEN, cell, cells)? {
+        return Ok(false);
+    }
+    let second = SUPERBLOCK_LEN + cells * cell + slot;
+    are_closed(disk, second, slot, u64::from(shape.slots) - 1)
+}
+
+// Whether so many gates are closed, which stand one size apart.
+fn are_closed<D: Disk>(disk: &mut D, at: u64, size: u64, count: u64) -> Result<bool, Refusal>
+    requires within { at + count * size ≤ length (D.seen disk.old) }
+    requires some { 1 ≤ size }
+    requires bound { at + count * size < 2 ^ 63 }
+    ensures closed { IfOk result (λ b. D.honest disk.new → (IsTrue b ↔ AreClosed (D.seen disk.old) at size count)) }
+    ensures only { IfErr result (λ e. e ≡ Refusal.Fault) }
+    ensures stays { history_of ⟦<D as Disk>⟧ disk.new ≡ history_of ⟦<D as Disk>⟧ disk.old }
+    ensures honest { D.honest disk.new → D.honest disk.old }
+    ensures good { OnOk result (D.faults disk.new ≡ D.faults disk.old) }
+    ensures failed { OnErr result (Rose (D.faults disk.old) (D.faults disk.new)) }
+{
+    for k in 0..count {
+        if is_open(disk, at + k * size)? {
+            return Ok(false);
+        }
+    }
+    Ok(true)
+}

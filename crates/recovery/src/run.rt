@@ -1,0 +1,72 @@
+//! Whole runs of a store.
+ghost use Rattle.std.specs.Prelude.{◌≡◌, ◌≢◌, ◌↔◌, ◌+◌, ◌<◌, ◌≤◌, ℕ, List, true, false, length, take, All, OnOk, OnErr, IfOk, IfErr};
+ghost use Rattle.disk.specs.Device.{Rose};
+ghost use Rattle.disk.specs.Crash.{LeavesOnly, MayLeaveNow};
+ghost use Rattle.refusal.specs.declared.Refusal.TheVariants.{Fault};
+ghost use Rattle.recovery.specs.Open.{IsOpen, device_of, state_of, has_failed};
+ghost use Rattle.recovery.specs.Run.{CanCommit, IsAfterSome, state_after};
+
+use crate::store::Store;
+use disk::Disk;
+use journal::Taken;
+use refusal::Refusal;
+use std::alloc::Global;
+
+/// A step of a run.
+#[derive(Debug, Drop)]
+pub enum StoreStep {
+    /// Commit this batch.
+    Commit(Vec<Taken>),
+}
+
+impl StoreStep {
+    ghost use Rattle.recovery.specs.Run.{batch_of};
+
+    // The batch of the step.
+    fn batch(&self) -> &[Taken]
+        ensures { result.now ≡ batch_of self.now }
+    {
+        match self {
+            StoreStep::Commit(batch) => batch,
+        }
+    }
+}
+
+/// Where a run stopped, counted from 0, and why.
+#[derive(Clone, Copy, Debug, PartialEq, Eq)]
+pub struct Stop {
+    pub at: usize,
+    pub refusal: Refusal,
+}
+
+impl<D: Disk> Store<D> {
+    /// Takes steps in order. It stops at the first that is refused, and says where.
+    pub fn run(&mut self, alloc: Global, steps: &[StoreStep]) -> Result<(), Stop>
+        requires { All CanCommit steps.now }
+
+        // How far it came, and what the store then holds.
+        ensures state { OnOk result (state_of self.new ≡ state_after (state_of self.old) steps.now) }
+        ensures stopped { IfErr result (λ stop. (stop.at < length steps.now) × (state_of self.new ≡ state_after (state_of self.old) (take stop.at steps.now))) }
+        ensures done { OnOk result (IsOpen self.old → IsOpen self.new) }
+        ensures kept { IfErr result (λ stop. stop.refusal ≢ Fault → IsOpen self.old → IsOpen self.new) }
+
+        ensures works { OnOk result (has_failed self.old ≡ false → has_failed self.new ≡ false) }
+        ensures honest { D.honest (device_of self.new) ↔ D.honest (device_of self.old) }
+
+        // A crash at any moment of the run leaves the state after some of its first steps.
+        ensures any_moment { has_failed self.old ≡ false → IsOpen self.old
+            → LeavesOnly ⟦<D as Disk>⟧ (IsAfterSome 0 (state_of self.old) steps.now) (device_of self.old) (device_of self.new) }
+        // Once it has returned, a crash leaves no fewer steps than those that were answered with Ok.
+        ensures acknowledged { OnOk result (has_failed self.old ≡ false → IsOpen self.old
+            → (content : List ℕ) → MayLeaveNow ⟦<D as Disk>⟧ (device_of self.new) content → IsAfterSome (length steps.now) (state_of self.old) steps.now content) }
+        ensures acknowledged_before { IfErr result (λ stop. has_failed self.old ≡ false → IsOpen self.old
+            → (content : List ℕ) → MayLeaveNow ⟦<D as Disk>⟧ (device_of self.new) content → IsAfterSome stop.at (state_of self.old) steps.now content) }
+    {
+        for (at, step) in steps.iter().enumerate() {
+            if let Err(refusal) = self.commit(alloc, step.batch()) {
+                return Err(Stop { at, refusal });
+            }
+        }
+        Ok(())
+    }
+}

@@ -1,0 +1,163 @@
+//! A store that is open.
+ghost use Rattle.std.specs.Prelude.{◌≡◌, ◌≢◌, ◌⊎◌, ◌↔◌, ◌+◌, ◌<◌, ◌≤◌, ◌^◌, List, ℕ, true, false, length, OnOk, OnErr, IfOk, IfErr, IsErrOf};
+
+use crate::reading::read_store;
+use crate::segments::Ring;
+use crate::shape::Shape;
+use disk::Disk;
+use journal::{State, Taken, encode_batch};
+use refusal::Refusal;
+use std::alloc::Global;
+
+/// Why a device could not be opened. The device comes back.
+#[derive(Debug, Drop)]
+pub struct OpenFault<D> {
+    pub disk: D,
+    pub refusal: Refusal,
+}
+
+/// A store over a device: the documents that the device stands for, and where the next batch goes.
+#[derive(Drop)]
+pub struct Store<D: Disk> {
+    device: D,
+    shape: Shape,
+    ring: Ring,
+    state: State,
+    failed: bool,
+    ghost within: { ring.at + ring.size ≤ length (D.seen device) },
+}
+
+impl<D: Disk> Store<D> {
+    ghost use Rattle.disk.specs.Device.{Rose, GoesOn, Closes};
+    ghost use Rattle.disk.specs.Crash.{LeavesOnly, MayLeaveNow, history_of};
+    ghost use Rattle.journal.specs.State.{State as StateValue};
+    ghost use Rattle.recovery.specs.Layout.{IsFormatted};
+    ghost use Rattle.recovery.specs.Found.{Found};
+    ghost use Rattle.journal.specs.State.{folded, all_grow};
+    ghost use Rattle.recovery.specs.Open.{IsOpen, IsWithOrWithout, device_of, state_of, has_failed, has_room};
+
+    /// Opens a formatted device: syncs it, then reads, and writes nothing. `NotFormatted` comes just where the
+    /// superblock's gate is closed or the device has less than 64 bytes, `Damaged` just where a formatted device's
+    /// content stands for no state, `Fault` where a call of the device failed, and `NoMemory`. The device comes back
+    /// with the refusal, and its content is as it was on every path.
+    pub fn open(alloc: Global, disk: D) -> Result<Store<D>, OpenFault<D>>
+        // What is read stands for the state that the store holds, and for no other.
+        ensures open { IfOk result (λ store. D.honest (device_of store) → IsOpen store) }
+        ensures found { IfOk result (λ store. D.honest (device_of store) → Found (D.seen disk) (state_of store)) }
+        ensures only_state { IfOk result (λ store. D.honest (device_of store) → (state : StateValue) → Found (D.seen disk) state → state ≡ state_of store) }
+        ensures works { IfOk result (λ store. has_failed store ≡ false) }
+
+        // From then on every crash leaves what was read.
+        ensures kept { IfOk result (λ store. (content : List ℕ) → MayLeaveNow ⟦<D as Disk>⟧ (device_of store) content → content ≡ D.seen disk) }
+
+        // When each refusal comes.
+        ensures not_formatted { IfErr result (λ fault. fault.refusal ≡ Refusal.NotFormatted → D.honest fault.disk → ¬ IsFormatted (D.seen disk)) }
+        ensures damaged { IfErr result (λ fault. fault.refusal ≡ Refusal.Damaged → D.honest fault.disk → IsFormatted (D.seen disk) × ((state : StateValue) → ¬ Found (D.seen disk) state)) }
+        ensures fault { IfErr result (λ fault. fault.refusal ≡ Refusal.Fault → Rose (D.faults disk) (D.faults fault.disk)) }
+        ensures only { IfErr result (λ fault. (fault.refusal ≡ Refusal.NotFormatted)
+            ⊎ ((fault.refusal ≡ Refusal.Damaged) ⊎ ((fault.refusal ≡ Refusal.NoMemory) ⊎ (fault.refusal ≡ Refusal.Fault)))) }
+
+        // The sync alone moves the device on: nothing is written.
+        ensures time { IfOk result (λ store. GoesOn Closes (history_of ⟦<D as Disk>⟧ disk) (history_of ⟦<D as Disk>⟧ (device_of store))) }
+        ensures time_of_fault { IfErr result (λ fault. GoesOn Closes (history_of ⟦<D as Disk>⟧ disk) (history_of ⟦<D as Disk>⟧ fault.disk)) }
+        ensures seen { IfOk result (λ store. D.seen (device_of store) ≡ D.seen disk) }
+        ensures seen_of_fault { IfErr result (λ fault. D.seen fault.disk ≡ D.seen disk) }
+        ensures honest { IfOk result (λ store. D.honest (device_of store) → D.honest disk) }
+    {
+        let mut device = disk;
+        match read_store(alloc, &mut device) {
+            Ok(parts) => Ok(Store {
+                device,
+                shape: parts.shape,
+                ring: parts.ring,
+                state: parts.state,
+                failed: false,
+            }),
+            Err(refusal) => Err(OpenFault {
+                disk: device,
+                refusal,
+            }),
+        }
+    }
+
+    /// The documents that the store holds.
+    pub fn state(&self) -> &State
+        ensures { result.now ≡ state_of self.now }
+    {
+        &self.state
+    }
+
+    /// Whether a call of the device has failed since the store was opened. Then it has to be opened again.
+    pub fn has_failed(&self) -> bool
+        ensures { result ≡ has_failed self.now }
+    {
+        self.failed
+    }
+
+    /// Gives the device back.
+    pub fn close(self) -> D
+        ensures { result ≡ device_of self }
+    {
+        let Store {
+            device,
+            shape: _,
+            ring: _,
+            state: _,
+            failed: _,
+        } = self;
+        device
+    }
+
+    /// Writes a batch, and answers once it is on the disk: two syncs, and two more where the first slot is opened for
+    /// it. `JournalFull` comes where the batch doesn't fit behind what is there, then `Stranger` where it doesn't
+    /// continue the state, `NoMemory` before anything of it is written, and `Fault`, after which the store has failed:
+    /// every later call answers `Fault`, until the device is opened again. A refusal leaves the state as it was.
+    pub fn commit(&mut self, alloc: Global, batch: &[Taken]) -> Result<(), Refusal>
+        requires some { 1 ≤ length batch.now }
+        requires short { length batch.now < 2 ^ 32 }
+
+        // When each refusal comes. Want of memory may be told in place of the first two.
+        ensures failed_before { has_failed self.old ≡ true → (IsErrOf result Refusal.Fault) × ((device_of self.new ≡ device_of self.old) × (has_failed self.new ≡ true)) }
+        ensures full { IsErrOf result Refusal.JournalFull → has_room self.old batch.now ≡ false }
+        ensures room { OnOk result (has_room self.old batch.now ≡ true) }
+        ensures stranger { IsErrOf result Refusal.Stranger → (all_grow (state_of self.old) batch.now ≡ false) × (has_room self.old batch.now ≡ true) }
+        ensures grow { OnOk result (all_grow (state_of self.old) batch.now ≡ true) }
+        ensures fault { IsErrOf result Refusal.Fault → has_failed self.old ≡ false
+            → Rose (D.faults (device_of self.old)) (D.faults (device_of self.new)) }
+        ensures only { IfErr result (λ e. ((e ≡ Refusal.JournalFull) ⊎ (e ≡ Refusal.Stranger)) ⊎ ((e ≡ Refusal.NoMemory) ⊎ (e ≡ Refusal.Fault))) }
+
+        // What each answer leaves.
+        ensures state { OnOk result (state_of self.new ≡ folded (state_of self.old) batch.now) }
+        ensures same_state { OnErr result (state_of self.new ≡ state_of self.old) }
+        ensures fails { has_failed self.old ≡ false → (has_failed self.new ≡ true ↔ IsErrOf result Refusal.Fault) }
+        ensures works { OnOk result (has_failed self.new ≡ false) }
+        ensures untouched { (IsErrOf result Refusal.JournalFull) ⊎ (IsErrOf result Refusal.Stranger) → device_of self.new ≡ device_of self.old }
+
+        // A crash at any moment of the call leaves the state before it, or the one with the batch.
+        ensures any_moment { has_failed self.old ≡ false → IsOpen self.old
+            → LeavesOnly ⟦<D as Disk>⟧ (IsWithOrWithout (state_of self.old) batch.now) (device_of self.old) (device_of self.new) }
+        // Once it is Ok, the device is synced and stands for the state with the batch.
+        ensures done { OnOk result (IsOpen self.old → IsOpen self.new) }
+        ensures kept { IfErr result (λ e. e ≢ Refusal.Fault → IsOpen self.old → IsOpen self.new) }
+
+        ensures honest { D.honest (device_of self.new) ↔ D.honest (device_of self.old) }
+    {
+        if self.failed {
+            return Err(Refusal::Fault);
+        }
+        let body = encode_batch(alloc, batch)?;
+        if !self.ring.has_room(body.len() as u64) {
+            return Err(Refusal::JournalFull);
+        }
+        let before = self.state.documents().len();
+        self.state.absorb_all(alloc, batch)?;
+        match self.ring.append(alloc, &mut self.device, &body) {
+            Ok(()) => Ok(()),
+            Err(refusal) => {
+                self.state.truncate(before);
+                self.failed = refusal == Refusal::Fault;
+                Err(refusal)
+            }
+        }
+    }
+}
