@@ -1,0 +1,2 @@
+mod Deltas
+mod Lines

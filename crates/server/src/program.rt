@@ -1,0 +1,109 @@
+//! The program over its words and its standard streams.
+ghost use Rattle.std.specs.Prelude.{◌≤◌};
+
+use crate::dump::dump;
+use crate::failure::Failure;
+use crate::serve::serve;
+use crate::words::Invocation;
+use clap::error::ErrorKind;
+use disk::FileDisk;
+use recovery::{OpenFault, Shape, Store};
+use refusal::Refusal;
+use std::alloc::Global;
+use std::convert::AsStr;
+use std::fs::{self, File};
+use std::io::{Read, Write};
+use std::rt::Files;
+
+/// Runs the program, and answers its status: 0 for success, 1 for a refusal or a standard stream that failed, 2 for
+/// words that it can't use. The first word is the program's path.
+///
+/// A refusal is told on `errors` as `error 7 Exists`, a usage fault there in a text of its own; help that is asked for
+/// goes to `output`. Faults are found in the order words, file, store.
+pub fn run<R: Files<File = File> + AllocGlobal, S: AsStr, I: Read, O: Write, E: Write>(
+    rt: &R,
+    words: &[S],
+    input: &mut I,
+    output: &mut O,
+    errors: &mut E,
+) -> u8
+    ensures { result ≤ 2 }
+{
+    let invocation = match Invocation::parse(rt.alloc(), words) {
+        Ok(invocation) => invocation,
+        Err(fault) => return show_usage(&fault, output, errors),
+    };
+    match invoke(rt, invocation, input, output) {
+        Ok(()) => 0,
+        Err(Failure::Refused(refusal)) => tell(refusal, errors),
+        Err(Failure::Stream) => 1,
+    }
+}
+
+fn invoke<R: Files<File = File> + AllocGlobal, I: Read, O: Write>(
+    rt: &R,
+    invocation: Invocation<'_>,
+    input: &mut I,
+    output: &mut O,
+) -> Result<(), Failure> {
+    match invocation {
+        Invocation::Format { path, shape } => {
+            let mut disk = disk_for(rt, path, shape)?;
+            recovery::format_device(rt.alloc(), &mut disk, shape)?;
+            Ok(())
+        }
+        Invocation::Serve { path } => serve(rt.alloc(), open(rt, path)?, input, output),
+        Invocation::Dump { path } => dump(rt.alloc(), open(rt, path)?.state(), output),
+    }
+}
+
+// A file that is there is used as it is, a missing one is made.
+fn disk_for<R: Files<File = File> + AllocGlobal>(
+    rt: &R,
+    path: &str,
+    shape: Shape,
+) -> Result<FileDisk, Refusal> {
+    match fs::exists(rt, path) {
+        Ok(true) => FileDisk::open(rt, path).map_err(|_| Refusal::Fault),
+        Ok(false) if !shape.is_in_range() => Err(Refusal::BadShape),
+        Ok(false) => FileDisk::create(rt, path, shape.device_len()).map_err(|_| Refusal::Fault),
+        Err(_) => Err(Refusal::Fault),
+    }
+}
+
+fn open<R: Files<File = File> + AllocGlobal>(
+    rt: &R,
+    path: &str,
+) -> Result<Store<FileDisk>, Refusal> {
+    let disk = FileDisk::open(rt, path).map_err(|_| Refusal::Fault)?;
+    match Store::open(rt.alloc(), disk) {
+        Ok(store) => Ok(store),
+        Err(OpenFault { disk: _, refusal }) => Err(refusal),
+    }
+}
+
+fn tell<E: Write>(refusal: Refusal, errors: &mut E) -> u8
+    ensures { result ≤ 2 }
+{
+    let _ = writeln!(errors, "{refusal}");
+    let _ = errors.flush();
+    1
+}
+
+fn show_usage<O: Write, E: Write>(fault: &clap::Error, output: &mut O, errors: &mut E) -> u8
+    ensures { result ≤ 2 }
+{
+    if fault.kind() == ErrorKind::OutOfMemory {
+        return tell(Refusal::NoMemory, errors);
+    }
+    let (shown, status) = if fault.use_stderr() {
+        (write_out(fault, errors), 2)
+    } else {
+        (write_out(fault, output), 0)
+    };
+    if shown { status } else { 1 }
+}
+
+fn write_out<W: Write>(fault: &clap::Error, stream: &mut W) -> bool {
+    write!(stream, "{fault}").is_ok() && stream.flush().is_ok()
+}
