@@ -1,0 +1,2 @@
+pub mod CodeUnits
+pub mod Walk

@@ -1,0 +1,52 @@
+//! The two halves of a text at a code unit.
+ghost use Rattle.std.specs.Prelude.{◌≡◌, ◌++◌, ◌<◌, ◌↔◌, length, take, drop, IfOk};
+ghost use Rattle.utf16.specs.Units.{units_of, PartsPair};
+
+/// Why a text can't be cut at a code unit.
+#[derive(Clone, Copy, Debug, PartialEq, Eq)]
+pub enum Cut {
+    /// The text has fewer code units.
+    PastEnd,
+    /// The place lies between the two units of a pair.
+    InPair,
+}
+
+/// The text before and from the code unit `at`. Takes no memory.
+pub fn split_at16(text: &str, at: u64) -> Result<(&str, &str), Cut>
+    ensures whole { IfOk result (λ halves. halves.0.now ++ halves.1.now ≡ text.now) }
+    ensures front { IfOk result (λ halves. units_of halves.0.now ≡ take at (units_of text.now)) }
+    ensures back { IfOk result (λ halves. units_of halves.1.now ≡ drop at (units_of text.now)) }
+
+    ensures past_end { (result ≡ Err Cut.PastEnd) ↔ (length (units_of text.now) < at) }
+    ensures in_pair { (result ≡ Err Cut.InPair) ↔ PartsPair (units_of text.now) at }
+{
+    let mut units = 0;
+    for (bytes, c) in text.char_indices() {
+        if units == at {
+            return Ok(text.split_at(bytes));
+        }
+        units += c.len_utf16() as u64;
+        if units > at {
+            return Err(Cut::InPair);
+        }
+    }
+    if units == at {
+        Ok((text, ""))
+    } else {
+        Err(Cut::PastEnd)
+    }
+}
+
+#[cfg(test)]
+mod tests {
+    use super::*;
+
+    #[test]
+    fn cuts_beside_a_pair(rt: HostRuntime) {
+        assert_eq!(rt; split_at16("a😀b", 1), Ok(("a", "😀b")));
+        assert_eq!(rt; split_at16("a😀b", 2), Err(Cut::InPair));
+        assert_eq!(rt; split_at16("a😀b", 3), Ok(("a😀", "b")));
+        assert_eq!(rt; split_at16("a😀b", 4), Ok(("a😀b", "")));
+        assert_eq!(rt; split_at16("a😀b", 5), Err(Cut::PastEnd));
+    }
+}
