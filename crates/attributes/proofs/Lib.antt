@@ -1,0 +1,5 @@
+pub mod Maps
+pub mod AtEachName
+pub mod Places
+pub mod Outcomes
+pub mod Prefixes

@@ -1,0 +1,7 @@
+pub mod Scalar
+pub mod Kind
+pub mod Map
+pub mod Attributes
+pub mod Laws
+pub mod Place
+mod Examples
