@@ -1,0 +1,1 @@
+-- What holds of any operations and gap forms.

@@ -1,0 +1,6 @@
+pub mod Element
+pub mod Operation
+pub mod Gaps
+pub mod Normal
+pub mod Laws
+mod Examples

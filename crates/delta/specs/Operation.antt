@@ -1,0 +1,70 @@
+-- Operations of a delta (quill-delta's README, "Operations"), their lengths, and which neighbours are merged.
+use Rattle.std.specs.Prelude.{◌≡◌, ℕ, ◌+◌, ◌<◌, ◌≤◌, ◌^◌, Bool, true, false, List, [], ◌∷◌, ◌++◌, length, Option, Some, None, if◌then◌else◌}
+use Rattle.attributes.specs.Map.{empty}
+use Rattle.attributes.specs.Attributes.{Attributes, Changes, same_attributes, same_changes}
+use Rattle.attributes.specs.Scalar.{Scalar}
+
+-- insert a text, by its code units, or an embed; keep units, with a change of their attributes; delete units
+pub data Operation : Type 0 where
+  insert_text : List ℕ → Attributes → Operation
+  insert_embed : List ℕ → Scalar → Attributes → Operation
+  retain : ℕ → Changes → Operation
+  delete : ℕ → Operation
+
+-- how many units it inserts, keeps or deletes
+abbrev pub op_len : Operation → ℕ
+op_len (insert_text us a) = length us
+op_len (insert_embed key value a) = 1
+op_len (retain n c) = n
+op_len (delete n) = n
+
+-- how many units of the document before it stands on
+abbrev pub op_base : Operation → ℕ
+op_base (insert_text us a) = 0
+op_base (insert_embed key value a) = 0
+op_base (retain n c) = n
+op_base (delete n) = n
+
+-- how many units of the document after it makes up
+abbrev pub op_out : Operation → ℕ
+op_out (insert_text us a) = length us
+op_out (insert_embed key value a) = 1
+op_out (retain n c) = n
+op_out (delete n) = 0
+
+-- base length: retained and deleted
+abbrev pub base_of : List Operation → ℕ
+base_of [] = 0
+base_of (op ∷ ops) = op_base op + base_of ops
+
+-- output length: inserted and retained
+abbrev pub out_of : List Operation → ℕ
+out_of [] = 0
+out_of (op ∷ ops) = op_out op + out_of ops
+
+-- each of the two lengths is at most 2^48
+pub record IsBounded (ops : List Operation) : Type 0 where
+  pub base : base_of ops ≤ 2 ^ 48
+  pub out : out_of ops ≤ 2 ^ 48
+
+abbrev pub is_insert : Operation → Bool
+is_insert (insert_text us a) = true
+is_insert (insert_embed key value a) = true
+is_insert (retain n c) = false
+is_insert (delete n) = false
+
+abbrev pub is_delete : Operation → Bool
+is_delete (delete n) = true
+is_delete _ = false
+
+-- a retain without attributes
+abbrev pub is_plain : Operation → Bool
+is_plain (retain n c) = same_changes c empty
+is_plain _ = false
+
+-- one operation for two neighbours: deletes, and text inserts or retains of equal attributes
+abbrev pub merged : Operation → Operation → Option Operation
+merged (insert_text us a) (insert_text vs b) = if same_attributes a b then Some (insert_text (us ++ vs) a) else None
+merged (retain m c) (retain n d) = if same_changes c d then Some (retain (m + n) c) else None
+merged (delete m) (delete n) = Some (delete (m + n))
+merged _ _ = None

@@ -1,0 +1,2 @@
+//! Deltas in normal form.
+#![tactic(auto)]
