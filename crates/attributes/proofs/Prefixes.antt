@@ -73,10 +73,10 @@ module _ {X : Type 0} where
     pub overwritten-more : (first : Map X) → insert (overwritten first (prefix m i)) e.0 e.1 ≡ overwritten first (prefix m (i + 1))
     overwritten-more first =
         same_map _ _ (λ name.
-          get-insert (overwritten first (prefix m i)) e.0 e.1 name
-          ∙ (ap (cond (is_name name e.0) (Some e.1)) (get-overwritten first (prefix m i) name)
-          ∙ (first_cond (is_name name e.0) e.1 (get (prefix m i) name) (get first name)
-          ∙ (ap (λ o. first_of o (get first name)) (sym (get-prefix-more name)) ∙ sym (get-overwritten first (prefix m (i + 1)) name)))))
+        get-insert (overwritten first (prefix m i)) e.0 e.1 name
+        ∙ (ap (cond (is_name name e.0) (Some e.1)) (get-overwritten first (prefix m i) name)
+        ∙ (first_cond (is_name name e.0) e.1 (get (prefix m i) name) (get first name)
+        ∙ (ap (λ o. first_of o (get first name)) (sym (get-prefix-more name)) ∙ sym (get-overwritten first (prefix m (i + 1)) name)))))
 
     without_cond : {Y : Type 0} (n : Map Y) (name : List ℕ) (here : Bool) → is_name name e.0 ≡ here
         → (p : Option X) → cond (contains n e.0) (cond (contains n name) None p) (cond here (Some e.1) (cond (contains n name) None p)) ≡ cond (contains n name) None (cond here (Some e.1) p)
@@ -93,21 +93,21 @@ module _ {X : Type 0} where
     pub without-more : {Y : Type 0} (n : Map Y) → cond (contains n e.0) (without (prefix m i) n) (insert (without (prefix m i) n) e.0 e.1) ≡ without (prefix m (i + 1)) n
     without-more n =
         same_map _ _ (λ name.
-          choice (contains n e.0) (without (prefix m i) n) (insert (without (prefix m i) n) e.0 e.1) name
-          ∙ (ap (cond (contains n e.0) (get (without (prefix m i) n) name)) (get-insert (without (prefix m i) n) e.0 e.1 name)
-          ∙ (ap (λ o. cond (contains n e.0) o (cond (is_name name e.0) (Some e.1) o)) (get-without (prefix m i) n name)
-          ∙ (without_cond n name (is_name name e.0) refl (get (prefix m i) name)
-          ∙ (ap (cond (contains n name) None) (sym (get-prefix-more name)) ∙ sym (get-without (prefix m (i + 1)) n name))))))
+        choice (contains n e.0) (without (prefix m i) n) (insert (without (prefix m i) n) e.0 e.1) name
+        ∙ (ap (cond (contains n e.0) (get (without (prefix m i) n) name)) (get-insert (without (prefix m i) n) e.0 e.1 name)
+        ∙ (ap (λ o. cond (contains n e.0) o (cond (is_name name e.0) (Some e.1) o)) (get-without (prefix m i) n name)
+        ∙ (without_cond n name (is_name name e.0) refl (get (prefix m i) name)
+        ∙ (ap (cond (contains n name) None) (sym (get-prefix-more name)) ∙ sym (get-without (prefix m (i + 1)) n name))))))
 
 module _ (a : Attributes) (c : Changes) (i : ℕ) (e : List ℕ × Option Scalar) (inside : i < length c.entries) (is : e ≡ get_or c.entries i e) where
   -- one more entry of a change
   pub changed-more : put_or_remove (changed a (prefix c i)) e.0 e.1 ≡ changed a (prefix c (i + 1))
   changed-more =
       same_map _ _ (λ name.
-        get-put_or_remove (changed a (prefix c i)) e.0 e.1 name
-        ∙ (ap (cond (is_name name e.0) e.1) (get-changed a (prefix c i) name)
-        ∙ (after_cond (is_name name e.0) e.1 (get (prefix c i) name) (get a name)
-        ∙ (ap (λ o. value_after o (get a name)) (sym (get-prefix-more c i e inside is name)) ∙ sym (get-changed a (prefix c (i + 1)) name)))))
+      get-put_or_remove (changed a (prefix c i)) e.0 e.1 name
+      ∙ (ap (cond (is_name name e.0) e.1) (get-changed a (prefix c i) name)
+      ∙ (after_cond (is_name name e.0) e.1 (get (prefix c i) name) (get a name)
+      ∙ (ap (λ o. value_after o (get a name)) (sym (get-prefix-more c i e inside is name)) ∙ sym (get-changed a (prefix c (i + 1)) name)))))
 
   back_cond : (name : List ℕ) (here : Bool) → is_name name e.0 ≡ here → (t : Bool) → same_option e.1 (get a e.0) ≡ t
       → cond t (value_back (get (prefix c i) name) (get a name)) (cond here (Some (get a e.0)) (value_back (get (prefix c i) name) (get a name))) ≡ value_back (cond here (Some e.1) (get (prefix c i) name)) (get a name)
@@ -122,11 +122,11 @@ module _ (a : Attributes) (c : Changes) (i : ℕ) (e : List ℕ × Option Scalar
   pub reverted-more : cond (same_option e.1 (get a e.0)) (reverted (prefix c i) a) (insert (reverted (prefix c i) a) e.0 (get a e.0)) ≡ reverted (prefix c (i + 1)) a
   reverted-more =
       same_map _ _ (λ name.
-        choice c i e inside is (same_option e.1 (get a e.0)) (reverted (prefix c i) a) (insert (reverted (prefix c i) a) e.0 (get a e.0)) name
-        ∙ (ap (cond (same_option e.1 (get a e.0)) (get (reverted (prefix c i) a) name)) (get-insert (reverted (prefix c i) a) e.0 (get a e.0) name)
-        ∙ (ap (λ o. cond (same_option e.1 (get a e.0)) o (cond (is_name name e.0) (Some (get a e.0)) o)) (get-reverted (prefix c i) a name)
-        ∙ (back_cond name (is_name name e.0) refl (same_option e.1 (get a e.0)) refl
-        ∙ (ap (λ o. value_back o (get a name)) (sym (get-prefix-more c i e inside is name)) ∙ sym (get-reverted (prefix c (i + 1)) a name))))))
+      choice c i e inside is (same_option e.1 (get a e.0)) (reverted (prefix c i) a) (insert (reverted (prefix c i) a) e.0 (get a e.0)) name
+      ∙ (ap (cond (same_option e.1 (get a e.0)) (get (reverted (prefix c i) a) name)) (get-insert (reverted (prefix c i) a) e.0 (get a e.0) name)
+      ∙ (ap (λ o. cond (same_option e.1 (get a e.0)) o (cond (is_name name e.0) (Some (get a e.0)) o)) (get-reverted (prefix c i) a name)
+      ∙ (back_cond name (is_name name e.0) refl (same_option e.1 (get a e.0)) refl
+      ∙ (ap (λ o. value_back o (get a name)) (sym (get-prefix-more c i e inside is name)) ∙ sym (get-reverted (prefix c (i + 1)) a name))))))
 
 -- equal steps from equal maps
 pub insert-same : {X : Type 0} {m n : Map X} {k l : List ℕ} {x y : X} → m ≡ n → k ≡ l → x ≡ y → insert m k x ≡ insert n l y

@@ -38,7 +38,12 @@ pub fn compose(alloc: Global, first: &Change, second: &Change) -> Result<Change,
 }
 
 /// The second change as it is after the first: with priority the first one's names are dropped.
-pub fn transform(alloc: Global, first: &Change, second: &Change, priority: bool) -> Result<Change, Refusal>
+pub fn transform(
+    alloc: Global,
+    first: &Change,
+    second: &Change,
+    priority: bool,
+) -> Result<Change, Refusal>
     ensures value { IfOk result (λ after. after ≡ transformed first.now second.now priority) }
     ensures only { IsOkUnless result Refusal.NoMemory }
 {

@@ -4,53 +4,44 @@ ghost use Rattle.attributes.specs.Laws.{SameAttributes, SameChanges, GetChanged,
 /// Attributes are told apart by what stands at their names.
 pub fn same_attributes()
     ensures { SameAttributes }
-{
-}
+{}
 
 /// Changes are told apart by what stands at their names.
 pub fn same_changes()
     ensures { SameChanges }
-{
-}
+{}
 
 /// What a change leaves at a name.
 pub fn get_changed()
     ensures { GetChanged }
-{
-}
+{}
 
 /// What two changes in one leave at a name.
 pub fn get_composed()
     ensures { GetComposed }
-{
-}
+{}
 
 /// What a change with priority leaves of another at a name.
 pub fn get_transformed()
     ensures { GetTransformed }
-{
-}
+{}
 
 /// What the way back has at a name.
 pub fn get_reverted()
     ensures { GetReverted }
-{
-}
+{}
 
 /// A change after a change is one change.
 pub fn changed_twice()
     ensures { ChangedTwice }
-{
-}
+{}
 
 /// Two changes in either order leave the same.
 pub fn changed_either_way()
     ensures { ChangedEitherWay }
-{
-}
+{}
 
 /// A change and its way back leave everything as it was.
 pub fn changed_back()
     ensures { ChangedBack }
-{
-}
+{}

@@ -14,10 +14,9 @@ mod changing;
 mod key;
 pub mod laws;
 mod map;
-mod value;
-
 #[cfg(test)]
 mod tests;
+mod value;
 
 pub use attrs::Attrs;
 pub use change::Change;

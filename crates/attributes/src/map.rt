@@ -7,9 +7,9 @@ ghost use Rattle.attributes.specs.Place.{IsHere, IsFree};
 ghost use lib.Dec.{T_prop};
 
 use crate::key::Key;
-use std::cmp::Ordering;
 use refusal::Refusal;
 use std::alloc::Global;
+use std::cmp::Ordering;
 use std::marker::Model;
 
 /// Names with a value each, in the order of the names' bytes.
@@ -99,7 +99,8 @@ impl<V> Map<V> {
 
     /// Takes a name out, where it is there.
     pub fn remove(&mut self, name: &str)
-        where V: Drop
+    where
+        V: Drop,
         ensures { self.new ≡ map.remove self.old name.now }
     {
         if let Ok(i) = self.place(name) {

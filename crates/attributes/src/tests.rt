@@ -60,7 +60,12 @@ fn applies(rt: HostRuntime) -> Result<(), Fail> {
     let rows: [(&[&str], &[&str], &[&str], &[&str]); 3] = [
         (&[], &["bold"], &[], &["bold"]),
         (&["bold"], &[], &["bold"], &[]),
-        (&["bold", "color"], &["italic"], &["bold", "font"], &["color", "italic"]),
+        (
+            &["bold", "color"],
+            &["italic"],
+            &["bold", "font"],
+            &["color", "italic"],
+        ),
     ];
     for (attrs, set, removed, after) in rows {
         let attrs = flags(rt.alloc(), attrs)?;
@@ -81,7 +86,9 @@ fn composes(rt: HostRuntime) -> Result<(), Fail> {
     for (set, removed, then_set, then_removed, both_set, both_removed) in rows {
         let first = change_of(rt.alloc(), set, removed)?;
         let second = change_of(rt.alloc(), then_set, then_removed)?;
-        assert!(rt; compose(rt.alloc(), &first, &second)? == change_of(rt.alloc(), both_set, both_removed)?);
+        assert!(rt;
+            compose(rt.alloc(), &first, &second)? == change_of(rt.alloc(), both_set, both_removed)?
+        );
     }
     Ok(())
 }
@@ -90,14 +97,24 @@ fn composes(rt: HostRuntime) -> Result<(), Fail> {
 fn transforms(rt: HostRuntime) -> Result<(), Fail> {
     // (first: set, removed; second: set, removed; the second after the first with priority: set, removed)
     let rows: [(&[&str], &[&str], &[&str], &[&str], &[&str], &[&str]); 3] = [
-        (&["bold", "color"], &["font"], &["color", "font", "italic"], &[], &["italic"], &[]),
+        (
+            &["bold", "color"],
+            &["font"],
+            &["color", "font", "italic"],
+            &[],
+            &["italic"],
+            &[],
+        ),
         (&["bold"], &[], &["italic"], &["bold"], &["italic"], &[]),
         (&[], &[], &["bold"], &["font"], &["bold"], &["font"]),
     ];
     for (set, removed, second_set, second_removed, after_set, after_removed) in rows {
         let first = change_of(rt.alloc(), set, removed)?;
         let second = change_of(rt.alloc(), second_set, second_removed)?;
-        assert!(rt; transform(rt.alloc(), &first, &second, true)? == change_of(rt.alloc(), after_set, after_removed)?);
+        assert!(rt;
+            transform(rt.alloc(), &first, &second, true)?
+                == change_of(rt.alloc(), after_set, after_removed)?
+        );
         assert!(rt; transform(rt.alloc(), &first, &second, false)? == second);
     }
     Ok(())
@@ -115,7 +132,9 @@ fn inverts(rt: HostRuntime) -> Result<(), Fail> {
     for (set, removed, attrs, back_set, back_removed) in rows {
         let change = change_of(rt.alloc(), set, removed)?;
         let attrs = flags(rt.alloc(), attrs)?;
-        assert!(rt; invert(rt.alloc(), &change, &attrs)? == change_of(rt.alloc(), back_set, back_removed)?);
+        assert!(rt;
+            invert(rt.alloc(), &change, &attrs)? == change_of(rt.alloc(), back_set, back_removed)?
+        );
     }
     Ok(())
 }

@@ -373,7 +373,11 @@ fn faults_have_their_statuses(rt: HostRuntime) -> Result<(), Fail> {
     let path = path.as_str();
     let missing = format!(in rt.alloc(); "{path}/none")?;
     let missing = missing.as_str();
-    let ended = call(&rt, &["richd", "format", path, "--docs", "0"], &mut io::empty())?;
+    let ended = call(
+        &rt,
+        &["richd", "format", path, "--docs", "0"],
+        &mut io::empty(),
+    )?;
     assert_eq!(rt;
         (ended.status, ended.output.as_str(), ended.errors.as_str()),
         (1, "", "error 33 BadShape\n")

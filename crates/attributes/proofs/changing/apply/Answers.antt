@@ -13,7 +13,7 @@ loop-key-preserved c =
     let more = changed-more c.args.attrs.now c.args.change.now c.loop-key.key-index c.loop-key-item.result read.0 read.1 in
     elim c.match-value.branch [
       | in-Some+in_ok-copy-in-Some+in_ok-copy-in-Some-2+in_ok-set-in-Some w ↦
-        w.after-is ∙ (w.in_ok-set-in-Some.ensures.ok ∙ (put_or_remove-same c.loop-key.invariant w.in_ok-copy-in-Some.ensures.same (ap Some w.in_ok-copy-in-Some-2.ensures.same ∙ sym w.in-Some.is) ∙ more))
+          w.after-is ∙ (w.in_ok-set-in-Some.ensures.ok ∙ (put_or_remove-same c.loop-key.invariant w.in_ok-copy-in-Some.ensures.same (ap Some w.in_ok-copy-in-Some-2.ensures.same ∙ sym w.in-Some.is) ∙ more))
       | in-None w ↦
-        w.after-is ∙ (w.remove.ensures ∙ (put_or_remove-same c.loop-key.invariant w.as_str.ensures.text (sym w.in-None.is) ∙ more))
+          w.after-is ∙ (w.remove.ensures ∙ (put_or_remove-same c.loop-key.invariant w.as_str.ensures.text (sym w.in-None.is) ∙ more))
     ]

@@ -17,6 +17,6 @@ loop-key-preserved c =
     let choice = λ (b : Bool). cond b kept (insert kept c.loop-key-item.result.0 (get c.args.attrs.now c.loop-key-item.result.0)) in
     elim c.if-not-stands_at.branch [
       | then-not-stands_at+in_ok-copy+in_ok-copy_at+in_ok-set w ↦
-        w.back-is ∙ (w.in_ok-set.ensures.ok ∙ (insert-same c.loop-key.invariant w.in_ok-copy.ensures.same w.in_ok-copy_at.ensures.same ∙ (ap choice (sym w.if-not-stands_at.true ∙ c.stands_at.ensures) ∙ more)))
+          w.back-is ∙ (w.in_ok-set.ensures.ok ∙ (insert-same c.loop-key.invariant w.in_ok-copy.ensures.same w.in_ok-copy_at.ensures.same ∙ (ap choice (sym w.if-not-stands_at.true ∙ c.stands_at.ensures) ∙ more)))
       | else-not-stands_at w ↦ w.back-is ∙ (c.loop-key.invariant ∙ (ap choice (sym w.if-not-stands_at.false ∙ c.stands_at.ensures) ∙ more))
     ]

@@ -18,7 +18,7 @@ loop-key-preserved c =
     let known : c.contains.result ≡ contains c.args.first.now c.loop-key-item.result.0 = c.contains.ensures ∙ ap (contains c.args.first.now) c.as_str.ensures.text in
     elim c.if-not-contains.branch [
       | then-not-contains+in_ok-copy+in_ok-copy_value+in_ok-set w ↦
-        w.after-is ∙ (w.in_ok-set.ensures.ok ∙ (insert-same c.loop-key.invariant w.in_ok-copy.ensures.same w.in_ok-copy_value.ensures.same ∙ (ap choice (sym w.if-not-contains.true ∙ known) ∙ more)))
+          w.after-is ∙ (w.in_ok-set.ensures.ok ∙ (insert-same c.loop-key.invariant w.in_ok-copy.ensures.same w.in_ok-copy_value.ensures.same ∙ (ap choice (sym w.if-not-contains.true ∙ known) ∙ more)))
       | else-not-contains w ↦ w.after-is ∙ (c.loop-key.invariant ∙ (ap choice (sym w.if-not-contains.false ∙ known) ∙ more))
     ]
 

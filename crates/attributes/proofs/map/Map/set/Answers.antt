@@ -6,9 +6,11 @@ use Rattle.attributes.proofs.Places.{written, inserted, ascending_as, ascending_
 use Rattle.attributes.proofs.map.Map.set.Goals as goal
 
 pub invariant_of-self-inside : goal.invariant_of-self-inside
-invariant_of-self-inside g c =
-    (ascending_as (insert c.args.self.now c.args.key c.args.value) _
-      (written c.args.self.now _ _ _ c.in-Ok.i (ap entries_of c.self.view_is) c.as_str.ensures.text c.in-Ok.ensures _ c.args.value c.index_mut.ensures.value), tt)
+invariant_of-self-inside g c = (
+  ascending_as (insert c.args.self.now c.args.key c.args.value) _
+      (written c.args.self.now _ _ _ c.in-Ok.i (ap entries_of c.self.view_is) c.as_str.ensures.text c.in-Ok.ensures _ c.args.value c.index_mut.ensures.value),
+  tt,
+)
 
 pub returns-in-Ok-clause-ok : goal.returns-in-Ok-clause-ok
 returns-in-Ok-clause-ok g c =
@@ -18,16 +20,18 @@ returns-in-Ok-clause-ok g c =
 pub invariant_of-self-inside-in-Err : goal.invariant_of-self-inside-in-Err
 invariant_of-self-inside-in-Err g c =
     let list = ap entries_of c.self.view_is in
-    let more = inserted c.args.self.now _ _ c.args.key c.in-Err.i list c.as_str.ensures.text c.in-Err.ensures c.args.value in
-    (ascending_if c.args.self.now (insert c.args.self.now c.args.key c.args.value) (is_ok c.insert.result) _
-      (c.insert.ensures.items ∙ ap₂ (cond (is_ok c.insert.result)) more list), tt)
+    let more = inserted c.args.self.now _ _ c.args.key c.in-Err.i list c.as_str.ensures.text c.in-Err.ensures c.args.value in (
+      ascending_if c.args.self.now (insert c.args.self.now c.args.key c.args.value) (is_ok c.insert.result) _
+          (c.insert.ensures.items ∙ ap₂ (cond (is_ok c.insert.result)) more list),
+      tt,
+    )
 
 pub returns-in-Err-clause-ok : goal.returns-in-Err-clause-ok
 returns-in-Err-clause-ok g c =
     OnOk-from c.map_err.result (is_ok c.insert.result) c.map_err.ensures.variant
     (λ done. same_entries_map _ _
-      (chosen_true _ _ _ c.insert.ensures.items done
-      ∙ inserted c.args.self.now _ _ c.args.key c.in-Err.i (ap entries_of c.self.view_is) c.as_str.ensures.text c.in-Err.ensures c.args.value))
+    (chosen_true _ _ _ c.insert.ensures.items done
+    ∙ inserted c.args.self.now _ _ c.args.key c.in-Err.i (ap entries_of c.self.view_is) c.as_str.ensures.text c.in-Err.ensures c.args.value))
 
 pub returns-in-Err-clause-err : goal.returns-in-Err-clause-err
 returns-in-Err-clause-err g c =
