@@ -4,6 +4,7 @@ pub mod Gated
 pub mod Areas
 pub mod Records
 pub mod Widths
+pub mod Agreeing
 pub mod Worked
 pub mod Units
 pub mod Entries

@@ -5,6 +5,7 @@ pub mod Command
 pub mod Actions
 pub mod TakenView
 pub mod State
+pub mod Agree
 pub mod Acceptance
 pub mod Planned
 pub mod Spelling
