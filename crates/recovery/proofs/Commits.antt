@@ -4,12 +4,13 @@ use Rattle.disk.specs.Device.{SameOutside}
 use Rattle.journal.specs.Command.{Taken}
 use Rattle.journal.specs.Spelling.{IsBatch, batch}
 use Rattle.journal.specs.State.{State, folded, all_grow}
+use Rattle.journal.proofs.Agreeing.{agrees}
 use Rattle.recovery.specs.declared.shape.Shape.{Shape}
 use Rattle.recovery.specs.declared.segments.Ring.{Ring}
 use Rattle.recovery.specs.Shape.{slot_place}
 use Rattle.recovery.specs.Slot.{Segment, HoldsSlot, bodies_of}
 use Rattle.recovery.specs.Layout.{IsLaidOut}
-use Rattle.recovery.specs.Found.{StandFor, Found}
+use Rattle.recovery.specs.Found.{StandFor, Found, FoundAs}
 use Rattle.recovery.specs.Ring.{HasBeforeOrAfter, HasAfter, HasKept, FitsSlot}
 use Rattle.recovery.specs.Open.{IsWithOrWithout}
 use Rattle.recovery.proofs.Layouts.{laid_out_again}
@@ -29,8 +30,8 @@ module _ (old : List ℕ) (shape : Shape) (ring : Ring) (slot : Option Segment) 
   again content now same holds = laid_out_again old content shape slot now laid_out (outside_slot content same) (in_slot content now holds)
 
   -- the content before
-  pub found_before : Found old state
-  found_before = record { shape = shape; slot = slot; batches = batches; laid_out = laid_out; stand = stand }
+  pub found_before : FoundAs old state
+  found_before = record { there = state; found = record { shape = shape; slot = slot; batches = batches; laid_out = laid_out; stand = stand }; agrees = agrees state }
 
   -- the same bodies stand for the same state
   pub same_bodies : (now : Option Segment) → bodies_of now ≡ bodies_of slot → StandFor shape (bodies_of now) batches state
@@ -44,8 +45,8 @@ module _ (old : List ℕ) (shape : Shape) (ring : Ring) (slot : Option Segment) 
     pub with_or_without : (content : List ℕ) → HasBeforeOrAfter ring.at ring.size old (bodies_of slot) (batch commands) content → IsWithOrWithout state commands content
     with_or_without content left =
         let there = again content left.slot left.outside left.holds in
-        ⊎_elim (λ kept. inl (record { shape = shape; slot = left.slot; batches = batches; laid_out = there; stand = same_bodies left.slot kept }))
-        (λ added. inr (record { shape = shape; slot = left.slot; batches = batches ++ commands ∷ []; laid_out = there; stand = more_bodies left.slot added }))
+        ⊎_elim (λ kept. inl (record { there = state; found = record { shape = shape; slot = left.slot; batches = batches; laid_out = there; stand = same_bodies left.slot kept }; agrees = agrees state }))
+        (λ added. inr (record { there = folded state commands; found = record { shape = shape; slot = left.slot; batches = batches ++ commands ∷ []; laid_out = there; stand = more_bodies left.slot added }; agrees = agrees (folded state commands) }))
         left.kept
 
     pub added_bodies : (now : Option Segment) → bodies_of now ≡ bodies_of slot ++ batch commands ∷ [] → StandFor shape (bodies_of now) (batches ++ commands ∷ []) (folded state commands)

@@ -4,6 +4,7 @@ use Rattle.std.specs.List.{flat_map}
 use Rattle.journal.specs.Command.{Taken}
 use Rattle.journal.specs.Spelling.{IsBatch, batch}
 use Rattle.journal.specs.State.{State, folded, all_grow}
+use Rattle.journal.specs.Agree.{Agree}
 use Rattle.journal.specs.declared.revision.state.Limits.{Limits}
 use Rattle.recovery.specs.declared.shape.Shape.{Shape}
 use Rattle.recovery.specs.Slot.{Segment, bodies_of}
@@ -35,3 +36,9 @@ pub record Found (content : List ℕ) (state : State) : Type 0 where
   pub batches : List (List Taken)
   pub laid_out : IsLaidOut content shape slot
   pub stand : StandFor shape (bodies_of slot) batches state
+
+-- The content stands for a state that agrees with this one.
+pub record FoundAs (content : List ℕ) (state : State) : Type 0 where
+  pub there : State
+  pub found : Found content there
+  pub agrees : Agree there state

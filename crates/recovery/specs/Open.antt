@@ -8,13 +8,13 @@ use Rattle.recovery.specs.declared.store.Store.{Store}
 use Rattle.recovery.specs.Shape.{slot_place}
 use Rattle.recovery.specs.Slot.{Segment, bodies_of}
 use Rattle.recovery.specs.Layout.{IsLaidOut}
-use Rattle.recovery.specs.Found.{StandFor, Found}
+use Rattle.recovery.specs.Found.{StandFor, FoundAs}
 use Rattle.recovery.specs.Ring.{FitsSlot}
 use Rattle.recovery.specs.Room.{has_room_for}
 
--- a content that stands for the state before a batch, or for the one with it
+-- a content that stands for a state that agrees with the one before a batch, or with the one with it
 abbrev pub IsWithOrWithout : State → List Taken → List ℕ → Type 0
-IsWithOrWithout state batch content = Found content state ⊎ Found content (folded state batch)
+IsWithOrWithout state batch content = FoundAs content state ⊎ FoundAs content (folded state batch)
 
 module _ {D : Type 0} {disk : Ghosts D} where
   -- the device under a store
@@ -33,6 +33,14 @@ module _ {D : Type 0} {disk : Ghosts D} where
   abbrev pub has_room : Store D disk → List Taken → Bool
   has_room store batch = has_room_for store.ring.size store.ring.newest (batch_width batch)
 
+  -- a call has left the store as it was
+  pub record IsUnchanged (old new : Store D disk) : Type 0 where
+    pub device : new.device ≡ old.device
+    pub shape : new.shape ≡ old.shape
+    pub ring : new.ring ≡ old.ring
+    pub state : new.state ≡ old.state
+    pub failed : new.failed ≡ old.failed
+
   -- The device is synced, its content stands for the state that the store holds, and the ring knows where its first
   -- slot ends.
   pub record IsOpen (store : Store D disk) : Type 0 where
@@ -44,3 +52,10 @@ module _ {D : Type 0} {disk : Ghosts D} where
     pub ring_at : store.ring.at ≡ slot_place store.shape 0
     pub ring_size : store.ring.size ≡ store.shape.slot
     pub stand : StandFor store.shape (bodies_of slot) batches store.state
+
+-- A store was open over this device, and held this state, when the device was given back.
+pub record WasOpen {D : Type 0} (disk : Ghosts D) (device : D) (state : State) : Type 0 where
+  pub store : Store D disk
+  pub is_open : IsOpen store
+  pub over : device_of store ≡ device
+  pub holds : state_of store ≡ state

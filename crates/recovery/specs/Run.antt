@@ -5,7 +5,7 @@ use Rattle.journal.specs.Command.{Taken}
 use Rattle.journal.specs.State.{State, folded}
 use Rattle.recovery.specs.declared.run.StoreStep.{StoreStep}
 use Rattle.recovery.specs.declared.run.StoreStep.TheVariants.{Commit}
-use Rattle.recovery.specs.Found.{Found}
+use Rattle.recovery.specs.Found.{FoundAs}
 
 -- the batch of a step
 abbrev pub batch_of : StoreStep → List Taken
@@ -16,12 +16,13 @@ abbrev pub state_after : State → List StoreStep → State
 state_after state [] = state
 state_after state (step ∷ steps) = state_after (folded state (batch_of step)) steps
 
--- A content stands for the state after some of the steps, the first ones of them, and no fewer than so many.
+-- A content stands for a state that agrees with the one after some of the steps, the first ones of them, and no fewer
+-- than so many.
 pub record IsAfterSome (least : ℕ) (state : State) (steps : List StoreStep) (content : List ℕ) : Type 0 where
   pub count : ℕ
   pub enough : least ≤ count
   pub within : count ≤ length steps
-  pub found : Found content (state_after state (take count steps))
+  pub found : FoundAs content (state_after state (take count steps))
 
 -- a batch has a command, and its count has four bytes
 pub record CanCommit (step : StoreStep) : Type 0 where

@@ -34,7 +34,7 @@ impl<D: Disk> Store<D> {
     ghost use Rattle.recovery.specs.Layout.{IsFormatted};
     ghost use Rattle.recovery.specs.Found.{Found};
     ghost use Rattle.journal.specs.State.{folded, all_grow};
-    ghost use Rattle.recovery.specs.Open.{IsOpen, IsWithOrWithout, device_of, state_of, has_failed, has_room};
+    ghost use Rattle.recovery.specs.Open.{IsOpen, WasOpen, IsUnchanged, IsWithOrWithout, device_of, state_of, has_failed, has_room};
 
     /// Opens a formatted device: syncs it, then reads, and writes nothing. `NotFormatted` comes just where the
     /// superblock's gate is closed or the device has less than 64 bytes, `Damaged` just where a formatted device's
@@ -46,6 +46,11 @@ impl<D: Disk> Store<D> {
         ensures found { IfOk result (λ store. D.honest (device_of store) → Found (D.seen disk) (state_of store)) }
         ensures only_state { IfOk result (λ store. D.honest (device_of store) → (state : StateValue) → Found (D.seen disk) state → state ≡ state_of store) }
         ensures works { IfOk result (λ store. has_failed store ≡ false) }
+
+        // A device on which a store was open is opened again with the state that the store held.
+        ensures again { IfOk result (λ store. D.honest (device_of store) → (state : StateValue) → WasOpen ⟦<D as Disk>⟧ disk state → state_of store ≡ state) }
+        ensures again_or { IfErr result (λ fault. D.honest fault.disk → (state : StateValue) → WasOpen ⟦<D as Disk>⟧ disk state
+            → (fault.refusal ≡ Refusal.NoMemory) ⊎ (fault.refusal ≡ Refusal.Fault)) }
 
         // From then on every crash leaves what was read.
         ensures kept { IfOk result (λ store. (content : List ℕ) → MayLeaveNow ⟦<D as Disk>⟧ (device_of store) content → content ≡ D.seen disk) }
@@ -122,6 +127,10 @@ impl<D: Disk> Store<D> {
         ensures room { OnOk result (has_room self.old batch.now ≡ true) }
         ensures stranger { IsErrOf result Refusal.Stranger → (all_grow (state_of self.old) batch.now ≡ false) × (has_room self.old batch.now ≡ true) }
         ensures grow { OnOk result (all_grow (state_of self.old) batch.now ≡ true) }
+        ensures no_room { has_failed self.old ≡ false → has_room self.old batch.now ≡ false
+            → (IsErrOf result Refusal.JournalFull) ⊎ (IsErrOf result Refusal.NoMemory) }
+        ensures no_growth { has_failed self.old ≡ false → has_room self.old batch.now ≡ true → all_grow (state_of self.old) batch.now ≡ false
+            → (IsErrOf result Refusal.Stranger) ⊎ (IsErrOf result Refusal.NoMemory) }
         ensures fault { IsErrOf result Refusal.Fault → has_failed self.old ≡ false
             → Rose (D.faults (device_of self.old)) (D.faults (device_of self.new)) }
         ensures only { IfErr result (λ e. ((e ≡ Refusal.JournalFull) ⊎ (e ≡ Refusal.Stranger)) ⊎ ((e ≡ Refusal.NoMemory) ⊎ (e ≡ Refusal.Fault))) }
@@ -131,7 +140,8 @@ impl<D: Disk> Store<D> {
         ensures same_state { OnErr result (state_of self.new ≡ state_of self.old) }
         ensures fails { has_failed self.old ≡ false → (has_failed self.new ≡ true ↔ IsErrOf result Refusal.Fault) }
         ensures works { OnOk result (has_failed self.new ≡ false) }
-        ensures untouched { (IsErrOf result Refusal.JournalFull) ⊎ (IsErrOf result Refusal.Stranger) → device_of self.new ≡ device_of self.old }
+        ensures untouched { (IsErrOf result Refusal.JournalFull) ⊎ (IsErrOf result Refusal.Stranger) → IsUnchanged self.old self.new }
+        ensures good { OnOk result (D.faults (device_of self.new) ≡ D.faults (device_of self.old)) }
 
         // A crash at any moment of the call leaves the state before it, or the one with the batch.
         ensures any_moment { has_failed self.old ≡ false → IsOpen self.old

@@ -1,7 +1,7 @@
-use Rattle.std.proofs.Common.{◌≡◌, ◌∙◌}
+use Rattle.std.proofs.Common.{◌≡◌, ◌∙◌, ◌⊎◌, ⊎_elim, inl, inr, List, ℕ, sym, subst}
 use Rattle.disk.proofs.Contents.{synced_leaves}
 use Rattle.recovery.proofs.FoundOnce.{found_same}
-use Rattle.recovery.proofs.Runs.{found_open}
+use Rattle.recovery.proofs.Runs.{found_again}
 use Rattle.recovery.proofs.store.Store.open.Goals as goal
 
 pub returns-in-Ok-clause-only_state : goal.returns-in-Ok-clause-only_state
@@ -15,3 +15,15 @@ returns-in-Ok-clause-kept g c content left = synced_leaves _ content c.in-Ok.ens
 
 pub returns-in-Err-clause-damaged : goal.returns-in-Err-clause-damaged
 returns-in-Err-clause-damaged g c is honest = (c.in-Err.ensures.formatted is honest, c.in-Err.ensures.damaged is honest)
+
+-- the device stands for what the store held
+pub returns-in-Ok-clause-again : goal.returns-in-Ok-clause-again
+returns-in-Ok-clause-again g c honest state was =
+    sym (returns-in-Ok-clause-only_state g c honest state (found_again g.D.Disk c.args.disk state was))
+
+pub returns-in-Err-clause-again_or : goal.returns-in-Err-clause-again_or
+returns-in-Err-clause-again_or g c honest state was =
+    let found = found_again g.D.Disk c.args.disk state was in
+    ⊎_elim (λ unformatted. absurd (c.in-Err.ensures.not_formatted unformatted honest found.laid_out.formatted))
+    (λ more. ⊎_elim (λ damaged. absurd (c.in-Err.ensures.damaged damaged honest state found)) (λ others. others) more)
+    c.in-Err.ensures.only

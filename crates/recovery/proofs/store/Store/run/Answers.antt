@@ -5,9 +5,9 @@ use Rattle.disk.proofs.Moments.{begins, leaves_map, goes_on_run}
 use Rattle.journal.specs.State.{State, folded}
 use Rattle.recovery.specs.declared.run.StoreStep.{StoreStep}
 use Rattle.std.proofs.lemmas.List.{at_drop_more, take_all}
-use Rattle.recovery.specs.Found.{Found}
+use Rattle.recovery.specs.Found.{FoundAs}
 use Rattle.recovery.specs.Run.{batch_of, state_after}
-use Rattle.recovery.proofs.Runs.{found_open, state_after-more, within_step, some_of, before_all, after_all}
+use Rattle.recovery.proofs.Runs.{found_open, found_as, state_after-more, within_step, some_of, before_all, after_all}
 use Rattle.recovery.proofs.store.Store.run.Goals as goal
 
 pub loop-at-init : goal.loop-at-init
@@ -17,7 +17,7 @@ loop-at-init g c = record {
   unfailed = λ u. u;
   honest = (λ h. h, λ h. h);
   is_open = λ o. o;
-  moments = λ u o. begins (history_of g.D.Disk c.args.self.now.device) o.synced (before_all c.args.self.now.state c.args.steps.now _ (found_open c.args.self.now o));
+  moments = λ u o. begins (history_of g.D.Disk c.args.self.now.device) o.synced (before_all c.args.self.now.state c.args.steps.now _ (found_as _ _ (found_open c.args.self.now o)));
 }
 
 pub returns-in-Err-clause-kept : goal.returns-in-Err-clause-kept
@@ -68,4 +68,4 @@ returns-clause-acknowledged g c unfailed is_open content left =
     let all : take c.loop-at.at c.args.steps.now ≡ c.args.steps.now = take_all c.loop-at.at c.args.steps.now (omega arith) in
     let seen : content ≡ g.D.Disk.seen store.device = synced_leaves _ content now_open.synced left in
     after_all c.args.self.now.state store.state c.args.steps.now content (c.loop-at.invariant.so_far ∙ ap (state_after c.args.self.now.state) all)
-    (subst (λ (l : List ℕ). Found l store.state) (sym seen) (found_open store now_open))
+    (subst (λ (l : List ℕ). FoundAs l store.state) (sym seen) (found_as _ _ (found_open store now_open)))
