@@ -1,5 +1,5 @@
 -- Runs of steps, and what a crash within one leaves.
-use Rattle.std.specs.Prelude.{◌≡◌, ◌≤◌, ℕ, List, [], ◌∷◌, length, take}
+use Rattle.std.specs.Prelude.{◌≡◌, ◌≤◌, ℕ, List, [], ◌∷◌, length, take, map, get_or}
 use Rattle.disk.specs.declared.device.Disk.{Ghosts}
 use Rattle.journal.specs.Command.{Taken}
 use Rattle.journal.specs.State.{State, folded}
@@ -10,6 +10,10 @@ use Rattle.recovery.specs.Found.{FoundAs}
 -- the batch of a step
 abbrev pub batch_of : StoreStep → List Taken
 batch_of (Commit batch) = batch.items
+
+-- the batch of the step at a place, from 0
+abbrev pub batch_at : List StoreStep → ℕ → List Taken
+batch_at steps at = get_or (map batch_of steps) at []
 
 -- the state after steps in order
 abbrev pub state_after : State → List StoreStep → State

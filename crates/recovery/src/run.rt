@@ -1,10 +1,11 @@
 //! Whole runs of a store.
-ghost use Rattle.std.specs.Prelude.{◌≡◌, ◌≢◌, ◌↔◌, ◌+◌, ◌<◌, ◌≤◌, ℕ, List, true, false, length, take, All, OnOk, OnErr, IfOk, IfErr};
+ghost use Rattle.std.specs.Prelude.{◌≡◌, ◌≢◌, ◌⊎◌, ◌↔◌, ◌+◌, ◌<◌, ◌≤◌, ℕ, List, true, false, length, take, All, OnOk, OnErr, IfOk, IfErr};
 ghost use Rattle.disk.specs.Device.{Rose};
 ghost use Rattle.disk.specs.Crash.{LeavesOnly, MayLeaveNow};
-ghost use Rattle.refusal.specs.declared.Refusal.TheVariants.{Fault};
-ghost use Rattle.recovery.specs.Open.{IsOpen, device_of, state_of, has_failed};
-ghost use Rattle.recovery.specs.Run.{CanCommit, IsAfterSome, state_after};
+ghost use Rattle.refusal.specs.declared.Refusal.TheVariants.{JournalFull, Stranger, NoMemory, Fault};
+ghost use Rattle.journal.specs.State.{all_grow};
+ghost use Rattle.recovery.specs.Open.{IsOpen, device_of, state_of, has_failed, has_room};
+ghost use Rattle.recovery.specs.Run.{CanCommit, IsAfterSome, state_after, batch_at};
 
 use crate::store::Store;
 use disk::Disk;
@@ -50,7 +51,15 @@ impl<D: Disk> Store<D> {
         ensures done { OnOk result (IsOpen self.old → IsOpen self.new) }
         ensures kept { IfErr result (λ stop. stop.refusal ≢ Fault → IsOpen self.old → IsOpen self.new) }
 
+        // Why it stopped, by the store that it left.
+        ensures full { IfErr result (λ stop. stop.refusal ≡ JournalFull → has_room self.new (batch_at steps.now stop.at) ≡ false) }
+        ensures stranger { IfErr result (λ stop. stop.refusal ≡ Stranger → all_grow (state_of self.new) (batch_at steps.now stop.at) ≡ false) }
+        ensures fault { IfErr result (λ stop. stop.refusal ≡ Fault → has_failed self.old ≡ false
+            → Rose (D.faults (device_of self.old)) (D.faults (device_of self.new))) }
+        ensures only { IfErr result (λ stop. ((stop.refusal ≡ JournalFull) ⊎ (stop.refusal ≡ Stranger)) ⊎ ((stop.refusal ≡ NoMemory) ⊎ (stop.refusal ≡ Fault))) }
+
         ensures works { OnOk result (has_failed self.old ≡ false → has_failed self.new ≡ false) }
+        ensures fails { IfErr result (λ stop. has_failed self.old ≡ false → (has_failed self.new ≡ true ↔ stop.refusal ≡ Fault)) }
         ensures honest { D.honest (device_of self.new) ↔ D.honest (device_of self.old) }
 
         // A crash at any moment of the run leaves the state after some of its first steps.

@@ -15,6 +15,7 @@ loop-at-init g c = record {
   rest = refl;
   so_far = refl;
   unfailed = λ u. u;
+  faults = refl;
   honest = (λ h. h, λ h. h);
   is_open = λ o. o;
   moments = λ u o. begins (history_of g.D.Disk c.args.self.now.device) o.synced (before_all c.args.self.now.state c.args.steps.now _ (found_as _ _ (found_open c.args.self.now o)));
@@ -51,6 +52,7 @@ loop-at-preserved g c =
       so_far =
           state ∙ ap (λ (s : State). folded s (batch_of step)) c.loop-at.invariant.so_far
           ∙ sym (state_after-more c.args.self.now.state steps at step c.loop-at-test.true c.index-steps-at.is);
+      faults = c.in_default.ensures.good ∙ c.loop-at.invariant.faults;
       unfailed = λ unfailed. c.in_default.ensures.works;
       honest = (λ h. c.loop-at.invariant.honest.0 (c.commit.ensures.honest.0 h), λ h. c.commit.ensures.honest.1 (c.loop-at.invariant.honest.1 h));
       is_open = λ is_open. c.in_default.ensures.done (c.loop-at.invariant.is_open is_open);

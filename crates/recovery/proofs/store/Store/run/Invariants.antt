@@ -9,6 +9,7 @@ invariant-loop-at g l = record {
   rest : state_after (state_of l.self) (drop l.at l.steps) ≡ state_after (state_of l.fn.self) l.steps;
   so_far : state_of l.self ≡ state_after (state_of l.fn.self) (take l.at l.steps);
   unfailed : has_failed l.fn.self ≡ false → has_failed l.self ≡ false;
+  faults : g.D.Disk.faults (device_of l.self) ≡ g.D.Disk.faults (device_of l.fn.self);
   honest : g.D.Disk.honest (device_of l.self) ↔ g.D.Disk.honest (device_of l.fn.self);
   is_open : IsOpen l.fn.self → IsOpen l.self;
   moments : has_failed l.fn.self ≡ false → IsOpen l.fn.self → LeavesOnly g.D.Disk (IsAfterSome 0 (state_of l.fn.self) l.steps) (device_of l.fn.self) (device_of l.self);
