@@ -10,3 +10,4 @@ pub mod Gates
 pub mod SegmentsRead
 pub mod Replays
 pub mod FoundOnce
+pub mod Worked

@@ -1,0 +1,236 @@
+-- What contents stand for, computed in a small shape: zeros, a formatted device, and the device after a first and a second
+-- creation.
+use Rattle.std.proofs.Common.{◌≡◌, ◌≢◌, ◌+◌, ◌*◌, ◌<◌, ◌≤◌, true, ℕ, zero, suc, Option, Some, None, List, [], ◌∷◌, ◌++◌, All, length, take, drop, refl, sym, ◌∙◌, ap, lit<, lit≤, arith}
+use Rattle.std.specs.Prelude.{replicate, slice_index}
+use Rattle.std.proofs.lemmas.List.Elements.{All-cons, All-nil}
+use Rattle.std.specs.Char.{encode_utf8}
+use Rattle.std.specs.Str.{chars, is_utf8}
+use Rattle.document.specs.Delta.{Insert}
+use Rattle.journal.specs.Command.{Taken, IsTaken}
+use Rattle.journal.specs.Spelling.{IsBatch, number, text16, text32, attributes, operation, delta, created_name, entry, batch}
+use Rattle.journal.specs.State.{State, DocumentRecord, folded, all_grow}
+use Rattle.recovery.specs.declared.shape.Shape.{Shape}
+use Rattle.recovery.specs.Shape.{superblock, layout_length, cell_place, slot_place}
+use Rattle.recovery.specs.Slot.{Segment, HoldsSegment}
+use Rattle.recovery.specs.Layout.{IsFormatted, IsClosed, IsLaidOut}
+use Rattle.recovery.specs.Found.{Found, StandFor, limits_of, empty_state}
+
+-- 2 slots of 256 bytes, 2 documents with cells of 256: 1,600 bytes
+abbrev small : Shape
+small = record { slots = 2; slot = 256; docs = 2; cell = 256; sources = 4; keep = 2 }
+
+small_length : layout_length small ≡ 1600
+small_length = refl
+
+zero_is_closed : ◌≡◌ {A = ℕ} 0 165 → ⊥
+zero_is_closed e = absurd cc
+
+-- what holds at each of four places
+four : (P : ℕ → Type 0) → P 0 → P 1 → P 2 → P 3 → (k : ℕ) → k < 4 → P k
+four P p0 p1 p2 p3 zero l = p0
+four P p0 p1 p2 p3 (suc zero) l = p1
+four P p0 p1 p2 p3 (suc (suc zero)) l = p2
+four P p0 p1 p2 p3 (suc (suc (suc zero))) l = p3
+four P p0 p1 p2 p3 (suc (suc (suc (suc k)))) l = absurd (omega arith)
+
+-- and at the one place from 1 below 2
+one : (P : ℕ → Type 0) → P 1 → (k : ℕ) → 1 ≤ k → k < 2 → P k
+one P p zero low l = absurd (omega arith)
+one P p (suc zero) low l = p
+one P p (suc (suc k)) low l = absurd (omega arith)
+
+-- zeros have no superblock, so they stand for nothing
+abbrev zeros : List ℕ
+zeros = replicate 1600 0
+
+pub zeros_unformatted : IsFormatted zeros → ⊥
+zeros_unformatted is = zero_is_closed is.gate
+
+pub zeros_not_found : (state : State) → Found zeros state → ⊥
+zeros_not_found state found = zeros_unformatted found.laid_out.formatted
+
+-- a formatted device stands for no documents
+abbrev formatted : List ℕ
+formatted = 165 ∷ superblock small ++ replicate 1567 0
+
+pub formatted_laid_out : IsLaidOut formatted small None
+formatted_laid_out = record {
+  formatted = record { long = lit≤ tt; gate = refl };
+  named = refl;
+  in_range = refl;
+  long = lit≤ tt;
+  cells = four (λ k. IsClosed formatted (cell_place small k)) zero_is_closed zero_is_closed zero_is_closed zero_is_closed;
+  slots = one (λ s. IsClosed formatted (slot_place small s)) zero_is_closed;
+  first = zero_is_closed;
+}
+
+pub formatted_found : Found formatted (empty_state small)
+formatted_found = record {
+  shape = small;
+  slot = None;
+  batches = [];
+  laid_out = formatted_laid_out;
+  stand = record { spelled = refl; each = All-nil IsBatch; grow = refl; fold = refl };
+}
+
+-- a creation of this document, in order of creation, with this text of one letter, by the source "a"
+abbrev creation : ℕ → ℕ → ℕ → Taken
+creation document name letter = record {
+  document = document;
+  name = Some (name ∷ []);
+  revision = 1;
+  source = 97 ∷ [];
+  number = 1;
+  delta = Insert (letter ∷ []) ∷ [];
+}
+
+-- its batch of 45 bytes
+abbrev spelling : ℕ → ℕ → ℕ → List ℕ
+spelling document name letter =
+    1 ∷ 0 ∷ 0 ∷ 0
+    ∷ 1 ∷ document ∷ 0 ∷ 0 ∷ 0 ∷ 1 ∷ 0 ∷ 0 ∷ 0 ∷ 0 ∷ 0 ∷ 0 ∷ 0
+    ∷ 1 ∷ 0 ∷ 97 ∷ 1 ∷ 0 ∷ 0 ∷ 0 ∷ 0 ∷ 0 ∷ 0 ∷ 0
+    ∷ 1 ∷ 0 ∷ name
+    ∷ 1 ∷ 0 ∷ 0 ∷ 0 ∷ 1 ∷ 1 ∷ 0 ∷ 0 ∷ 0 ∷ letter ∷ 0 ∷ 0 ∷ 0 ∷ 0 ∷ []
+
+spelled_first : batch (creation 0 100 122 ∷ []) ≡ spelling 0 100 122
+unfolding number text16 text32 attributes operation delta created_name entry batch
+spelled_first = refl
+
+spelled_second : batch (creation 1 101 120 ∷ []) ≡ spelling 1 101 120
+unfolding number text16 text32 attributes operation delta created_name entry batch
+spelled_second = refl
+
+-- an open record of a body of 45 bytes
+abbrev recorded : List ℕ → List ℕ
+recorded body = 165 ∷ 45 ∷ 0 ∷ 0 ∷ 0 ∷ body
+
+-- the device before the first slot's area, with the slot open as segment 1
+abbrev before_area : List ℕ
+before_area = 165 ∷ superblock small ++ (replicate 1055 0 ++ (165 ∷ 1 ∷ replicate 7 0))
+
+-- after the first creation, of "d" with "z"
+abbrev created : List ℕ
+created = before_area ++ (recorded (spelling 0 100 122) ++ replicate 453 0)
+
+abbrev first_segment : Segment
+first_segment = record { number = 1; bodies = spelling 0 100 122 ∷ [] }
+
+pub created_held : HoldsSegment 1088 256 created first_segment
+created_held = record {
+  gate = refl;
+  number = refl;
+  from_one = lit≤ tt;
+  in_range = lit< tt;
+  bodies = record { gate = 0; behind = replicate 196 0; split = refl; closed = zero_is_closed; each = (record { some = lit< tt; short = lit< tt }, tt) };
+}
+
+pub created_laid_out : IsLaidOut created small (Some first_segment)
+created_laid_out = record {
+  formatted = record { long = lit≤ tt; gate = refl };
+  named = refl;
+  in_range = refl;
+  long = lit≤ tt;
+  cells = four (λ k. IsClosed created (cell_place small k)) zero_is_closed zero_is_closed zero_is_closed zero_is_closed;
+  slots = one (λ s. IsClosed created (slot_place small s)) zero_is_closed;
+  first = created_held;
+}
+
+-- the record of a document of one letter that a source made
+abbrev record_with : ℕ → ℕ → DocumentRecord
+record_with name letter = record { name = name ∷ []; units = letter ∷ []; revision = 1; floor = 0; sources = (record { source = 97 ∷ []; number = 1; revision = 1 }) ∷ [] }
+
+abbrev with_first : State
+with_first = record { limits = limits_of small; documents = record_with 100 122 ∷ [] }
+
+is_batch : (document name letter : ℕ) → IsTaken (creation document name letter) → IsBatch (creation document name letter ∷ [])
+is_batch document name letter is = record { some = lit≤ tt; short = lit< tt; taken = All-cons IsTaken (creation document name letter) [] is (All-nil IsTaken) }
+
+taken_first : IsTaken (creation 0 100 122)
+unfolding is_utf8 encode_utf8 chars
+taken_first = record { document = lit< tt; source = refl; kind = refl; delta = refl }
+
+grown_first : folded (empty_state small) (creation 0 100 122 ∷ []) ≡ with_first
+unfolding chars
+grown_first = refl
+
+pub created_found : Found created with_first
+created_found = record {
+  shape = small;
+  slot = Some first_segment;
+  batches = (creation 0 100 122 ∷ []) ∷ [];
+  laid_out = created_laid_out;
+  stand = record {
+    spelled = ap (λ (b : List ℕ). b ∷ []) (sym spelled_first);
+    each = All-cons IsBatch (creation 0 100 122 ∷ []) [] (is_batch 0 100 122 taken_first) (All-nil IsBatch);
+    grow = refl;
+    fold = sym grown_first;
+  };
+}
+
+-- after the second, of "e" with "x", behind it
+abbrev created_twice : List ℕ
+created_twice = before_area ++ (recorded (spelling 0 100 122) ++ (recorded (spelling 1 101 120) ++ replicate 403 0))
+
+abbrev second_segment : Segment
+second_segment = record { number = 1; bodies = spelling 0 100 122 ∷ spelling 1 101 120 ∷ [] }
+
+pub created_twice_held : HoldsSegment 1088 256 created_twice second_segment
+created_twice_held = record {
+  gate = refl;
+  number = refl;
+  from_one = lit≤ tt;
+  in_range = lit< tt;
+  bodies = record {
+    gate = 0;
+    behind = replicate 146 0;
+    split = refl;
+    closed = zero_is_closed;
+    each = (record { some = lit< tt; short = lit< tt }, (record { some = lit< tt; short = lit< tt }, tt));
+  };
+}
+
+pub created_twice_laid_out : IsLaidOut created_twice small (Some second_segment)
+created_twice_laid_out = record {
+  formatted = record { long = lit≤ tt; gate = refl };
+  named = refl;
+  in_range = refl;
+  long = lit≤ tt;
+  cells = four (λ k. IsClosed created_twice (cell_place small k)) zero_is_closed zero_is_closed zero_is_closed zero_is_closed;
+  slots = one (λ s. IsClosed created_twice (slot_place small s)) zero_is_closed;
+  first = created_twice_held;
+}
+
+abbrev with_both : State
+with_both = record { limits = limits_of small; documents = record_with 100 122 ∷ record_with 101 120 ∷ [] }
+
+taken_second : IsTaken (creation 1 101 120)
+unfolding is_utf8 encode_utf8 chars
+taken_second = record { document = lit< tt; source = refl; kind = refl; delta = refl }
+
+abbrev both : List Taken
+both = creation 0 100 122 ∷ creation 1 101 120 ∷ []
+
+both_grow : all_grow (empty_state small) both ≡ true
+unfolding chars
+both_grow = refl
+
+grown_both : folded (empty_state small) both ≡ with_both
+unfolding chars
+grown_both = refl
+
+pub created_twice_found : Found created_twice with_both
+created_twice_found = record {
+  shape = small;
+  slot = Some second_segment;
+  batches = (creation 0 100 122 ∷ []) ∷ (creation 1 101 120 ∷ []) ∷ [];
+  laid_out = created_twice_laid_out;
+  stand = record {
+    spelled = ap (λ (b : List ℕ). b ∷ spelling 1 101 120 ∷ []) (sym spelled_first) ∙ ap (λ (b : List ℕ). batch (creation 0 100 122 ∷ []) ∷ b ∷ []) (sym spelled_second);
+    each =
+        All-cons IsBatch (creation 0 100 122 ∷ []) ((creation 1 101 120 ∷ []) ∷ []) (is_batch 0 100 122 taken_first)
+        (All-cons IsBatch (creation 1 101 120 ∷ []) [] (is_batch 1 101 120 taken_second) (All-nil IsBatch));
+    grow = both_grow;
+    fold = sym grown_both;
+  };
+}
