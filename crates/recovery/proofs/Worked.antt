@@ -154,6 +154,10 @@ grown_first : folded (empty_state small) (creation 0 100 122 ∷ []) ≡ with_fi
 unfolding chars
 grown_first = refl
 
+first_grows : all_grow (empty_state small) (creation 0 100 122 ∷ []) ≡ true
+unfolding chars
+first_grows = refl
+
 pub created_found : Found created with_first
 created_found = record {
   shape = small;
@@ -163,7 +167,7 @@ created_found = record {
   stand = record {
     spelled = ap (λ (b : List ℕ). b ∷ []) (sym spelled_first);
     each = All-cons IsBatch (creation 0 100 122 ∷ []) [] (is_batch 0 100 122 taken_first) (All-nil IsBatch);
-    grow = refl;
+    grow = first_grows;
     fold = sym grown_first;
   };
 }
