@@ -1,6 +1,6 @@
 -- States that agree.
 use Rattle.std.proofs.Common.{◌≡◌, ℕ, ◌+◌, suc, Bool, true, false, ◌&&◌, ◌==◌, Option, Some, None, is_none, nat_lt, nat_le, bytes_eq, if◌then◌else◌, List, [], ◌∷◌, ◌++◌, length, refl, sym, ◌∙◌, ap, subst}
-use Rattle.document.specs.Delta.{inserted}
+use Rattle.plain.specs.Delta.{inserted}
 use Rattle.journal.specs.declared.revision.state.Limits.{Limits}
 use Rattle.journal.specs.Command.{Taken, width_of}
 use Rattle.journal.specs.State.{DocumentRecord, State, record_of, last_of, weight_of, creates, grows, grows_by_name, created, grown, grown_by_name, folded, all_grow}

@@ -6,7 +6,7 @@ use Rattle.std.proofs.lemmas.Bool.{and_parts, ltb-true, lt-ltb, eqb-true}
 use Rattle.std.proofs.lemmas.List.{append-nil, nil_from_length}
 use Rattle.std.proofs.lemmas.List.Elements.{All-from_recursion, recursion_from_All}
 use Rattle.std.proofs.lemmas.Option.{cond_some, option_and_then_some, same_Some, some_pair_parts}
-use Rattle.document.specs.Delta.{Operation}
+use Rattle.plain.specs.Delta.{Operation}
 use Rattle.journal.specs.Name.{is_document_name, is_source_name}
 use Rattle.journal.specs.Command.{Taken, IsTaken, is_kind}
 use Rattle.journal.specs.Spelling.{number, text16, created_name, delta, entry, batch, IsBatch}

@@ -3,7 +3,7 @@ use Rattle.std.proofs.Common.{◌≡◌, ◌<◌, ◌^◌, ℕ, List, [], ◌∷
 use Rattle.std.specs.Str.{IsUtf8}
 use Rattle.std.proofs.lemmas.Str.{is_utf8-from_IsUtf8}
 use Rattle.std.proofs.lemmas.Bool.Decides.{nat_tests}
-use Rattle.document.specs.Delta.{inserting}
+use Rattle.plain.specs.Delta.{inserting}
 use Rattle.journal.specs.Command.{is_delta}
 
 pub is_delta-inserting : (text : List ℕ) → IsUtf8 text → length text < 2 ^ 32 → is_delta (inserting text) ≡ true

@@ -8,7 +8,7 @@ use Rattle.std.proofs.lemmas.Bool.Decides.{nat_tests}
 use Rattle.std.proofs.lemmas.List.{append-nil}
 use Rattle.std.proofs.lemmas.Option.{cond_some, option_and_then_some, same_Some}
 use Rattle.std.proofs.lemmas.Str.{IsUtf8-from_ascii, is_utf8-from_IsUtf8}
-use Rattle.document.specs.Delta.{Operation, Insert, inserting}
+use Rattle.plain.specs.Delta.{Operation, Insert, inserting}
 use Rattle.journal.specs.Name.{is_name_byte, is_name}
 use Rattle.journal.specs.Command.{is_delta}
 use Rattle.journal.specs.Spelling.{number, text16, text32, attributes, operation, delta}

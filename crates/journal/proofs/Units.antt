@@ -7,7 +7,7 @@ use Rattle.std.specs.Char.Escape.{encode_utf16}
 use Rattle.std.proofs.lemmas.Bool.{cond_both}
 use Rattle.std.proofs.lemmas.List.{length-append}
 use Rattle.std.proofs.lemmas.Str.{length-le-encodes, encodes-chars}
-use Rattle.document.specs.Units.{units_of}
+use Rattle.plain.specs.Units.{units_of}
 
 length-encode_utf16 : (c : ℕ) → length (encode_utf16 c) ≤ 2
 length-encode_utf16 c = cond_both (nat_lt c 0x1_0000) _ _ (λ (units : List ℕ). length units ≤ 2) (λ _. omega arith) (λ _. omega arith)

@@ -1,6 +1,6 @@
 -- A batch spelled out, 45 bytes: the source "a" creates the document "d" with the text "z".
 use Rattle.std.proofs.Common.{◌≡◌, Some, [], ◌∷◌, refl}
-use Rattle.document.specs.Delta.{Insert}
+use Rattle.plain.specs.Delta.{Insert}
 use Rattle.journal.specs.Command.{Taken}
 use Rattle.journal.specs.Spelling.{number, text16, text32, attributes, operation, delta, created_name, entry, batch}
 

@@ -2,7 +2,7 @@
 use Rattle.std.specs.Prelude.{ℕ, ◌==◌, ◌&&◌, nat_lt, nat_le, if◌then◌else◌, Option, Some, None, List, length}
 use Rattle.refusal.specs.declared.Refusal.{Refusal}
 use Rattle.refusal.specs.declared.Refusal.TheVariants.{Exists, Gap, TooManyDocuments, TooHeavy, TooWide}
-use Rattle.document.specs.Delta.{Operation, inserted}
+use Rattle.plain.specs.Delta.{Operation, inserted}
 use Rattle.journal.specs.Command.{Action, Create, Command, Taken, width_of}
 use Rattle.journal.specs.State.{DocumentRecord, State, record_of, last_of, weight_of}
 

@@ -1,7 +1,7 @@
 -- What a source asks for, and what is taken of it.
 use Rattle.std.specs.Prelude.{ℕ, ◌≡◌, ◌<◌, ◌^◌, ◌+◌, ◌==◌, ◌&&◌, nat_lt, Bool, true, false, Option, Some, None, List, [], ◌∷◌, length}
 use Rattle.std.specs.Str.{is_utf8}
-use Rattle.document.specs.Delta.{Operation, Insert}
+use Rattle.plain.specs.Delta.{Operation, Insert}
 use Rattle.journal.specs.Name.{is_document_name, is_source_name}
 
 -- what is to be done to a document

@@ -1,6 +1,6 @@
 -- What a store holds: documents in order of creation, under limits.
 use Rattle.std.specs.Prelude.{ℕ, ◌+◌, ◌-◌, ◌*◌, ◌==◌, ◌&&◌, nat_lt, nat_le, bytes_eq, if◌then◌else◌, Bool, true, false, Option, Some, None, is_none, List, [], ◌∷◌, ◌++◌, length}
-use Rattle.document.specs.Delta.{inserted}
+use Rattle.plain.specs.Delta.{inserted}
 use Rattle.journal.specs.declared.revision.state.Limits.{Limits}
 use Rattle.journal.specs.declared.revision.state.SourceEntry.{SourceEntry}
 use Rattle.journal.specs.Command.{Taken, width_of}

@@ -3,7 +3,7 @@
 //! To the layer above the crate promises: a command is answered by the first case of the rule of acceptance that
 //! holds; a batch of commands that were taken has one spelling, which is read back; an area holds the bodies that
 //! were appended to it, and a crash at any moment of an append leaves them with the new one or without. It stands on
-//! `disk` and `document`. The rule of acceptance (`revision`) is a module of this crate until it is a crate of its own.
+//! `disk` and `plain`. The rule of acceptance (`revision`) is a module of this crate until it is a crate of its own.
 #![tactic(auto)]
 
 mod area;

@@ -5,7 +5,7 @@ use Rattle.std.specs.Prelude.{replicate, slice_index}
 use Rattle.std.proofs.lemmas.List.Elements.{All-cons, All-nil}
 use Rattle.std.specs.Char.{encode_utf8}
 use Rattle.std.specs.Str.{chars, is_utf8}
-use Rattle.document.specs.Delta.{Insert}
+use Rattle.plain.specs.Delta.{Insert}
 use Rattle.journal.specs.Command.{Taken, IsTaken}
 use Rattle.journal.specs.Spelling.{IsBatch, number, text16, text32, attributes, operation, delta, created_name, entry, batch}
 use Rattle.journal.specs.State.{State, DocumentRecord, folded, all_grow}

@@ -6,8 +6,8 @@ use Rattle.serde_json.specs.declared.value.Value.{Value}
 use Rattle.serde_json.proofs.Views.{items_len-items_view}
 use Rattle.refusal.specs.declared.Refusal.{Refusal}
 use Rattle.refusal.specs.declared.Refusal.TheVariants.{BadOps, TooManyOps, NoMemory}
-use Rattle.document.specs.Units.{units_of}
-use Rattle.document.specs.Delta.{Operation, inserting}
+use Rattle.plain.specs.Units.{units_of}
+use Rattle.plain.specs.Delta.{Operation, inserting}
 use Rattle.server.specs.Due.{IsDue}
 use Rattle.server.specs.Operations.{joined, bounded, bounded_text, delta_of}
 

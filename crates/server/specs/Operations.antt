@@ -5,8 +5,8 @@ use Rattle.serde_json.specs.Find.{get, as_str, as_object}
 use Rattle.serde_json.specs.Events.{items_len, members_len}
 use Rattle.refusal.specs.declared.Refusal.{Refusal}
 use Rattle.refusal.specs.declared.Refusal.TheVariants.{BadOps, TooManyOps}
-use Rattle.document.specs.Units.{units_of}
-use Rattle.document.specs.Delta.{Operation, Insert, inserting}
+use Rattle.plain.specs.Units.{units_of}
+use Rattle.plain.specs.Delta.{Operation, Insert, inserting}
 
 -- how many members an object has, 0 for any other value
 abbrev pub members_counted : Option Members → ℕ

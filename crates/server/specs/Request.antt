@@ -5,7 +5,7 @@ use Rattle.serde_json.specs.Data.{Data, Items}
 use Rattle.serde_json.specs.Read.{read}
 use Rattle.refusal.specs.declared.Refusal.{Refusal}
 use Rattle.refusal.specs.declared.Refusal.TheVariants.{BadLine, BadMessage, NoHello, BadName, BadOps}
-use Rattle.document.specs.Delta.{Operation, inserted}
+use Rattle.plain.specs.Delta.{Operation, inserted}
 use Rattle.journal.specs.Name.{is_document_name, is_source_name}
 use Rattle.journal.specs.Command as command
 use Rattle.server.specs.Operations.{delta_of}

@@ -8,7 +8,7 @@ ghost use Rattle.serde_json.specs.View.{view, items_view};
 ghost use Rattle.server.specs.Due.{IsDue};
 ghost use Rattle.server.specs.Operations as spec;
 
-use document::Delta;
+use plain::Delta;
 use refusal::Refusal;
 use serde_json::{Value, json};
 use std::alloc::{AllocError, Global};

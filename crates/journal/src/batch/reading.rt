@@ -1,7 +1,7 @@
 //! Reading: each part of the spelling has one function, which answers what it read and the bytes behind it.
 ghost use Rattle.std.specs.Prelude.{◌≡◌, ◌<◌, ◌^◌, List, true, length, IfOk, IfErr, IfSome, IfNone};
 ghost use Rattle.std.specs.Int.{w16, w32, w64};
-ghost use Rattle.document.specs.Delta.{inserting};
+ghost use Rattle.plain.specs.Delta.{inserting};
 ghost use Rattle.journal.specs.Name.{is_source_name, is_document_name};
 ghost use Rattle.journal.specs.Command as command;
 ghost use Rattle.journal.specs.Command.{is_delta};
@@ -10,7 +10,7 @@ ghost use Rattle.journal.specs.Reading.{Gives, part_at, number_at, fixed_at, tag
 
 use super::unread::Unread;
 use crate::revision::{Name, Taken};
-use document::Delta;
+use plain::Delta;
 use refusal::Refusal;
 use std::alloc::{AllocError, Global};
 use std::str;

@@ -1,12 +1,12 @@
 //! Writing: each part of the spelling has one function.
 ghost use Rattle.std.specs.Prelude.{◌≡◌, ◌≤◌, ◌<◌, ◌^◌, ◌++◌, true, length, option_map, OnOk, IfOk};
 ghost use Rattle.std.specs.Int.{w16, w32, w64};
-ghost use Rattle.document.specs.Delta.{Insert};
+ghost use Rattle.plain.specs.Delta.{Insert};
 ghost use Rattle.journal.specs.Command.{IsTaken, is_delta};
 ghost use Rattle.journal.specs.Spelling as spelling;
 
 use crate::revision::{Name, Taken};
-use document::Delta;
+use plain::Delta;
 use std::alloc::{AllocError, Global};
 
 /// The spelling of a batch of 1 to 2^32 - 1 commands.

@@ -1,12 +1,12 @@
 //! What a source asks for.
 ghost use Rattle.std.specs.Prelude.{◌≡◌, ◌<◌, ◌≤◌, ◌^◌, ◌↔◌, ◌⊎◌, ◌+◌, true, length, IsErrOf, IfErr, IfOk};
-ghost use Rattle.document.specs.Delta.{inserted};
+ghost use Rattle.plain.specs.Delta.{inserted};
 ghost use Rattle.journal.specs.Name.{is_source_name};
 ghost use Rattle.journal.specs.Command.{Create};
 ghost use Rattle.journal.specs.Actions.{action_of};
 
 use super::name::Name;
-use document::Delta;
+use plain::Delta;
 use refusal::Refusal;
 use std::marker::Model;
 

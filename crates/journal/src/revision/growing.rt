@@ -1,6 +1,6 @@
 //! What was taken is added to the state.
 ghost use Rattle.std.specs.Prelude.{◌≡◌, ◌⊎◌, ◌↔◌, ◌≤◌, ◌&&◌, ◌==◌, true, false, [], ◌∷◌, length, take, nat_lt, nat_le, is_none, Some, IfOk, IfErr, OnOk, OnErr, IsErrOf};
-ghost use Rattle.document.specs.Delta.{inserted};
+ghost use Rattle.plain.specs.Delta.{inserted};
 ghost use Rattle.journal.specs.Command.{width_of};
 ghost use Rattle.journal.specs.State.{creates, grows, grown, folded, all_grow, created, record_of, weight_of};
 

@@ -6,7 +6,7 @@ ghost use Rattle.journal.specs.Planned.{Gives};
 use super::command::{Action, Command};
 use super::state::{DocState, State};
 use super::taken::{Taken, creation_width};
-use document::Delta;
+use plain::Delta;
 use refusal::Refusal;
 use std::alloc::Global;
 

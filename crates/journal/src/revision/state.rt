@@ -4,7 +4,7 @@ ghost use Rattle.journal.specs.State.{created, last_of, record_of};
 
 use super::name::Name;
 use super::taken::Taken;
-use document::Document;
+use plain::Document;
 use refusal::Refusal;
 use std::alloc::Global;
 use std::marker::Model;

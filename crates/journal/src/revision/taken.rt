@@ -3,7 +3,7 @@ ghost use Rattle.std.specs.Prelude.{◌≡◌, ◌<◌, ◌^◌, ◌+◌, true, 
 ghost use Rattle.journal.specs.Command.{IsTaken, width_of, operations_width, is_delta};
 
 use super::name::Name;
-use document::Delta;
+use plain::Delta;
 use std::marker::Model;
 
 /// A command that was taken: which document's next revision it makes, for whom, and by which delta.

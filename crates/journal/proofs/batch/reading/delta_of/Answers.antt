@@ -1,6 +1,6 @@
 use Rattle.std.proofs.Common.{◌≡◌, ◌∙◌, true, Err, length, subst, sym, ap, arith}
-use Rattle.document.specs.Delta.{inserting}
-use Rattle.document.specs.Units.{units_of}
+use Rattle.plain.specs.Delta.{inserting}
+use Rattle.plain.specs.Units.{units_of}
 use Rattle.journal.specs.Command.{is_delta}
 use Rattle.journal.proofs.Inserting.{is_delta-inserting}
 use Rattle.journal.proofs.Units.{length-units_of}

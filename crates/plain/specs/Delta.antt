@@ -1,6 +1,6 @@
 -- Deltas, as lists of operations (quill-delta's README), so far with insertions of plain text alone.
 use Rattle.std.specs.Prelude.{ℕ, List, [], ◌∷◌, ◌++◌}
-use Rattle.document.specs.Units.{units_of}
+use Rattle.plain.specs.Units.{units_of}
 
 -- an operation; a text is its bytes of UTF-8
 pub data Operation : Type 0 where

@@ -6,8 +6,8 @@ use Rattle.std.specs.Char.Escape.{encode_utf16}
 use Rattle.std.proofs.lemmas.Str.{chars-nil, chars-append}
 use Rattle.std.proofs.lemmas.List.{append-nil}
 use Rattle.std.proofs.lemmas.List.Concat.{flat_map-append}
-use Rattle.document.specs.Units.{units_of}
-use Rattle.document.specs.Delta.{inserting, inserted}
+use Rattle.plain.specs.Units.{units_of}
+use Rattle.plain.specs.Delta.{inserting, inserted}
 
 pub units_of-nil : units_of [] ≡ []
 units_of-nil = ap (λ (cs : List ℕ). flat_map encode_utf16 cs) chars-nil

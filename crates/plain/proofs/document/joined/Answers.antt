@@ -1,9 +1,9 @@
 use Rattle.std.proofs.Common.{◌≡◌, ◌++◌, ◌∙◌, ap, arith}
 use Rattle.std.specs.String.{string_bytes}
 use Rattle.std.proofs.lemmas.Grind.{common_steps}
-use Rattle.document.specs.Units.{units_of}
-use Rattle.document.proofs.Texts.{units_of-append}
-use Rattle.document.proofs.document.joined.Goals as goal
+use Rattle.plain.specs.Units.{units_of}
+use Rattle.plain.proofs.Texts.{units_of-append}
+use Rattle.plain.proofs.document.joined.Goals as goal
 
 pub returns : goal.returns
 returns c =

@@ -1,9 +1,9 @@
-//! Documents, as lists of UTF-16 code units, and the deltas that make them.
+//! Plain documents: lists of UTF-16 code units, and the deltas that make them. The journal stands on them until it
+//! takes rich text.
 //!
 //! A delta lists insertions of text, a document is what they have made of the empty one. To the layer above it
 //! promises that a document is seen as its code units, and that applying a delta gives just the units of what it
-//! inserts. It stands on `refusal` alone. Counting code units (`utf16`) and deltas (`delta`) are modules of this
-//! crate until they become crates of their own.
+//! inserts. It stands on `refusal` alone.
 #![tactic(auto)]
 
 mod delta;

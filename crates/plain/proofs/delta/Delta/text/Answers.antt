@@ -1,9 +1,9 @@
 use Rattle.std.proofs.Common.{◌≡◌, ◌∙◌, ap, sym, arith, length}
 use Rattle.std.specs.String.{string_bytes}
-use Rattle.document.specs.Delta.{inserted}
-use Rattle.document.specs.Units.{units_of}
-use Rattle.document.proofs.Texts.{inserted-inserting}
-use Rattle.document.proofs.delta.Delta.text.Goals as goal
+use Rattle.plain.specs.Delta.{inserted}
+use Rattle.plain.specs.Units.{units_of}
+use Rattle.plain.proofs.Texts.{inserted-inserting}
+use Rattle.plain.proofs.delta.Delta.text.Goals as goal
 
 pub returns-clause-units : goal.returns-clause-units
 returns-clause-units c = ap inserted (sym c.self.view_is) ∙ inserted-inserting _ ∙ ap units_of (sym c.as_str.ensures.value)

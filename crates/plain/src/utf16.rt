@@ -1,6 +1,6 @@
 //! Lengths of text in UTF-16 code units.
 ghost use Rattle.std.specs.Prelude.{◌≡◌, length};
-ghost use Rattle.document.specs.Units.{units_of};
+ghost use Rattle.plain.specs.Units.{units_of};
 
 /// How many UTF-16 code units the text has: one for each character below U+10000, two for each other.
 pub fn len16(text: &str) -> u64

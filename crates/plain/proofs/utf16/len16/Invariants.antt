@@ -1,7 +1,7 @@
 use Rattle.std.proofs.Common.{◌≡◌, length, ◌+◌, ◌*◌, ◌≤◌}
 use Rattle.std.specs.List.{flat_map}
 use Rattle.std.specs.Char.Escape.{encode_utf16}
-use Rattle.document.proofs.utf16.len16.Given as goal
+use Rattle.plain.proofs.utf16.len16.Given as goal
 
 abbrev pub invariant-loop-c : goal.invariant-loop-c
 invariant-loop-c l = record {

@@ -4,7 +4,7 @@ use Rattle.std.specs.Char.Escape.{encode_utf16}
 use Rattle.std.proofs.lemmas.Iterator.{YieldsList-from_chars}
 use Rattle.std.proofs.lemmas.Iterator.Consumers.{YieldsList-end}
 use Rattle.std.proofs.lemmas.List.Folds.{flat_map-map}
-use Rattle.document.proofs.utf16.len16.Goals as goal
+use Rattle.plain.proofs.utf16.len16.Goals as goal
 
 pub returns : goal.returns
 returns c =

@@ -1,8 +1,8 @@
 //! A document.
 ghost use Rattle.std.specs.Prelude.{◌≡◌, ◌<◌, ◌≤◌, ◌^◌, ◌+◌, ◌*◌, ◌↔◌, ◌⊎◌, ◌++◌, [], length, OnErr, OnOk, IfOk, IfErr, IsErrOf};
 ghost use Rattle.std.specs.String.{string_bytes};
-ghost use Rattle.document.specs.Units.{units_of};
-ghost use Rattle.document.specs.Delta.{inserted};
+ghost use Rattle.plain.specs.Units.{units_of};
+ghost use Rattle.plain.specs.Delta.{inserted};
 
 use crate::delta::Delta;
 use crate::utf16::len16;
@@ -26,7 +26,7 @@ pub struct Document {
 impl Model for Document {
     ghost use Rattle.std.specs.Prelude.{◌≡◌, List, ℕ, ◌≤◌, ◌^◌, length};
     ghost use Rattle.std.specs.String.{string_bytes};
-    ghost use Rattle.document.specs.Units.{units_of};
+    ghost use Rattle.plain.specs.Units.{units_of};
 
     ghost Value = { List ℕ };
 

@@ -1,8 +1,8 @@
 //! Deltas that insert plain text.
 ghost use Rattle.std.specs.Prelude.{◌≡◌, ◌<◌, ◌≤◌, ◌^◌, ◌↔◌, ◌⊎◌, length, IfOk, IfErr, IsErrOf, String};
 ghost use Rattle.std.specs.String.{string_bytes};
-ghost use Rattle.document.specs.Units.{units_of};
-ghost use Rattle.document.specs.Delta.{inserting, inserted};
+ghost use Rattle.plain.specs.Units.{units_of};
+ghost use Rattle.plain.specs.Delta.{inserting, inserted};
 
 use crate::utf16::len16;
 use refusal::Refusal;
@@ -21,8 +21,8 @@ pub struct Delta {
 impl Model for Delta {
     ghost use Rattle.std.specs.Prelude.{List, ◌≤◌, ◌^◌, length};
     ghost use Rattle.std.specs.String.{string_bytes};
-    ghost use Rattle.document.specs.Units.{units_of};
-    ghost use Rattle.document.specs.Delta.{Operation, inserting};
+    ghost use Rattle.plain.specs.Units.{units_of};
+    ghost use Rattle.plain.specs.Delta.{Operation, inserting};
 
     ghost Value = { List Operation };
 
