@@ -1,11 +1,16 @@
 -- The four calls of a write behind a gate, one after another.
 use Rattle.std.proofs.Common.{◌≡◌, inl, inr, ℕ, ◌+◌, ◌≤◌, ◌<◌, List, [], ◌∷◌, ◌++◌, length, take, drop, get_or, refl, sym, ◌∙◌, ap, subst, arith, take-append-drop}
 use Rattle.std.proofs.lemmas.List.{drop_more}
-use Rattle.disk.specs.Device.{History, overwritten, SameOutside, Opens, Closes, GoesOn}
+use Rattle.disk.specs.Device.{State, History, overwritten, SameOutside, Opens, Closes, GoesOn, Stays, Steps}
 use Rattle.disk.specs.Crash.{Leaves}
 use Rattle.disk.proofs.Contents.{length-overwritten}
 use Rattle.disk.proofs.Moments.{Rests, rests_first, rests_write, rests_next}
 use Rattle.journal.specs.Area.{IsGated}
+
+-- a call is one moment more at most
+pub one_more : {Step : State → State → Type 0} {old new : History} → GoesOn Step old new → length new.past ≤ length old.past + 1
+one_more {old = old} {new = new} (Stays same) = let past : length new.past ≡ length old.past = ap (λ (h : History). length h.past) same in omega (arith, past)
+one_more {old = old} {new = new} (Steps more step) = let past : length new.past ≡ length (old.now ∷ old.past) = ap (λ (l : List State). length l) more in omega (arith, past)
 
 -- bytes that agree but for one place are the old ones with a byte put there
 pub one_byte : (at : ℕ) (old new : List ℕ) → at < length old → SameOutside at 1 old new → new ≡ overwritten old at (get_or new at 0 ∷ [])

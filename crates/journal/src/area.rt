@@ -130,6 +130,8 @@ impl Area {
             → IsAfter (D.seen disk.old) self.old bodies body.now (D.seen disk.new) self.new) }
         ensures synced { OnOk result (D.unsynced disk.new ≡ []) }
 
+        // Four calls of the device at most.
+        ensures calls { length (D.past disk.new) ≤ length (D.past disk.old) + 4 }
         ensures length { length (D.seen disk.new) ≡ length (D.seen disk.old) }
         ensures honest { D.honest disk.new ↔ D.honest disk.old }
         ensures good { OnOk result (D.faults disk.new ≡ D.faults disk.old) }

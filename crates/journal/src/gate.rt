@@ -25,6 +25,8 @@ pub fn write_gated<D: Disk>(disk: &mut D, gate: u64, bytes: &[u8]) -> Result<(),
     ensures length { length (D.seen disk.new) ≡ length (D.seen disk.old) }
     ensures honest { D.honest disk.new ↔ D.honest disk.old }
 
+    // Four calls of the device at most.
+    ensures calls { length (D.past disk.new) ≤ length (D.past disk.old) + 4 }
     ensures good { OnOk result (D.faults disk.new ≡ D.faults disk.old) }
     ensures failed { OnErr result (Rose (D.faults disk.old) (D.faults disk.new)) }
 {

@@ -29,6 +29,7 @@ pub struct Ring {
 
 impl Ring {
     ghost use Rattle.disk.specs.Crash.{LeavesOnly};
+    ghost use Rattle.journal.specs.Area.{Place};
     ghost use Rattle.recovery.specs.Slot.{Segment, bodies_of};
     ghost use Rattle.recovery.specs.Room.{has_room_for};
     ghost use Rattle.recovery.specs.Ring.{FitsSlot, HasBeforeOrAfter, HasAfter, HasKept, HasSame, IsReady};
@@ -70,6 +71,9 @@ impl Ring {
         ensures given_up { IsErrOf result Refusal.NoMemory → (slot : Option Segment) → D.unsynced disk.old ≡ [] → FitsSlot (D.seen disk.old) self.old slot
             → HasKept (D.seen disk.old) self.old (bodies_of slot) (D.seen disk.new) self.new × (D.unsynced disk.new ≡ []) }
 
+        // Four calls of the device at most, and four more where a slot is opened.
+        ensures calls { length (D.past disk.new) ≤ length (D.past disk.old) + 8 }
+        ensures calls_in_open { (area : Place) → self.old.newest ≡ Some area → length (D.past disk.new) ≤ length (D.past disk.old) + 4 }
         ensures length { length (D.seen disk.new) ≡ length (D.seen disk.old) }
         ensures honest { D.honest disk.new ↔ D.honest disk.old }
         ensures good { OnOk result (D.faults disk.new ≡ D.faults disk.old) }
@@ -100,6 +104,7 @@ impl Ring {
             → IsReady self.old.at self.old.size (D.seen disk.old) (bodies_of slot) (D.seen disk.new) area.next) }
         ensures synced { OnOk result (D.unsynced disk.old ≡ [] → D.unsynced disk.new ≡ []) }
 
+        ensures calls { length (D.past disk.new) ≤ length (D.past disk.old) + 4 }
         ensures length { length (D.seen disk.new) ≡ length (D.seen disk.old) }
         ensures honest { D.honest disk.new ↔ D.honest disk.old }
         ensures good { OnOk result (D.faults disk.new ≡ D.faults disk.old) }

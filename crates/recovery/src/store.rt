@@ -150,6 +150,8 @@ impl<D: Disk> Store<D> {
         ensures done { OnOk result (IsOpen self.old → IsOpen self.new) }
         ensures kept { IfErr result (λ e. e ≢ Refusal.Fault → IsOpen self.old → IsOpen self.new) }
 
+        // Eight calls of the device at most: four for the record, and four for a slot that is opened for it.
+        ensures calls { length (D.past (device_of self.new)) ≤ length (D.past (device_of self.old)) + 8 }
         ensures honest { D.honest (device_of self.new) ↔ D.honest (device_of self.old) }
     {
         if self.failed {

@@ -1,7 +1,7 @@
-use Rattle.std.proofs.Common.{refl}
+use Rattle.std.proofs.Common.{refl, arith}
 use Rattle.disk.specs.Crash.{history_of}
 use Rattle.disk.proofs.Moments.{goes_on_sync}
-use Rattle.journal.proofs.Gated.{behind, kept, opened}
+use Rattle.journal.proofs.Gated.{behind, kept, opened, one_more}
 use Rattle.journal.proofs.gate.write_gated.Goals as goal
 
 pub returns-in_err-write_at-clause-any_moment : goal.returns-in_err-write_at-clause-any_moment
@@ -23,3 +23,16 @@ returns-clause-any_moment g c synced =
     let rests = kept _ _ _ c.requires.fits (history_of g.D.Disk c.args.disk.now) (history_of g.D.Disk c.write_at.new.self) (history_of g.D.Disk c.sync.new.self) refl synced c.write_at.ensures.time
     c.in_ok-write_at.ensures.written c.sync.ensures.time c.sync.ensures.seen c.in_ok-sync.ensures.closed in
     goes_on_sync (opened _ _ _ c.requires.fits _ _ (history_of g.D.Disk c.write_at-2.new.self) rests c.write_at-2.ensures.time) c.sync-2.ensures.time
+
+-- each call is one moment at most
+pub returns-in_err-write_at-clause-calls : goal.returns-in_err-write_at-clause-calls
+returns-in_err-write_at-clause-calls g c = omega (arith, one_more c.write_at.ensures.time)
+
+pub returns-in_err-sync-clause-calls : goal.returns-in_err-sync-clause-calls
+returns-in_err-sync-clause-calls g c = omega (arith, one_more c.write_at.ensures.time, one_more c.sync.ensures.time)
+
+pub returns-in_err-write_at-2-clause-calls : goal.returns-in_err-write_at-2-clause-calls
+returns-in_err-write_at-2-clause-calls g c = omega (arith, one_more c.write_at.ensures.time, one_more c.sync.ensures.time, one_more c.write_at-2.ensures.time)
+
+pub returns-clause-calls : goal.returns-clause-calls
+returns-clause-calls g c = omega (arith, one_more c.write_at.ensures.time, one_more c.sync.ensures.time, one_more c.write_at-2.ensures.time, one_more c.sync-2.ensures.time)
