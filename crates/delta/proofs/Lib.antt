@@ -5,3 +5,4 @@ pub mod Neighbours
 pub mod Normality
 pub mod BuiltLists
 pub mod Effects
+pub mod Lengths
