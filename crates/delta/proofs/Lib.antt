@@ -6,3 +6,5 @@ pub mod Normality
 pub mod BuiltLists
 pub mod Effects
 pub mod Lengths
+pub mod Telling
+pub mod SameEffects

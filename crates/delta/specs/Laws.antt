@@ -62,6 +62,14 @@ EffectOfNormal = (d : List Element) (g : Gaps) → apply d (counted (nf g)) ≡ 
 abbrev pub SameForm : Type 0
 SameForm = (a b : List Operation) → IsNormal a → IsNormal b → trimmed (settled (counted a)) ≡ trimmed (settled (counted b)) → a ≡ b
 
+-- two lists have the same effect on each document that is long enough for both
+abbrev pub HaveSameEffect : List Operation → List Operation → Type 0
+HaveSameEffect a b = (d : List Element) → base_of a ≤ length d → base_of b ≤ length d → apply d (counted a) ≡ apply d (counted b)
+
+-- two lists in normal form with the same effect are one list
+abbrev pub SameEffect : Type 0
+SameEffect = (a b : List Operation) → IsNormal a → IsNormal b → HaveSameEffect a b → a ≡ b
+
 -- the built form has the lengths of the operations
 abbrev pub LengthsOfBuilt : Type 0
 LengthsOfBuilt = (ops : List Operation) → (base_of (built ops) ≡ base_of ops) × (out_of (built ops) ≡ out_of ops)

@@ -1,5 +1,5 @@
 //! What holds of operations, counted out and in normal form, as contracts to cite: each function does nothing and promises one law.
-ghost use Rattle.delta.specs.Laws.{CountedOfAppend, JoinedThrice, UnitsCounted, BuiltIsKept, NormalIsKept, CountedOfSpelled, SpelledIsBuilt, NormalIsNormal, BuiltInPieces, NormalOfBuilt, EffectOfSettled, EffectOfTrimmed, EffectOfBuilt, EffectOfNormal, SameForm, LengthsOfBuilt, LengthsOfNormal, BaseOfNormal, BoundOfBuilt, BoundOfNormal, LengthOfEffect};
+ghost use Rattle.delta.specs.Laws.{CountedOfAppend, JoinedThrice, UnitsCounted, BuiltIsKept, NormalIsKept, CountedOfSpelled, SpelledIsBuilt, NormalIsNormal, BuiltInPieces, NormalOfBuilt, EffectOfSettled, EffectOfTrimmed, EffectOfBuilt, EffectOfNormal, SameForm, SameEffect, LengthsOfBuilt, LengthsOfNormal, BaseOfNormal, BoundOfBuilt, BoundOfNormal, LengthOfEffect};
 
 /// Counting out of an append.
 pub fn counted_of_append()
@@ -74,6 +74,11 @@ pub fn effect_of_normal()
 /// Lists in normal form of one settled and trimmed gap form are equal.
 pub fn same_form()
     ensures { SameForm }
+{}
+
+/// Lists in normal form with the same effect on each document that is long enough are equal.
+pub fn same_effect()
+    ensures { SameEffect }
 {}
 
 /// The lengths of the built form.
