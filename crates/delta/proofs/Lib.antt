@@ -6,5 +6,6 @@ pub mod Normality
 pub mod BuiltLists
 pub mod Effects
 pub mod Lengths
+pub mod Parts
 pub mod Telling
 pub mod SameEffects
