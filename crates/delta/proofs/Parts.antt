@@ -60,9 +60,9 @@ effect_of_delete (x ∷ d) e (suc n) ops same = effect_of_delete d e n ops (omeg
 filling : Element
 filling = record { item = code_unit 0; attributes = empty }
 
-pub same_effect_from : (m : ℕ) (g h : Gaps) → ((d : List Element) → m ≤ length d → apply d g ≡ apply d h)
+pub same_from : (m : ℕ) (g h : Gaps) → ((d : List Element) → m ≤ length d → apply d g ≡ apply d h)
     → (d : List Element) → units_below g ≤ length d → units_below h ≤ length d → apply d g ≡ apply d h
-same_effect_from m g h same d long_g long_h =
+same_from m g h same d long_g long_h =
     let e = replicate m filling in
     append_cancel_right (apply d g) (apply d h) e
     (sym (apply-past_end d e g long_g) ∙ (same (d ++ e) (omega (arith, length-append d e, length-replicate m filling)) ∙ apply-past_end d e h long_h))

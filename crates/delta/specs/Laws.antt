@@ -104,6 +104,11 @@ HaveSameEffect a b = (d : List Element) → base_of a ≤ length d → base_of b
 abbrev pub SameEffect : Type 0
 SameEffect = (a b : List Operation) → IsNormal a → IsNormal b → HaveSameEffect a b → a ≡ b
 
+-- and that on the documents from any length on
+abbrev pub SameEffectFrom : Type 0
+SameEffectFrom = (m : ℕ) (a b : List Operation) → IsNormal a → IsNormal b
+    → ((d : List Element) → m ≤ length d → apply d (counted a) ≡ apply d (counted b)) → a ≡ b
+
 -- any two lists have the same effect just where they have one normal form
 abbrev pub NormalOfSameEffect : Type 0
 NormalOfSameEffect = (a b : List Operation) → HaveSameEffect a b ↔ (nf (counted a) ≡ nf (counted b))

@@ -1,5 +1,5 @@
 //! What holds of operations, counted out and in normal form, as contracts to cite: each function does nothing and promises one law.
-ghost use Rattle.delta.specs.Laws.{CountedOfAppend, JoinedThrice, UnitsCounted, BuiltIsKept, NormalIsKept, CountedOfSpelled, SpelledIsBuilt, NormalIsNormal, BuiltInPieces, BuiltFromPieces, NormalOfBuilt, EffectOfParts, EffectOfNothing, EffectPastEnd, EffectOfText, EffectOfEmbed, EffectOfRetain, EffectOfDelete, EffectOfSettled, EffectOfTrimmed, EffectOfBuilt, EffectOfNormal, SameForm, SameEffect, NormalOfSameEffect, LengthsOfBuilt, LengthsOfNormal, BaseOfNormal, BoundOfBuilt, BoundOfNormal, LengthOfEffect};
+ghost use Rattle.delta.specs.Laws.{CountedOfAppend, JoinedThrice, UnitsCounted, BuiltIsKept, NormalIsKept, CountedOfSpelled, SpelledIsBuilt, NormalIsNormal, BuiltInPieces, BuiltFromPieces, NormalOfBuilt, EffectOfParts, EffectOfNothing, EffectPastEnd, EffectOfText, EffectOfEmbed, EffectOfRetain, EffectOfDelete, EffectOfSettled, EffectOfTrimmed, EffectOfBuilt, EffectOfNormal, SameForm, SameEffect, SameEffectFrom, NormalOfSameEffect, LengthsOfBuilt, LengthsOfNormal, BaseOfNormal, BoundOfBuilt, BoundOfNormal, LengthOfEffect};
 
 /// Counting out of an append.
 pub fn counted_of_append()
@@ -119,6 +119,11 @@ pub fn same_form()
 /// Lists in normal form with the same effect on each document that is long enough are equal.
 pub fn same_effect()
     ensures { SameEffect }
+{}
+
+/// Lists in normal form with the same effect on each document of some length or more are equal.
+pub fn same_effect_from()
+    ensures { SameEffectFrom }
 {}
 
 /// Lists have the same effect just where they have one normal form.
