@@ -1,0 +1,138 @@
+//! Stores on devices in memory. What they are to hold stands in docs/FORMATS.md, and is written out by hand here.
+use crate::{Shape, Store, format_device};
+use disk::{Disk, MemDisk};
+use document::Delta;
+use journal::{Command, Name, Plan, State};
+use std::alloc::Global;
+use std::test::Fail;
+
+mod creating;
+mod damage;
+mod opening;
+mod running;
+mod stopping;
+
+/// A device of 1,600 bytes: cells at 64, 320, 576 and 832, slots at 1,088 and 1,344.
+const SMALL: Shape = Shape {
+    slots: 2,
+    slot: 256,
+    docs: 2,
+    cell: 256,
+    sources: 4,
+    keep: 2,
+};
+
+/// What stands from place 1,088 on, when the source `a` has created the document `d` with the text `z`, and then the
+/// document `e` with the text `y`.
+const SLOT: [u8; 110] = [
+    0xa5, 1, 0, 0, 0, 0, 0, 0, 0, // the gate of slot 0, and its number
+    0xa5, 45, 0, 0, 0, // the gate of the first record, and its length
+    1, 0, 0, 0, // one entry
+    1, 0, 0, 0, 0, 1, 0, 0, 0, 0, 0, 0, 0, // a creation, document 0, revision 1
+    1, 0, b'a', 1, 0, 0, 0, 0, 0, 0, 0, // source a, its number 1
+    1, 0, b'd', // name d
+    1, 0, 0, 0, 1, 1, 0, 0, 0, b'z', // one operation, an insert of the text z
+    0, 0, 0, 0, // no attributes
+    0xa5, 45, 0, 0, 0, // the gate of the second record, and its length
+    1, 0, 0, 0, // one entry
+    1, 1, 0, 0, 0, 1, 0, 0, 0, 0, 0, 0, 0, // a creation, document 1, revision 1
+    1, 0, b'a', 1, 0, 0, 0, 0, 0, 0, 0, // source a, its number 1
+    1, 0, b'e', // name e
+    1, 0, 0, 0, 1, 1, 0, 0, 0, b'y', // one operation, an insert of the text y
+    0, 0, 0, 0, // no attributes
+    0, // the closed gate behind
+];
+
+/// The bytes of a small device that was just formatted.
+fn formatted(alloc: Global) -> Result<Vec<u8>, Fail> {
+    let mut disk = MemDisk::new(alloc, 1_600)?;
+    format_device(alloc, &mut disk, SMALL)?;
+    Ok(disk.bytes().to_vec(alloc)?)
+}
+
+/// A synced device of these bytes.
+fn holding(alloc: Global, bytes: &[u8]) -> Result<MemDisk, Fail> {
+    Ok(MemDisk::holding(alloc, bytes.to_vec(alloc)?))
+}
+
+/// A store over a device that is to open.
+fn opened_over<D: Disk + Drop>(alloc: Global, disk: D) -> Result<Store<D>, Fail> {
+    match Store::open(alloc, disk) {
+        Ok(store) => Ok(store),
+        Err(fault) => Err(fault.refusal)?,
+    }
+}
+
+/// A store over a device of these bytes.
+fn opened(alloc: Global, bytes: &[u8]) -> Result<Store<MemDisk>, Fail> {
+    opened_over(alloc, holding(alloc, bytes)?)
+}
+
+/// The documents of a state, each as a line of its name, its revision and its text.
+fn told(alloc: Global, state: &State) -> Result<String, Fail> {
+    let mut lines = String::new(alloc);
+    for record in state.documents() {
+        let delta = record.document().as_delta(alloc)?;
+        let name = record.name().as_str();
+        let line = format!(in alloc; "{name} {} {}\n", record.revision(), delta.text())?;
+        lines.push_str(line.as_str())?;
+    }
+    Ok(lines)
+}
+
+/// What a device of these bytes is found as: its documents, or the refusal. Opening it is to change nothing.
+fn found(alloc: Global, bytes: &[u8]) -> Result<String, Fail> {
+    let (mut text, disk) = match Store::open(alloc, holding(alloc, bytes)?) {
+        Ok(store) => (told(alloc, store.state())?, store.close()),
+        Err(fault) => (format!(in alloc; "{}", fault.refusal)?, fault.disk),
+    };
+    if disk.bytes() != bytes {
+        text.push_str(" and changed")?;
+    }
+    Ok(text)
+}
+
+/// The source's first command to a document: it makes it.
+fn creation(alloc: Global, source: &str, doc: &str, text: &str) -> Result<Command, Fail> {
+    let source = Name::source(alloc, source)?;
+    let doc = Name::doc(alloc, doc)?;
+    let delta = Delta::inserting(String::from_str(alloc, text)?)?;
+    Ok(Command::create(doc, source, 1, delta)?)
+}
+
+/// How a creation is answered. It is committed where it is taken.
+fn create<D: Disk>(
+    alloc: Global,
+    store: &mut Store<D>,
+    source: &str,
+    doc: &str,
+    text: &str,
+) -> Result<String, Fail> {
+    let command = creation(alloc, source, doc, text)?;
+    let refusal = match store.state().plan(alloc, &command) {
+        Ok(Plan::Taken(taken)) => {
+            let rev = taken.revision();
+            match store.commit(alloc, &[taken]) {
+                Ok(()) => return Ok(format!(in alloc; "taken {rev}")?),
+                Err(refusal) => refusal,
+            }
+        }
+        Ok(Plan::Again { rev }) => return Ok(format!(in alloc; "again {rev}")?),
+        Err(refusal) => refusal,
+    };
+    Ok(format!(in alloc; "{refusal}")?)
+}
+
+/// So many bytes from a place on.
+fn part(alloc: Global, bytes: &[u8], at: usize, len: usize) -> Result<Vec<u8>, Fail> {
+    Ok(bytes.iter().skip(at).take(len).copied().collect(alloc)?)
+}
+
+/// The bytes with others from a place on.
+fn changed(alloc: Global, bytes: &[u8], at: usize, other: &[u8]) -> Result<Vec<u8>, Fail> {
+    let mut all = part(alloc, bytes, 0, at)?;
+    all.extend_from_slice(other)?;
+    let behind = part(alloc, bytes, all.len(), bytes.len())?;
+    all.extend_from_slice(&behind)?;
+    Ok(all)
+}
