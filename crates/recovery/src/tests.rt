@@ -3,7 +3,9 @@ use crate::{Shape, Store, format_device};
 use disk::{Disk, MemDisk};
 use document::Delta;
 use journal::{Command, Name, Plan, State};
+use refusal::Refusal;
 use std::alloc::Global;
+use std::process::Abort;
 use std::test::Fail;
 
 mod creating;
@@ -43,6 +45,24 @@ const SLOT: [u8; 110] = [
     0, // the closed gate behind
 ];
 
+/// A creation that a source asks for: the source, the document's name, the text, and the answer.
+type Row = (&'static str, &'static str, &'static str, &'static str);
+
+/// So many bytes from a place on.
+fn part(alloc: Global, bytes: &[u8], at: usize, len: usize) -> Result<Vec<u8>, Fail> {
+    Ok(bytes.iter().skip(at).take(len).copied().collect(alloc)?)
+}
+
+/// The bytes with others from a place on.
+fn changed(alloc: Global, bytes: &[u8], at: usize, other: &[u8]) -> Result<Vec<u8>, Fail> {
+    let mut all = part(alloc, bytes, 0, at)?;
+    all.extend_from_slice(other)?;
+    for byte in bytes.iter().skip(all.len()) {
+        all.push(*byte)?;
+    }
+    Ok(all)
+}
+
 /// The bytes of a small device that was just formatted.
 fn formatted(alloc: Global) -> Result<Vec<u8>, Fail> {
     let mut disk = MemDisk::new(alloc, 1_600)?;
@@ -56,16 +76,11 @@ fn holding(alloc: Global, bytes: &[u8]) -> Result<MemDisk, Fail> {
 }
 
 /// A store over a device that is to open.
-fn opened_over<D: Disk + Drop>(alloc: Global, disk: D) -> Result<Store<D>, Fail> {
+fn opened<D: Disk + Drop>(alloc: Global, disk: D) -> Result<Store<D>, Fail> {
     match Store::open(alloc, disk) {
         Ok(store) => Ok(store),
         Err(fault) => Err(fault.refusal)?,
     }
-}
-
-/// A store over a device of these bytes.
-fn opened(alloc: Global, bytes: &[u8]) -> Result<Store<MemDisk>, Fail> {
-    opened_over(alloc, holding(alloc, bytes)?)
 }
 
 /// The documents of a state, each as a line of its name, its revision and its text.
@@ -92,47 +107,102 @@ fn found(alloc: Global, bytes: &[u8]) -> Result<String, Fail> {
     Ok(text)
 }
 
+fn is_found(rt: &impl Abort, alloc: Global, bytes: &[u8], wanted: &str) -> Result<(), Fail> {
+    let text = found(alloc, bytes)?;
+    assert_eq!(rt; text.as_str(), wanted);
+    Ok(())
+}
+
+/// Bytes, when others are written over them from a place on, are found as this.
+fn is_found_with(
+    rt: &impl Abort,
+    alloc: Global,
+    bytes: &[u8],
+    at: usize,
+    other: &[u8],
+    wanted: &str,
+) -> Result<(), Fail> {
+    let text = found(alloc, &changed(alloc, bytes, at, other)?)?;
+    assert_eq!(rt; text.as_str(), wanted, "with {other:?} at {at}");
+    Ok(())
+}
+
+/// Bytes differ from what was there by others from a place on.
+fn differs_by(
+    rt: &impl Abort,
+    alloc: Global,
+    bytes: &[u8],
+    before: &[u8],
+    at: usize,
+    other: &[u8],
+) -> Result<(), Fail> {
+    let wanted = changed(alloc, before, at, other)?;
+    assert_eq!(rt; bytes, wanted.as_slice());
+    Ok(())
+}
+
+fn holds(rt: &impl Abort, alloc: Global, state: &State, lines: &str) -> Result<(), Fail> {
+    let text = told(alloc, state)?;
+    assert_eq!(rt; text.as_str(), lines);
+    Ok(())
+}
+
 /// The source's first command to a document: it makes it.
-fn creation(alloc: Global, source: &str, doc: &str, text: &str) -> Result<Command, Fail> {
+fn creation(alloc: Global, source: &str, doc: &str, text: &str) -> Result<Command, Refusal> {
     let source = Name::source(alloc, source)?;
     let doc = Name::doc(alloc, doc)?;
     let delta = Delta::inserting(String::from_str(alloc, text)?)?;
-    Ok(Command::create(doc, source, 1, delta)?)
+    Command::create(doc, source, 1, delta)
 }
 
-/// How a creation is answered. It is committed where it is taken.
-fn create<D: Disk>(
+// How a command is answered, and which revision it has made. It is committed where it is taken.
+fn answer<D: Disk>(
     alloc: Global,
     store: &mut Store<D>,
-    source: &str,
-    doc: &str,
-    text: &str,
-) -> Result<String, Fail> {
-    let command = creation(alloc, source, doc, text)?;
-    let refusal = match store.state().plan(alloc, &command) {
-        Ok(Plan::Taken(taken)) => {
+    command: &Command,
+) -> Result<(&'static str, u64), Refusal> {
+    match store.state().plan(alloc, command)? {
+        Plan::Taken(taken) => {
             let rev = taken.revision();
-            match store.commit(alloc, &[taken]) {
-                Ok(()) => return Ok(format!(in alloc; "taken {rev}")?),
-                Err(refusal) => refusal,
-            }
+            store.commit(alloc, &[taken])?;
+            Ok(("taken", rev))
         }
-        Ok(Plan::Again { rev }) => return Ok(format!(in alloc; "again {rev}")?),
-        Err(refusal) => refusal,
+        Plan::Again { rev } => Ok(("again", rev)),
+    }
+}
+
+/// Asks for a creation, and compares the answer.
+fn create<D: Disk>(
+    rt: &impl Abort,
+    alloc: Global,
+    store: &mut Store<D>,
+    row: Row,
+) -> Result<(), Fail> {
+    let (source, doc, text, wanted) = row;
+    let command = creation(alloc, source, doc, text)?;
+    let text = match answer(alloc, store, &command) {
+        Ok((word, rev)) => format!(in alloc; "{word} {rev}")?,
+        Err(refusal) => format!(in alloc; "{refusal}")?,
     };
-    Ok(format!(in alloc; "{refusal}")?)
+    assert_eq!(rt; text.as_str(), wanted, "at {doc}");
+    Ok(())
 }
 
-/// So many bytes from a place on.
-fn part(alloc: Global, bytes: &[u8], at: usize, len: usize) -> Result<Vec<u8>, Fail> {
-    Ok(bytes.iter().skip(at).take(len).copied().collect(alloc)?)
-}
-
-/// The bytes with others from a place on.
-fn changed(alloc: Global, bytes: &[u8], at: usize, other: &[u8]) -> Result<Vec<u8>, Fail> {
-    let mut all = part(alloc, bytes, 0, at)?;
-    all.extend_from_slice(other)?;
-    let behind = part(alloc, bytes, all.len(), bytes.len())?;
-    all.extend_from_slice(&behind)?;
-    Ok(all)
+/// One run: opens a device of these bytes, asks for creations, and closes. The store is to hold these documents then,
+/// and so is what it leaves, which comes back.
+fn session(
+    rt: &impl Abort,
+    alloc: Global,
+    bytes: &[u8],
+    rows: &[Row],
+    lines: &str,
+) -> Result<Vec<u8>, Fail> {
+    let mut store = opened(alloc, holding(alloc, bytes)?)?;
+    for row in rows {
+        create(rt, alloc, &mut store, *row)?;
+    }
+    holds(rt, alloc, store.state(), lines)?;
+    let disk = store.close();
+    is_found(rt, alloc, disk.bytes(), lines)?;
+    Ok(disk.bytes().to_vec(alloc)?)
 }

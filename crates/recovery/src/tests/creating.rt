@@ -1,48 +1,20 @@
-use super::{SLOT, changed, create, formatted, found, opened, part, told};
+use super::{SLOT, differs_by, formatted, part, session};
 use std::test::Fail;
 
 #[test]
 fn what_is_created_is_found_again(rt: HostRuntime) -> Result<(), Fail> {
-    let empty = formatted(rt.alloc())?;
-    let mut store = opened(rt.alloc(), &empty)?;
-    assert_eq!(rt;
-        create(rt.alloc(), &mut store, "a", "d", "z")?.as_str(),
-        "taken 1"
-    );
-    assert_eq!(rt; told(rt.alloc(), store.state())?.as_str(), "d 1 z\n");
-
-    // The first record, and a closed gate behind it. All else is as it was.
-    let disk = store.close();
-    let mut slot = part(rt.alloc(), &SLOT, 0, 59)?;
-    slot.push(0)?;
-    assert_eq!(rt;
-        disk.bytes(),
-        changed(rt.alloc(), &empty, 1_088, &slot)?.as_slice()
-    );
-    assert_eq!(rt; found(rt.alloc(), disk.bytes())?.as_str(), "d 1 z\n");
-
-    let mut store = opened(rt.alloc(), disk.bytes())?;
-    assert_eq!(rt;
-        create(rt.alloc(), &mut store, "a", "d", "z")?.as_str(),
-        "again 1"
-    );
-    assert_eq!(rt;
-        create(rt.alloc(), &mut store, "b", "d", "z")?.as_str(),
-        "error 7 Exists"
-    );
-    assert_eq!(rt;
-        create(rt.alloc(), &mut store, "a", "e", "y")?.as_str(),
-        "taken 1"
-    );
-    assert_eq!(rt;
-        create(rt.alloc(), &mut store, "a", "f", "x")?.as_str(),
-        "error 20 TooManyDocuments"
-    );
-    let disk = store.close();
-    assert_eq!(rt;
-        disk.bytes(),
-        changed(rt.alloc(), &empty, 1_088, &SLOT)?.as_slice()
-    );
-    assert_eq!(rt; found(rt.alloc(), disk.bytes())?.as_str(), "d 1 z\ne 1 y\n");
-    Ok(())
+    let alloc = rt.alloc();
+    let empty = formatted(alloc)?;
+    let one = session(&rt, alloc, &empty, &[("a", "d", "z", "taken 1")], "d 1 z\n")?;
+    // The first record, and a closed gate behind it, which was 0 before. All else is as it was.
+    differs_by(&rt, alloc, &one, &empty, 1_088, &part(alloc, &SLOT, 0, 59)?)?;
+    let rows = [
+        ("a", "d", "z", "again 1"),
+        ("b", "d", "z", "error 7 Exists"),
+        ("a", "e", "y", "taken 1"),
+        ("a", "f", "x", "error 20 TooManyDocuments"),
+        ("a", "e", "", "again 1"),
+    ];
+    let two = session(&rt, alloc, &one, &rows, "d 1 z\ne 1 y\n")?;
+    differs_by(&rt, alloc, &two, &empty, 1_088, &SLOT)
 }

@@ -1,4 +1,4 @@
-use super::{SMALL, changed, formatted, found, holding, part};
+use super::{SMALL, differs_by, formatted, holding, is_found, is_found_with, part};
 use crate::{Shape, format_device};
 use disk::MemDisk;
 use refusal::Refusal;
@@ -14,72 +14,75 @@ const SUPERBLOCK: [u8; 33] = [
 
 #[test]
 fn a_store_begins_without_documents(rt: HostRuntime) -> Result<(), Fail> {
-    let zeros = vec![in rt.alloc(); 0; 1_600]?;
-    assert_eq!(rt;
-        found(rt.alloc(), &zeros)?.as_str(),
-        "error 30 NotFormatted"
-    );
-    let bytes = formatted(rt.alloc())?;
-    assert_eq!(rt; found(rt.alloc(), &bytes)?.as_str(), "");
-    let written = changed(rt.alloc(), &zeros, 0, &SUPERBLOCK)?;
-    assert_eq!(rt; bytes.as_slice(), written.as_slice());
-
-    let mut disk = holding(rt.alloc(), &bytes)?;
-    let second = format_device(rt.alloc(), &mut disk, SMALL);
-    assert_eq!(rt; second, Err(Refusal::AlreadyFormatted));
-    assert_eq!(rt; disk.bytes(), bytes.as_slice());
-
-    // A device of which the last byte is missing, and one with a byte more.
-    let shorter = part(rt.alloc(), &bytes, 0, 1_599)?;
-    assert_eq!(rt; found(rt.alloc(), &shorter)?.as_str(), "error 32 Damaged");
-    let longer = changed(rt.alloc(), &bytes, 1_600, &[0xa5])?;
-    assert_eq!(rt; found(rt.alloc(), &longer)?.as_str(), "");
-    Ok(())
+    let alloc = rt.alloc();
+    let bytes = formatted(alloc)?;
+    differs_by(&rt, alloc, &bytes, &[0; 1_600], 0, &SUPERBLOCK)?;
+    is_found(&rt, alloc, &bytes, "")?;
+    is_found(&rt, alloc, &[0; 1_600], "error 30 NotFormatted")?;
+    // The last byte is missing, and there is one more.
+    is_found(
+        &rt,
+        alloc,
+        &part(alloc, &bytes, 0, 1_599)?,
+        "error 32 Damaged",
+    )?;
+    is_found_with(&rt, alloc, &bytes, 1_600, &[0xa5], "")
 }
 
-// Zeros of this many bytes are not formatted with this shape, and stay zeros.
-fn refuses(rt: &impl Abort, alloc: Global, len: usize, shape: Shape) -> Result<(), Fail> {
-    let mut disk = MemDisk::new(alloc, len)?;
+// A device of these bytes is not formatted, and stays as it is.
+fn refuses(
+    rt: &impl Abort,
+    alloc: Global,
+    bytes: &[u8],
+    shape: Shape,
+    refusal: Refusal,
+) -> Result<(), Fail> {
+    let mut disk = holding(alloc, bytes)?;
     let refused = format_device(alloc, &mut disk, shape);
-    assert_eq!(rt; refused, Err(Refusal::BadShape), "at {shape:?}");
-    assert!(rt; disk.bytes().iter().all(|byte| *byte == 0));
-    assert_eq!(rt;
-        found(alloc, disk.bytes())?.as_str(),
-        "error 30 NotFormatted"
-    );
+    assert_eq!(rt; refused, Err(refusal), "at {shape:?}");
+    assert_eq!(rt; disk.bytes(), bytes);
     Ok(())
 }
 
 #[test]
+fn a_store_is_not_formatted_again(rt: HostRuntime) -> Result<(), Fail> {
+    let bytes = formatted(rt.alloc())?;
+    refuses(&rt, rt.alloc(), &bytes, SMALL, Refusal::AlreadyFormatted)
+}
+
+/// Shapes with one number below its range or above it: slots, slot, docs, cell, sources, keep.
+const NUMBERS: [[u32; 6]; 12] = [
+    [1, 256, 2, 256, 4, 2],
+    [1_025, 256, 2, 256, 4, 2],
+    [2, 255, 2, 256, 4, 2],
+    [2, 16_777_217, 2, 256, 4, 2],
+    [2, 256, 0, 256, 4, 2],
+    [2, 256, 65_537, 256, 4, 2],
+    [2, 256, 2, 255, 4, 2],
+    [2, 256, 2, 16_777_217, 4, 2],
+    [2, 256, 2, 256, 0, 2],
+    [2, 256, 2, 256, 4_097, 2],
+    [2, 256, 2, 256, 4, 0],
+    [2, 256, 2, 256, 4, 65_537],
+];
+
+#[test]
 fn what_has_no_shape_is_not_formatted(rt: HostRuntime) -> Result<(), Fail> {
-    for len in [0, 63, 1_599] {
-        refuses(&rt, rt.alloc(), len, SMALL)?;
-    }
-    // Each number below its range and above it.
-    let numbers = [
-        [1, 256, 2, 256, 4, 2],
-        [1_025, 256, 2, 256, 4, 2],
-        [2, 255, 2, 256, 4, 2],
-        [2, 16_777_217, 2, 256, 4, 2],
-        [2, 256, 0, 256, 4, 2],
-        [2, 256, 65_537, 256, 4, 2],
-        [2, 256, 2, 255, 4, 2],
-        [2, 256, 2, 16_777_217, 4, 2],
-        [2, 256, 2, 256, 0, 2],
-        [2, 256, 2, 256, 4_097, 2],
-        [2, 256, 2, 256, 4, 0],
-        [2, 256, 2, 256, 4, 65_537],
-    ];
-    for [slots, slot, docs, cell, sources, keep] in numbers {
+    let alloc = rt.alloc();
+    refuses(&rt, alloc, &[0; 63], SMALL, Refusal::BadShape)?;
+    refuses(&rt, alloc, &[0; 1_599], SMALL, Refusal::BadShape)?;
+    is_found(&rt, alloc, &[0; 63], "error 30 NotFormatted")?;
+    is_found(&rt, alloc, &[0xa5; 63], "error 30 NotFormatted")?;
+    for [slots, slot, docs, cell, sources, keep] in &NUMBERS {
         let shape = Shape {
-            slots,
-            slot,
-            docs,
-            cell,
-            sources,
-            keep,
+            slots: *slots,
+            slot: *slot,
+            docs: *docs,
+            cell: *cell,
+            sources: *sources,
+            keep: *keep,
         };
-        refuses(&rt, rt.alloc(), 1_600, shape)?;
+        refuses(&rt, alloc, &[0; 1_600], shape, Refusal::BadShape)?;
     }
     Ok(())
 }

@@ -1,12 +1,13 @@
 ghost use Rattle.std.specs.Prelude.{All, IfOk};
 ghost use Rattle.recovery.specs.Run.{CanCommit};
 
-use super::{SMALL, create, creation, formatted, found, opened, told};
+use super::{Row, SLOT, differs_by, formatted, holding, holds, opened, part, session};
 use crate::{Shape, Stop, StoreStep, format_device};
 use disk::MemDisk;
-use journal::{Plan, State};
+use journal::decode_batch;
 use refusal::Refusal;
 use std::alloc::Global;
+use std::process::Abort;
 use std::test::Fail;
 
 /// A device of 12,352 bytes.
@@ -19,52 +20,72 @@ const LARGER: Shape = Shape {
     keep: 2,
 };
 
-/// What is created in each run: names and texts.
-const RUNS: [[(&str, &str); 3]; 5] = [
-    [("d", "z"), ("e", ""), ("f", "abcde")],
-    [("one", "1"), ("two", "22"), ("three", "333")],
-    [("D", "z"), ("d.d", "a b"), ("-", "\u{e9}")],
-    [("_", "\u{1F600}"), ("0", "0"), ("00", "00")],
-    [("x-1", "\u{FFFD}"), ("x-2", "\n"), ("x-3", "\"")],
+/// What is asked for in each run.
+const RUNS: [[Row; 3]; 7] = [
+    [
+        ("a", "d", "z", "taken 1"),
+        ("a", "e", "", "taken 1"),
+        ("b", "f", "abcde", "taken 1"),
+    ],
+    [
+        ("b", "one", "1", "taken 1"),
+        ("a", "d", "z", "again 1"),
+        ("a", "three", "333", "taken 1"),
+    ],
+    [
+        ("c", "D", "z", "taken 1"),
+        ("c", "d.d", "a b", "taken 1"),
+        ("c", "-", "\u{e9}", "taken 1"),
+    ],
+    [
+        ("d", "_", "\u{1F600}", "taken 1"),
+        ("d", "0", "0", "taken 1"),
+        ("d", "00", "00", "taken 1"),
+    ],
+    [
+        ("a", "f", "abcde", "error 7 Exists"),
+        ("a", "x-2", "\n", "taken 1"),
+        ("a", "x-3", "\"", "taken 1"),
+    ],
+    [
+        ("x", "y", "1", "taken 1"),
+        ("y", "z", "2", "taken 1"),
+        ("z", "x", "3", "taken 1"),
+    ],
+    [
+        ("a", "e", "", "again 1"),
+        ("a", "z", "2", "error 7 Exists"),
+        ("z", "x", "3", "again 1"),
+    ],
 ];
 
-// Each run opens the store that the run before it has closed. The plain program is the text that grows beside it.
+// The plain program: a line for each creation that is taken.
+fn grown(alloc: Global, lines: &str, run: &[Row]) -> Result<String, Fail> {
+    let mut all = String::from_str(alloc, lines)?;
+    for (_, doc, text, answer) in run {
+        if *answer == "taken 1" {
+            let line = format!(in alloc; "{doc} 1 {text}\n")?;
+            all.push_str(line.as_str())?;
+        }
+    }
+    Ok(all)
+}
+
+fn formatted_larger(alloc: Global) -> Result<Vec<u8>, Fail> {
+    let mut disk = MemDisk::new(alloc, 12_352)?;
+    format_device(alloc, &mut disk, LARGER)?;
+    Ok(disk.bytes().to_vec(alloc)?)
+}
+
 #[test]
 fn many_creations_in_many_runs(rt: HostRuntime) -> Result<(), Fail> {
-    let mut disk = MemDisk::new(rt.alloc(), 12_352)?;
-    format_device(rt.alloc(), &mut disk, LARGER)?;
-    let mut bytes = disk.bytes().to_vec(rt.alloc())?;
-    let mut lines = String::new(rt.alloc());
-    for run in RUNS {
-        let mut store = opened(rt.alloc(), &bytes)?;
-        for (doc, text) in run {
-            assert_eq!(rt;
-                create(rt.alloc(), &mut store, "a", doc, text)?.as_str(),
-                "taken 1"
-            );
-            lines.push_str(format!(in rt.alloc(); "{doc} 1 {text}\n")?.as_str())?;
-            assert_eq!(rt; told(rt.alloc(), store.state())?.as_str(), lines.as_str());
-        }
-        bytes = store.close().bytes().to_vec(rt.alloc())?;
-        assert_eq!(rt; found(rt.alloc(), &bytes)?.as_str(), lines.as_str());
+    let alloc = rt.alloc();
+    let mut bytes = formatted_larger(alloc)?;
+    let mut lines = String::new(alloc);
+    for run in &RUNS {
+        lines = grown(alloc, lines.as_str(), run)?;
+        bytes = session(&rt, alloc, &bytes, run, lines.as_str())?;
     }
-    let mut store = opened(rt.alloc(), &bytes)?;
-    for run in RUNS {
-        for (doc, text) in run {
-            assert_eq!(rt;
-                create(rt.alloc(), &mut store, "a", doc, text)?.as_str(),
-                "again 1"
-            );
-            assert_eq!(rt;
-                create(rt.alloc(), &mut store, "b", doc, text)?.as_str(),
-                "error 7 Exists"
-            );
-        }
-    }
-    assert_eq!(rt;
-        found(rt.alloc(), store.close().bytes())?.as_str(),
-        lines.as_str()
-    );
     Ok(())
 }
 
@@ -74,114 +95,96 @@ const SOURCE: &str = "s23456789_123456789_123456789_12";
 
 const DOC: &str = "d23456789_123456789_123456789_123456789_123456789_123456789_1234";
 
+const ONE: &str = "d23456789_123456789_123456789_123456789_123456789_123456789_1234 1 abc\n";
+
 /// A name of 51 bytes and one of 52. A creation by `a` with a text of 1 byte is a batch of 95 or 96, and needs 6 more.
 const FITS: &str = "e23456789_123456789_123456789_123456789_123456789_1";
 
 const PASSES: &str = "e23456789_123456789_123456789_123456789_123456789_12";
 
+const BOTH: &str = "d23456789_123456789_123456789_123456789_123456789_123456789_1234 1 abc
+e23456789_123456789_123456789_123456789_123456789_1 1 z
+";
+
 #[test]
 fn a_full_journal_changes_nothing(rt: HostRuntime) -> Result<(), Fail> {
-    let mut store = opened(rt.alloc(), &formatted(rt.alloc())?)?;
-    assert_eq!(rt;
-        create(rt.alloc(), &mut store, SOURCE, DOC, "abc")?.as_str(),
-        "taken 1"
-    );
-    let first = store.close();
-    let mut store = opened(rt.alloc(), first.bytes())?;
-    assert_eq!(rt;
-        create(rt.alloc(), &mut store, "a", PASSES, "z")?.as_str(),
-        "error 37 JournalFull"
-    );
-    assert!(rt; !store.has_failed());
-    assert_eq!(rt; store.state().documents().len(), 1);
-    let same = store.close();
-    assert_eq!(rt; same.bytes(), first.bytes());
-
-    let mut store = opened(rt.alloc(), same.bytes())?;
-    assert_eq!(rt;
-        create(rt.alloc(), &mut store, "a", PASSES, "z")?.as_str(),
-        "error 37 JournalFull"
-    );
-    assert_eq!(rt;
-        create(rt.alloc(), &mut store, "a", FITS, "z")?.as_str(),
-        "taken 1"
-    );
-    let lines = format!(in rt.alloc(); "{DOC} 1 abc\n{FITS} 1 z\n")?;
-    assert_eq!(rt; told(rt.alloc(), store.state())?.as_str(), lines.as_str());
-    assert_eq!(rt;
-        found(rt.alloc(), store.close().bytes())?.as_str(),
-        lines.as_str()
-    );
+    let alloc = rt.alloc();
+    let first = session(
+        &rt,
+        alloc,
+        &formatted(alloc)?,
+        &[(SOURCE, DOC, "abc", "taken 1")],
+        ONE,
+    )?;
+    let full = ("a", PASSES, "z", "error 37 JournalFull");
+    let same = session(&rt, alloc, &first, &[full], ONE)?;
+    assert_eq!(rt; same, first);
+    // The store works on.
+    session(
+        &rt,
+        alloc,
+        &first,
+        &[full, ("a", FITS, "z", "taken 1")],
+        BOTH,
+    )?;
     Ok(())
 }
 
-// The step that commits a creation which continues this state. It is added there.
-fn step(
-    alloc: Global,
-    state: &mut State,
-    source: &str,
-    doc: &str,
-    text: &str,
-) -> Result<StoreStep, Fail>
+// The step that commits the batch which these bytes spell.
+fn step(alloc: Global, bytes: &[u8]) -> Result<StoreStep, Fail>
     ensures { IfOk result (λ step. CanCommit step) }
 {
-    let command = creation(alloc, source, doc, text)?;
-    match state.plan(alloc, &command)? {
-        Plan::Taken(taken) => {
-            state.absorb(alloc, &taken)?;
-            let mut batch = Vec::new(alloc);
-            batch.push(taken)?;
-            Ok(StoreStep::Commit(batch))
-        }
-        Plan::Again { .. } => Err("it is taken")?,
+    match decode_batch(alloc, bytes)? {
+        Some(batch) if 1 <= batch.len() && batch.len() <= 9 => Ok(StoreStep::Commit(batch)),
+        _ => Err("it is a batch")?,
     }
 }
 
-// The steps one behind another, each over the documents that the state beside it has.
-fn steps_of(alloc: Global, second: &str, starts_over: bool) -> Result<[StoreStep; 3], Fail>
+// The step that creates the document d so many times.
+fn repeated(alloc: Global, count: u8) -> Result<StoreStep, Fail>
+    ensures { IfOk result (λ step. CanCommit step) }
+{
+    let mut bytes = [count, 0, 0, 0].to_vec(alloc)?;
+    for _ in 0..count {
+        bytes.extend_from_slice(&part(alloc, &SLOT, 18, 41)?)?;
+    }
+    step(alloc, &bytes)
+}
+
+// The document d is created, and then so many times again.
+fn repeats(alloc: Global, count: u8) -> Result<[StoreStep; 2], Fail>
     ensures { IfOk result (λ steps. All CanCommit steps) }
 {
-    let mut state = State::new(alloc, SMALL.limits());
-    let first = step(alloc, &mut state, SOURCE, DOC, "abc")?;
-    if starts_over {
-        state.truncate(0);
-    }
-    let second = step(alloc, &mut state, "a", second, "z")?;
-    let mut state = State::new(alloc, SMALL.limits());
-    let third = step(alloc, &mut state, SOURCE, DOC, "abc")?;
-    Ok([first, second, third])
+    Ok([repeated(alloc, 1)?, repeated(alloc, count)?])
 }
 
+// A run stops at the second step, and the store works on.
+fn stops(
+    rt: &impl Abort,
+    alloc: Global,
+    empty: &[u8],
+    count: u8,
+    refusal: Refusal,
+) -> Result<(), Fail> {
+    let mut store = opened(alloc, holding(alloc, empty)?)?;
+    let stop = store.run(alloc, &repeats(alloc, count)?);
+    assert_eq!(rt; stop, Err(Stop { at: 1, refusal }));
+    holds(rt, alloc, store.state(), "d 1 z\n")?;
+    let second = step(alloc, &part(alloc, &SLOT, 64, 45)?)?;
+    assert_eq!(rt; store.run(alloc, &[second]), Ok(()));
+    differs_by(rt, alloc, store.close().bytes(), empty, 1_088, &SLOT)
+}
+
+// The first record leaves 197 bytes of the area. Four entries are a batch of 168 and need 6 more, five one of 209.
 #[test]
 fn a_run_stops_at_the_first_refusal(rt: HostRuntime) -> Result<(), Fail> {
     let empty = formatted(rt.alloc())?;
-    let first = format!(in rt.alloc(); "{DOC} 1 abc\n")?;
-    let both = format!(in rt.alloc(); "{first}{FITS} 1 z\n")?;
-    // The second step's document, whether it is planned as if there was none yet, and where the run stops.
-    let cases = [
-        (PASSES, false, 1, Refusal::JournalFull),
-        (FITS, true, 1, Refusal::Stranger),
-        (FITS, false, 2, Refusal::JournalFull),
-    ];
-    for (second, starts_over, at, refusal) in cases {
-        let steps = steps_of(rt.alloc(), second, starts_over)?;
-        let mut store = opened(rt.alloc(), &empty)?;
-        assert_eq!(rt; store.run(rt.alloc(), &steps), Err(Stop { at, refusal }));
-        assert!(rt; !store.has_failed());
-        let lines = if at == 1 { &first } else { &both };
-        assert_eq!(rt; told(rt.alloc(), store.state())?.as_str(), lines.as_str());
-
-        // The store works on.
-        let answer = if at == 1 { "taken 1" } else { "again 1" };
-        assert_eq!(rt;
-            create(rt.alloc(), &mut store, "a", FITS, "z")?.as_str(),
-            answer
-        );
-        assert_eq!(rt; store.run(rt.alloc(), &[]), Ok(()));
-        assert_eq!(rt;
-            found(rt.alloc(), store.close().bytes())?.as_str(),
-            both.as_str()
-        );
+    for (count, refusal) in [
+        (1, Refusal::Stranger),
+        (4, Refusal::Stranger),
+        (5, Refusal::JournalFull),
+    ] {
+        stops(&rt, rt.alloc(), &empty, count, refusal)?;
     }
     Ok(())
 }
