@@ -63,11 +63,11 @@ fn changed(alloc: Global, bytes: &[u8], at: usize, other: &[u8]) -> Result<Vec<u
     Ok(all)
 }
 
-/// The bytes of a small device that was just formatted.
-fn formatted(alloc: Global) -> Result<Vec<u8>, Fail> {
+/// A small device that was just formatted.
+fn formatted(alloc: Global) -> Result<MemDisk, Fail> {
     let mut disk = MemDisk::new(alloc, 1_600)?;
     format_device(alloc, &mut disk, SMALL)?;
-    Ok(disk.bytes().to_vec(alloc)?)
+    Ok(disk)
 }
 
 /// A synced device of these bytes.
@@ -189,14 +189,14 @@ fn create<D: Disk>(
 }
 
 /// One run: opens a device of these bytes, asks for creations, and closes. The store is to hold these documents then,
-/// and so is what it leaves, which comes back.
+/// and so is the device, which comes back.
 fn session(
     rt: &impl Abort,
     alloc: Global,
     bytes: &[u8],
     rows: &[Row],
     lines: &str,
-) -> Result<Vec<u8>, Fail> {
+) -> Result<MemDisk, Fail> {
     let mut store = opened(alloc, holding(alloc, bytes)?)?;
     for row in rows {
         create(rt, alloc, &mut store, *row)?;
@@ -204,5 +204,5 @@ fn session(
     holds(rt, alloc, store.state(), lines)?;
     let disk = store.close();
     is_found(rt, alloc, disk.bytes(), lines)?;
-    Ok(disk.bytes().to_vec(alloc)?)
+    Ok(disk)
 }

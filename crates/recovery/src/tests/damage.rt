@@ -45,9 +45,16 @@ const FORMATTED: [(usize, &[u8]); 26] = [
 
 #[test]
 fn a_device_is_damaged(rt: HostRuntime) -> Result<(), Fail> {
-    let bytes = formatted(rt.alloc())?;
+    let disk = formatted(rt.alloc())?;
     for (at, other) in &FORMATTED {
-        is_found_with(&rt, rt.alloc(), &bytes, *at, other, "error 32 Damaged")?;
+        is_found_with(
+            &rt,
+            rt.alloc(),
+            disk.bytes(),
+            *at,
+            other,
+            "error 32 Damaged",
+        )?;
     }
     Ok(())
 }
@@ -82,7 +89,7 @@ const WRITTEN: [(usize, &[u8]); 18] = [
 
 /// A small device that holds two records.
 fn written(alloc: Global) -> Result<Vec<u8>, Fail> {
-    changed(alloc, &formatted(alloc)?, 1_088, &SLOT)
+    changed(alloc, formatted(alloc)?.bytes(), 1_088, &SLOT)
 }
 
 #[test]

@@ -15,18 +15,19 @@ const SUPERBLOCK: [u8; 33] = [
 #[test]
 fn a_store_begins_without_documents(rt: HostRuntime) -> Result<(), Fail> {
     let alloc = rt.alloc();
-    let bytes = formatted(alloc)?;
-    differs_by(&rt, alloc, &bytes, &[0; 1_600], 0, &SUPERBLOCK)?;
-    is_found(&rt, alloc, &bytes, "")?;
+    let disk = formatted(alloc)?;
+    let bytes = disk.bytes();
+    differs_by(&rt, alloc, bytes, &[0; 1_600], 0, &SUPERBLOCK)?;
+    is_found(&rt, alloc, bytes, "")?;
     is_found(&rt, alloc, &[0; 1_600], "error 30 NotFormatted")?;
     // The last byte is missing, and there is one more.
     is_found(
         &rt,
         alloc,
-        &part(alloc, &bytes, 0, 1_599)?,
+        &part(alloc, bytes, 0, 1_599)?,
         "error 32 Damaged",
     )?;
-    is_found_with(&rt, alloc, &bytes, 1_600, &[0xa5], "")
+    is_found_with(&rt, alloc, bytes, 1_600, &[0xa5], "")
 }
 
 // A device of these bytes is not formatted, and stays as it is.
@@ -46,8 +47,14 @@ fn refuses(
 
 #[test]
 fn a_store_is_not_formatted_again(rt: HostRuntime) -> Result<(), Fail> {
-    let bytes = formatted(rt.alloc())?;
-    refuses(&rt, rt.alloc(), &bytes, SMALL, Refusal::AlreadyFormatted)
+    let disk = formatted(rt.alloc())?;
+    refuses(
+        &rt,
+        rt.alloc(),
+        disk.bytes(),
+        SMALL,
+        Refusal::AlreadyFormatted,
+    )
 }
 
 /// Shapes with one number below its range or above it: slots, slot, docs, cell, sources, keep.

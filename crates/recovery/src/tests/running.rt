@@ -1,7 +1,7 @@
 ghost use Rattle.std.specs.Prelude.{All, IfOk};
 ghost use Rattle.recovery.specs.Run.{CanCommit};
 
-use super::{Row, SLOT, differs_by, formatted, holding, holds, opened, part, session};
+use super::{Row, SLOT, differs_by, formatted, holds, opened, part, session};
 use crate::{Shape, Stop, StoreStep, format_device};
 use disk::MemDisk;
 use journal::decode_batch;
@@ -71,20 +71,20 @@ fn grown(alloc: Global, lines: &str, run: &[Row]) -> Result<String, Fail> {
     Ok(all)
 }
 
-fn formatted_larger(alloc: Global) -> Result<Vec<u8>, Fail> {
+fn formatted_larger(alloc: Global) -> Result<MemDisk, Fail> {
     let mut disk = MemDisk::new(alloc, 12_352)?;
     format_device(alloc, &mut disk, LARGER)?;
-    Ok(disk.bytes().to_vec(alloc)?)
+    Ok(disk)
 }
 
 #[test]
 fn many_creations_in_many_runs(rt: HostRuntime) -> Result<(), Fail> {
     let alloc = rt.alloc();
-    let mut bytes = formatted_larger(alloc)?;
+    let mut disk = formatted_larger(alloc)?;
     let mut lines = String::new(alloc);
     for run in &RUNS {
         lines = grown(alloc, lines.as_str(), run)?;
-        bytes = session(&rt, alloc, &bytes, run, lines.as_str())?;
+        disk = session(&rt, alloc, disk.bytes(), run, lines.as_str())?;
     }
     Ok(())
 }
@@ -109,21 +109,22 @@ e23456789_123456789_123456789_123456789_123456789_1 1 z
 #[test]
 fn a_full_journal_changes_nothing(rt: HostRuntime) -> Result<(), Fail> {
     let alloc = rt.alloc();
+    let disk = formatted(alloc)?;
     let first = session(
         &rt,
         alloc,
-        &formatted(alloc)?,
+        disk.bytes(),
         &[(SOURCE, DOC, "abc", "taken 1")],
         ONE,
     )?;
     let full = ("a", PASSES, "z", "error 37 JournalFull");
-    let same = session(&rt, alloc, &first, &[full], ONE)?;
-    assert_eq!(rt; same, first);
+    let same = session(&rt, alloc, first.bytes(), &[full], ONE)?;
+    assert_eq!(rt; same.bytes(), first.bytes());
     // The store works on.
     session(
         &rt,
         alloc,
-        &first,
+        first.bytes(),
         &[full, ("a", FITS, "z", "taken 1")],
         BOTH,
     )?;
@@ -159,32 +160,27 @@ fn repeats(alloc: Global, count: u8) -> Result<[StoreStep; 2], Fail>
 }
 
 // A run stops at the second step, and the store works on.
-fn stops(
-    rt: &impl Abort,
-    alloc: Global,
-    empty: &[u8],
-    count: u8,
-    refusal: Refusal,
-) -> Result<(), Fail> {
-    let mut store = opened(alloc, holding(alloc, empty)?)?;
+fn stops(rt: &impl Abort, alloc: Global, count: u8, refusal: Refusal) -> Result<(), Fail> {
+    let mut store = opened(alloc, formatted(alloc)?)?;
     let stop = store.run(alloc, &repeats(alloc, count)?);
     assert_eq!(rt; stop, Err(Stop { at: 1, refusal }));
     holds(rt, alloc, store.state(), "d 1 z\n")?;
     let second = step(alloc, &part(alloc, &SLOT, 64, 45)?)?;
     assert_eq!(rt; store.run(alloc, &[second]), Ok(()));
-    differs_by(rt, alloc, store.close().bytes(), empty, 1_088, &SLOT)
+    differs_by(
+        rt,
+        alloc,
+        store.close().bytes(),
+        formatted(alloc)?.bytes(),
+        1_088,
+        &SLOT,
+    )
 }
 
 // The first record leaves 197 bytes of the area. Four entries are a batch of 168 and need 6 more, five one of 209.
 #[test]
 fn a_run_stops_at_the_first_refusal(rt: HostRuntime) -> Result<(), Fail> {
-    let empty = formatted(rt.alloc())?;
-    for (count, refusal) in [
-        (1, Refusal::Stranger),
-        (4, Refusal::Stranger),
-        (5, Refusal::JournalFull),
-    ] {
-        stops(&rt, rt.alloc(), &empty, count, refusal)?;
-    }
-    Ok(())
+    stops(&rt, rt.alloc(), 1, Refusal::Stranger)?;
+    stops(&rt, rt.alloc(), 4, Refusal::Stranger)?;
+    stops(&rt, rt.alloc(), 5, Refusal::JournalFull)
 }

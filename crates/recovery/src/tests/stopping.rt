@@ -24,13 +24,13 @@ fn calls_before(alloc: Global, bytes: &[u8]) -> Result<u64, Fail> {
 
 // A store over a new device that goes wrong at a call of the first commit, counted from 0.
 fn planned(alloc: Global, call: u64, stops: bool, left: Left) -> Result<Store<FaultDisk>, Fail> {
-    let bytes = formatted(alloc)?;
+    let disk = formatted(alloc)?;
     let plan = Plan {
-        call: calls_before(alloc, &bytes)?.saturating_add(call),
+        call: calls_before(alloc, disk.bytes())?.saturating_add(call),
         stops,
         left,
     };
-    opened(alloc, FaultDisk::new(holding(alloc, &bytes)?, plan))
+    opened(alloc, FaultDisk::new(disk, plan))
 }
 
 // The first commit goes wrong at a call. From then on the store answers nothing.
@@ -120,7 +120,6 @@ fn faulty(
     let disk = failed(rt, alloc, call, false, left)?;
     assert!(rt; !disk.has_stopped());
     goes_on(rt, alloc, disk.after_crash(alloc)?.bytes(), is_left)?;
-    goes_on(rt, alloc, disk.disk().bytes(), is_there)?;
     let store = opened(alloc, disk)?;
     holds(
         rt,
