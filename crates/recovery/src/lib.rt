@@ -19,3 +19,6 @@ pub use formatting::format_device;
 pub use run::{Stop, StoreStep};
 pub use shape::Shape;
 pub use store::{OpenFault, Store};
+
+#[cfg(test)]
+mod tests;
