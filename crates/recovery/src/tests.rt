@@ -1,8 +1,8 @@
 //! Stores on devices in memory. What they are to hold stands in docs/FORMATS.md, and is written out by hand here.
 use crate::{Shape, Store, format_device};
 use disk::{Disk, MemDisk};
-use document::Delta;
 use journal::{Command, Name, Plan, State};
+use plain::Delta;
 use refusal::Refusal;
 use std::alloc::Global;
 use std::process::Abort;
