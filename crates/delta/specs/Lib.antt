@@ -1,5 +1,6 @@
 pub mod Element
 pub mod Operation
+pub mod Kind
 pub mod Gaps
 pub mod Normal
 pub mod Laws

@@ -1,2 +1,6 @@
 //! Deltas in normal form.
 #![tactic(auto)]
+
+mod op;
+
+pub use op::{Op, OpRef};
