@@ -4,4 +4,5 @@ pub mod Kind
 pub mod Gaps
 pub mod Normal
 pub mod Laws
+pub mod Building
 mod Examples
