@@ -8,13 +8,9 @@ use Rattle.delta.specs.Element.{Element, Item, code_unit, embed, lettered, lette
 use Rattle.delta.specs.Operation.{Operation, insert_text, insert_embed, retain, delete, is_insert, is_delete, merged, op_len}
 use Rattle.delta.specs.Gaps.{Gaps, End, Gap, Fate, Del, Keep, front, run, counted}
 use Rattle.delta.specs.Normal.{past, settled, spell_unit, spell_item, spell_inserts, spell_fate, spelled, built}
+use Rattle.delta.specs.Building.{met}
 use Rattle.delta.proofs.Settling.{settled-front}
 use Rattle.delta.proofs.Spellings.{spelled-front}
-
--- two neighbours before others: one operation where they merge
-abbrev pub met : Option Operation → Operation → Operation → List Operation → List Operation
-met (Some m) a b r = m ∷ r
-met None a b r = a ∷ b ∷ r
 
 -- an operation before others, in its place, merged where it can be
 abbrev pub consed : Operation → List Operation → List Operation

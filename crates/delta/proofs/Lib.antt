@@ -4,3 +4,4 @@ pub mod Spellings
 pub mod Folding
 pub mod Kept
 pub mod Pushing
+pub mod Lengths
