@@ -1,7 +1,12 @@
 pub mod Joins
 pub mod Settling
 pub mod Spellings
+pub mod Neighbours
+pub mod Normality
+pub mod BuiltLists
+pub mod Effects
 pub mod Folding
-pub mod Kept
 pub mod Pushing
-pub mod Lengths
+pub mod Sums
+pub mod Ends
+pub mod Places

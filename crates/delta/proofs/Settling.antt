@@ -1,12 +1,12 @@
 -- What settling and trimming leave of a gap form, and when they leave it as it is.
-use Rattle.std.proofs.Common.{◌≡◌, ℕ, zero, suc, Bool, true, false, cond, List, [], ◌∷◌, ◌++◌, refl, sym, ap, subst, ◌∙◌}
+use Rattle.std.proofs.Common.{◌≡◌, Bool, true, false, cond, List, [], ◌∷◌, refl, sym, ap, ◌∙◌}
 use Rattle.std.proofs.lemmas.List.{append-nil}
 use Rattle.attributes.specs.Map.{empty}
 use Rattle.attributes.specs.Attributes.{Changes, same_changes}
 use Rattle.delta.specs.Element.{Element}
-use Rattle.delta.specs.Gaps.{Gaps, End, Gap, Fate, Del, Keep, front, run, joined}
+use Rattle.delta.specs.Gaps.{Gaps, End, Gap, Fate, Del, Keep, front, joined}
 use Rattle.delta.specs.Normal.{past, settled, trim, trimmed}
-use Rattle.delta.proofs.Joins.{front-nil, front-front, joined-front, joined-End}
+use Rattle.delta.proofs.Joins.{front-nil, front-front, joined-front}
 
 -- nothing is inserted before its first unit
 abbrev pub IsBare : Gaps → Type 0

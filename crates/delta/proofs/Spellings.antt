@@ -1,8 +1,8 @@
 -- The operations that a gap form is spelled by: counted out, they give it back; they are merged, and in order where it is settled.
-use Rattle.std.proofs.Common.{◌≡◌, ℕ, zero, suc, ◌+◌, ◌<◌, Bool, true, false, cond, List, [], ◌∷◌, ◌++◌, length, refl, sym, ap, subst, ◌∙◌, arith}
+use Rattle.std.proofs.Common.{◌≡◌, ℕ, suc, true, false, cond, List, [], ◌∷◌, ◌++◌, refl, sym, ap, ◌∙◌}
 use Rattle.std.proofs.lemmas.List.{append-nil}
-use Rattle.attributes.specs.Attributes.{Attributes, Changes, same_attributes, same_changes, same_attributes-Decides, same_changes-Decides}
-use Rattle.delta.specs.Element.{Element, Item, code_unit, embed, lettered, embedded, letters}
+use Rattle.attributes.specs.Attributes.{Attributes, same_attributes, same_changes, same_attributes-Decides, same_changes-Decides}
+use Rattle.delta.specs.Element.{Element, Item, code_unit, embed, lettered, letters}
 use Rattle.delta.specs.Operation.{Operation, insert_text, insert_embed, retain, delete}
 use Rattle.delta.specs.Gaps.{Gaps, End, Gap, Fate, Del, Keep, front, run, counted}
 use Rattle.delta.specs.Normal.{spell_unit, spell_item, spell_inserts, spell_fate, spelled}

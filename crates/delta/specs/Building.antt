@@ -1,8 +1,6 @@
--- What holds of operations as a builder keeps them.
-use Rattle.std.specs.Prelude.{◌≡◌, ℕ, suc, List, [], ◌∷◌, ◌++◌, ◌&&◌, IsTrue, Option, Some, None, if◌then◌else◌}
-use Rattle.delta.specs.Operation.{Operation, is_insert, is_delete, is_plain, merged, base_of, out_of}
-use Rattle.delta.specs.Gaps.{counted}
-use Rattle.delta.specs.Normal.{is_built, built, nf}
+-- One operation more, as a builder keeps its operations.
+use Rattle.std.specs.Prelude.{ℕ, suc, List, [], ◌∷◌, ◌&&◌, Option, Some, None, if◌then◌else◌}
+use Rattle.delta.specs.Operation.{Operation, is_insert, is_delete, is_plain, merged}
 
 -- two neighbours before others: one operation where they merge
 abbrev pub met : Option Operation → Operation → Operation → List Operation → List Operation
@@ -26,19 +24,3 @@ abbrev pub without_plain : List Operation → List Operation
 without_plain [] = []
 without_plain (op ∷ []) = if is_plain op then [] else op ∷ []
 without_plain (op ∷ next ∷ ops) = op ∷ without_plain (next ∷ ops)
-
--- what is kept of the first of them may stand for all the first
-abbrev pub BuiltAgain : Type 0
-BuiltAgain = (ops more : List Operation) → built (built ops ++ more) ≡ built (ops ++ more)
-
--- what is kept of operations has their normal form
-abbrev pub NormalOfBuilt : Type 0
-NormalOfBuilt = (ops : List Operation) → nf (counted (built ops)) ≡ nf (counted ops)
-
--- operations that are merged and in order are kept as they are
-abbrev pub BuiltSame : Type 0
-BuiltSame = (ops : List Operation) → IsTrue (is_built ops) → built ops ≡ ops
-
--- what is kept of operations has their two lengths
-abbrev pub LengthsKept : Type 0
-LengthsKept = (ops : List Operation) → (base_of (built ops) ≡ base_of ops) × (out_of (built ops) ≡ out_of ops)

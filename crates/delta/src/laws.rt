@@ -1,5 +1,5 @@
 //! What holds of operations, counted out and in normal form, as contracts to cite: each function does nothing and promises one law.
-ghost use Rattle.delta.specs.Laws.{CountedOfAppend, JoinedThrice, UnitsCounted};
+ghost use Rattle.delta.specs.Laws.{CountedOfAppend, JoinedThrice, UnitsCounted, BuiltIsKept, NormalIsKept, CountedOfSpelled, SpelledIsBuilt, NormalIsNormal, BuiltInPieces, NormalOfBuilt, EffectOfSettled, EffectOfTrimmed, EffectOfBuilt, EffectOfNormal, SameForm};
 
 /// Counting out of an append.
 pub fn counted_of_append()
@@ -14,4 +14,64 @@ pub fn joined_thrice()
 /// The base length, counted out.
 pub fn units_counted()
     ensures { UnitsCounted }
+{}
+
+/// A merged and ordered list is its own built form.
+pub fn built_is_kept()
+    ensures { BuiltIsKept }
+{}
+
+/// A list in normal form is the normal form of its own counting out.
+pub fn normal_is_kept()
+    ensures { NormalIsKept }
+{}
+
+/// The spelling of a gap form, counted out.
+pub fn counted_of_spelled()
+    ensures { CountedOfSpelled }
+{}
+
+/// The spelling of a settled gap form is merged and in order.
+pub fn spelled_is_built()
+    ensures { SpelledIsBuilt }
+{}
+
+/// The normal form of a gap form is in normal form.
+pub fn normal_is_normal()
+    ensures { NormalIsNormal }
+{}
+
+/// What is kept of the first operations stands for them whatever comes after.
+pub fn built_in_pieces()
+    ensures { BuiltInPieces }
+{}
+
+/// The normal form of what is kept is that of all that was given.
+pub fn normal_of_built()
+    ensures { NormalOfBuilt }
+{}
+
+/// Settling leaves the effect on any document.
+pub fn effect_of_settled()
+    ensures { EffectOfSettled }
+{}
+
+/// Trimming leaves the effect on any document.
+pub fn effect_of_trimmed()
+    ensures { EffectOfTrimmed }
+{}
+
+/// The built form has the effect of the operations.
+pub fn effect_of_built()
+    ensures { EffectOfBuilt }
+{}
+
+/// The normal form has the effect of its gap form.
+pub fn effect_of_normal()
+    ensures { EffectOfNormal }
+{}
+
+/// Lists in normal form of one settled and trimmed gap form are equal.
+pub fn same_form()
+    ensures { SameForm }
 {}

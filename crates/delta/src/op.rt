@@ -1,9 +1,10 @@
 //! Operations of a delta.
-ghost use Rattle.std.specs.Prelude.{◌≡◌, ◌↔◌, ◌⊎◌, IfOk, OnOk, IfErr, IsOkUnless};
+ghost use Rattle.std.specs.Prelude.{◌≡◌, ◌+◌, ◌<◌, ◌^◌, ◌↔◌, ◌⊎◌, ◌++◌, IfOk, OnOk, OnErr, IfErr, IsOkUnless, MatchOption, MatchBool, false};
 ghost use Rattle.std.specs.String.{string_bytes};
 ghost use Rattle.utf16.specs.Units.{units_of};
 ghost use Rattle.attributes.specs.Attributes.{IsKey};
-ghost use Rattle.delta.specs.Operation.{insert_text, insert_embed, retain, delete, op_base, op_out, is_insert, is_delete, is_plain};
+ghost use Rattle.attributes.specs.Map.{empty};
+ghost use Rattle.delta.specs.Operation.{insert_text, insert_embed, retain, delete, op_base, op_out, is_insert, is_delete, is_plain, merged};
 
 use attributes::{Attrs, Change, Key, Value};
 use refusal::Refusal;
@@ -149,6 +150,52 @@ impl Op {
         }
     }
 
+    // the length of a retain without attributes
+    pub(crate) fn plain_len(&self) -> Option<u64>
+        ensures { MatchOption result (is_plain self.now ≡ false) (λ len. self.now ≡ retain len empty) }
+    {
+        match &self.kind {
+            Kind::Retain(len, change) => {
+                if change.is_empty() {
+                    Some(*len)
+                } else {
+                    None
+                }
+            }
+            Kind::Text(_, _) | Kind::Embed(_, _, _) | Kind::Delete(_) => None,
+        }
+    }
+
+    // takes the next operation in, where they merge, and says whether they do
+    pub(crate) fn merge(&mut self, next: &Op) -> Result<bool, Refusal>
+        requires { op_base self.old + op_base next.now < 2 ^ 64 }
+        ensures ok { IfOk result (λ yes. MatchBool yes (merged self.old next.now ≡ Some self.new) ((merged self.old next.now ≡ None) × (self.new ≡ self.old))) }
+        ensures err { OnErr result (self.new ≡ self.old) }
+        ensures only { IsOkUnless result Refusal.NoMemory }
+    {
+        match (&mut self.kind, &next.kind) {
+            (Kind::Text(text, attrs), Kind::Text(more, others)) => {
+                let same = *attrs == *others;
+                if same {
+                    append(text, more.as_str())?;
+                }
+                Ok(same)
+            }
+            (Kind::Retain(len, change), Kind::Retain(more, other)) => {
+                let same = *change == *other;
+                if same {
+                    *len += *more;
+                }
+                Ok(same)
+            }
+            (Kind::Delete(len), Kind::Delete(more)) => {
+                *len += *more;
+                Ok(true)
+            }
+            _ => Ok(false),
+        }
+    }
+
     /// An equal operation.
     pub fn copy(&self, alloc: Global) -> Result<Self, Refusal>
         ensures same { IfOk result (λ op. op ≡ self.now) }
@@ -167,6 +214,16 @@ impl Op {
         };
         Ok(Op { kind })
     }
+}
+
+// a text with another at its end
+fn append(text: &mut String, more: &str) -> Result<(), Refusal>
+    ensures ok { OnOk result (units_of (string_bytes text.new) ≡ units_of (string_bytes text.old) ++ units_of more.now) }
+    ensures err { OnErr result (string_bytes text.new ≡ string_bytes text.old) }
+    ensures only { IsOkUnless result Refusal.NoMemory }
+{
+    let _ = text.as_str();
+    text.push_str(more).map_err(|_| Refusal::NoMemory)
 }
 
 fn copy_text(alloc: Global, text: &str) -> Result<String, Refusal>

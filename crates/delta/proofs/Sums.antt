@@ -4,7 +4,7 @@ use Rattle.std.proofs.lemmas.Bool.{cases_lt}
 use Rattle.attributes.specs.Attributes.{Attributes, Changes, same_attributes, same_changes}
 use Rattle.delta.specs.Operation.{Operation, insert_text, insert_embed, retain, delete, is_insert, is_delete, merged, op_len, op_base, op_out, base_of, out_of}
 use Rattle.delta.specs.Normal.{built}
-use Rattle.delta.specs.Building.{met, added, LengthsKept}
+use Rattle.delta.specs.Building.{met, added}
 use Rattle.delta.proofs.Folding.{consed, built-cons, built-empty}
 
 -- of an append
@@ -92,7 +92,7 @@ op_len-zero (insert_embed key value a) base out = out
 op_len-zero (retain n c) base out = base
 op_len-zero (delete n) base out = base
 
-pub lengths-built : LengthsKept
+pub lengths-built : (ops : List Operation) → (base_of (built ops) ≡ base_of ops) × (out_of (built ops) ≡ out_of ops)
 lengths-built [] = (refl, refl)
 lengths-built (op ∷ ops) =
     let rest : (base_of (built ops) ≡ base_of ops) × (out_of (built ops) ≡ out_of ops) = lengths-built ops in
