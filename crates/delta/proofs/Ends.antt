@@ -1,18 +1,19 @@
 -- A last retain without attributes: what is left without it is the normal form.
-use Rattle.std.proofs.Common.{◌≡◌, ℕ, zero, suc, ◌+◌, ◌-◌, ◌<◌, Bool, true, false, not, ◌&&◌, cond, List, [], ◌∷◌, ◌++◌, length, take, get_or, Option, Some, None, refl, sym, ap, ◌∙◌, ◌⊎◌, inl, inr, ⊎_elim, arith}
+use Rattle.std.proofs.Common.{◌≡◌, ℕ, zero, suc, ◌+◌, ◌-◌, ◌<◌, true, false, not, ◌&&◌, cond, List, [], ◌∷◌, ◌++◌, length, take, get_or, Some, None, refl, sym, ap, ◌∙◌, ◌⊎◌, inl, inr, ⊎_elim, arith}
 use Rattle.std.proofs.lemmas.List.{append-nil}
 use Rattle.std.proofs.lemmas.Bool.{and_parts, and_from}
-use Rattle.std.specs.Prelude.{IsTrue, is_none, nat_lt}
+use Rattle.std.specs.Prelude.{is_none, nat_lt}
 use Rattle.attributes.specs.Map.{empty}
-use Rattle.attributes.specs.Attributes.{Attributes, Changes, same_changes, same_changes-Decides}
+use Rattle.attributes.specs.Attributes.{same_changes, same_changes-Decides}
 use Rattle.delta.specs.Element.{Element}
-use Rattle.delta.specs.Operation.{Operation, insert_text, insert_embed, retain, delete, is_insert, is_delete, is_plain, merged, op_len}
+use Rattle.delta.specs.Operation.{Operation, insert_text, insert_embed, retain, delete, is_plain, merged, op_len, base_of, out_of}
 use Rattle.delta.specs.Gaps.{Gaps, End, Gap, Fate, Del, Keep, front, run, counted, joined}
 use Rattle.delta.specs.Normal.{may_precede, is_built, ends_plain, IsNormal, past, settled, trim, trimmed, spelled, nf}
 use Rattle.delta.specs.Building.{without_plain}
 use Rattle.delta.proofs.Joins.{counted-append}
 use Rattle.delta.proofs.Settling.{settled-front}
 use Rattle.delta.proofs.BuiltLists.{nf-same}
+use Rattle.delta.proofs.Lengths.{base_of-append, out_of-append}
 
 -- units kept without a change, and nothing after them
 abbrev kept : ℕ → Gaps
@@ -151,3 +152,26 @@ without_plain-last (op ∷ next ∷ ops) (suc k) d e =
     ap (λ l. op ∷ l) (without_plain-last (next ∷ ops) k d (omega arith))
     ∙ elim (is_plain (get_or (next ∷ ops) k d)) as (λ t. op ∷ cond t (take k (next ∷ ops)) (next ∷ ops)
     ≡ cond t (take (suc k) (op ∷ next ∷ ops)) (op ∷ next ∷ ops)) [ true ↦ refl | false ↦ refl ]
+
+-- a last retain without attributes is taken off
+pub taken : (ops rest : List Operation) (last : Operation) (n : ℕ) → 0 < length ops → last ≡ get_or ops (length ops - 1) last → last ≡ retain n empty → rest ≡ take (length ops - 1) ops → rest ≡ without_plain ops
+taken ops rest last n some is plain front =
+    front
+    ∙ sym (without_plain-last ops (length ops - 1) last (omega arith)
+    ∙ ap (λ t. cond t (take (length ops - 1) ops) ops) (ap is_plain (sym is ∙ plain) ∙ same_changes-empty))
+  where
+    same_changes-empty : same_changes empty empty ≡ true
+    same_changes-empty = (same_changes-Decides empty empty).1 refl
+
+pub not_taken : (ops : List Operation) (last : Operation) → 0 < length ops → last ≡ get_or ops (length ops - 1) last → is_plain last ≡ false → ops ≡ without_plain ops
+not_taken ops last some is other =
+    sym (without_plain-last ops (length ops - 1) last (omega arith)
+    ∙ ap (λ t. cond t (take (length ops - 1) ops) ops) (ap is_plain (sym is) ∙ other))
+
+-- and both lengths are less by its length
+pub taken-lengths : (ops rest : List Operation) (last : Operation) (n : ℕ) → ops ≡ rest ++ last ∷ [] → last ≡ retain n empty → (base_of rest + n ≡ base_of ops) × (out_of rest + n ≡ out_of ops)
+taken-lengths ops rest last n parts plain =
+    let e : ops ≡ rest ++ retain n empty ∷ [] = parts ∙ ap (λ o. rest ++ o ∷ []) plain in (
+      omega (arith, ap base_of e, base_of-append rest (retain n empty ∷ [])),
+      omega (arith, ap out_of e, out_of-append rest (retain n empty ∷ [])),
+    )

@@ -1,12 +1,12 @@
 -- Built lists, one operation after another from the front.
-use Rattle.std.proofs.Common.{◌≡◌, ℕ, zero, suc, ◌+◌, ◌<◌, Bool, true, false, not, ◌&&◌, cond, List, [], ◌∷◌, ◌++◌, length, Option, Some, None, refl, sym, ap, subst, ◌∙◌, arith}
+use Rattle.std.proofs.Common.{◌≡◌, ℕ, zero, suc, ◌+◌, ◌<◌, true, false, ◌&&◌, cond, List, [], ◌∷◌, ◌++◌, Some, None, refl, sym, ap, ◌∙◌, arith}
 use Rattle.std.proofs.Math.Numerals.{one-add}
 use Rattle.std.specs.Prelude.{if◌then◌else◌}
 use Rattle.attributes.specs.Attributes.{Attributes, Changes, same_attributes, same_changes, same_attributes-Decides, same_changes-Decides}
 use Rattle.attributes.specs.Scalar.{Scalar}
-use Rattle.delta.specs.Element.{Element, Item, code_unit, embed, lettered, letters, embedded}
+use Rattle.delta.specs.Element.{Element, Item, code_unit, embed, letters, embedded}
 use Rattle.delta.specs.Operation.{Operation, insert_text, insert_embed, retain, delete, is_insert, is_delete, merged, op_len}
-use Rattle.delta.specs.Gaps.{Gaps, End, Gap, Fate, Del, Keep, front, run, counted}
+use Rattle.delta.specs.Gaps.{Gaps, End, Gap, Fate, Del, Keep, front, counted}
 use Rattle.delta.specs.Normal.{past, settled, spell_unit, spell_item, spell_inserts, spell_fate, spelled, built}
 use Rattle.delta.specs.Building.{met}
 use Rattle.delta.proofs.Settling.{settled-front}

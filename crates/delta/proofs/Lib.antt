@@ -5,8 +5,11 @@ pub mod Neighbours
 pub mod Normality
 pub mod BuiltLists
 pub mod Effects
+pub mod Lengths
+pub mod Telling
+pub mod SameEffects
 pub mod Folding
 pub mod Pushing
-pub mod Sums
-pub mod Ends
 pub mod Places
+pub mod Pushed
+pub mod Ends

@@ -1,9 +1,9 @@
 -- One more operation at the end of a built list.
-use Rattle.std.proofs.Common.{◌≡◌, ℕ, zero, suc, ◌+◌, ◌<◌, Bool, true, false, not, ◌&&◌, cond, List, [], ◌∷◌, ◌++◌, length, take, drop, Option, Some, None, refl, sym, ap, subst, ◌∙◌, arith}
-use Rattle.std.proofs.lemmas.Bool.{and_parts, not-true, ltb-true}
-use Rattle.std.specs.Prelude.{is_none, if◌then◌else◌, nat_lt}
-use Rattle.attributes.specs.Attributes.{Attributes, Changes, same_attributes, same_changes, same_attributes-Decides, same_changes-Decides}
-use Rattle.delta.specs.Operation.{Operation, insert_text, insert_embed, retain, delete, is_insert, is_delete, merged, op_len, op_base, op_out, base_of, out_of}
+use Rattle.std.proofs.Common.{◌≡◌, ℕ, suc, ◌+◌, ◌<◌, Bool, true, false, not, ◌&&◌, cond, List, [], ◌∷◌, ◌++◌, take, drop, Option, Some, None, refl, sym, ap, ◌∙◌}
+use Rattle.std.proofs.lemmas.Bool.{and_parts, ltb-true}
+use Rattle.std.specs.Prelude.{is_none, nat_lt}
+use Rattle.attributes.specs.Attributes.{Attributes, Changes, same_attributes, same_changes}
+use Rattle.delta.specs.Operation.{Operation, insert_text, insert_embed, retain, delete, is_insert, is_delete, merged, op_len}
 use Rattle.delta.specs.Normal.{may_precede, is_built, built}
 use Rattle.delta.specs.Building.{met, added, place_of}
 use Rattle.delta.proofs.Folding.{consed, built-cons}

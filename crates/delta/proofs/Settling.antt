@@ -131,7 +131,7 @@ trim-same xs (Keep c) (End (y ∷ ys)) h = refl
 trim-same xs (Keep c) (Gap ys f g) h = refl
 trim-same xs Del g h = refl
 
-ends_kept-rest : (xs : List Element) (f : Fate) (g : Gaps) → ends_kept (Gap xs f g) ≡ false → ends_kept g ≡ false
+pub ends_kept-rest : (xs : List Element) (f : Fate) (g : Gaps) → ends_kept (Gap xs f g) ≡ false → ends_kept g ≡ false
 ends_kept-rest xs f (End ys) h = refl
 ends_kept-rest xs (Keep c) (Gap ys e g) h = h
 ends_kept-rest xs Del (Gap ys e g) h = h

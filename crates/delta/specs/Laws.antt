@@ -1,7 +1,7 @@
 -- What holds of any operations and gap forms.
-use Rattle.std.specs.Prelude.{◌≡◌, IsTrue, List, ◌++◌}
+use Rattle.std.specs.Prelude.{◌≡◌, ◌+◌, ◌-◌, ◌≤◌, IsTrue, List, ◌++◌, length}
 use Rattle.delta.specs.Element.{Element}
-use Rattle.delta.specs.Operation.{Operation, base_of}
+use Rattle.delta.specs.Operation.{Operation, base_of, out_of, IsBounded}
 use Rattle.delta.specs.Gaps.{Gaps, counted, joined, units_below, apply}
 use Rattle.delta.specs.Normal.{is_built, IsNormal, settled, trimmed, spelled, nf, built}
 
@@ -61,3 +61,36 @@ EffectOfNormal = (d : List Element) (g : Gaps) → apply d (counted (nf g)) ≡ 
 -- two lists in normal form that are counted out, settled and trimmed to the same are one list
 abbrev pub SameForm : Type 0
 SameForm = (a b : List Operation) → IsNormal a → IsNormal b → trimmed (settled (counted a)) ≡ trimmed (settled (counted b)) → a ≡ b
+
+-- two lists have the same effect on each document that is long enough for both
+abbrev pub HaveSameEffect : List Operation → List Operation → Type 0
+HaveSameEffect a b = (d : List Element) → base_of a ≤ length d → base_of b ≤ length d → apply d (counted a) ≡ apply d (counted b)
+
+-- two lists in normal form with the same effect are one list
+abbrev pub SameEffect : Type 0
+SameEffect = (a b : List Operation) → IsNormal a → IsNormal b → HaveSameEffect a b → a ≡ b
+
+-- the built form has the lengths of the operations
+abbrev pub LengthsOfBuilt : Type 0
+LengthsOfBuilt = (ops : List Operation) → (base_of (built ops) ≡ base_of ops) × (out_of (built ops) ≡ out_of ops)
+
+-- the normal form has them less the plain retain that was last: as much of the one as of the other
+abbrev pub LengthsOfNormal : Type 0
+LengthsOfNormal = (ops : List Operation)
+    → (base_of (nf (counted ops)) ≤ base_of ops) × (base_of (nf (counted ops)) + out_of ops ≡ base_of ops + out_of (nf (counted ops)))
+
+-- the normal form of a gap form speaks of no more units
+abbrev pub BaseOfNormal : Type 0
+BaseOfNormal = (g : Gaps) → base_of (nf g) ≤ units_below g
+
+-- so both forms stay within the bound
+abbrev pub BoundOfBuilt : Type 0
+BoundOfBuilt = (ops : List Operation) → IsBounded ops → IsBounded (built ops)
+
+abbrev pub BoundOfNormal : Type 0
+BoundOfNormal = (ops : List Operation) → IsBounded ops → IsBounded (nf (counted ops))
+
+-- the length of a document after operations that it is long enough for
+abbrev pub LengthOfEffect : Type 0
+LengthOfEffect = (d : List Element) (ops : List Operation) → base_of ops ≤ length d
+    → length (apply d (counted ops)) ≡ length d - base_of ops + out_of ops

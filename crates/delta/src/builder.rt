@@ -1,9 +1,9 @@
 //! The builder of deltas.
-ghost use Rattle.std.specs.Prelude.{◌≡◌, ◌+◌, ◌≤◌, ◌<◌, ◌^◌, ◌↔◌, ◌⊎◌, ◌++◌, [], ◌∷◌, take, drop, IfErr, OnOk, OnErr, IsOkUnless};
+ghost use Rattle.std.specs.Prelude.{◌≡◌, ◌+◌, ◌≤◌, ◌<◌, ◌^◌, ◌↔◌, ◌⊎◌, ◌++◌, [], ◌∷◌, take, drop, IfErr, IfOk, OnOk, OnErr, IsOkUnless, MatchBool, vec_len};
 ghost use Rattle.delta.specs.Operation.{base_of, out_of, op_base, IsBounded};
 ghost use Rattle.delta.specs.Gaps.{counted};
 ghost use Rattle.delta.specs.Normal.{built, nf};
-ghost use Rattle.delta.specs.Building.{added, place_of, without_plain};
+ghost use Rattle.delta.specs.Building.{added, place_of, without_plain, IsAddedApart};
 
 use crate::delta::Delta;
 use crate::op::Op;
@@ -91,10 +91,27 @@ fn put(ops: &mut Vec<Op>, op: Op) -> Result<(), Refusal>
     ensures only { IsOkUnless result Refusal.NoMemory }
 {
     let at = place(ops.as_slice(), &op);
-    if at > 0 && ops[at - 1].merge(&op)? {
+    if merge_before(ops, at, &op)? {
         return Ok(());
     }
-    ops.insert(at, op).map_err(|_| Refusal::NoMemory)
+    ops.insert(at, op)?;
+    Ok(())
+}
+
+// takes an operation into the one before its place, where they merge, and says whether they do
+fn merge_before(ops: &mut Vec<Op>, at: usize, op: &Op) -> Result<bool, Refusal>
+    requires place { at ≤ vec_len ops.old }
+    requires bound { base_of ops.old.items + op_base op.now ≤ 2 ^ 48 }
+    ensures ok { IfOk result (λ yes. MatchBool yes (ops.new.items ≡ added (take at ops.old.items) op.now ++ drop at ops.old.items) (IsAddedApart ops.old.items ops.new.items at op.now)) }
+    ensures err { OnErr result (ops.new.items ≡ ops.old.items) }
+    ensures only { IsOkUnless result Refusal.NoMemory }
+    ensures len { vec_len ops.new ≡ vec_len ops.old }
+{
+    if at == 0 {
+        return Ok(false);
+    }
+    let merged = ops[at - 1].merge(op)?;
+    Ok(merged)
 }
 
 // where an operation is to be added: at the end, and an insert before a delete that is last

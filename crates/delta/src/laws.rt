@@ -1,5 +1,5 @@
 //! What holds of operations, counted out and in normal form, as contracts to cite: each function does nothing and promises one law.
-ghost use Rattle.delta.specs.Laws.{CountedOfAppend, JoinedThrice, UnitsCounted, BuiltIsKept, NormalIsKept, CountedOfSpelled, SpelledIsBuilt, NormalIsNormal, BuiltInPieces, NormalOfBuilt, EffectOfSettled, EffectOfTrimmed, EffectOfBuilt, EffectOfNormal, SameForm};
+ghost use Rattle.delta.specs.Laws.{CountedOfAppend, JoinedThrice, UnitsCounted, BuiltIsKept, NormalIsKept, CountedOfSpelled, SpelledIsBuilt, NormalIsNormal, BuiltInPieces, NormalOfBuilt, EffectOfSettled, EffectOfTrimmed, EffectOfBuilt, EffectOfNormal, SameForm, SameEffect, LengthsOfBuilt, LengthsOfNormal, BaseOfNormal, BoundOfBuilt, BoundOfNormal, LengthOfEffect};
 
 /// Counting out of an append.
 pub fn counted_of_append()
@@ -74,4 +74,39 @@ pub fn effect_of_normal()
 /// Lists in normal form of one settled and trimmed gap form are equal.
 pub fn same_form()
     ensures { SameForm }
+{}
+
+/// Lists in normal form with the same effect on each document that is long enough are equal.
+pub fn same_effect()
+    ensures { SameEffect }
+{}
+
+/// The lengths of the built form.
+pub fn lengths_of_built()
+    ensures { LengthsOfBuilt }
+{}
+
+/// The lengths of the normal form.
+pub fn lengths_of_normal()
+    ensures { LengthsOfNormal }
+{}
+
+/// The base length of the normal form of a gap form.
+pub fn base_of_normal()
+    ensures { BaseOfNormal }
+{}
+
+/// The built form stays within the bound of 2^48 units.
+pub fn bound_of_built()
+    ensures { BoundOfBuilt }
+{}
+
+/// The normal form stays within the bound of 2^48 units.
+pub fn bound_of_normal()
+    ensures { BoundOfNormal }
+{}
+
+/// The length of a document after operations.
+pub fn length_of_effect()
+    ensures { LengthOfEffect }
 {}

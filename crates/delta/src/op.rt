@@ -155,13 +155,7 @@ impl Op {
         ensures { MatchOption result (is_plain self.now ≡ false) (λ len. self.now ≡ retain len empty) }
     {
         match &self.kind {
-            Kind::Retain(len, change) => {
-                if change.is_empty() {
-                    Some(*len)
-                } else {
-                    None
-                }
-            }
+            Kind::Retain(len, change) => { if change.is_empty() { Some(*len) } else { None } }
             Kind::Text(_, _) | Kind::Embed(_, _, _) | Kind::Delete(_) => None,
         }
     }
@@ -223,12 +217,13 @@ fn append(text: &mut String, more: &str) -> Result<(), Refusal>
     ensures only { IsOkUnless result Refusal.NoMemory }
 {
     let _ = text.as_str();
-    text.push_str(more).map_err(|_| Refusal::NoMemory)
+    text.push_str(more)?;
+    Ok(())
 }
 
 fn copy_text(alloc: Global, text: &str) -> Result<String, Refusal>
     ensures same { IfOk result (λ copy. string_bytes copy ≡ text.now) }
     ensures only { IsOkUnless result Refusal.NoMemory }
 {
-    String::from_str(alloc, text).map_err(|_| Refusal::NoMemory)
+    Ok(String::from_str(alloc, text)?)
 }

@@ -1,14 +1,12 @@
-use Rattle.std.proofs.Common.{rules, ◌≡◌, ◌+◌, ◌≤◌, ◌<◌, ◌^◌, ◌↔◌, ◌⊎◌, ◌++◌, [], ◌∷◌, take, drop, IfErr, OnOk, OnErr, IsOkUnless, ℕ, ◌-◌, ◌*◌, length, ◌/◌, ◌%◌, Bool, true, false, nat_eq, nat_lt, List, slice_index_or, slice_set, bit_and, bit_or, Fits, w8, w32, w64, Bor, MutBor}
-use Rattle.delta.specs.Operation.{base_of, out_of, op_base, IsBounded}
+use Rattle.std.proofs.Common.{◌∙◌, ap, sym, subst}
 use Rattle.delta.specs.Gaps.{counted}
-use Rattle.delta.specs.Normal.{built, nf}
-use Rattle.delta.specs.Building.{added, place_of, without_plain}
+use Rattle.delta.specs.Normal.{IsNormal, nf}
+use Rattle.delta.proofs.Ends.{IsNormal-without_plain, nf-without_plain}
 use Rattle.delta.proofs.builder.Builder.finish.Goals as goal
 
--- src/builder.rt:82:9
 pub of-requires-clause-normal : goal.of-requires-clause-normal
-of-requires-clause-normal c = ?
+of-requires-clause-normal c = subst IsNormal (sym c.take_plain-plain.ensures.rest) (IsNormal-without_plain c.self.inside.ops.items c.self.invariant.0)
 
--- src/builder.rt:77:5
 pub returns : goal.returns
-returns c = ?
+returns c =
+    c.of.ensures ∙ (c.take_plain-plain.ensures.rest ∙ (nf-without_plain c.self.inside.ops.items c.self.invariant.0 ∙ ap (λ l. nf (counted l)) c.self.view_is))
