@@ -1,13 +1,15 @@
 -- A push: what is refused, what is nothing, and what a builder keeps after it.
-use Rattle.std.proofs.Common.{◌≡◌, ℕ, zero, suc, ◌+◌, ◌-◌, ◌<◌, ◌≤◌, ◌^◌, List, [], ◌∷◌, ◌++◌, refl, sym, ap, subst, ◌∙◌, arith}
+use Rattle.std.proofs.Common.{◌≡◌, ℕ, zero, suc, ◌+◌, ◌-◌, ◌<◌, ◌≤◌, ◌^◌, List, [], ◌∷◌, ◌++◌, take, drop, refl, sym, ap, subst, ◌∙◌, arith}
 use Rattle.std.specs.Prelude.{IsTrue}
 use Rattle.delta.specs.Operation.{Operation, insert_text, insert_embed, retain, delete, op_len, op_base, op_out, base_of, out_of, IsBounded}
 use Rattle.delta.specs.Gaps.{End, counted, joined}
 use Rattle.delta.specs.Normal.{is_built, built, settled, spelled}
+use Rattle.delta.specs.Building.{added, place_of}
 use Rattle.delta.proofs.Joins.{counted-append, joined-End}
 use Rattle.delta.proofs.Normality.{built-spelled_settled}
 use Rattle.delta.proofs.BuiltLists.{built-same}
 use Rattle.delta.proofs.Lengths.{base_of-append, out_of-append, lengths-built}
+use Rattle.delta.proofs.Pushing.{built-push}
 
 -- the bound with one operation more
 pub bounded-push : (ops : List Operation) (op : Operation) → base_of ops + op_base op ≤ 2 ^ 48 → out_of ops + op_out op ≤ 2 ^ 48 → IsBounded (ops ++ op ∷ [])
@@ -29,11 +31,15 @@ op_len-zero (insert_embed key value a) base out = out
 op_len-zero (retain n c) base out = base
 op_len-zero (delete n) base out = base
 
-pub op_len-some : (op : Operation) → 0 < op_base op + op_out op → 0 < op_len op
+op_len-some : (op : Operation) → 0 < op_base op + op_out op → 0 < op_len op
 op_len-some (insert_text us a) some = omega arith
 op_len-some (insert_embed key value a) some = omega arith
 op_len-some (retain n c) some = omega arith
 op_len-some (delete n) some = omega arith
+
+-- one that has a length is added at its place
+pub built-added : (ops new : List Operation) (op : Operation) → IsTrue (is_built ops) → 0 < op_base op + op_out op → new ≡ added (take (place_of ops op) ops) op ++ drop (place_of ops op) ops → new ≡ built (ops ++ op ∷ [])
+built-added ops new op h some e = e ∙ sym (built-push ops op h (op_len-some op some))
 
 counted-nothing : (op : Operation) → op_len op ≡ 0 → counted (op ∷ []) ≡ End []
 counted-nothing (insert_text [] a) none = refl

@@ -63,7 +63,8 @@ impl Builder {
         if base > MAX_LEN - self.base || out > MAX_LEN - self.out {
             return Err(Refusal::BadOps);
         }
-        if base == 0 && out == 0 {
+        let len = base.max(out);
+        if len == 0 {
             return Ok(());
         }
         put(&mut self.ops, op)?;
