@@ -121,10 +121,9 @@ fn place(ops: &[Op], op: &Op) -> usize
 {
     let len = ops.len();
     if len > 0 && ops[len - 1].is_delete() && op.is_insert() {
-        len - 1
-    } else {
-        len
+        return len - 1;
     }
+    len
 }
 
 // takes off a last retain without attributes, and gives its length

@@ -5,6 +5,7 @@ use crate::{Builder, Delta, MAX_LEN, Op, OpRef};
 use attributes::{Attrs, Change, Key, Value};
 use refusal::Refusal;
 use std::alloc::Global;
+use std::process::Abort;
 use std::test::Fail;
 
 fn attrs_of(alloc: Global, names: &str) -> Result<Attrs, Fail> {
@@ -101,22 +102,48 @@ fn shown(alloc: Global, delta: &Delta) -> Result<String, Fail> {
     Ok(out)
 }
 
+// pushes each first row, and wants the second
+fn expect_rows(rt: &impl Abort, alloc: Global, rows: &[(&str, &str)]) -> Result<(), Fail> {
+    for (given, wanted) in rows {
+        let delta = built(alloc, given)?;
+        let copy = delta.copy(alloc)?;
+        for delta in [delta, copy] {
+            assert_eq!(rt; shown(alloc, &delta)?.as_str(), *wanted, "from {given}");
+        }
+    }
+    Ok(())
+}
+
 #[test]
-fn builds(rt: HostRuntime) -> Result<(), Fail> {
-    // (given, built)
+fn keeps_operations(rt: HostRuntime) -> Result<(), Fail> {
     let rows = [
-        ("ins ", ""),
-        ("ins  {bold}", ""),
-        ("del 0", ""),
-        ("ret 0", ""),
-        ("ret 0 {bold}", ""),
         ("ins test", "ins test"),
         ("ins test {bold}", "ins test {bold}"),
         ("emb image {alt}", "emb image {alt}"),
         ("ret 1 {bold}", "ret 1 {bold}"),
         ("ret 1 {-bold}", "ret 1 {-bold}"),
         ("del 1", "del 1"),
-        // an insert after a delete
+        ("ins x {b a}", "ins x {a b}"),
+    ];
+    expect_rows(&rt, rt.alloc(), &rows)
+}
+
+#[test]
+fn ignores_nothing(rt: HostRuntime) -> Result<(), Fail> {
+    let rows = [
+        ("ins ", ""),
+        ("ins  {bold}", ""),
+        ("del 0", ""),
+        ("ret 0", ""),
+        ("ret 0 {bold}", ""),
+        ("del 2, ins x, ret 0, ins ", "ins x, del 2"),
+    ];
+    expect_rows(&rt, rt.alloc(), &rows)
+}
+
+#[test]
+fn puts_inserts_before_deletes(rt: HostRuntime) -> Result<(), Fail> {
+    let rows = [
         ("del 1, ins a", "ins a, del 1"),
         ("del 1, emb image", "emb image, del 1"),
         ("ins a, del 1, ins b", "ins ab, del 1"),
@@ -125,20 +152,29 @@ fn builds(rt: HostRuntime) -> Result<(), Fail> {
         ("del 1, ins a, ins b", "ins ab, del 1"),
         ("del 1, ins a, del 2", "ins a, del 3"),
         ("ret 1, del 1, ins a", "ret 1, ins a, del 1"),
-        ("del 2, ins x, ret 0, ins ", "ins x, del 2"),
-        // neighbours
+    ];
+    expect_rows(&rt, rt.alloc(), &rows)
+}
+
+#[test]
+fn merges_neighbours(rt: HostRuntime) -> Result<(), Fail> {
+    let rows = [
         ("del 2, del 3", "del 5"),
         ("del 1, del 2", "del 3"),
         ("ins a, ins b", "ins ab"),
         ("ins a {bold}, ins b {bold}", "ins ab {bold}"),
-        (
-            "ins a {bold italic}, ins b {italic bold}",
-            "ins ab {bold italic}",
-        ),
-        ("ins a {bold}, ins b", "ins a {bold}, ins b"),
-        ("ins a, ins b {bold}", "ins a, ins b {bold}"),
+        ("ins a {i b}, ins b {b i}", "ins ab {b i}"),
         ("ret 1 {bold}, ret 3 {bold}", "ret 4 {bold}"),
         ("ret 1, ret 3, del 1", "ret 4, del 1"),
+    ];
+    expect_rows(&rt, rt.alloc(), &rows)
+}
+
+#[test]
+fn keeps_neighbours_apart(rt: HostRuntime) -> Result<(), Fail> {
+    let rows = [
+        ("ins a {bold}, ins b", "ins a {bold}, ins b"),
+        ("ins a, ins b {bold}", "ins a, ins b {bold}"),
         ("ret 1 {bold}, ret 3, del 1", "ret 1 {bold}, ret 3, del 1"),
         ("ret 1 {bold}, ret 3 {-bold}", "ret 1 {bold}, ret 3 {-bold}"),
         (
@@ -147,7 +183,13 @@ fn builds(rt: HostRuntime) -> Result<(), Fail> {
         ),
         ("emb image, ins a", "emb image, ins a"),
         ("ret 1, ins a, ret 1, del 1", "ret 1, ins a, ret 1, del 1"),
-        // a last retain
+    ];
+    expect_rows(&rt, rt.alloc(), &rows)
+}
+
+#[test]
+fn takes_off_a_last_retain(rt: HostRuntime) -> Result<(), Fail> {
+    let rows = [
         ("ret 2", ""),
         ("ins a, ret 3", "ins a"),
         ("ins test, ret 4", "ins test"),
@@ -155,13 +197,7 @@ fn builds(rt: HostRuntime) -> Result<(), Fail> {
         ("ret 1 {bold}, ret 3", "ret 1 {bold}"),
         ("del 2, ret 1", "del 2"),
     ];
-    for (given, wanted) in rows {
-        let delta = built(rt.alloc(), given)?;
-        assert_eq!(rt; shown(rt.alloc(), &delta)?.as_str(), wanted, "from {given}");
-        let copy = delta.copy(rt.alloc())?;
-        assert_eq!(rt; shown(rt.alloc(), &copy)?.as_str(), wanted);
-    }
-    Ok(())
+    expect_rows(&rt, rt.alloc(), &rows)
 }
 
 #[test]
@@ -238,12 +274,5 @@ fn keeps_names_of_embeds(rt: HostRuntime) -> Result<(), Fail> {
         let op = Op::embed(rt.alloc(), name, Value::flag(true), Attrs::new(rt.alloc()));
         assert!(rt; op.err() == if kept { None } else { Some(Refusal::BadOps) });
     }
-    Ok(())
-}
-
-#[test]
-fn keeps_names_in_order(rt: HostRuntime) -> Result<(), Fail> {
-    let delta = built(rt.alloc(), "ins x {b a}")?;
-    assert_eq!(rt; shown(rt.alloc(), &delta)?.as_str(), "ins x {a b}");
     Ok(())
 }
