@@ -8,7 +8,7 @@ use Rattle.delta.specs.Operation.{Operation, insert_text, insert_embed, retain, 
 use Rattle.delta.specs.Gaps.{Gaps, Del, Keep, run, counted, joined}
 use Rattle.delta.specs.Normal.{is_built, ends_plain, IsNormal, spell_inserts, spelled, settled, trimmed, nf, built}
 use Rattle.delta.proofs.Joins.{counted-append}
-use Rattle.delta.proofs.Settling.{IsBare, IsSettled, ends_kept, IsSettled-front, settled-same, settled-settled, settled-joined, trimmed-same}
+use Rattle.delta.proofs.Settling.{IsBare, IsSettled, ends_kept, IsSettled-front, settled-same, settled-settled, settled-joined, settled-joined_settled, trimmed-same}
 use Rattle.delta.proofs.Spellings.{counted-spelled, spelled-front}
 use Rattle.delta.proofs.Neighbours.{may_lead-text, may_lead-retain, may_lead-delete, is_apart_retain, is_apart_delete, built-parts, spell-letters, spelled-keeps, spelled-deletes}
 use Rattle.delta.proofs.Normality.{ends-spelled}
@@ -87,3 +87,8 @@ built-append a b =
 
 pub nf-built : (a : List Operation) → nf (counted (built a)) ≡ nf (counted a)
 nf-built a = ap nf (counted-spelled (settled (counted a))) ∙ ap (λ g. spelled (trimmed g)) (settled-settled (counted a))
+
+pub built-append_built : (a b : List Operation) → built (a ++ built b) ≡ built (a ++ b)
+built-append_built a b =
+    ap (λ g. spelled (settled g)) (counted-append a (built b) ∙ ap (joined (counted a)) (counted-spelled (settled (counted b))))
+    ∙ (ap spelled (settled-joined_settled (counted a) (counted b)) ∙ ap (λ g. spelled (settled g)) (sym (counted-append a b)))

@@ -6,6 +6,7 @@ pub mod Normality
 pub mod BuiltLists
 pub mod Effects
 pub mod Lengths
+pub mod Parts
 pub mod Telling
 pub mod SameEffects
 pub mod Folding

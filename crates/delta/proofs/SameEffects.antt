@@ -7,12 +7,14 @@ use Rattle.attributes.specs.Attributes.{Changes, same_changes-Decides}
 use Rattle.delta.specs.Element.{Element}
 use Rattle.delta.specs.Operation.{Operation, base_of}
 use Rattle.delta.specs.Gaps.{Gaps, End, Gap, Del, Keep, apply, counted, units_below}
-use Rattle.delta.specs.Laws.{SameEffect}
-use Rattle.delta.specs.Normal.{IsNormal, settled, trimmed}
+use Rattle.delta.specs.Laws.{SameEffect, SameEffectFrom, NormalOfSameEffect}
+use Rattle.delta.specs.Normal.{IsNormal, settled, trimmed, spelled}
+use Rattle.delta.proofs.Joins.{units_below-counted}
 use Rattle.delta.proofs.BuiltLists.{nf-same}
 use Rattle.delta.proofs.Lengths.{base_of-spelled}
 use Rattle.delta.proofs.Settling.{IsSettled, ends_kept, ends_kept-rest, IsSettled-settled, IsSettled-trimmed, ends_kept-trimmed}
-use Rattle.delta.proofs.Effects.{changed-empty, apply-settled, apply-trimmed, same_form}
+use Rattle.delta.proofs.Effects.{changed-empty, apply-settled, apply-trimmed, apply-nf, same_form}
+use Rattle.delta.proofs.Parts.{same_from}
 use Rattle.delta.proofs.Telling.{HaveSame, told_changes, keep_keep, keep_delete, delete_delete, same_rest, plain}
 
 -- kept units without a change, and nothing more, do nothing
@@ -100,3 +102,25 @@ same_effect a b normal_a normal_b same =
     (λ d long_a long_b.
     apply-shortest d a
     ∙ (same d (subst (λ n. n ≤ length d) (base-shortest a normal_a) long_a) (subst (λ n. n ≤ length d) (base-shortest b normal_b) long_b) ∙ sym (apply-shortest d b))))
+
+pub same_effect_from : SameEffectFrom
+same_effect_from m a b normal_a normal_b same =
+    same_effect a b normal_a normal_b (λ d long_a long_b.
+    same_from m (counted a) (counted b) same d
+    (subst (λ n. n ≤ length d) (sym (units_below-counted a)) long_a)
+    (subst (λ n. n ≤ length d) (sym (units_below-counted b)) long_b))
+
+-- any lists have the same effect just where they have one normal form
+pub normal_of_same_effect : NormalOfSameEffect
+unfolding shortest
+normal_of_same_effect a b = (
+  λ same.
+      ap spelled (told (shortest a) (shortest b)
+      (IsSettled-trimmed (settled (counted a)) (IsSettled-settled (counted a)))
+      (IsSettled-trimmed (settled (counted b)) (IsSettled-settled (counted b)))
+      (ends_kept-trimmed (settled (counted a)))
+      (ends_kept-trimmed (settled (counted b)))
+      (same_from (base_of a + base_of b) (shortest a) (shortest b)
+      (λ d long. apply-shortest d a ∙ (same d (omega (arith, long)) (omega (arith, long)) ∙ sym (apply-shortest d b))))),
+  λ one d long_a long_b. sym (apply-nf d (counted a)) ∙ (ap (λ ops. apply d (counted ops)) one ∙ apply-nf d (counted b)),
+)

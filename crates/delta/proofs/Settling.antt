@@ -83,6 +83,12 @@ settled-joined (Gap xs f g) h =
     after Del (Gap ys e k) =
         ap (λ m. front ys (past Del m)) (front-nil (past e (settled (joined k h)))) ∙ sym (past-front ys (past e (settled (joined k h))))
 
+-- and what settles in the second
+pub settled-joined_settled : (g h : Gaps) → settled (joined g (settled h)) ≡ settled (joined g h)
+settled-joined_settled (End xs) h =
+    settled-front xs (settled h) ∙ (ap (front xs) (settled-settled h) ∙ sym (settled-front xs h))
+settled-joined_settled (Gap xs f g) h = ap (λ k. front xs (past f k)) (settled-joined_settled g h)
+
 -- trimming keeps what is settled settled
 IsBare-trim : (f : Fate) (g : Gaps) → IsBare (trim [] f g)
 IsBare-trim (Keep c) (End []) =

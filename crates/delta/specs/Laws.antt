@@ -1,7 +1,9 @@
 -- What holds of any operations and gap forms.
-use Rattle.std.specs.Prelude.{◌≡◌, ◌+◌, ◌-◌, ◌≤◌, IsTrue, List, ◌++◌, length}
-use Rattle.delta.specs.Element.{Element}
-use Rattle.delta.specs.Operation.{Operation, base_of, out_of, IsBounded}
+use Rattle.std.specs.Prelude.{◌≡◌, ℕ, ◌+◌, ◌-◌, ◌≤◌, ◌↔◌, IsTrue, List, [], ◌∷◌, ◌++◌, length, map}
+use Rattle.attributes.specs.Attributes.{Attributes, Changes, changed}
+use Rattle.attributes.specs.Scalar.{Scalar}
+use Rattle.delta.specs.Element.{Element, letters, embedded}
+use Rattle.delta.specs.Operation.{Operation, insert_text, insert_embed, retain, delete, base_of, out_of, IsBounded}
 use Rattle.delta.specs.Gaps.{Gaps, counted, joined, units_below, apply}
 use Rattle.delta.specs.Normal.{is_built, IsNormal, settled, trimmed, spelled, nf, built}
 
@@ -41,9 +43,41 @@ NormalIsNormal = (g : Gaps) → IsNormal (nf g)
 abbrev pub BuiltInPieces : Type 0
 BuiltInPieces = (a b : List Operation) → built (built a ++ b) ≡ built (a ++ b)
 
+abbrev pub BuiltFromPieces : Type 0
+BuiltFromPieces = (a b : List Operation) → built (a ++ built b) ≡ built (a ++ b)
+
 -- and at the end
 abbrev pub NormalOfBuilt : Type 0
 NormalOfBuilt = (ops : List Operation) → nf (counted (built ops)) ≡ nf (counted ops)
+
+-- operations after others have their effect on what stands after
+abbrev pub EffectOfParts : Type 0
+EffectOfParts = (d e : List Element) (a b : List Operation) → base_of a ≡ length d
+    → apply (d ++ e) (counted (a ++ b)) ≡ apply d (counted a) ++ apply e (counted b)
+
+-- no operation leaves a document as it is, and what stands after the base length stays
+abbrev pub EffectOfNothing : Type 0
+EffectOfNothing = (d : List Element) → apply d (counted []) ≡ d
+
+abbrev pub EffectPastEnd : Type 0
+EffectPastEnd = (d e : List Element) (ops : List Operation) → base_of ops ≤ length d → apply (d ++ e) (counted ops) ≡ apply d (counted ops) ++ e
+
+-- an insert stands before the rest, a retain keeps units with its change, a delete leaves none of them
+abbrev pub EffectOfText : Type 0
+EffectOfText = (d : List Element) (us : List ℕ) (a : Attributes) (ops : List Operation)
+    → apply d (counted (insert_text us a ∷ ops)) ≡ letters us a ++ apply d (counted ops)
+
+abbrev pub EffectOfEmbed : Type 0
+EffectOfEmbed = (d : List Element) (key : List ℕ) (value : Scalar) (a : Attributes) (ops : List Operation)
+    → apply d (counted (insert_embed key value a ∷ ops)) ≡ embedded key value a ∷ apply d (counted ops)
+
+abbrev pub EffectOfRetain : Type 0
+EffectOfRetain = (d e : List Element) (n : ℕ) (c : Changes) (ops : List Operation) → n ≡ length d
+    → apply (d ++ e) (counted (retain n c ∷ ops)) ≡ map (λ (x : Element). record x { attributes = changed x.attributes c }) d ++ apply e (counted ops)
+
+abbrev pub EffectOfDelete : Type 0
+EffectOfDelete = (d e : List Element) (n : ℕ) (ops : List Operation) → n ≡ length d
+    → apply (d ++ e) (counted (delete n ∷ ops)) ≡ apply e (counted ops)
 
 -- settling, trimming, the built form and the normal form each leave the effect on any document
 abbrev pub EffectOfSettled : Type 0
@@ -69,6 +103,15 @@ HaveSameEffect a b = (d : List Element) → base_of a ≤ length d → base_of b
 -- two lists in normal form with the same effect are one list
 abbrev pub SameEffect : Type 0
 SameEffect = (a b : List Operation) → IsNormal a → IsNormal b → HaveSameEffect a b → a ≡ b
+
+-- and that on the documents from any length on
+abbrev pub SameEffectFrom : Type 0
+SameEffectFrom = (m : ℕ) (a b : List Operation) → IsNormal a → IsNormal b
+    → ((d : List Element) → m ≤ length d → apply d (counted a) ≡ apply d (counted b)) → a ≡ b
+
+-- any two lists have the same effect just where they have one normal form
+abbrev pub NormalOfSameEffect : Type 0
+NormalOfSameEffect = (a b : List Operation) → HaveSameEffect a b ↔ (nf (counted a) ≡ nf (counted b))
 
 -- the built form has the lengths of the operations
 abbrev pub LengthsOfBuilt : Type 0

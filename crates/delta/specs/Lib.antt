@@ -6,3 +6,4 @@ pub mod Normal
 pub mod Laws
 pub mod Building
 mod Examples
+mod EffectExamples

@@ -1,5 +1,5 @@
 //! What holds of operations, counted out and in normal form, as contracts to cite: each function does nothing and promises one law.
-ghost use Rattle.delta.specs.Laws.{CountedOfAppend, JoinedThrice, UnitsCounted, BuiltIsKept, NormalIsKept, CountedOfSpelled, SpelledIsBuilt, NormalIsNormal, BuiltInPieces, NormalOfBuilt, EffectOfSettled, EffectOfTrimmed, EffectOfBuilt, EffectOfNormal, SameForm, SameEffect, LengthsOfBuilt, LengthsOfNormal, BaseOfNormal, BoundOfBuilt, BoundOfNormal, LengthOfEffect};
+ghost use Rattle.delta.specs.Laws.{CountedOfAppend, JoinedThrice, UnitsCounted, BuiltIsKept, NormalIsKept, CountedOfSpelled, SpelledIsBuilt, NormalIsNormal, BuiltInPieces, BuiltFromPieces, NormalOfBuilt, EffectOfParts, EffectOfNothing, EffectPastEnd, EffectOfText, EffectOfEmbed, EffectOfRetain, EffectOfDelete, EffectOfSettled, EffectOfTrimmed, EffectOfBuilt, EffectOfNormal, SameForm, SameEffect, SameEffectFrom, NormalOfSameEffect, LengthsOfBuilt, LengthsOfNormal, BaseOfNormal, BoundOfBuilt, BoundOfNormal, LengthOfEffect};
 
 /// Counting out of an append.
 pub fn counted_of_append()
@@ -46,9 +46,49 @@ pub fn built_in_pieces()
     ensures { BuiltInPieces }
 {}
 
+/// What is kept of the last operations stands for them whatever came before.
+pub fn built_from_pieces()
+    ensures { BuiltFromPieces }
+{}
+
 /// The normal form of what is kept is that of all that was given.
 pub fn normal_of_built()
     ensures { NormalOfBuilt }
+{}
+
+/// The effect of operations one after another, on the parts of a document.
+pub fn effect_of_parts()
+    ensures { EffectOfParts }
+{}
+
+/// No operation does nothing.
+pub fn effect_of_nothing()
+    ensures { EffectOfNothing }
+{}
+
+/// What stands after the base length stays.
+pub fn effect_past_end()
+    ensures { EffectPastEnd }
+{}
+
+/// An inserted text stands before the rest.
+pub fn effect_of_text()
+    ensures { EffectOfText }
+{}
+
+/// An inserted embed stands before the rest.
+pub fn effect_of_embed()
+    ensures { EffectOfEmbed }
+{}
+
+/// Retained units are kept, with the change of their attributes.
+pub fn effect_of_retain()
+    ensures { EffectOfRetain }
+{}
+
+/// Deleted units are left out.
+pub fn effect_of_delete()
+    ensures { EffectOfDelete }
 {}
 
 /// Settling leaves the effect on any document.
@@ -79,6 +119,16 @@ pub fn same_form()
 /// Lists in normal form with the same effect on each document that is long enough are equal.
 pub fn same_effect()
     ensures { SameEffect }
+{}
+
+/// Lists in normal form with the same effect on each document of some length or more are equal.
+pub fn same_effect_from()
+    ensures { SameEffectFrom }
+{}
+
+/// Lists have the same effect just where they have one normal form.
+pub fn normal_of_same_effect()
+    ensures { NormalOfSameEffect }
 {}
 
 /// The lengths of the built form.
