@@ -1,2 +1,3 @@
 mod Deltas
 mod Lines
+mod Planned

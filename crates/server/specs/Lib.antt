@@ -6,3 +6,5 @@ pub mod Line
 pub mod Request
 pub mod Reply
 pub mod Session
+pub mod Desk
+pub mod Replies
