@@ -1,3 +1,5 @@
 mod Deltas
 mod Lines
 mod Planned
+mod Dumps
+mod Writes

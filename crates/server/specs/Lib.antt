@@ -8,3 +8,4 @@ pub mod Reply
 pub mod Session
 pub mod Desk
 pub mod Replies
+pub mod Dump
