@@ -3,3 +3,5 @@ mod Lines
 mod Planned
 mod Dumps
 mod Writes
+mod Replying
+mod Feeding

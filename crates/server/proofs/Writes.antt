@@ -1,5 +1,5 @@
 -- Writes to a stream whose bytes may be known.
-use Rattle.std.proofs.Common.{◌≡◌, ◌++◌, List, ℕ, [], false, Option, Some, None, Result, Ok, Err, OnOk, sym, ap, ◌∙◌, append_assoc, append-nil, true≢false}
+use Rattle.std.proofs.Common.{◌≡◌, ◌++◌, List, ℕ, [], false, Option, Some, None, Result, Ok, Err, OnOk, OnErr, sym, ap, ◌∙◌, append_assoc, append-nil, true≢false}
 use Rattle.std.specs.Result.{is_err}
 use Rattle.std.specs.Io.KnownBytes.{Appends}
 
@@ -7,6 +7,11 @@ use Rattle.std.specs.Io.KnownBytes.{Appends}
 pub on_ok : {T E : Type 0} {P : Type 0} (r : Result T E) → is_err r ≡ false → OnOk r P → P
 on_ok (Ok x) succeeded h = h
 on_ok (Err e) failed h = absurd (true≢false failed)
+
+-- what holds anyhow holds of a call that fails
+pub on_err : {T E : Type 0} {P : Type 0} (r : Result T E) → P → OnErr r P
+on_err (Ok x) h = tt
+on_err (Err e) h = h
 
 -- nothing is written
 pub appends-nothing : (known : Option (List ℕ)) → Appends known known []

@@ -29,6 +29,11 @@ answer_line command (Err refusal) = refusal_line refusal
 abbrev pub IsLine : List ℕ → List ℕ → Type 0
 IsLine due text = (text ≡ due) ⊎ (text ≡ refusal_line NoMemory)
 
+-- the line of a reply, which may have found no memory
+abbrev pub text_told : {T E : Type 0} → (T → List ℕ) → Result T E → List ℕ
+text_told bytes (Ok text) = bytes text
+text_told bytes (Err error) = refusal_line NoMemory
+
 -- What comes of a line, in a session whose source has presented itself or not: what is asked of the desk, the source
 -- after it, and the reply.
 pub data IsReplied (source : Option (List ℕ)) (line : List ℕ) : List Exchange → Option (List ℕ) → List ℕ → Type 0 where
