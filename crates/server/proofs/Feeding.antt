@@ -68,3 +68,21 @@ pub take-one_more : (xs : List ℕ) (i : ℕ) → i < length xs → (k : ℕ) �
 take-one_more xs i within zero small = ap (λ n. take n xs) (add-zero i) ∙ sym (append-nil (take i xs))
 take-one_more xs i within (suc zero) small = take_more xs i 0 within
 take-one_more xs i within (suc (suc k)) small = absurd (omega arith)
+
+-- what comes of two pieces joined comes of them one behind the other
+pub replies-parted : (front back : List ℕ) (old new : Session) (asked : List Exchange) (text : List ℕ) → Replies old (front ++ back) asked new text
+    → (mid : Session) × (a : List Exchange) × (b : List Exchange) × (t : List ℕ) × (u : List ℕ)
+    × Replies old front a mid t × Replies mid back b new u × (asked ≡ a ++ b) × (text ≡ t ++ u)
+replies-parted [] back old new asked text replies = (old, [], asked, [], text, (refl, refl, refl), replies, refl, refl)
+replies-parted (byte ∷ bytes) back old new asked text (next, first, others, f, g, takes, rest, all, whole) =
+    let r = replies-parted bytes back next new others g rest in (
+      r.0,
+      first ++ r.1,
+      r.2,
+      f ++ r.3,
+      r.4,
+      (next, first, r.1, f, r.3, takes, r.5, refl, refl),
+      r.6,
+      all ∙ ap (λ (l : List Exchange). first ++ l) r.7 ∙ sym (append_assoc first r.1 r.2),
+      whole ∙ ap (λ (l : List ℕ). f ++ l) r.8 ∙ sym (append_assoc f r.3 r.4),
+    )

@@ -5,3 +5,5 @@ mod Dumps
 mod Writes
 mod Replying
 mod Feeding
+mod Streams
+mod Whole

@@ -9,3 +9,4 @@ pub mod Session
 pub mod Desk
 pub mod Replies
 pub mod Dump
+pub mod Serving
