@@ -1,2 +1,9 @@
 mod Deltas
 mod Lines
+mod Planned
+mod Dumps
+mod Writes
+mod Replying
+mod Feeding
+mod Streams
+mod Whole

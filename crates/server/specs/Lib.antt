@@ -6,3 +6,7 @@ pub mod Line
 pub mod Request
 pub mod Reply
 pub mod Session
+pub mod Desk
+pub mod Replies
+pub mod Dump
+pub mod Serving

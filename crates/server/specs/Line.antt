@@ -1,5 +1,5 @@
 -- Lines: the input is cut at each byte 10.
-use Rattle.std.specs.Prelude.{ℕ, ◌==◌, ◌++◌, if◌then◌else◌, List, [], ◌∷◌, length, Option, Some, None}
+use Rattle.std.specs.Prelude.{◌≢◌, ℕ, ◌==◌, ◌++◌, if◌then◌else◌, List, [], ◌∷◌, length, Option, Some, None}
 use Rattle.server.specs.declared.session.line.Event.{Event}
 use Rattle.server.specs.declared.session.line.Event.TheVariants.{More, TooLong, Complete}
 
@@ -15,3 +15,8 @@ extended bytes byte = if length bytes == 65536 then (TooLong, None) else (More, 
 abbrev pub with_byte : Partial → ℕ → Event × Partial
 with_byte None byte = (More, if byte == 10 then Some [] else None)
 with_byte (Some bytes) byte = if byte == 10 then (Complete, Some bytes) else extended bytes byte
+
+-- a line has no end within it
+abbrev pub HasNoEnd : List ℕ → Type 0
+HasNoEnd [] = Unit {0}
+HasNoEnd (byte ∷ bytes) = (byte ≢ 10) × HasNoEnd bytes

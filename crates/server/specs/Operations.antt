@@ -1,12 +1,13 @@
 -- Operations as JSON, so far insertions of plain text alone: `{"insert":"z"}`.
-use Rattle.std.specs.Prelude.{ℕ, ◌^◌, ◌==◌, ◌++◌, nat_lt, if◌then◌else◌, List, [], ◌∷◌, length, codes, Option, Some, None, option_and_then, option_map, Result, Ok, Err}
+use Rattle.std.specs.Prelude.{◌≡◌, ℕ, ◌^◌, ◌==◌, ◌++◌, nat_lt, if◌then◌else◌, List, [], ◌∷◌, length, codes, Option, Some, None, option_and_then, option_map, Result, Ok, Err}
+use Rattle.std.specs.Str.{IsUtf8}
 use Rattle.serde_json.specs.Data.{Data, string, object, Items, no_items, item, Members, no_members, member}
 use Rattle.serde_json.specs.Find.{get, as_str, as_object}
 use Rattle.serde_json.specs.Events.{items_len, members_len}
 use Rattle.refusal.specs.declared.Refusal.{Refusal}
 use Rattle.refusal.specs.declared.Refusal.TheVariants.{BadOps, TooManyOps}
 use Rattle.plain.specs.Units.{units_of}
-use Rattle.plain.specs.Delta.{Operation, Insert, inserting}
+use Rattle.plain.specs.Delta.{Operation, Insert, inserting, inserted}
 
 -- how many members an object has, 0 for any other value
 abbrev pub members_counted : Option Members → ℕ
@@ -44,3 +45,10 @@ printed_operation (Insert text) = object (member (codes "insert") (string text) 
 abbrev pub printed : List Operation → Items
 printed [] = no_items
 printed (first ∷ others) = item (printed_operation first) (printed others)
+
+-- What every delta of plain text is: the operations that insert one text.
+pub record InsertsText (operations : List Operation) : Type 0 where
+  pub text : List ℕ
+  pub utf8 : IsUtf8 text
+  pub is : operations ≡ inserting text
+  pub units : inserted operations ≡ units_of text

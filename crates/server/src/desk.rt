@@ -13,39 +13,71 @@ use std::alloc::Global;
 #[derive(Drop)]
 pub struct StoreDesk<D: Disk> {
     store: Store<D>,
-    has_failed: bool,
+    failed: bool,
 }
 
 impl<D: Disk> StoreDesk<D> {
+    ghost use Rattle.std.specs.Prelude.{◌≡◌, ◌↔◌, [], ◌∷◌, true, false, Err, OnOk, OnErr};
+    ghost use Rattle.disk.specs.Crash.{LeavesOnly};
+    ghost use Rattle.journal.specs.State.{grows, folded};
+    ghost use Rattle.recovery.specs.Open.{IsOpen, IsWithOrWithout, device_of, state_of, has_room, has_failed as store_has_failed};
+    ghost use Rattle.server.specs.Desk.{IsToldOf, FailsCommit, store_of, has_failed};
+
     /// A desk of an opened store.
-    pub fn new(store: Store<D>) -> StoreDesk<D> {
+    pub fn new(store: Store<D>) -> StoreDesk<D>
+        ensures store { store_of result ≡ store }
+        ensures works { has_failed result ≡ false }
+    {
         StoreDesk {
             store,
-            has_failed: false,
+            failed: false,
         }
     }
 
     /// Whether a commit has failed.
-    pub fn has_failed(&self) -> bool {
-        self.has_failed
+    pub fn has_failed(&self) -> bool
+        ensures { result ≡ has_failed self.now }
+    {
+        self.failed
     }
 
-    fn commit(&mut self, alloc: Global, taken: Taken) -> Result<Reply, Refusal> {
+    // Commits what the store's state takes, and answers its revision.
+    fn commit(&mut self, alloc: Global, taken: Taken) -> Result<Reply, Refusal>
+        requires works { has_failed self.old ≡ false }
+        requires grows { grows (state_of (store_of self.old)) taken ≡ true }
+        ensures told { IsToldOf taken result }
+        ensures state { OnOk result (state_of (store_of self.new) ≡ folded (state_of (store_of self.old)) (taken ∷ [])) }
+        ensures same_state { OnErr result (state_of (store_of self.new) ≡ state_of (store_of self.old)) }
+        ensures room { OnOk result (has_room (store_of self.old) (taken ∷ []) ≡ true) }
+        ensures works { OnOk result (store_has_failed (store_of self.new) ≡ false) }
+        ensures fails { (has_failed self.new ≡ true) ↔ (result ≡ Err Refusal.StoreFailed) }
+        ensures cause { result ≡ Err Refusal.StoreFailed → FailsCommit self.old taken self.new }
+        ensures any_moment { store_has_failed (store_of self.old) ≡ false → IsOpen (store_of self.old)
+            → LeavesOnly ⟦<D as Disk>⟧ (IsWithOrWithout (state_of (store_of self.old)) (taken ∷ []))
+            (device_of (store_of self.old)) (device_of (store_of self.new)) }
+        ensures done { OnOk result (IsOpen (store_of self.old) → IsOpen (store_of self.new)) }
+        ensures kept { result ≡ Err Refusal.NoMemory → IsOpen (store_of self.old) → IsOpen (store_of self.new) }
+        ensures honest { D.honest (device_of (store_of self.new)) ↔ D.honest (device_of (store_of self.old)) }
+    {
         let rev = taken.revision();
-        match self.store.commit(alloc, &[taken]) {
-            Ok(_) => Ok(Reply::Taken { rev }),
-            Err(Refusal::Fault | Refusal::JournalFull) => {
-                self.has_failed = true;
-                Err(Refusal::StoreFailed)
-            }
-            Err(refusal) => Err(refusal),
+        let Err(refusal) = self.store.commit(alloc, &[taken]) else {
+            return Ok(Reply::Taken { rev });
+        };
+        if refusal == Refusal::NoMemory {
+            return Err(Refusal::NoMemory);
         }
+        self.failed = true;
+        Err(Refusal::StoreFailed)
     }
 }
 
 impl<D: Disk> Desk for StoreDesk<D> {
+    ghost use Rattle.server.specs.Desk.{AnswersFromStore};
+
+    ghost gives = { AnswersFromStore };
+
     fn ask(&mut self, alloc: Global, command: &Command) -> Result<Reply, Refusal> {
-        if self.has_failed {
+        if self.failed {
             return Err(Refusal::StoreFailed);
         }
         match self.store.state().plan(alloc, command)? {

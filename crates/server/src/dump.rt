@@ -1,15 +1,29 @@
 //! The documents of a store, as lines.
+ghost use Rattle.std.specs.Prelude.{◌≡◌, ◌⊎◌, List, ℕ, OnOk, IfOk, IfErr, IsOk};
+ghost use Rattle.std.specs.String.{string_bytes};
+ghost use Rattle.std.specs.Io.KnownBytes.{Appends};
+ghost use Rattle.serde_json.specs.Written.{compact_text};
+ghost use Rattle.server.specs.Operations.{InsertsText};
+ghost use Rattle.server.specs.Dump as spec;
+
 use crate::failure::Failure;
 use crate::optext::write_ops;
 use journal::{DocState, State};
+use plain::Delta;
+use refusal::Refusal;
 use serde_json::json;
-use std::alloc::Global;
+use std::alloc::{AllocError, Global};
 use std::io::Write;
 
-/// Writes one line for each document, in order of creation: name, revision, floor and operations.
-pub fn dump<W: Write>(alloc: Global, state: &State, output: &mut W) -> Result<(), Failure> {
-    for record in state.documents() {
-        let line = line_of(alloc, record)?;
+/// Writes one line for each document, in order of creation: name, revision, floor and operations. Ends where a write
+/// fails (`Stream`), or with `NoMemory`.
+pub fn dump<W: Write>(alloc: Global, state: &State, output: &mut W) -> Result<(), Failure>
+    ensures dumped { OnOk result ((text : List ℕ) × spec.IsDumpOf state.now.documents text
+        × Appends (W.contents output.old) (W.contents output.new) text) }
+    ensures only { IfErr result (λ e. (e ≡ Failure.Stream) ⊎ (e ≡ Failure.Refused Refusal.NoMemory)) }
+{
+    for document in state.documents() {
+        let line = line_of(alloc, document)?;
         if output.write_all(line.as_bytes()).is_err() {
             return Err(Failure::Stream);
         }
@@ -20,10 +34,34 @@ pub fn dump<W: Write>(alloc: Global, state: &State, output: &mut W) -> Result<()
     Ok(())
 }
 
-fn line_of(alloc: Global, record: &DocState) -> Result<String, Failure> {
-    let operations = write_ops(alloc, &record.document().as_delta(alloc)?)?;
-    let content = json!(in alloc; {"ops": operations})?.to_string(alloc)?;
-    let name = record.name().as_str();
-    let (revision, floor) = (record.revision(), record.floor());
-    Ok(format!(in alloc; "{name} {revision} {floor} {content}\n")?)
+fn line_of(alloc: Global, document: &DocState) -> Result<String, Refusal>
+    ensures ok { IfOk result (λ line. spec.IsLineOf document.now (string_bytes line)) }
+    ensures only { IfErr result (λ e. e ≡ Refusal.NoMemory) }
+{
+    let delta = document.document().as_delta(alloc)?;
+    let content = content_of(alloc, &delta)?;
+    let name = document.name().as_str();
+    let line = joined(alloc, name, document.revision(), document.floor(), &content)?;
+    Ok(line)
+}
+
+fn joined(
+    alloc: Global,
+    name: &str,
+    revision: u64,
+    floor: u64,
+    content: &str,
+) -> Result<String, AllocError>
+    ensures { IfOk result (λ line. string_bytes line ≡ spec.line_of name.now revision floor content.now) }
+{
+    format!(in alloc; "{name} {revision} {floor} {content}\n")
+}
+
+fn content_of(alloc: Global, delta: &Delta) -> Result<String, AllocError>
+    ensures ok { IfOk result (λ text. string_bytes text ≡ compact_text (spec.content delta.now)) }
+    ensures text { IsOk result → InsertsText delta.now }
+{
+    let operations = write_ops(alloc, delta)?;
+    let value = json!(in alloc; {"ops": operations})?;
+    value.to_string(alloc)
 }

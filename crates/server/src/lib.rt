@@ -8,6 +8,7 @@
 mod desk;
 mod dump;
 mod failure;
+pub mod laws;
 mod optext;
 mod program;
 mod serve;

@@ -66,7 +66,8 @@ pub fn member_count(value: &Value) -> usize
 
 /// The operations of a delta as a JSON array.
 pub fn write_ops(alloc: Global, delta: &Delta) -> Result<Value, AllocError>
-    ensures { IfOk result (λ value. view value ≡ array (spec.printed delta.now)) }
+    ensures printed { IfOk result (λ value. view value ≡ array (spec.printed delta.now)) }
+    ensures text { spec.InsertsText delta.now }
 {
     let text = delta.text();
     if text.is_empty() {

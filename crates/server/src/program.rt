@@ -1,6 +1,7 @@
 //! The program over its words and its standard streams.
 ghost use Rattle.std.specs.Prelude.{◌≤◌};
 
+use crate::desk::StoreDesk;
 use crate::dump::dump;
 use crate::failure::Failure;
 use crate::serve::serve;
@@ -52,7 +53,10 @@ fn invoke<R: Files<File = File> + AllocGlobal, I: Read, O: Write>(
             recovery::format_device(rt.alloc(), &mut disk, shape)?;
             Ok(())
         }
-        Invocation::Serve { path } => serve(rt.alloc(), open(rt, path)?, input, output),
+        Invocation::Serve { path } => {
+            let mut desk = StoreDesk::new(open(rt, path)?);
+            serve(rt.alloc(), &mut desk, input, output)
+        }
         Invocation::Dump { path } => dump(rt.alloc(), open(rt, path)?.state(), output),
     }
 }

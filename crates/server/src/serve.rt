@@ -1,77 +1,149 @@
 //! One session over a pair of streams.
-ghost use Rattle.std.specs.Prelude.{◌≤◌, length, IfOk};
+ghost use Rattle.std.specs.Prelude.{◌≡◌, ◌⊎◌, ◌≤◌, ◌<◌, ◌++◌, List, ℕ, [], None, Some, true, false, take, length, IfOk, IfErr, IsErrOf, OnOk, OnErr};
+ghost use Rattle.std.specs.Io.KnownBytes.{Consumes, IsAtEnd};
+ghost use Rattle.server.specs.Desk.{AnswersFromStore, has_failed};
+ghost use Rattle.server.specs.Replies.{Feeds};
+ghost use Rattle.server.specs.Serving.{Serves, IsServed};
 
 use crate::desk::StoreDesk;
 use crate::failure::Failure;
-use crate::session::Session;
+use crate::session::{Desk, Session};
 use disk::Disk;
-use recovery::Store;
 use refusal::Refusal;
 use std::alloc::Global;
-use std::io::{self, ErrorKind, Read, Write};
+use std::io::{ErrorKind, Read, Write};
 
 /// How many bytes are read at once.
 const PIECE: usize = 8192;
 
-/// Serves one session to the end of the input. Ends with `StoreFailed` where the store has failed by then.
-pub fn serve<D: Disk + Drop, I: Read, O: Write>(
+/// Serves one session to the end of the input, and ends with `StoreFailed` where the store has failed by then. A
+/// stream that fails ends it at once (`Stream`), and so does `NoMemory` at its beginning.
+pub fn serve<D: Disk, I: Read, O: Write>(
     alloc: Global,
-    store: Store<D>,
+    desk: &mut StoreDesk<D>,
     input: &mut I,
     output: &mut O,
-) -> Result<(), Failure> {
-    let mut desk = StoreDesk::new(store);
+) -> Result<(), Failure>
+    // What is written is what comes of all the input, with the answers of the desk.
+    ensures served { OnOk result (IsServed AnswersFromStore desk.old desk.new (I.remaining input.old) (I.remaining input.new) (O.contents output.old) (O.contents output.new)) }
+    ensures works { OnOk result (has_failed desk.new ≡ false) }
+    ensures failed { IsErrOf result (Failure.Refused Refusal.StoreFailed) → (has_failed desk.new ≡ true)
+        × IsServed AnswersFromStore desk.old desk.new (I.remaining input.old) (I.remaining input.new) (O.contents output.old) (O.contents output.new) }
+    ensures no_memory { IsErrOf result (Failure.Refused Refusal.NoMemory) → (desk.new ≡ desk.old) × (input.new ≡ input.old) × (output.new ≡ output.old) }
+    ensures only { IfErr result (λ e. (e ≡ Failure.Stream) ⊎ ((e ≡ Failure.Refused Refusal.StoreFailed) ⊎ (e ≡ Failure.Refused Refusal.NoMemory))) }
+{
     let mut session = Session::new(alloc)?;
-    for _ in 0..u64::MAX {
-        if !serve_piece(alloc, &mut session, &mut desk, input, output)? {
-            break;
-        }
-    }
+    serve_all(alloc, &mut session, desk, input, output)?;
     if desk.has_failed() {
         return Err(Failure::Refused(Refusal::StoreFailed));
     }
     Ok(())
 }
 
-// Reads a piece of the input and answers its lines. The answer is whether there was one.
-fn serve_piece<D: Disk, I: Read, O: Write>(
+// Serves pieces of the input up to its end.
+fn serve_all<K: Desk, I: Read, O: Write>(
     alloc: Global,
     session: &mut Session,
-    desk: &mut StoreDesk<D>,
+    desk: &mut K,
     input: &mut I,
     output: &mut O,
-) -> Result<bool, Failure> {
+) -> Result<(), Failure>
+    ensures served { OnOk result (Serves K.gives session.old session.new desk.old desk.new (I.remaining input.old) (I.remaining input.new) (O.contents output.old) (O.contents output.new)) }
+    ensures at_end { OnOk result (IsAtEnd (I.remaining input.new)) }
+    ensures only { IfErr result (λ e. e ≡ Failure.Stream) }
+{
+    'pieces: for _ in 0..u64::MAX {
+        if !serve_piece(alloc, session, desk, input, output)? {
+            return Ok(());
+        }
+    }
+    Err(Failure::Stream)
+}
+
+// Reads a piece of the input and answers its lines. The answer is whether there was one.
+fn serve_piece<K: Desk, I: Read, O: Write>(
+    alloc: Global,
+    session: &mut Session,
+    desk: &mut K,
+    input: &mut I,
+    output: &mut O,
+) -> Result<bool, Failure>
+    ensures served { OnOk result (Serves K.gives session.old session.new desk.old desk.new (I.remaining input.old) (I.remaining input.new) (O.contents output.old) (O.contents output.new)) }
+    ensures at_end { IfOk result (λ went_on. went_on ≡ false → IsAtEnd (I.remaining input.new)) }
+    ensures only { IfErr result (λ e. e ≡ Failure.Stream) }
+{
     let mut piece = [0; PIECE];
-    let count = read_some(input, &mut piece).map_err(|_| Failure::Stream)?;
+    let count = read_some(input, &mut piece)?;
     feed_lines(alloc, session, desk, &piece[..count], output)?;
     Ok(count > 0)
 }
 
 // A read that a signal cut short is made again.
-fn read_some<I: Read>(input: &mut I, piece: &mut [u8]) -> io::Result<usize>
-    ensures { IfOk result (λ n. n ≤ length piece.new) }
+fn read_some<I: Read>(input: &mut I, piece: &mut [u8]) -> Result<usize, Failure>
+    requires { 0 < length piece.old }
+    ensures within { IfOk result (λ n. n ≤ length piece.new) }
+    ensures given { IfOk result (λ n. Consumes (I.remaining input.old) (I.remaining input.new) (take n piece.new)) }
+    ensures at_end { IfOk result (λ n. n ≡ 0 → IsAtEnd (I.remaining input.new)) }
+    ensures only { IfErr result (λ e. e ≡ Failure.Stream) }
 {
-    for _ in 0..u64::MAX {
+    'tries: for _ in 0..u64::MAX {
         match input.read(piece) {
+            Ok(count) => return Ok(count),
             Err(error) if error.kind() == ErrorKind::Interrupted => {}
-            answer => return answer,
+            Err(_) => return Err(Failure::Stream),
         }
     }
-    Ok(0)
+    Err(Failure::Stream)
 }
 
 // Feeds a piece line by line, so that each reply is out before the next line is taken.
-fn feed_lines<D: Disk, O: Write>(
+fn feed_lines<K: Desk, O: Write>(
     alloc: Global,
     session: &mut Session,
-    desk: &mut StoreDesk<D>,
+    desk: &mut K,
     piece: &[u8],
     output: &mut O,
-) -> Result<(), Failure> {
-    for part in piece.split_inclusive(|byte| *byte == b'\n') {
-        if session.feed(alloc, part, output, desk).is_err() || output.flush().is_err() {
-            return Err(Failure::Stream);
-        }
+) -> Result<(), Failure>
+    ensures fed { OnOk result (Feeds K.gives session.old piece.now session.new desk.old desk.new (O.contents output.old) (O.contents output.new)) }
+    ensures only { IfErr result (λ e. e ≡ Failure.Stream) }
+{
+    let mut rest = piece;
+    while !rest.is_empty() {
+        let (line, behind) = line_and_rest(rest);
+        feed_line(alloc, session, desk, line, output)?;
+        rest = behind;
     }
     Ok(())
+}
+
+fn feed_line<K: Desk, O: Write>(
+    alloc: Global,
+    session: &mut Session,
+    desk: &mut K,
+    line: &[u8],
+    output: &mut O,
+) -> Result<(), Failure>
+    ensures fed { OnOk result (Feeds K.gives session.old line.now session.new desk.old desk.new (O.contents output.old) (O.contents output.new)) }
+    ensures only { IfErr result (λ e. e ≡ Failure.Stream) }
+{
+    let Ok(()) = session.feed(alloc, line, output, desk) else {
+        return Err(Failure::Stream);
+    };
+    let Ok(()) = output.flush() else {
+        return Err(Failure::Stream);
+    };
+    Ok(())
+}
+
+// The bytes up to the first line end, with it, and those behind it.
+fn line_and_rest(bytes: &[u8]) -> (&[u8], &[u8])
+    requires { 0 < length bytes.now }
+    ensures whole { result.0.now ++ result.1.now ≡ bytes.now }
+    ensures shorter { length result.1.now < length bytes.now }
+{
+    let end = match bytes.iter().position(|byte| *byte == b'\n') {
+        Some(at) => at + 1,
+        None => bytes.len(),
+    };
+    bytes.split_at(end)
 }

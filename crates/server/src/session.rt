@@ -1,5 +1,15 @@
 //! A session: lines of messages to lines of replies.
-ghost use Rattle.std.specs.Prelude.{◌≡◌, Some, None, [], true, false, IfOk, IfErr, IsErr, OnOk, OnErr};
+ghost use Rattle.std.specs.Prelude.{◌≡◌, Some, None, List, [], ◌∷◌, true, false, Result, IfOk, IfErr, IfSome, IsErr, OnOk, OnErr};
+ghost use Rattle.std.specs.String.{string_bytes};
+ghost use Rattle.std.specs.Io.KnownBytes.{Appends};
+ghost use Rattle.refusal.specs.declared.Refusal as refusal;
+ghost use Rattle.server.specs.declared.session.reply.Reply as reply;
+ghost use Rattle.journal.specs.Name.{is_source_name};
+ghost use Rattle.server.specs.Due.{IsDue};
+ghost use Rattle.server.specs.Line.{with_byte};
+ghost use Rattle.server.specs.Request.{request_of, GreetsSource};
+ghost use Rattle.server.specs.Reply.{greeting as spec_greeting, line_of};
+ghost use Rattle.server.specs.Replies.{Exchange, IsLine, IsReplied, Asks, Feeds, Stops, answer_line, text_told};
 
 mod line;
 mod message;
@@ -19,8 +29,17 @@ use thiserror::Error;
 
 /// What answers the commands of a session.
 pub trait Desk {
+    ghost use Rattle.std.specs.Prelude.{Result};
+    ghost use Rattle.journal.specs.Command as command;
+    ghost use Rattle.refusal.specs.declared.Refusal as refusal;
+    ghost use Rattle.server.specs.declared.session.reply.Reply as reply;
+
+    /// At the first of two states of the desk it gives this answer to a command, and goes on to the second.
+    ghost gives: { Self → command.Command → Result reply.Reply refusal.Refusal → Self → Type 0 };
+
     /// The answer to a command.
-    fn ask(&mut self, alloc: Global, command: &Command) -> Result<Reply, Refusal>;
+    fn ask(&mut self, alloc: Global, command: &Command) -> Result<Reply, Refusal>
+        ensures { gives self.old command.now result self.new };
 }
 
 /// A write of the session failed, so it takes no more input.
@@ -81,6 +100,10 @@ impl Session {
         ensures silent { self.old.ended ≡ true → out.new ≡ out.old }
         ensures idle { self.old.ended ≡ true → desk.new ≡ desk.old }
 
+        // What is written is what comes of the piece, with the answers of the desk.
+        ensures fed { OnOk result (Feeds D.gives self.old piece.now self.new desk.old desk.new (W.contents out.old) (W.contents out.new)) }
+        // A write that fails ends the session. The desk was asked for the front of the piece, each command once.
+        ensures stopped { OnErr result (self.old.ended ≡ false → Stops D.gives self.old piece.now self.new desk.old desk.new) }
         ensures ok { OnOk result (self.new.ended ≡ false) }
         ensures err { OnErr result (self.new.ended ≡ true) }
     {
@@ -93,6 +116,7 @@ impl Session {
         Ok(())
     }
 
+    // Takes the next byte of the input.
     fn take<W: Write, D: Desk>(
         &mut self,
         alloc: Global,
@@ -101,55 +125,107 @@ impl Session {
         desk: &mut D,
     ) -> Result<(), SessionEnded>
         requires { self.old.ended ≡ false }
+        ensures fed { OnOk result (Feeds D.gives self.old (byte ∷ []) self.new desk.old desk.new (W.contents out.old) (W.contents out.new)) }
+        ensures stopped { OnErr result (Stops D.gives self.old (byte ∷ []) self.new desk.old desk.new) }
         ensures ok { OnOk result (self.new.ended ≡ false) }
         ensures err { OnErr result (self.new.ended ≡ true) }
     {
-        match self.line.take(byte) {
-            Event::More => Ok(()),
-            Event::TooLong => self.send(out, &refused(alloc, Refusal::LineTooLong)),
+        match self.event_of(byte) {
+            Event::More => {}
+            Event::TooLong => self.send(out, &refused(alloc, Refusal::LineTooLong))?,
             Event::Complete => {
                 let reply = self.respond(alloc, desk);
-                self.line.clear();
-                self.send(out, &reply)
+                self.next_line();
+                self.send(out, &reply)?;
             }
         }
+        Ok(())
     }
 
-    fn respond<D: Desk>(&mut self, alloc: Global, desk: &mut D) -> Result<String, AllocError>
-        ensures line { self.new.line ≡ self.old.line }
-        ensures ended { self.new.ended ≡ self.old.ended }
+    // What the next byte makes of the line.
+    fn event_of(&mut self, byte: u8) -> Event
+        ensures event { (result, self.new.line) ≡ with_byte self.old.line byte }
+        ensures others { self.new ≡ record self.old { line = self.new.line } }
     {
-        match Request::read(alloc, self.source.as_ref(), self.line.bytes()) {
-            Ok(Request::Greet(source)) => {
-                let reply = greeting(alloc)?;
-                self.source = Some(source);
-                Ok(reply)
-            }
-            Ok(Request::Ask(command)) => match desk.ask(alloc, &command) {
-                Ok(reply) => acknowledgement(alloc, &command, reply),
-                Err(refusal) => refused(alloc, refusal),
-            },
+        self.line.take(byte)
+    }
+
+    fn next_line(&mut self)
+        ensures { self.new ≡ record self.old { line = Some [] } }
+    {
+        self.line.clear();
+    }
+
+    // The reply to the line, which is complete.
+    fn respond<D: Desk>(&mut self, alloc: Global, desk: &mut D) -> Result<String, AllocError>
+        ensures others { self.new ≡ record self.old { source = self.new.source } }
+        ensures replied { IfSome self.old.line (λ line. (asked : List Exchange)
+            × IsReplied self.old.source line asked self.new.source (text_told (λ t. string_bytes t) result)
+            × Asks D.gives desk.old asked desk.new) }
+    {
+        match self.request(alloc) {
+            Ok(Request::Greet(source)) => self.greet(alloc, source),
+            Ok(Request::Ask(command)) => ask(alloc, desk, &command),
             Err(refusal) => refused(alloc, refusal),
         }
     }
 
+    // What the line asks for, which is complete.
+    fn request(&self, alloc: Global) -> Result<Request, Refusal>
+        ensures due { IfSome self.now.line (λ line. IsDue (request_of self.now.source line) result) }
+        ensures greets { IfOk result GreetsSource }
+    {
+        Request::read(alloc, self.source.as_ref(), self.line.bytes())
+    }
+
+    // Greets a source, which has presented itself then.
+    fn greet(&mut self, alloc: Global, source: Name) -> Result<String, AllocError>
+        requires { is_source_name source ≡ true }
+        ensures greeted { IfOk result (λ text. string_bytes text ≡ line_of spec_greeting) }
+        ensures presented { OnOk result (self.new ≡ record self.old { source = Some source }) }
+        ensures unchanged { OnErr result (self.new ≡ self.old) }
+    {
+        let reply = greeting(alloc)?;
+        self.source = Some(source);
+        Ok(reply)
+    }
+
+    // Writes a reply.
     fn send<W: Write>(
         &mut self,
         out: &mut W,
         reply: &Result<String, AllocError>,
     ) -> Result<(), SessionEnded>
         requires { self.old.ended ≡ false }
+        ensures written { OnOk result (Appends (W.contents out.old) (W.contents out.new) (text_told (λ t. string_bytes t) reply.now)) }
         ensures ok { OnOk result (self.new ≡ self.old) }
         ensures err { OnErr result (self.new ≡ record self.old { ended = true }) }
     {
-        let bytes = match reply {
-            Ok(text) => text.as_bytes(),
-            Err(_) => NO_MEMORY,
-        };
-        if out.write_all(bytes).is_err() {
+        if out.write_all(bytes_of(reply)).is_err() {
             self.ended = true;
             return Err(SessionEnded);
         }
         Ok(())
+    }
+}
+
+// Asks the desk once, and tells what it answers.
+fn ask<D: Desk>(alloc: Global, desk: &mut D, command: &Command) -> Result<String, AllocError>
+    ensures { (answer : Result reply.Reply refusal.Refusal) × D.gives desk.old command.now answer desk.new
+        × IsLine (answer_line command.now answer) (text_told (λ t. string_bytes t) result) }
+{
+    match desk.ask(alloc, command) {
+        Ok(reply) => acknowledgement(alloc, command, reply),
+        Err(refusal) => refused(alloc, refusal),
+    }
+}
+
+// The bytes of a reply.
+fn bytes_of(reply: &Result<String, AllocError>) -> &[u8]
+    ensures { result.now ≡ text_told (λ t. string_bytes t) reply.now }
+{
+    match reply {
+        Ok(text) => text.as_bytes(),
+        Err(_) => NO_MEMORY,
     }
 }

@@ -1,5 +1,5 @@
 //! The line that is being read.
-ghost use Rattle.std.specs.Prelude.{◌≡◌, IfOk, Some, []};
+ghost use Rattle.std.specs.Prelude.{◌≡◌, IfOk, IfSome, Some, []};
 ghost use Rattle.server.specs.Line.{with_byte};
 
 use std::alloc::{AllocError, Global};
@@ -77,7 +77,9 @@ impl Line {
     }
 
     /// The bytes, none of a line that is dropped.
-    pub fn bytes(&self) -> &[u8] {
+    pub fn bytes(&self) -> &[u8]
+        ensures { IfSome self.now (λ bytes. result.now ≡ bytes) }
+    {
         &self.bytes
     }
 

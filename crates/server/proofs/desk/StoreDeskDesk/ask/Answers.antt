@@ -1,0 +1,33 @@
+use Rattle.std.proofs.Common.{ap, inr, sym, ◌∙◌}
+use Rattle.journal.specs.Acceptance.{answer}
+use Rattle.recovery.specs.Open.{state_of}
+use Rattle.server.proofs.Planned.{planned_due, planned_grows}
+use Rattle.server.proofs.desk.StoreDeskDesk.ask.Goals as goal
+
+pub commit-requires-clause-grows : goal.commit-requires-clause-grows
+commit-requires-clause-grows g c =
+    let due = planned_due _ _ c.in-Taken.taken c.in_ok-taken.ensures c.in-Taken.is in
+    planned_grows (state_of c.args.self.now.store) c.args.command.now _ (ap (λ s. answer s c.args.command.now) (sym c.state.ensures) ∙ due)
+
+pub returns-in-Taken : goal.returns-in-Taken
+returns-in-Taken g c =
+    let e = c.commit.ensures in
+    let due = planned_due _ _ c.in-Taken.taken c.in_ok-taken.ensures c.in-Taken.is in
+    inr (
+      c.if-self.false,
+      inr (record {
+        taken = c.in-Taken.taken;
+        due = ap (λ s. answer s c.args.command.now) (sym c.state.ensures) ∙ due;
+        told = e.told;
+        state = e.state;
+        same_state = e.same_state;
+        room = e.room;
+        works = e.works;
+        fails = e.fails;
+        cause = e.cause;
+        any_moment = e.any_moment;
+        done = e.done;
+        kept = e.kept;
+        honest = e.honest;
+      }),
+    )

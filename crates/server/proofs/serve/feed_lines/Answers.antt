@@ -1,0 +1,12 @@
+use Rattle.std.proofs.Common.{◌++◌, ◌∙◌, ap, List, ℕ, append_assoc}
+use Rattle.server.proofs.Feeding.{feeds-joined}
+use Rattle.server.proofs.serve.feed_lines.Goals as goal
+
+pub loop-rest-preserved : goal.loop-rest-preserved
+loop-rest-preserved g c =
+    let so_far = c.loop-rest.invariant in
+    let line = c.line_and_rest.result.0.now in (
+      so_far.0 ++ line,
+      append_assoc so_far.0 line c.line_and_rest.result.1.now ∙ ap (λ (l : List ℕ). so_far.0 ++ l) c.line_and_rest.ensures.whole ∙ so_far.1,
+      feeds-joined g.K.Desk.gives so_far.0 line _ c.loop-rest.session _ _ c.loop-rest.desk _ _ (g.O.Write.contents c.loop-rest.output) _ so_far.2 c.in_ok-feed_line.ensures.fed,
+    )

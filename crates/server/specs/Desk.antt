@@ -1,0 +1,76 @@
+-- A desk that answers from a store: what it answers a command, and what that leaves.
+use Rattle.std.specs.Prelude.{◌≡◌, ◌⊎◌, ◌↔◌, Bool, true, false, [], ◌∷◌, Result, Ok, Err, OnOk, OnErr}
+use Rattle.disk.specs.declared.device.Disk.{Ghosts}
+use Rattle.disk.specs.Device.{Rose}
+use Rattle.disk.specs.Crash.{LeavesOnly}
+use Rattle.refusal.specs.declared.Refusal.{Refusal}
+use Rattle.refusal.specs.declared.Refusal.TheVariants.{NoMemory, StoreFailed}
+use Rattle.journal.specs.Command.{Command, Taken}
+use Rattle.journal.specs.State.{folded}
+use Rattle.journal.specs.Acceptance.{Answer, Takes, Repeats, Refuses, answer}
+use Rattle.recovery.specs.declared.store.Store.{Store}
+use Rattle.recovery.specs.Open.{IsOpen, IsWithOrWithout, device_of, state_of, has_room, has_failed as store_has_failed}
+use Rattle.server.specs.declared.session.reply.Reply.{Reply}
+use Rattle.server.specs.declared.session.reply.Reply.TheVariants as reply
+use Rattle.server.specs.declared.desk.StoreDesk.{StoreDesk}
+
+-- What is answered where nothing is committed: it was taken before, it is refused, or memory ran out.
+abbrev pub IsToldAtOnce : Answer → Result Reply Refusal → Type 0
+IsToldAtOnce due (Ok (reply.Taken revision)) = ⊥
+IsToldAtOnce due (Ok (reply.Again revision)) = due ≡ Repeats revision
+IsToldAtOnce due (Err refusal) = (refusal ≡ NoMemory) ⊎ (due ≡ Refuses refusal)
+
+-- What is answered once this was given to the store.
+abbrev pub IsToldOf : Taken → Result Reply Refusal → Type 0
+IsToldOf taken (Ok (reply.Taken revision)) = revision ≡ taken.revision
+IsToldOf taken (Ok (reply.Again revision)) = ⊥
+IsToldOf taken (Err refusal) = (refusal ≡ NoMemory) ⊎ (refusal ≡ StoreFailed)
+
+module _ {D : Type 0} {disk : Ghosts D} where
+  -- the store of a desk
+  abbrev pub store_of : StoreDesk D disk → Store D disk
+  store_of desk = desk.store
+
+  -- a commit of the desk has failed
+  abbrev pub has_failed : StoreDesk D disk → Bool
+  has_failed desk = desk.failed
+
+  -- Why a commit fails the desk: the command doesn't fit behind what is there, or the device was or is at fault.
+  abbrev pub FailsCommit : StoreDesk D disk → Taken → StoreDesk D disk → Type 0
+  FailsCommit old taken new =
+      (has_room (store_of old) (taken ∷ []) ≡ false)
+      ⊎ ((store_has_failed (store_of old) ≡ true)
+      ⊎ Rose (disk.faults (device_of (store_of old))) (disk.faults (device_of (store_of new))))
+
+  -- Nothing is committed, and the desk is as it was.
+  pub record Stays (old : StoreDesk D disk) (command : Command) (result : Result Reply Refusal) (new : StoreDesk D disk) : Type 0 where
+    pub told : IsToldAtOnce (answer (state_of (store_of old)) command) result
+    pub same : new ≡ old
+
+  -- The command is taken, and committed alone.
+  pub record Commits (old : StoreDesk D disk) (command : Command) (result : Result Reply Refusal) (new : StoreDesk D disk) : Type 0 where
+    pub taken : Taken
+    pub due : answer (state_of (store_of old)) command ≡ Takes taken
+    pub told : IsToldOf taken result
+    -- what is acknowledged is in the store, and a refusal leaves the documents as they were
+    pub state : OnOk result (state_of (store_of new) ≡ folded (state_of (store_of old)) (taken ∷ []))
+    pub same_state : OnErr result (state_of (store_of new) ≡ state_of (store_of old))
+    pub room : OnOk result (has_room (store_of old) (taken ∷ []) ≡ true)
+    pub works : OnOk result (store_has_failed (store_of new) ≡ false)
+    -- the desk fails just with StoreFailed, and that comes just of a commit that failed
+    pub fails : (has_failed new ≡ true) ↔ (result ≡ Err StoreFailed)
+    pub cause : result ≡ Err StoreFailed → FailsCommit old taken new
+    -- A crash at any moment leaves the state before, or the one with the command; once it is acknowledged, the device
+    -- is synced and stands for the latter, so that every later crash holds it.
+    pub any_moment : store_has_failed (store_of old) ≡ false → IsOpen (store_of old)
+        → LeavesOnly disk (IsWithOrWithout (state_of (store_of old)) (taken ∷ []))
+        (device_of (store_of old)) (device_of (store_of new))
+    pub done : OnOk result (IsOpen (store_of old) → IsOpen (store_of new))
+    pub kept : result ≡ Err NoMemory → IsOpen (store_of old) → IsOpen (store_of new)
+    pub honest : disk.honest (device_of (store_of new)) ↔ disk.honest (device_of (store_of old))
+
+  -- What a desk answers a command, and what that leaves: once it has failed, StoreFailed for ever.
+  abbrev pub AnswersFromStore : StoreDesk D disk → Command → Result Reply Refusal → StoreDesk D disk → Type 0
+  AnswersFromStore old command result new =
+      ((has_failed old ≡ true) × (result ≡ Err StoreFailed) × (new ≡ old))
+      ⊎ ((has_failed old ≡ false) × (Stays old command result new ⊎ Commits old command result new))

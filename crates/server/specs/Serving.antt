@@ -1,0 +1,25 @@
+-- Serving a session over a pair of streams.
+use Rattle.std.specs.Prelude.{ℕ, List, [], false, Option, Some, None, Result}
+use Rattle.std.specs.Io.KnownBytes.{Consumes, IsAtEnd}
+use Rattle.refusal.specs.declared.Refusal.{Refusal}
+use Rattle.journal.specs.Command.{Command}
+use Rattle.server.specs.declared.session.reply.Reply.{Reply}
+use Rattle.server.specs.Session.{Session}
+use Rattle.server.specs.Replies.{Feeds}
+
+-- a session at its beginning
+abbrev pub beginning : Session
+beginning = record { line = Some []; source = None; ended = false }
+
+module _ {D : Type 0} (gives : D → Command → Result Reply Refusal → D → Type 0) where
+  -- Bytes of the input were taken, and what comes of them was written to the output.
+  pub record Serves (old new : Session) (desk desk' : D) (input input' output output' : Option (List ℕ)) : Type 0 where
+    pub bytes : List ℕ
+    pub consumed : Consumes input input' bytes
+    pub fed : Feeds gives old bytes new desk desk' output output'
+
+  -- A whole session was served, from its beginning to the end of the input.
+  pub record IsServed (desk desk' : D) (input input' output output' : Option (List ℕ)) : Type 0 where
+    pub last : Session
+    pub served : Serves beginning last desk desk' input input' output output'
+    pub at_end : IsAtEnd input'
