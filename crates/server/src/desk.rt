@@ -86,3 +86,6 @@ impl<D: Disk> Desk for StoreDesk<D> {
         }
     }
 }
+
+#[cfg(test)]
+mod stops;

@@ -1,3 +1,5 @@
+mod many_runs;
+
 use crate::run;
 use std::io::{self, ErrorKind, Read, Write};
 use std::test::Fail;
