@@ -57,6 +57,8 @@ module _ {D : Type 0} {disk : Ghosts D} where
     pub same_state : OnErr result (state_of (store_of new) ≡ state_of (store_of old))
     pub room : OnOk result (has_room (store_of old) (taken ∷ []) ≡ true)
     pub works : OnOk result (store_has_failed (store_of new) ≡ false)
+    -- as long as the desk works, so does its store
+    pub store_works : has_failed new ≡ false → store_has_failed (store_of old) ≡ false → store_has_failed (store_of new) ≡ false
     -- the desk fails just with StoreFailed, and that comes just of a commit that failed
     pub fails : (has_failed new ≡ true) ↔ (result ≡ Err StoreFailed)
     pub cause : result ≡ Err StoreFailed → FailsCommit old taken new

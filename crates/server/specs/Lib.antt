@@ -10,3 +10,4 @@ pub mod Desk
 pub mod Replies
 pub mod Dump
 pub mod Serving
+pub mod Asked

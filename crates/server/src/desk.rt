@@ -50,6 +50,7 @@ impl<D: Disk> StoreDesk<D> {
         ensures same_state { OnErr result (state_of (store_of self.new) ≡ state_of (store_of self.old)) }
         ensures room { OnOk result (has_room (store_of self.old) (taken ∷ []) ≡ true) }
         ensures works { OnOk result (store_has_failed (store_of self.new) ≡ false) }
+        ensures store_works { has_failed self.new ≡ false → store_has_failed (store_of self.old) ≡ false → store_has_failed (store_of self.new) ≡ false }
         ensures fails { (has_failed self.new ≡ true) ↔ (result ≡ Err Refusal.StoreFailed) }
         ensures cause { result ≡ Err Refusal.StoreFailed → FailsCommit self.old taken self.new }
         ensures any_moment { store_has_failed (store_of self.old) ≡ false → IsOpen (store_of self.old)

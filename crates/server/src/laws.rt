@@ -2,8 +2,11 @@
 ghost use Rattle.std.specs.Prelude.{◌≡◌, ◌≤◌, ◌<◌, ◌++◌, ◌∷◌, ℕ, List, [], Some, length};
 ghost use Rattle.refusal.specs.declared.Refusal.TheVariants.{LineTooLong};
 ghost use Rattle.server.specs.Line.{HasNoEnd};
+ghost use Rattle.server.specs.Asked.{AskedKeepsAll};
 ghost use Rattle.server.specs.Session.{Session};
 ghost use Rattle.server.specs.Replies.{Exchange, Replies, IsReplied, IsLine, refusal_line};
+
+use disk::Disk;
 
 /// It doesn't matter in which pieces the input comes: what comes of two pieces, one after the other, is what comes of
 /// them joined.
@@ -28,4 +31,11 @@ pub fn long_line()
     ensures { (line : List ℕ) (old new : Session) (asked : List Exchange) (text : List ℕ)
         → old.line ≡ Some [] → HasNoEnd line → 65536 < length line → Replies old (line ++ 10 ∷ []) asked new text
         → (asked ≡ []) × (new ≡ old) × IsLine (refusal_line LineTooLong) text }
+{}
+
+/// Whatever is asked of a desk over a store that is open, one command after another: the store holds all that was
+/// answered as taken, a crash at any moment leaves what was answered by then, with or without the command that was
+/// being answered, and a crash after all of them leaves all that was answered as taken.
+pub fn asked_keeps_all<D: Disk>()
+    ensures { AskedKeepsAll ⟦<D as Disk>⟧ }
 {}

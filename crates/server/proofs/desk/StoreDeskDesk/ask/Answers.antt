@@ -23,6 +23,7 @@ returns-in-Taken g c =
         same_state = e.same_state;
         room = e.room;
         works = e.works;
+        store_works = e.store_works;
         fails = e.fails;
         cause = e.cause;
         any_moment = e.any_moment;

@@ -1,0 +1,131 @@
+-- Commands asked of a desk over a store, one after another.
+use Rattle.std.proofs.Common.{◌≡◌, inl, inr, ⊎_elim, Bool, true, false, List, ℕ, [], ◌∷◌, Result, Ok, Err, refl, sym, ◌∙◌, ap, subst}
+use Rattle.disk.specs.declared.device.Disk.{Ghosts}
+use Rattle.disk.specs.Crash.{LeavesOnly, MayLeaveNow, history_of}
+use Rattle.disk.proofs.Contents.{synced_leaves}
+use Rattle.disk.proofs.Moments.{begins, leaves_map, goes_on_run}
+use Rattle.refusal.specs.declared.Refusal.{Refusal}
+use Rattle.refusal.specs.declared.Refusal.TheVariants.{NoMemory, StoreFailed}
+use Rattle.journal.specs.Command.{Command}
+use Rattle.journal.specs.State.{State, folded}
+use Rattle.journal.specs.Acceptance.{Answer}
+use Rattle.recovery.specs.Found.{FoundAs}
+use Rattle.recovery.specs.Open.{IsOpen, device_of, state_of, has_failed as store_has_failed}
+use Rattle.recovery.proofs.Runs.{found_open, found_as}
+use Rattle.server.specs.declared.session.reply.Reply.{Reply}
+use Rattle.server.specs.declared.session.reply.Reply.TheVariants as reply
+use Rattle.server.specs.declared.desk.StoreDesk.{StoreDesk}
+use Rattle.server.specs.Desk.{IsToldAtOnce, Commits, AnswersFromStore, store_of, has_failed}
+use Rattle.server.specs.Replies.{Exchange, Asks}
+use Rattle.server.specs.Asked.{added_by, with_command, state_with, state_after, MayHold, Holds, KeepsAll}
+
+not_true : (b : Bool) → ¬ (b ≡ true) → b ≡ false
+not_true true refuted = absurd (refuted refl)
+not_true false refuted = refl
+
+-- what is told at once leaves the state
+told_same : (due : Answer) (result : Result Reply Refusal) → IsToldAtOnce due result → (state : State) (command : Command) → state_with state command result ≡ state
+told_same due (Ok (reply.Taken revision)) told state command = absurd told
+told_same due (Ok (reply.Again revision)) told state command = refl
+told_same due (Err refusal) told state command = refl
+
+-- what a failed desk leaves: all as it is
+record Rests {D : Type 0} {disk : Ghosts D} (old new : StoreDesk D disk) (asked : List Exchange) : Type 0 where
+  same : new ≡ old
+  after : (state : State) → state_after state asked ≡ state
+  holds : (state : State) (content : List ℕ) → FoundAs content state → Holds state asked content
+
+failed_rests : {D : Type 0} (disk : Ghosts D) (old new : StoreDesk D disk) (asked : List Exchange) → has_failed old ≡ true → Asks AnswersFromStore old asked new → Rests old new asked
+failed_rests disk old new [] failed asks = record { same = asks; after = λ state. refl; holds = λ state content found. found }
+failed_rests disk old new ((command, result) ∷ others) failed (next, inl (still, told, same), asks) =
+    let rests = failed_rests disk next new others (ap has_failed same ∙ failed) asks in
+    let stays : (state : State) → state_with state command result ≡ state = λ state. ap (state_with state command) told in
+    record {
+      same = rests.same ∙ same;
+      after = λ state. ap (λ (s : State). state_after s others) (stays state) ∙ rests.after state;
+      holds = λ state content found. inl (subst (λ (s : State). Holds s others content) (sym (stays state)) (rests.holds state content found));
+    }
+failed_rests disk old new ((command, result) ∷ others) failed (next, inr (works, more), asks) =
+    let both : true ≡ false = sym failed ∙ works in
+    absurd cc
+
+module _ {D : Type 0} (disk : Ghosts D) (old next new : StoreDesk D disk) (command : Command) (others : List Exchange)
+    (store_works : store_has_failed (store_of old) ≡ false) (is_open : IsOpen (store_of old)) where
+  abbrev state : State
+  state = state_of (store_of old)
+
+  -- the desk answered at once, and goes on as it was
+  after_told : (result : Result Reply Refusal) → state_with state command result ≡ state → KeepsAll disk old new others → KeepsAll disk old new ((command, result) ∷ others)
+  after_told result stays rest = record {
+    state = rest.state ∙ ap (λ (s : State). state_after s others) (sym stays);
+    any_moment = leaves_map (λ content left. inr (inr (subst (λ (s : State). MayHold s others content) (sym stays) left))) rest.any_moment;
+    after = λ content left. inl (subst (λ (s : State). Holds s others content) (sym stays) (rest.after content left));
+  }
+
+  module _ (result : Result Reply Refusal) (commits : Commits old command result next) where
+    added : with_command state command ≡ folded state (commits.taken ∷ [])
+    added = ap (λ (a : Answer). folded state (added_by a)) commits.due
+
+    -- a crash within the commit
+    within : LeavesOnly disk (MayHold state ((command, result) ∷ others)) (device_of (store_of old)) (device_of (store_of next))
+    within =
+        leaves_map (λ content left. ⊎_elim (λ without. inl without) (λ with_it. inr (inl (subst (FoundAs content) (sym added) with_it))) left)
+        (commits.any_moment store_works is_open)
+
+    -- the desk goes on with the state that the commit left
+    after_commit : state_of (store_of next) ≡ state_with state command result → KeepsAll disk next new others → KeepsAll disk old new ((command, result) ∷ others)
+    after_commit holds rest = record {
+      state = rest.state ∙ ap (λ (s : State). state_after s others) holds;
+      any_moment = goes_on_run within (leaves_map (λ content left. inr (inr (subst (λ (s : State). MayHold s others content) holds left))) rest.any_moment);
+      after = λ content left. inl (subst (λ (s : State). Holds s others content) holds (rest.after content left));
+    }
+
+    -- the commit failed the desk
+    after_failure : result ≡ Err StoreFailed → state_of (store_of next) ≡ state → state_with state command result ≡ state → Rests next new others → KeepsAll disk old new ((command, result) ∷ others)
+    after_failure failed same stays rests = record {
+      state =
+          ap (λ (d : StoreDesk D disk). state_of (store_of d)) rests.same ∙ same ∙ sym (rests.after state)
+          ∙ ap (λ (s : State). state_after s others) (sym stays);
+      any_moment = subst (λ (d : StoreDesk D disk). LeavesOnly disk (MayHold state ((command, result) ∷ others)) (device_of (store_of old)) (device_of (store_of d))) (sym rests.same) within;
+      after = λ content left.
+          ⊎_elim (λ without. inl (subst (λ (s : State). Holds s others content) (sym stays) (rests.holds state content without)))
+          (λ with_it. inr (failed, subst (FoundAs content) (sym added) with_it, ap (λ (s : State). state_after s others) stays ∙ rests.after state))
+          ((commits.any_moment store_works is_open).last content (subst (λ (d : StoreDesk D disk). MayLeaveNow disk (device_of (store_of d)) content) rests.same left));
+    }
+
+-- whatever is asked, nothing acknowledged is lost
+pub keeps_all : {D : Type 0} (disk : Ghosts D) (old new : StoreDesk D disk) (asked : List Exchange)
+    → has_failed old ≡ false → store_has_failed (store_of old) ≡ false → IsOpen (store_of old) → Asks AnswersFromStore old asked new → KeepsAll disk old new asked
+keeps_all {D} disk old new [] works store_works is_open asks =
+    let found = found_as _ _ (found_open (store_of old) is_open) in
+    record {
+      state = ap (λ (d : StoreDesk D disk). state_of (store_of d)) asks;
+      any_moment =
+          subst (λ (d : StoreDesk D disk). LeavesOnly disk (MayHold (state_of (store_of old)) []) (device_of (store_of old)) (device_of (store_of d))) (sym asks)
+          (begins (history_of disk (device_of (store_of old))) is_open.synced found);
+      after = λ content left.
+          let same : content ≡ disk.seen (device_of (store_of old)) = synced_leaves _ content is_open.synced (subst (λ (d : StoreDesk D disk). MayLeaveNow disk (device_of (store_of d)) content) asks left) in
+          subst (λ (l : List ℕ). FoundAs l (state_of (store_of old))) (sym same) found;
+    }
+keeps_all disk old new ((command, result) ∷ others) works store_works is_open (next, inl (failed, told, same), asks) =
+    let both : true ≡ false = sym failed ∙ works in
+    absurd cc
+keeps_all {D} disk old new ((command, result) ∷ others) works store_works is_open (next, inr (still, inl stays), asks) =
+    after_told disk old next new command others store_works is_open result (told_same _ result stays.told (state_of (store_of old)) command)
+    (keeps_all disk old new others works store_works is_open (subst (λ (d : StoreDesk D disk). Asks AnswersFromStore d others new) stays.same asks))
+keeps_all disk old new ((command, Ok (reply.Taken revision)) ∷ others) works store_works is_open (next, inr (still, inr commits), asks) =
+    let answered : Result Reply Refusal = Ok (reply.Taken revision) in
+    let goes_on : has_failed next ≡ false = not_true (has_failed next) (λ fails. let no_error = commits.fails.0 fails in absurd cc) in
+    after_commit disk old next new command others store_works is_open answered commits
+    (commits.state ∙ sym (added disk old next new command others store_works is_open answered commits))
+    (keeps_all disk next new others goes_on commits.works (commits.done is_open) asks)
+keeps_all disk old new ((command, Ok (reply.Again revision)) ∷ others) works store_works is_open (next, inr (still, inr commits), asks) = absurd commits.told
+keeps_all disk old new ((command, Err refusal) ∷ others) works store_works is_open (next, inr (still, inr commits), asks) =
+    ⊎_elim (λ (memory : refusal ≡ NoMemory).
+    let goes_on : has_failed next ≡ false = not_true (has_failed next) (λ fails. let is = commits.fails.0 fails in absurd cc) in
+    after_commit disk old next new command others store_works is_open (Err refusal) commits commits.same_state
+    (keeps_all disk next new others goes_on (commits.store_works goes_on store_works) (commits.kept (ap Err memory) is_open) asks))
+    (λ (failed : refusal ≡ StoreFailed).
+    after_failure disk old next new command others store_works is_open (Err refusal) commits (ap Err failed) commits.same_state refl
+    (failed_rests disk next new others (commits.fails.1 (ap Err failed)) asks))
+    commits.told
