@@ -1,13 +1,13 @@
 -- Pieces of the input, as they are read.
-use Rattle.std.proofs.Common.{◌++◌, ℕ, List, [], Option, Some, None, Result, refl, sym, ap, ◌∙◌, append_assoc}
+use Rattle.std.proofs.Common.{◌++◌, ℕ, List, [], Option, Some, None, Result, Bool, true, false, ◌≡◌, refl, sym, ap, ◌∙◌, append_assoc}
 use Rattle.std.specs.Io.KnownBytes.{Appends, Consumes, Keeps}
 use Rattle.refusal.specs.declared.Refusal.{Refusal}
 use Rattle.journal.specs.Command.{Command}
 use Rattle.server.specs.declared.session.reply.Reply.{Reply}
 use Rattle.server.specs.Session.{Session}
-use Rattle.server.specs.Replies.{Feeds}
-use Rattle.server.specs.Serving.{Serves}
-use Rattle.server.proofs.Feeding.{feeds-nothing, feeds-joined}
+use Rattle.server.specs.Replies.{Feeds, Stops}
+use Rattle.server.specs.Serving.{Serves, WasAsked}
+use Rattle.server.proofs.Feeding.{feeds-nothing, feeds-joined, asks-joined}
 
 pub keeps-same : (a : Option (List ℕ)) → Keeps a a
 keeps-same None = tt
@@ -58,3 +58,18 @@ module _ {D : Type 0} (gives : D → Command → Result Reply Refusal → D → 
     consumed = consumes-both i j k first.bytes second.bytes first.consumed second.consumed;
     fed = feeds-joined gives first.bytes second.bytes old mid new d e f o p q first.fed second.fed;
   }
+
+  -- what was asked, however it ended
+  pub asked-nothing : (d : D) → WasAsked gives d d
+  asked-nothing d = ([], refl)
+
+  pub asked-joined : (d e f : D) → WasAsked gives d e → WasAsked gives e f → WasAsked gives d f
+  asked-joined d e f first second = (first.0 ++ second.0, asks-joined gives first.0 second.0 d e f first.1 second.1)
+
+  by_end : (old : Session) (piece : List ℕ) (new : Session) (d e : D) (ended : Bool) → old.ended ≡ ended → (old.ended ≡ true → e ≡ d) → (old.ended ≡ false → Stops gives old piece new d e) → WasAsked gives d e
+  by_end old piece new d e true is idle stops = ([], idle is)
+  by_end old piece new d e false is idle stops = let stopped = stops is in (stopped.asked, stopped.asks)
+
+  -- a piece whose feeding failed, in a session that had ended or not
+  pub asked-stopped : (old : Session) (piece : List ℕ) (new : Session) (d e : D) → (old.ended ≡ true → e ≡ d) → (old.ended ≡ false → Stops gives old piece new d e) → WasAsked gives d e
+  asked-stopped old piece new d e idle stops = by_end old piece new d e old.ended refl idle stops

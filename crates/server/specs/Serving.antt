@@ -5,13 +5,17 @@ use Rattle.refusal.specs.declared.Refusal.{Refusal}
 use Rattle.journal.specs.Command.{Command}
 use Rattle.server.specs.declared.session.reply.Reply.{Reply}
 use Rattle.server.specs.Session.{Session}
-use Rattle.server.specs.Replies.{Feeds}
+use Rattle.server.specs.Replies.{Exchange, Asks, Feeds}
 
 -- a session at its beginning
 abbrev pub beginning : Session
 beginning = record { line = Some []; source = None; ended = false }
 
 module _ {D : Type 0} (gives : D → Command → Result Reply Refusal → D → Type 0) where
+  -- the desk was asked commands, one after another
+  abbrev pub WasAsked : D → D → Type 0
+  WasAsked desk desk' = (asked : List Exchange) × Asks gives desk asked desk'
+
   -- Bytes of the input were taken, and what comes of them was written to the output.
   pub record Serves (old new : Session) (desk desk' : D) (input input' output output' : Option (List ℕ)) : Type 0 where
     pub bytes : List ℕ

@@ -1,9 +1,11 @@
 //! One session over a pair of streams.
 ghost use Rattle.std.specs.Prelude.{◌≡◌, ◌⊎◌, ◌≤◌, ◌<◌, ◌++◌, List, ℕ, [], None, Some, true, false, take, length, IfOk, IfErr, IsErrOf, OnOk, OnErr};
 ghost use Rattle.std.specs.Io.KnownBytes.{Consumes, IsAtEnd};
-ghost use Rattle.server.specs.Desk.{AnswersFromStore, has_failed};
-ghost use Rattle.server.specs.Replies.{Feeds};
-ghost use Rattle.server.specs.Serving.{Serves, IsServed};
+ghost use Rattle.recovery.specs.Open.{IsOpen, has_failed as store_has_failed};
+ghost use Rattle.server.specs.Asked.{KeepsAll};
+ghost use Rattle.server.specs.Desk.{AnswersFromStore, store_of, has_failed};
+ghost use Rattle.server.specs.Replies.{Exchange, Asks, Feeds};
+ghost use Rattle.server.specs.Serving.{Serves, IsServed, WasAsked};
 
 use crate::desk::StoreDesk;
 use crate::failure::Failure;
@@ -26,6 +28,10 @@ pub fn serve<D: Disk, I: Read, O: Write>(
 ) -> Result<(), Failure>
     // What is written is what comes of all the input, with the answers of the desk.
     ensures served { OnOk result (IsServed AnswersFromStore desk.old desk.new (I.remaining input.old) (I.remaining input.new) (O.contents output.old) (O.contents output.new)) }
+    // Whatever ends it: the desk was asked commands one after another, so that a crash at any moment leaves all that was
+    // acknowledged by then.
+    ensures keeps { has_failed desk.old ≡ false → store_has_failed (store_of desk.old) ≡ false → IsOpen (store_of desk.old)
+        → (asked : List Exchange) × Asks AnswersFromStore desk.old asked desk.new × KeepsAll ⟦<D as Disk>⟧ desk.old desk.new asked }
     ensures works { OnOk result (has_failed desk.new ≡ false) }
     ensures failed { IsErrOf result (Failure.Refused Refusal.StoreFailed) → (has_failed desk.new ≡ true)
         × IsServed AnswersFromStore desk.old desk.new (I.remaining input.old) (I.remaining input.new) (O.contents output.old) (O.contents output.new) }
@@ -50,6 +56,7 @@ fn serve_all<K: Desk, I: Read, O: Write>(
 ) -> Result<(), Failure>
     ensures served { OnOk result (Serves K.gives session.old session.new desk.old desk.new (I.remaining input.old) (I.remaining input.new) (O.contents output.old) (O.contents output.new)) }
     ensures at_end { OnOk result (IsAtEnd (I.remaining input.new)) }
+    ensures asked { WasAsked K.gives desk.old desk.new }
     ensures only { IfErr result (λ e. e ≡ Failure.Stream) }
 {
     'pieces: for _ in 0..u64::MAX {
@@ -70,6 +77,7 @@ fn serve_piece<K: Desk, I: Read, O: Write>(
 ) -> Result<bool, Failure>
     ensures served { OnOk result (Serves K.gives session.old session.new desk.old desk.new (I.remaining input.old) (I.remaining input.new) (O.contents output.old) (O.contents output.new)) }
     ensures at_end { IfOk result (λ went_on. went_on ≡ false → IsAtEnd (I.remaining input.new)) }
+    ensures asked { WasAsked K.gives desk.old desk.new }
     ensures only { IfErr result (λ e. e ≡ Failure.Stream) }
 {
     let mut piece = [0; PIECE];
@@ -105,6 +113,7 @@ fn feed_lines<K: Desk, O: Write>(
     output: &mut O,
 ) -> Result<(), Failure>
     ensures fed { OnOk result (Feeds K.gives session.old piece.now session.new desk.old desk.new (O.contents output.old) (O.contents output.new)) }
+    ensures asked { WasAsked K.gives desk.old desk.new }
     ensures only { IfErr result (λ e. e ≡ Failure.Stream) }
 {
     let mut rest = piece;
@@ -124,6 +133,7 @@ fn feed_line<K: Desk, O: Write>(
     output: &mut O,
 ) -> Result<(), Failure>
     ensures fed { OnOk result (Feeds K.gives session.old line.now session.new desk.old desk.new (O.contents output.old) (O.contents output.new)) }
+    ensures asked { WasAsked K.gives desk.old desk.new }
     ensures only { IfErr result (λ e. e ≡ Failure.Stream) }
 {
     let Ok(()) = session.feed(alloc, line, output, desk) else {
