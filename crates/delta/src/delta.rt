@@ -88,3 +88,16 @@ fn copy_ops(alloc: Global, ops: &[Op]) -> Result<Vec<Op>, Refusal>
     }
     Ok(copy)
 }
+
+impl PartialEq for Delta {
+    ghost use Rattle.std.specs.Cmp.{decided, partial_equiv_from_equiv};
+    ghost use Rattle.delta.specs.Equality.{same_operations, same_operations-Decides};
+
+    ghost eq = { same_operations };
+
+    ghost laws = { partial_equiv_from_equiv (decided same_operations same_operations-Decides) };
+
+    fn eq(&self, other: &Self) -> bool {
+        self.ops() == other.ops()
+    }
+}
