@@ -106,10 +106,8 @@ fn shown(alloc: Global, delta: &Delta) -> Result<String, Fail> {
 fn expect_rows(rt: &impl Abort, alloc: Global, rows: &[(&str, &str)]) -> Result<(), Fail> {
     for (given, wanted) in rows {
         let delta = built(alloc, given)?;
-        let copy = delta.copy(alloc)?;
-        for delta in [delta, copy] {
-            assert_eq!(rt; shown(alloc, &delta)?.as_str(), *wanted, "from {given}");
-        }
+        assert_eq!(rt; shown(alloc, &delta)?.as_str(), *wanted, "from {given}");
+        assert!(rt; delta.copy(alloc)? == delta, "a copy of {given}");
     }
     Ok(())
 }
@@ -198,6 +196,24 @@ fn takes_off_a_last_retain(rt: HostRuntime) -> Result<(), Fail> {
         ("del 2, ret 1", "del 2"),
     ];
     expect_rows(&rt, rt.alloc(), &rows)
+}
+
+#[test]
+fn tells_apart(rt: HostRuntime) -> Result<(), Fail> {
+    let delta = built(rt.alloc(), "ins a, ret 1 {bold}, del 1")?;
+    let rows = [
+        "ins b, ret 1 {bold}, del 1",
+        "ins a {bold}, ret 1 {bold}, del 1",
+        "emb a, ret 1 {bold}, del 1",
+        "ins a, ret 2 {bold}, del 1",
+        "ins a, ret 1 {-bold}, del 1",
+        "ins a, ret 1 {bold}, del 2",
+        "ins a, ret 1 {bold}",
+    ];
+    for row in rows {
+        assert!(rt; built(rt.alloc(), row)? != delta, "{row}");
+    }
+    Ok(())
 }
 
 #[test]
