@@ -1,0 +1,4 @@
+//! One delta after another, and places in a document after a delta.
+#![tactic(auto)]
+
+pub mod laws;
