@@ -1,5 +1,5 @@
 -- What a delta after another makes of a document, and that both orders make the same.
-use Rattle.std.proofs.Common.{◌≡◌, ℕ, zero, suc, ◌+◌, ◌≤◌, Bool, true, false, not, cond, List, [], ◌∷◌, ◌++◌, length, refl, sym, ap, ◌∙◌, arith}
+use Rattle.std.proofs.Common.{◌≡◌, ◌+◌, Bool, true, false, not, List, [], ◌∷◌, ◌++◌, length, refl, sym, ap, ◌∙◌, arith}
 use Rattle.std.proofs.lemmas.List.{append_assoc, length-append}
 use Rattle.attributes.specs.Attributes.{Attributes, Changes, changed, transformed}
 use Rattle.attributes.specs.Map.{empty}
@@ -9,8 +9,8 @@ use Rattle.delta.specs.Gaps.{Gaps, End, Gap, Fate, Del, Keep, front, run, fated,
 use Rattle.delta.proofs.Joins.{units_below-front, units_below-run}
 use Rattle.delta.proofs.Effects.{apply-front, changed-empty}
 use Rattle.xform.specs.Both.{in_turn, changes_of_both, fate_of_both, both}
-use Rattle.xform.specs.After.{beside, fate_after, left_of, after}
-use Rattle.xform.specs.Laws.{IsLongEnough, SameBothWays, BothWays, DefinedAfter}
+use Rattle.xform.specs.After.{beside, left_of, after}
+use Rattle.xform.specs.Laws.{IsLongEnough, BothWays, DefinedAfter}
 
 -- units that are kept
 pub apply-kept : (xs d : List Element) (g : Gaps) → apply (xs ++ d) (run (length xs) (Keep empty) g) ≡ xs ++ apply d g

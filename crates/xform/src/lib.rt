@@ -2,3 +2,6 @@
 #![tactic(auto)]
 
 pub mod laws;
+mod position;
+
+pub use position::transform_position;
