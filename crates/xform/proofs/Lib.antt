@@ -1,2 +1,4 @@
 pub mod Afterwards
 pub mod Places
+pub mod Heads
+pub mod Trimming
