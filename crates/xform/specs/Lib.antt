@@ -2,4 +2,5 @@ pub mod Both
 pub mod After
 pub mod Place
 pub mod Laws
+pub mod Cursor
 mod Examples

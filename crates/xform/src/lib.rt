@@ -1,6 +1,7 @@
 //! One delta after another, and places in a document after a delta.
 #![tactic(auto)]
 
+mod cursor;
 pub mod laws;
 mod position;
 
