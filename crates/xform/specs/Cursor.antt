@@ -40,3 +40,10 @@ head_inserts (Insert op) = true
 head_inserts (Retain n c) = false
 head_inserts (Delete n) = false
 head_inserts End = false
+
+-- how many units of the document stand in the first operation
+abbrev pub head_len : Head → ℕ
+head_len (Insert op) = 0
+head_len (Retain n c) = n
+head_len (Delete n) = n
+head_len End = 0

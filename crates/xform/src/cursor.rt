@@ -1,6 +1,6 @@
 //! A walk over operations that may stop within one.
 ghost use Rattle.std.specs.Prelude.{◌≡◌, ◌↔◌, ◌+◌, IsTrue, [], drop};
-ghost use Rattle.xform.specs.Cursor.{rest, cut, IsHead, head_inserts};
+ghost use Rattle.xform.specs.Cursor.{rest, cut, IsHead, head_inserts, head_len};
 
 use attributes::Change;
 use delta::{Op, OpRef};
@@ -22,6 +22,17 @@ pub(crate) enum Head<'a> {
 }
 
 impl Head<'_> {
+    /// How many units of the document stand in it.
+    pub(crate) fn len(self) -> u64
+        ensures { result ≡ head_len self.entry }
+    {
+        match self {
+            Head::Insert(_) | Head::End => 0,
+            Head::Retain(len, _) => len,
+            Head::Delete(len) => len,
+        }
+    }
+
     pub(crate) fn inserts(self) -> bool
         ensures { result ≡ head_inserts self.entry }
     {

@@ -3,6 +3,7 @@
 
 mod cursor;
 pub mod laws;
+mod merging;
 mod position;
 
 pub use position::transform_position;
