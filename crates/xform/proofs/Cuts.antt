@@ -1,5 +1,5 @@
 -- Operations without some units of the first, and the first step of two walks.
-use Rattle.std.proofs.Common.{◌≡◌, ℕ, zero, suc, ◌+◌, ◌-◌, ◌<◌, ◌≤◌, ◌⊎◌, ⊎_elim, inl, inr, Bool, true, false, cond, List, [], ◌∷◌, ◌++◌, length, min, refl, sym, ap, subst, ◌∙◌, arith}
+use Rattle.std.proofs.Common.{◌≡◌, ℕ, zero, suc, ◌+◌, ◌-◌, ◌<◌, ◌≤◌, ◌⊎◌, ⊎_elim, inl, inr, Bool, true, false, cond, List, [], ◌∷◌, length, min, refl, sym, ap, subst, ◌∙◌, arith}
 use Rattle.std.proofs.lemmas.Bool.{ltb-true, ltb-false, le-ltb}
 use Rattle.std.proofs.lemmas.List.{length-map}
 use Rattle.std.proofs.Math.Nat.{min-le_left, min-le_right}
@@ -8,7 +8,7 @@ use Rattle.attributes.specs.Attributes.{Changes}
 use Rattle.attributes.specs.Map.{empty}
 use Rattle.delta.specs.Element.{Element, letters, lettered, embedded}
 use Rattle.delta.specs.Operation.{Operation, insert_text, insert_embed, retain, delete, is_insert, op_len, op_base, op_out, base_of, out_of}
-use Rattle.delta.specs.Gaps.{Gaps, End, Gap, Fate, Del, Keep, front, run, counted, joined}
+use Rattle.delta.specs.Gaps.{Gaps, End, Fate, Del, Keep, front, run, counted, joined}
 use Rattle.delta.proofs.Joins.{front-nil, joined-run, joined-front}
 use Rattle.delta.proofs.Settling.{IsBare}
 use Rattle.xform.specs.After.{fate_after, after}
@@ -127,10 +127,10 @@ next-first : (op : Operation) (a b : List Operation) (priority : Bool) → is_in
 next-first op a b priority is may =
     let parts = counted-insert op a is in record {
       same =
-        ap (λ g. after g (counted b) priority) parts.1
-        ∙ (after-first parts.0 (counted a) (counted b) priority may
-        ∙ (ap (λ n. run n (Keep empty) (after (counted a) (counted b) priority)) parts.3
-        ∙ sym (joined-stretch (Keep empty) (op_out op) (after (counted a) (counted b) priority))));
+          ap (λ g. after g (counted b) priority) parts.1
+          ∙ (after-first parts.0 (counted a) (counted b) priority may
+          ∙ (ap (λ n. run n (Keep empty) (after (counted a) (counted b) priority)) parts.3
+          ∙ sym (joined-stretch (Keep empty) (op_out op) (after (counted a) (counted b) priority))));
       first_filled = λ all. all.1;
       second_filled = λ all. all;
       room = omega arith;
@@ -149,10 +149,10 @@ next-second : (op : Operation) (a b : List Operation) (priority : Bool) → is_i
 next-second op a b priority is may =
     let parts = counted-insert op b is in record {
       same =
-        ap (λ h. after (counted a) h priority) parts.1
-        ∙ (after-second parts.0 (counted a) (counted b) priority may
-        ∙ sym (ap (λ g. joined g (after (counted a) (counted b) priority)) parts.2
-        ∙ (joined-front parts.0 (End []) (after (counted a) (counted b) priority) ∙ ap (front parts.0) (front-nil (after (counted a) (counted b) priority)))));
+          ap (λ h. after (counted a) h priority) parts.1
+          ∙ (after-second parts.0 (counted a) (counted b) priority may
+          ∙ sym (ap (λ g. joined g (after (counted a) (counted b) priority)) parts.2
+          ∙ (joined-front parts.0 (End []) (after (counted a) (counted b) priority) ∙ ap (front parts.0) (front-nil (after (counted a) (counted b) priority)))));
       first_filled = λ all. all;
       second_filled = λ all. all.1;
       room = omega (arith, op_base-insert op is);
@@ -184,9 +184,9 @@ next-deleted e m n k a b priority one h_a h_b =
     let a2 : List Operation = cut k (delete m ∷ a) in
     let b2 : List Operation = cut k (stretch n e ∷ b) in record {
       same =
-        ap (λ g. after g (counted (stretch n e ∷ b)) priority) cut_a.counted_is
-        ∙ (ap (λ h. after (run k Del (counted a2)) h priority) cut_b.counted_is
-        ∙ (after-deleted k e (counted a2) (counted b2) priority ∙ sym (front-nil (after (counted a2) (counted b2) priority))));
+          ap (λ g. after g (counted (stretch n e ∷ b)) priority) cut_a.counted_is
+          ∙ (ap (λ h. after (run k Del (counted a2)) h priority) cut_b.counted_is
+          ∙ (after-deleted k e (counted a2) (counted b2) priority ∙ sym (front-nil (after (counted a2) (counted b2) priority))));
       first_filled = cut_a.filled;
       second_filled = cut_b.filled;
       room = omega (arith, cut_a.out_le, cut_b.base_is);
@@ -205,10 +205,10 @@ next-kept c e m n k a b priority one h_a h_b =
     let a2 : List Operation = cut k (retain m c ∷ a) in
     let b2 : List Operation = cut k (stretch n e ∷ b) in record {
       same =
-        ap (λ g. after g (counted (stretch n e ∷ b)) priority) cut_a.counted_is
-        ∙ (ap (λ h. after (run k (Keep c) (counted a2)) h priority) cut_b.counted_is
-        ∙ (after-kept k c e (counted a2) (counted b2) priority
-        ∙ sym (joined-stretch (fate_after c e priority) k (after (counted a2) (counted b2) priority))));
+          ap (λ g. after g (counted (stretch n e ∷ b)) priority) cut_a.counted_is
+          ∙ (ap (λ h. after (run k (Keep c) (counted a2)) h priority) cut_b.counted_is
+          ∙ (after-kept k c e (counted a2) (counted b2) priority
+          ∙ sym (joined-stretch (fate_after c e priority) k (after (counted a2) (counted b2) priority))));
       first_filled = cut_a.filled;
       second_filled = cut_b.filled;
       room = omega (arith, cut_a.out_le, cut_b.base_is, base-stretch (fate_after c e priority) k);
@@ -221,9 +221,9 @@ next-past_end e n k b priority all h =
     let cut_b = is_cut e n k b h in
     let b2 : List Operation = cut k (stretch n e ∷ b) in record {
       same =
-        after-nothing (counted (stretch n e ∷ b)) priority
-        ∙ (cut_b.counted_is
-        ∙ sym (ap (joined (counted (stretch k e ∷ []))) (after-nothing (counted b2) priority) ∙ joined-stretch e k (counted b2)));
+          after-nothing (counted (stretch n e ∷ b)) priority
+          ∙ (cut_b.counted_is
+          ∙ sym (ap (joined (counted (stretch k e ∷ []))) (after-nothing (counted b2) priority) ∙ joined-stretch e k (counted b2)));
       first_filled = λ filled. filled;
       second_filled = cut_b.filled;
       room = omega (arith, cut_b.base_is, base-stretch e k);

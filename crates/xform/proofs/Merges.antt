@@ -1,14 +1,13 @@
 -- Where two walks stand after a step, and why a step is refused.
-use Rattle.std.proofs.Common.{◌≡◌, ℕ, zero, suc, ◌+◌, ◌<◌, ◌≤◌, ◌^◌, ◌↔◌, ◌⊎◌, ⊎_elim, inl, inr, Bool, true, false, List, [], ◌∷◌, ◌++◌, Result, Ok, Err, refl, sym, ap, subst, ◌∙◌, arith}
-use Rattle.std.specs.Prelude.{IfErr}
-use Rattle.std.proofs.lemmas.List.{append-nil}
-use Rattle.attributes.specs.Attributes.{Changes, same_changes-Decides}
+use Rattle.std.proofs.Common.{◌≡◌, ℕ, ◌+◌, ◌<◌, ◌≤◌, ◌⊎◌, ⊎_elim, inl, inr, Bool, true, false, List, [], ◌∷◌, ◌++◌, Result, Ok, Err, sym, ap, subst, ◌∙◌, arith}
+use Rattle.std.specs.Prelude.{IfErr, nat_lt, not, ◌&&◌}
+use Rattle.std.proofs.lemmas.Bool.{and_parts, ltb-true}
 use Rattle.attributes.specs.Map.{empty}
 use Rattle.refusal.specs.declared.Refusal.{Refusal}
 use Rattle.refusal.specs.declared.Refusal.TheVariants.{BadOps, NoMemory}
-use Rattle.delta.specs.Operation.{Operation, insert_text, insert_embed, retain, delete, is_plain, op_base, op_out, op_len, base_of, out_of, IsBounded}
-use Rattle.delta.specs.Gaps.{Gaps, End, Fate, Keep, front, run, counted, joined}
-use Rattle.delta.specs.Normal.{built, settled, trimmed, spelled, nf}
+use Rattle.delta.specs.Operation.{Operation, retain, is_plain, op_len, base_of, out_of, IsBounded}
+use Rattle.delta.specs.Gaps.{Gaps, End, Keep, run, counted, joined}
+use Rattle.delta.specs.Normal.{may_precede, is_built, ends_plain, IsNormal, built, settled, trimmed, spelled, nf}
 use Rattle.delta.proofs.BuiltLists.{built-append}
 use Rattle.delta.proofs.Joins.{front-nil, counted-append, joined-End, joined-joined, joined-run}
 use Rattle.delta.proofs.Lengths.{base_of-append, out_of-append, lengths-built}
@@ -85,8 +84,8 @@ module _ {first second a b ops a2 b2 made : List Operation} {priority : Bool} {p
   merged-next made2 plain2 same less =
       let g : Gaps = after (counted a2) (counted b2) priority in record {
         same =
-          sym (settled-joined (counted (held_back made2 plain2)) g)
-          ∙ (ap (λ k. settled (joined k g)) same ∙ (settled-joined (counted (held_back made plain ++ ops)) g ∙ with_made));
+            sym (settled-joined (counted (held_back made2 plain2)) g)
+            ∙ (ap (λ k. settled (joined k g)) same ∙ (settled-joined (counted (held_back made plain ++ ops)) g ∙ with_made));
         first_filled = next.first_filled merged.first_filled;
         second_filled = next.second_filled merged.second_filled;
         room = omega (arith, less, next.room, merged.room);
@@ -109,3 +108,28 @@ merged-end {a = a} {b = b} {made = made} {priority = priority} {plain = plain} m
 -- what a step makes, by another name
 pub next-made : {a b made ops a2 b2 : List Operation} {priority : Bool} → ops ≡ made → IsNext a b made a2 b2 priority → IsNext a b ops a2 b2 priority
 next-made {a = a} {b = b} {a2 = a2} {b2 = b2} {priority = priority} is next = subst (λ l. IsNext a b l a2 b2 priority) (sym is) next
+
+-- no operation of a delta is nothing
+filled-built : (ops : List Operation) → is_built ops ≡ true → IsFilled ops
+filled-built [] h = tt
+filled-built (op ∷ []) h = (ltb-true 0 (op_len op) h, tt)
+filled-built (op ∷ next ∷ ops) h =
+    let parts = and_parts (nat_lt 0 (op_len op)) (may_precede op next && is_built (next ∷ ops)) h in
+    (ltb-true 0 (op_len op) parts.0, filled-built (next ∷ ops) (and_parts (may_precede op next) (is_built (next ∷ ops)) parts.1).1)
+
+filled-normal : (ops : List Operation) → IsNormal ops → IsFilled ops
+filled-normal ops h = filled-built ops (and_parts (is_built ops) (not (ends_plain ops)) h).0
+
+-- at the start
+pub merged-start : (first second a b : List Operation) (priority : Bool) → a ≡ first → b ≡ second → IsNormal first → IsNormal second → IsBounded first → IsBounded second → IsMerged first second priority a b 0 []
+merged-start first second a b priority is_a is_b normal_a normal_b bounded_a bounded_b =
+    rw (is_a, is_b) (record {
+      same = ap settled (front-nil (after (counted first) (counted second) priority));
+      first_filled = filled-normal first normal_a;
+      second_filled = filled-normal second normal_b;
+      room = omega (arith, bounded_a.out, bounded_b.base);
+    })
+
+-- the same two deltas
+pub same_result : {a b first second : List Operation} → a ≡ first → b ≡ second → (priority : Bool) → nf (after (counted a) (counted b) priority) ≡ nf (after (counted first) (counted second) priority)
+same_result is_a is_b priority = λ i. nf (after (counted (is_a i)) (counted (is_b i)) priority)

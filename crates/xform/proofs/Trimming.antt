@@ -1,15 +1,15 @@
 -- Trimming and settling in either order, and how much is left of what stands before.
-use Rattle.std.proofs.Common.{◌≡◌, ℕ, zero, suc, ◌+◌, ◌<◌, ◌≤◌, ◌^◌, Bool, true, false, cond, List, [], ◌∷◌, ◌++◌, length, refl, sym, ap, subst, ◌∙◌, arith}
+use Rattle.std.proofs.Common.{◌≡◌, ℕ, zero, suc, ◌+◌, ◌<◌, ◌≤◌, true, false, cond, List, [], ◌∷◌, ◌++◌, length, refl, sym, ap, subst, ◌∙◌, arith}
 use Rattle.std.proofs.lemmas.List.{append-nil, length-append}
 use Rattle.attributes.specs.Map.{empty}
 use Rattle.attributes.specs.Attributes.{Changes, same_changes}
-use Rattle.delta.specs.Element.{Element, letters, embedded}
+use Rattle.delta.specs.Element.{Element}
 use Rattle.delta.specs.Operation.{Operation, insert_text, insert_embed, retain, delete, is_plain, op_len, base_of, out_of, IsBounded}
 use Rattle.delta.specs.Gaps.{Gaps, End, Gap, Fate, Del, Keep, front, run, counted, joined, units_below}
-use Rattle.delta.specs.Normal.{past, settled, trim, trimmed, spelled, nf}
+use Rattle.delta.specs.Normal.{past, settled, trim, trimmed, nf}
 use Rattle.delta.proofs.Joins.{counted-append, units_below-counted}
 use Rattle.delta.proofs.Settling.{ends_kept, ends_kept-rest}
-use Rattle.delta.proofs.Lengths.{units_kept, units_made, units_made-counted, base_of-spelled, out_of-spelled, units_below-settled, units_made-settled}
+use Rattle.delta.proofs.Lengths.{units_made, units_made-counted, base_of-spelled, out_of-spelled, units_below-settled, units_made-settled}
 
 -- trimming leaves what stands before, and what moves before a delete
 trim-front : (xs ys : List Element) (f : Fate) (g : Gaps) → trim (xs ++ ys) f g ≡ front xs (trim ys f g)

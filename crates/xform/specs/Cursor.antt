@@ -1,7 +1,6 @@
 -- Where a walk over operations stands, and what is left of them.
-use Rattle.std.specs.Prelude.{◌≡◌, ℕ, ◌-◌, ◌<◌, Bool, true, false, List, [], ◌∷◌, length, drop, nat_lt, if◌then◌else◌}
-use Rattle.attributes.specs.Attributes.{transformed}
-use Rattle.delta.specs.Operation.{Operation, insert_text, insert_embed, retain, delete, is_insert, op_len}
+use Rattle.std.specs.Prelude.{◌≡◌, ℕ, ◌-◌, ◌<◌, Bool, true, false, List, [], ◌∷◌, drop, nat_lt, if◌then◌else◌}
+use Rattle.delta.specs.Operation.{Operation, retain, delete, is_insert, op_len}
 use Rattle.xform.specs.declared.cursor.Cursor.{Cursor}
 use Rattle.xform.specs.declared.cursor.Head.{Head}
 use Rattle.xform.specs.declared.cursor.Head.TheVariants.{Insert, Retain, Delete, End}

@@ -5,12 +5,12 @@ use Rattle.attributes.specs.Map.{empty}
 use Rattle.refusal.specs.declared.Refusal.{Refusal}
 use Rattle.refusal.specs.declared.Refusal.TheVariants.{BadOps, NoMemory}
 use Rattle.delta.specs.Operation.{Operation, retain, delete, op_out, base_of, out_of, IsBounded}
-use Rattle.delta.specs.Gaps.{Gaps, counted, joined}
+use Rattle.delta.specs.Gaps.{counted, joined}
 use Rattle.delta.specs.Normal.{settled}
 use Rattle.xform.specs.After.{after}
 use Rattle.xform.specs.Cursor.{rest, cut, head_len, IsFilled}
 use Rattle.xform.specs.declared.cursor.Head.{Head}
-use Rattle.xform.specs.declared.cursor.Head.TheVariants.{Insert, Retain, Delete, End}
+use Rattle.xform.specs.declared.cursor.Head.TheVariants.{Retain, Delete, End}
 use Rattle.xform.specs.declared.merging.Progress.{Progress}
 use Rattle.xform.specs.declared.merging.Turn.{Turn}
 use Rattle.xform.specs.declared.merging.Turn.TheVariants.{First, Second, Both}

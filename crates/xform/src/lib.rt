@@ -5,5 +5,7 @@ mod cursor;
 pub mod laws;
 mod merging;
 mod position;
+mod transforming;
 
 pub use position::transform_position;
+pub use transforming::transform;

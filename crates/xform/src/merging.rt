@@ -23,6 +23,21 @@ pub(crate) struct Progress {
     pub(crate) plain: u64,
 }
 
+impl Progress {
+    /// Before the first operations.
+    pub(crate) fn start(first: &[Op], second: &[Op]) -> Self
+        ensures first { rest result.first first.now ≡ first.now }
+        ensures second { rest result.second second.now ≡ second.now }
+        ensures plain { result.plain ≡ 0 }
+    {
+        Progress {
+            first: Cursor::at(first, 0),
+            second: Cursor::at(second, 0),
+            plain: 0,
+        }
+    }
+}
+
 /// Which walk goes on: the first past an insert, the second past an insert, or both past units that neither inserts.
 #[derive(Clone, Copy)]
 enum Turn<'a> {
@@ -166,13 +181,7 @@ fn plain_len(op: &Op) -> Option<u64>
     ensures { MatchOption result (is_plain op.now ≡ false) (λ len. op.now ≡ retain len empty) }
 {
     match op.get() {
-        OpRef::Retain(len, change) => {
-            if change.is_empty() {
-                Some(len)
-            } else {
-                None
-            }
-        }
+        OpRef::Retain(len, change) => { if change.is_empty() { Some(len) } else { None } }
         OpRef::Text(_, _) | OpRef::Embed(_, _, _) | OpRef::Delete(_) => None,
     }
 }

@@ -1,4 +1,4 @@
-use Rattle.std.proofs.Common.{◌≡◌, ◌+◌, ◌⊎◌, inl, inr, Bool, true, false, drop, sym, ◌∙◌}
+use Rattle.std.proofs.Common.{◌≡◌, ◌+◌, ◌⊎◌, inl, inr, true, false, drop, sym, ◌∙◌}
 use Rattle.delta.specs.Gaps.{counted}
 use Rattle.delta.proofs.Settling.{IsBare}
 use Rattle.xform.specs.Cursor.{rest, head_inserts}
@@ -44,5 +44,5 @@ returns c =
     ] in record {
       next = next-both c.head-one.result c.head-two.result one two a (drop (c.args.at.first.index + 1) c.args.first.now) b (drop (c.args.at.second.index + 1) c.args.second.now) c.args.priority c.head-one.ensures c.head-two.ensures c.requires.more;
       filled =
-        filled-both c.head-one.result c.head-two.result a (drop (c.args.at.first.index + 1) c.args.first.now) b (drop (c.args.at.second.index + 1) c.args.second.now) c.args.priority c.head-one.ensures c.head-two.ensures c.requires.first c.requires.second one two c.requires.more;
+          filled-both c.head-one.result c.head-two.result a (drop (c.args.at.first.index + 1) c.args.first.now) b (drop (c.args.at.second.index + 1) c.args.second.now) c.args.priority c.head-one.ensures c.head-two.ensures c.requires.first c.requires.second one two c.requires.more;
     }

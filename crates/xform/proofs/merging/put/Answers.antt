@@ -1,6 +1,6 @@
 use Rattle.std.proofs.Common.{◌≡◌, ◌++◌, [], ◌∷◌, ap, subst, sym, ◌∙◌}
 use Rattle.std.proofs.lemmas.Result.{err_from_is_err_and, IfErr-at_err, on_ok_weaker}
-use Rattle.delta.specs.Operation.{Operation, retain, IsBounded}
+use Rattle.delta.specs.Operation.{retain, IsBounded}
 use Rattle.delta.specs.Normal.{built}
 use Rattle.xform.specs.Merging.{held_back, IsDue}
 use Rattle.xform.proofs.Merges.{built-twice, bounded-front, bounded-built, due-from}
