@@ -1,5 +1,5 @@
 -- Where a place goes, operation by operation.
-use Rattle.std.proofs.Common.{◌≡◌, ℕ, zero, suc, ◌+◌, ◌-◌, ◌<◌, ◌≤◌, ◌^◌, ◌⊎◌, ⊎_elim, Bool, true, false, List, [], ◌∷◌, length, drop, get_or, refl, sym, ap, ◌∙◌, arith}
+use Rattle.std.proofs.Common.{◌≡◌, ℕ, zero, suc, ◌+◌, ◌-◌, ◌<◌, ◌≤◌, ◌^◌, ◌⊎◌, ⊎_elim, Bool, true, false, List, [], ◌∷◌, length, drop, get_or, min, refl, sym, ap, ◌∙◌, arith}
 use Rattle.std.proofs.lemmas.List.{length-append, length-map, drop_more}
 use Rattle.delta.specs.Element.{Element, letters, lettered, embedded}
 use Rattle.delta.specs.Operation.{Operation, insert_text, insert_embed, retain, delete, is_insert, op_out, out_of}
@@ -129,24 +129,34 @@ module _ {so_far before : ℕ} {all ops : List Operation} {op : Operation} {prio
         within = stands.within;
       }
 
-  pub stands-retained : (n : ℕ) (c : Changes) → retain n c ≡ op → n ≤ before → Stands (so_far + n) (before - n) ops priority total
-  stands-retained n c is h = record {
-    placed = omega (arith, placed-at, ap (λ o. place (counted (o ∷ ops)) before priority) is, place-retained n c (counted ops) before priority h);
-    bounded = omega (arith, bounded-at, ap op_out is);
-    within = omega (arith, stands.within);
-  }
+  -- so many of the units that it stands on are before the place
+  pub stands-retained : (n k : ℕ) (c : Changes) → retain n c ≡ op → k ≡ min n before → n ≤ k → Stands (so_far + k) (before - k) ops priority total
+  stands-retained n k c is least all =
+      let same : k ≡ n = omega arith in
+      let within : n ≤ before = omega arith in
+      rw same (record {
+        placed = omega (arith, placed-at, ap (λ o. place (counted (o ∷ ops)) before priority) is, place-retained n c (counted ops) before priority within);
+        bounded = omega (arith, bounded-at, ap op_out is);
+        within = omega (arith, stands.within);
+      })
 
-  pub stands-deleted : (n : ℕ) → delete n ≡ op → n ≤ before → Stands so_far (before - n) ops priority total
-  stands-deleted n is h = record {
-    placed = omega (arith, placed-at, ap (λ o. place (counted (o ∷ ops)) before priority) is, place-deleted n (counted ops) before priority h);
-    bounded = omega (arith, bounded-at);
-    within = omega (arith, stands.within);
-  }
+  pub stands-deleted : (n k : ℕ) → delete n ≡ op → k ≡ min n before → n ≤ k → Stands so_far (before - k) ops priority total
+  stands-deleted n k is least all =
+      let same : k ≡ n = omega arith in
+      let within : n ≤ before = omega arith in
+      rw same (record {
+        placed = omega (arith, placed-at, ap (λ o. place (counted (o ∷ ops)) before priority) is, place-deleted n (counted ops) before priority within);
+        bounded = omega (arith, bounded-at);
+        within = omega (arith, stands.within);
+      })
 
-  pub within_retained : (n : ℕ) (c : Changes) → retain n c ≡ op → before < n → so_far + before ≡ total
-  within_retained n c is h =
-      omega (arith, placed-at, ap (λ o. place (counted (o ∷ ops)) before priority) is, place-within_retained n c (counted ops) before priority h)
+  pub within_retained : (n k : ℕ) (c : Changes) → retain n c ≡ op → k ≡ min n before → k < n → so_far + k ≡ total
+  within_retained n k c is least some =
+      let behind : before < n = omega arith in
+      let same : k ≡ before = omega arith in
+      omega (arith, same, placed-at, ap (λ o. place (counted (o ∷ ops)) before priority) is, place-within_retained n c (counted ops) before priority behind)
 
-  pub within_deleted : (n : ℕ) → delete n ≡ op → before < n → so_far ≡ total
-  within_deleted n is h =
-      omega (arith, placed-at, ap (λ o. place (counted (o ∷ ops)) before priority) is, place-within_deleted n (counted ops) before priority h)
+  pub within_deleted : (n k : ℕ) → delete n ≡ op → k ≡ min n before → k < n → so_far ≡ total
+  within_deleted n k is least some =
+      let behind : before < n = omega arith in
+      omega (arith, placed-at, ap (λ o. place (counted (o ∷ ops)) before priority) is, place-within_deleted n (counted ops) before priority behind)

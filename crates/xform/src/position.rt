@@ -22,17 +22,19 @@ pub fn transform_position(delta: &Delta, index: u64, priority: bool) -> u64
                 }
             }
             OpRef::Retain(len, _) => {
-                if len > before {
-                    return place + before;
-                }
-                place += len;
-                before -= len;
-            }
-            OpRef::Delete(len) => {
-                if len > before {
+                let kept = len.min(before);
+                place += kept;
+                before -= kept;
+                if kept < len {
                     return place;
                 }
-                before -= len;
+            }
+            OpRef::Delete(len) => {
+                let deleted = len.min(before);
+                before -= deleted;
+                if deleted < len {
+                    return place;
+                }
             }
         }
     }
