@@ -11,10 +11,7 @@ use std::test::Fail;
 
 fn value_of(alloc: Global, word: &str) -> Result<(Key, Value), Fail> {
     match word.split_once("=") {
-        Some((name, text)) => Ok((
-            Key::new(alloc, name)?,
-            Value::text(String::from_str(alloc, text)?),
-        )),
+        Some((name, text)) => Ok((Key::new(alloc, name)?, Value::text(alloc, text)?)),
         None => Ok((Key::new(alloc, word)?, Value::flag(true))),
     }
 }
@@ -100,13 +97,13 @@ fn inserts_after(rt: HostRuntime) -> Result<(), Fail> {
             true,
             "ret 1, ins b, ret 5, ins c",
         ),
+        ("ins a", "ins b, ret 5, ins c", false, "ins b, ret 6, ins c"),
         (
-            "ins a",
-            "ins b, ret 5, ins c",
-            false,
-            "ins b, ret 6, ins c",
+            "ins A",
+            "ret 1 {bold color=red}",
+            true,
+            "ret 1, ret 1 {bold color=red}",
         ),
-        ("ins A", "ret 1 {bold color=red}", true, "ret 1, ret 1 {bold color=red}"),
         ("ins A", "del 1", true, "ret 1, del 1"),
         ("del 1", "ins B", true, "ins B"),
         ("ret 1 {color=blue}", "ins B", true, "ins B"),
@@ -124,7 +121,12 @@ fn retains_and_deletes_after(rt: HostRuntime) -> Result<(), Fail> {
         ("del 1", "ret 1 {bold color=red}", true, ""),
         ("del 1", "del 1", true, ""),
         ("ret 1 {color=blue}", "del 1", true, "del 1"),
-        ("ret 1 {color=blue}", "ret 1 {bold color=red}", true, "ret 1 {bold}"),
+        (
+            "ret 1 {color=blue}",
+            "ret 1 {bold color=red}",
+            true,
+            "ret 1 {bold}",
+        ),
         ("ret 1 {bold color=red}", "ret 1 {color=blue}", true, ""),
         (
             "ret 1 {color=blue}",
@@ -139,7 +141,12 @@ fn retains_and_deletes_after(rt: HostRuntime) -> Result<(), Fail> {
             "ret 1 {color=blue}",
         ),
         ("ret 1 {-color}", "ret 1 {color=blue}", true, ""),
-        ("ret 1 {color=blue}", "ret 1 {-color}", false, "ret 1 {-color}"),
+        (
+            "ret 1 {color=blue}",
+            "ret 1 {-color}",
+            false,
+            "ret 1 {-color}",
+        ),
         ("ret 2, del 1", "del 3", false, "del 2"),
         ("del 3", "ret 2, del 1", false, ""),
     ];
@@ -182,7 +189,6 @@ fn keeps_the_bound(rt: HostRuntime) -> Result<(), Fail> {
         ("ins a", "ret 281474976710655, del 1", false),
         ("ins a", "ret 281474976710654, del 1", true),
         ("ins a", "ret 281474976710655, ins b", false),
-        ("ins a", "ret 281474976710655, ins bc", false),
         ("ins a", "ret 281474976710654, ins b", true),
         ("ins a", "ret 1 {bold}, del 281474976710655", false),
         ("ret 281474976710655, ins a", "ret 1 {bold}", true),
@@ -223,7 +229,11 @@ fn moves_places(rt: HostRuntime) -> Result<(), Fail> {
     ];
     for (row, place, priority, wanted) in rows {
         let delta = delta_of(rt.alloc(), row)?;
-        assert_eq!(rt; transform_position(&delta, place, priority), wanted, "{place} after {row}");
+        assert_eq!(rt;
+            transform_position(&delta, place, priority),
+            wanted,
+            "{place} after {row}"
+        );
     }
     Ok(())
 }
