@@ -1,0 +1,6 @@
+pub mod Afterwards
+pub mod Places
+pub mod Heads
+pub mod Trimming
+pub mod Cuts
+pub mod Merges

@@ -1,0 +1,28 @@
+-- A delta as it is after another delta of the same document (quill-delta's README, "transform()").
+use Rattle.std.specs.Prelude.{Bool, List, [], length, if◌then◌else◌}
+use Rattle.attributes.specs.Attributes.{Changes, transformed}
+use Rattle.attributes.specs.Map.{empty}
+use Rattle.delta.specs.Element.{Element}
+use Rattle.delta.specs.Gaps.{Gaps, End, Gap, Fate, Del, Keep, front, run}
+
+-- units that the first inserts are kept, and the second's inserts of that place stand after them where the first has
+-- priority, else before them
+abbrev pub beside : List Element → List Element → Bool → Gaps → Gaps
+beside xs ys priority g = if priority then run (length xs) (Keep empty) (front ys g) else front ys (run (length xs) (Keep empty) g)
+
+-- what the second makes of a unit that the first keeps: with priority, names that the first changes are left alone
+abbrev pub fate_after : Changes → Fate → Bool → Fate
+fate_after c Del priority = Del
+fate_after c (Keep e) priority = Keep (transformed c e priority)
+
+-- nothing where the first deletes the unit
+abbrev pub left_of : Fate → Fate → Bool → Gaps → Gaps
+left_of Del e priority g = g
+left_of (Keep c) e priority g = Gap [] (fate_after c e priority) g
+
+-- the second, on the document after the first
+abbrev pub after : Gaps → Gaps → Bool → Gaps
+after (End xs) (End ys) priority = beside xs ys priority (End [])
+after (End xs) (Gap ys e h) priority = beside xs ys priority (Gap [] e h)
+after (Gap xs f g) (End ys) priority = beside xs ys priority (End [])
+after (Gap xs f g) (Gap ys e h) priority = beside xs ys priority (left_of f e priority (after g h priority))

@@ -1,0 +1,22 @@
+-- What holds of any two deltas of one document.
+use Rattle.std.specs.Prelude.{◌≡◌, ◌≤◌, Bool, not, List, length}
+use Rattle.delta.specs.Element.{Element}
+use Rattle.delta.specs.Gaps.{Gaps, apply, units_below}
+use Rattle.xform.specs.Both.{both}
+use Rattle.xform.specs.After.{after}
+
+-- a document that both are defined on: it has at least the units that each speaks of
+abbrev pub IsLongEnough : List Element → Gaps → Type 0
+IsLongEnough d g = units_below g ≤ length d
+
+-- the first and then the second after it, both at once, and the second and then the first after it: one document
+pub record SameBothWays (d : List Element) (a b : Gaps) (priority : Bool) : Type 0 where
+  pub first_then_second : apply (apply d a) (after a b priority) ≡ apply d (both a b priority)
+  pub second_then_first : apply (apply d b) (after b a (not priority)) ≡ apply d (both a b priority)
+
+abbrev pub BothWays : Type 0
+BothWays = (d : List Element) (a b : Gaps) (priority : Bool) → IsLongEnough d a → IsLongEnough d b → SameBothWays d a b priority
+
+-- the second after the first is defined on the document after the first
+abbrev pub DefinedAfter : Type 0
+DefinedAfter = (d : List Element) (a b : Gaps) (priority : Bool) → IsLongEnough d a → IsLongEnough d b → IsLongEnough (apply d a) (after a b priority)

@@ -1,0 +1,20 @@
+-- Where a place of a document is after a delta (quill-delta's README, "transformPosition()").
+use Rattle.std.specs.Prelude.{ℕ, zero, suc, ◌+◌, Bool, List, length, if◌then◌else◌}
+use Rattle.delta.specs.Element.{Element}
+use Rattle.delta.specs.Gaps.{Gaps, End, Gap, Fate, Del, Keep}
+
+-- how many units are left of one
+abbrev pub units_left : Fate → ℕ
+units_left Del = 0
+units_left (Keep c) = 1
+
+-- how far what is inserted just at the place moves it: not at all where the place has priority
+abbrev pub moved_by : List Element → Bool → ℕ
+moved_by xs priority = if priority then 0 else length xs
+
+-- the units inserted before the place, those inserted just there where it moves, and the units before it that are kept
+abbrev pub place : Gaps → ℕ → Bool → ℕ
+place (End xs) zero priority = moved_by xs priority
+place (End xs) (suc i) priority = length xs + suc i
+place (Gap xs f g) zero priority = moved_by xs priority
+place (Gap xs f g) (suc i) priority = length xs + (units_left f + place g i priority)
