@@ -1,0 +1,4 @@
+//! One delta for several, and the delta that undoes one.
+#![tactic(auto)]
+
+pub mod laws;
