@@ -1,2 +1,6 @@
 pub mod Compositions
 pub mod Inverses
+pub mod Alongside
+pub mod Pairs
+pub mod CutPieces
+pub mod Progress

@@ -1,5 +1,5 @@
 -- Operations cut at a code unit.
-use Rattle.std.specs.Prelude.{◌≡◌, ℕ, ◌-◌, List, [], ◌∷◌, take, drop, Option, Some, None, nat_lt, if◌then◌else◌}
+use Rattle.std.specs.Prelude.{◌≡◌, ℕ, ◌-◌, ◌<◌, List, [], ◌∷◌, take, drop, Option, Some, None, nat_lt, if◌then◌else◌}
 use Rattle.utf16.specs.Units.{PartsPair}
 use Rattle.attributes.specs.Attributes.{changed, composed as change_composed}
 use Rattle.delta.specs.Operation.{Operation, insert_text, insert_embed, retain, delete, op_len}
@@ -29,6 +29,10 @@ left_after n op ops = if nat_lt n (op_len op) then last_units n op ∷ ops else 
 abbrev pub PartsText : ℕ → Operation → Type 0
 PartsText n (insert_text us a) = PartsPair us n
 PartsText n _ = ⊥
+
+-- and there the operation is cut
+abbrev pub CutsText : ℕ → Operation → Type 0
+CutsText n op = (n < op_len op) × PartsText n op
 
 -- what two operations on the same units make, the second after the first
 abbrev pub met : Operation → Operation → List Operation
