@@ -3,4 +3,5 @@ pub mod Inverses
 pub mod Alongside
 pub mod Pairs
 pub mod CutPieces
+pub mod Borders
 pub mod Progress

@@ -86,13 +86,16 @@ fn meet<'a>(alloc: Global, op: OpRef<'a>, tail: &'a [Op], next: OpRef<'a>, rest:
     ensures only { IfErr result (λ e. (e ≡ Refusal.CutsPair) ⊎ (e ≡ Refusal.NoMemory)) }
 {
     let len = len_of(op).min(len_of(next));
-    match (cut(op, tail, len), cut(next, rest, len)) {
-        (Some((op, first)), Some((next, second))) => Ok(Step {
-            made: both(alloc, op, next)?,
-            first,
-            second,
-        }),
-        _ => Err(Refusal::CutsPair),
+    match cut(op, tail, len) {
+        None => Err(Refusal::CutsPair),
+        Some((part, first)) => match cut(next, rest, len) {
+            None => Err(Refusal::CutsPair),
+            Some((then, second)) => Ok(Step {
+                made: both(alloc, part, then)?,
+                first,
+                second,
+            }),
+        },
     }
 }
 
