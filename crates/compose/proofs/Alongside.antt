@@ -1,5 +1,5 @@
 -- Two gap forms side by side, as they begin: what their composition begins with.
-use Rattle.std.proofs.Common.{◌≡◌, ℕ, zero, suc, List, [], ◌∷◌, ◌++◌, length, refl, sym, ap, subst, ◌∙◌}
+use Rattle.std.proofs.Common.{◌≡◌, ℕ, zero, suc, List, [], ◌∷◌, ◌++◌, length, refl, sym, ap, ◌∙◌}
 use Rattle.std.proofs.lemmas.List.{append_assoc, append-nil}
 use Rattle.attributes.specs.Map.{empty, insert_all}
 use Rattle.attributes.specs.Attributes.{Attributes, Changes, changed}

@@ -1,18 +1,17 @@
 -- Where the first units of two lists of operations end: whether a pair is cut there.
-use Rattle.std.proofs.Common.{◌≡◌, ℕ, zero, suc, ◌-◌, ◌<◌, ◌≤◌, Bool, true, false, List, [], ◌∷◌, ◌++◌, length, take, drop, refl, sym, ap, ◌∙◌, arith}
+use Rattle.std.proofs.Common.{◌≡◌, ℕ, zero, suc, ◌-◌, ◌<◌, Bool, true, false, List, [], ◌∷◌, ◌++◌, length, take, drop, refl, sym, ap, ◌∙◌, arith}
 use Rattle.std.specs.Prelude.{IsTrue, not, ◌&&◌, slice_index}
 use Rattle.std.specs.Char.Utf16.{is_high_surrogate, is_low_surrogate}
 use Rattle.std.proofs.Math.Bool.{and-false}
-use Rattle.std.proofs.lemmas.Bool.{and_parts}
 use Rattle.attributes.specs.Map.{empty}
-use Rattle.attributes.specs.Attributes.{Attributes, Changes, same_attributes, same_changes, same_attributes-Decides}
+use Rattle.attributes.specs.Attributes.{Attributes, same_attributes, same_changes, same_attributes-Decides}
 use Rattle.delta.specs.Element.{Element, letters, lettered, embedded}
 use Rattle.delta.specs.Operation.{Operation, insert_text, insert_embed, retain, delete, is_insert}
-use Rattle.delta.specs.Gaps.{Gaps, End, Gap, Fate, Keep, Del, front, run, counted}
+use Rattle.delta.specs.Gaps.{Gaps, End, Gap, Fate, Keep, Del, front, counted}
 use Rattle.delta.specs.Normal.{IsNormal, is_built}
-use Rattle.delta.proofs.Neighbours.{may_lead-text, may_lead-retain, may_lead-delete, built-parts, is_apart_text, is_apart_retain, is_apart_delete}
-use Rattle.compose.specs.Places.{inserts, fate, tail}
-use Rattle.compose.specs.Cuts.{is_pair, same_fate, is_nothing, parts}
+use Rattle.delta.proofs.Neighbours.{may_lead-retain, built-parts, is_apart_text}
+use Rattle.compose.specs.Places.{inserts}
+use Rattle.compose.specs.Cuts.{same_fate, parts}
 use Rattle.compose.proofs.Pairs.{border}
 use Rattle.compose.proofs.CutPieces.{normal-parts}
 

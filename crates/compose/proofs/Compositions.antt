@@ -1,20 +1,16 @@
 -- One gap form for two, and its effect.
-use Rattle.std.proofs.Common.{◌≡◌, ◌+◌, ◌≤◌, suc, List, [], ◌∷◌, ◌++◌, length, refl, sym, ap, subst, ◌∙◌, arith}
+use Rattle.std.proofs.Common.{◌≡◌, ◌+◌, ◌≤◌, List, [], ◌∷◌, ◌++◌, length, refl, sym, ap, subst, ◌∙◌, arith}
 use Rattle.std.proofs.lemmas.List.{append_assoc}
-use Rattle.attributes.specs.Map.{empty}
-use Rattle.attributes.specs.Attributes.{Attributes, Changes, changed, changed_by}
-use Rattle.attributes.specs.Laws.{ChangedTwice}
+use Rattle.attributes.specs.Attributes.{Changes, changed}
 use Rattle.attributes.proofs.AtEachName.{changed-changed}
 use Rattle.delta.specs.Element.{Element}
-use Rattle.delta.specs.Operation.{Operation, base_of, out_of}
-use Rattle.delta.specs.Gaps.{Gaps, End, Gap, Fate, Del, Keep, front, fated, apply, counted, units_below}
-use Rattle.delta.specs.Normal.{nf}
+use Rattle.delta.specs.Operation.{base_of}
+use Rattle.delta.specs.Gaps.{Gaps, End, Gap, Fate, Del, Keep, fated, apply, counted}
 use Rattle.delta.proofs.Effects.{apply-front, changed-empty, apply-nf}
 use Rattle.delta.proofs.Joins.{units_below-counted}
 use Rattle.delta.proofs.Normality.{IsNormal-nf}
 use Rattle.delta.proofs.Lengths.{length-apply_counted}
 use Rattle.delta.proofs.SameEffects.{same_effect_from}
-use Rattle.compose.specs.Composes.{Composes, IsDefined}
 use Rattle.compose.specs.Places.{inserts, fate, tail}
 use Rattle.compose.specs.Composed.{laid, beyond, kept_then, composed}
 use Rattle.compose.specs.Laws.{EffectOfComposed, ComposesByNormal, ComposesOnce}

@@ -1,12 +1,12 @@
 -- Lists of operations in normal form, cut at a code unit.
-use Rattle.std.proofs.Common.{◌≡◌, ℕ, zero, suc, ◌+◌, ◌-◌, ◌<◌, ◌≤◌, Bool, true, false, cond, List, [], ◌∷◌, ◌++◌, length, take, drop, refl, sym, ap, subst, ◌∙◌, ⊎_elim, arith, length-drop}
-use Rattle.std.specs.Prelude.{IsTrue, not, ◌&&◌, nat_lt}
-use Rattle.std.proofs.lemmas.Bool.{and_parts, and_from, ltb-true, lt-ltb, le-ltb, cases_lt}
+use Rattle.std.proofs.Common.{◌≡◌, ℕ, zero, suc, ◌+◌, ◌-◌, ◌<◌, ◌≤◌, true, false, cond, List, [], ◌∷◌, ◌++◌, length, take, drop, refl, sym, ap, subst, ◌∙◌, ⊎_elim, arith, length-drop}
+use Rattle.std.specs.Prelude.{IsTrue, not, nat_lt}
+use Rattle.std.proofs.lemmas.Bool.{and_parts, and_from, lt-ltb, le-ltb, cases_lt}
 use Rattle.std.proofs.lemmas.List.{take-append-drop, length-take-le}
 use Rattle.std.proofs.Math.Seq.{take-length}
-use Rattle.attributes.specs.Attributes.{Attributes, Changes}
-use Rattle.delta.specs.Element.{Element, letters, lettered}
-use Rattle.delta.specs.Operation.{Operation, insert_text, insert_embed, retain, delete, op_len, op_base, base_of, is_plain}
+use Rattle.attributes.specs.Attributes.{Attributes}
+use Rattle.delta.specs.Element.{letters, lettered}
+use Rattle.delta.specs.Operation.{Operation, insert_text, insert_embed, retain, delete, op_len, op_base, base_of}
 use Rattle.delta.specs.Gaps.{Gaps, Gap, Fate, Keep, Del, front, run, counted}
 use Rattle.delta.specs.Normal.{IsNormal, is_built, ends_plain}
 use Rattle.delta.proofs.Joins.{front-front}
@@ -83,7 +83,7 @@ letters-append : (us vs : List ℕ) (a : Attributes) → letters us a ++ letters
 letters-append [] vs a = refl
 letters-append (u ∷ us) vs a = ap (λ l. lettered u a ∷ l) (letters-append us vs a)
 
-run-parts : (m n k : ℕ) (f : Fate) (g : Gaps) → m ≡ n + k → run m f g ≡ run n f (run k f g)
+pub run-parts : (m n k : ℕ) (f : Fate) (g : Gaps) → m ≡ n + k → run m f g ≡ run n f (run k f g)
 run-parts m zero k f g sum = let same : m ≡ k = omega arith in ap (λ j. run j f g) same
 run-parts zero (suc n) k f g sum = absurd (omega arith)
 run-parts (suc m) (suc n) k f g sum = ap (Gap [] f) (run-parts m n k f g (omega arith))

@@ -1,9 +1,8 @@
 -- A delta and its inverse.
-use Rattle.std.proofs.Common.{◌≡◌, ◌+◌, suc, List, [], ◌∷◌, ◌++◌, length, refl, sym, ap, ◌∙◌, arith}
-use Rattle.attributes.specs.Attributes.{changed, reverted}
+use Rattle.std.proofs.Common.{◌≡◌, List, [], ◌∷◌, ◌++◌, length, refl, ap, ◌∙◌}
 use Rattle.attributes.proofs.AtEachName.{changed-reverted}
 use Rattle.delta.specs.Element.{Element}
-use Rattle.delta.specs.Gaps.{Gaps, End, Gap, Fate, Del, Keep, front, run, fated, apply}
+use Rattle.delta.specs.Gaps.{Gaps, End, Gap, Fate, Del, Keep, run, fated, apply}
 use Rattle.delta.proofs.Effects.{apply-front}
 use Rattle.compose.specs.Inverse.{inverse, unit_back}
 use Rattle.compose.specs.Laws.{Undone}

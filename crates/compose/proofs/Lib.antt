@@ -5,3 +5,8 @@ pub mod Pairs
 pub mod CutPieces
 pub mod Borders
 pub mod Progress
+pub mod Meetings
+pub mod Trimmings
+pub mod HeldBack
+pub mod Outcomes
+pub mod Whole

@@ -1,15 +1,12 @@
 -- Where pairs are cut, as two gap forms begin.
-use Rattle.std.proofs.Common.{◌≡◌, ℕ, zero, suc, ◌-◌, ◌<◌, Bool, true, false, List, [], ◌∷◌, ◌++◌, length, take, drop, refl, sym, ap, ◌∙◌, arith}
-use Rattle.std.specs.Prelude.{not, ◌&&◌, ◌||◌, IsTrue, slice_index}
-use Rattle.std.specs.Char.Utf16.{is_high_surrogate, is_low_surrogate}
-use Rattle.utf16.specs.Units.{PartsPair}
-use Rattle.attributes.specs.Attributes.{Attributes, Changes, same_attributes, same_attributes-Decides, same_changes-Decides}
-use Rattle.delta.specs.Element.{Element, letters, lettered}
+use Rattle.std.proofs.Common.{◌≡◌, ℕ, zero, suc, Bool, true, false, List, [], ◌∷◌, ◌++◌, length, refl, sym, ap, ◌∙◌}
+use Rattle.std.specs.Prelude.{not, ◌&&◌, ◌||◌}
+use Rattle.attributes.specs.Attributes.{Changes, same_changes-Decides}
+use Rattle.delta.specs.Element.{Element}
 use Rattle.delta.specs.Gaps.{Gaps, End, Gap, Fate, Del, Keep, front, run}
-use Rattle.compose.specs.Places.{inserts, fate, tail}
+use Rattle.compose.specs.Places.{inserts, tail}
 use Rattle.compose.specs.Composed.{beyond}
-use Rattle.compose.specs.Cuts.{is_pair, same_fate, is_nothing, parts, is_parted, cuts_units, cuts}
-use Rattle.compose.proofs.Alongside.{beyond-append}
+use Rattle.compose.specs.Cuts.{is_pair, same_fate, parts, cuts_units, cuts}
 
 and-false : (t : Bool) → (t && false) ≡ false
 and-false true = refl

@@ -1,18 +1,16 @@
 -- What one step along two lists of operations makes and leaves.
-use Rattle.std.proofs.Common.{◌≡◌, ℕ, zero, suc, ◌+◌, ◌<◌, ◌≤◌, ◌⊎◌, inl, inr, Bool, true, false, List, [], ◌∷◌, ◌++◌, length, refl, sym, ap, subst, ◌∙◌, ⊎_elim, arith}
+use Rattle.std.proofs.Common.{◌≡◌, ◌⊎◌, inl, inr, true, List, [], ◌∷◌, sym, ap, subst, ◌∙◌, arith}
 use Rattle.std.proofs.lemmas.List.{append-nil}
-use Rattle.attributes.specs.Attributes.{Attributes, Changes, changed}
-use Rattle.delta.specs.Element.{Element, letters, embedded}
-use Rattle.delta.specs.Operation.{Operation, insert_text, insert_embed, retain, delete, op_len, op_base, base_of, is_insert, is_delete}
-use Rattle.delta.specs.Gaps.{Gaps, End, Gap, Fate, Keep, Del, front, run, counted, joined}
+use Rattle.delta.specs.Element.{letters, embedded}
+use Rattle.delta.specs.Operation.{Operation, insert_text, insert_embed, retain, delete, is_insert, is_delete}
+use Rattle.delta.specs.Gaps.{End, Del, front, run, counted, joined}
 use Rattle.delta.specs.Normal.{IsNormal, settled}
 use Rattle.delta.proofs.Joins.{front-nil, joined-run, counted-append}
 use Rattle.delta.proofs.Neighbours.{built-parts}
-use Rattle.compose.specs.Composed.{composed, kept_then}
+use Rattle.compose.specs.Composed.{composed}
 use Rattle.compose.specs.Cuts.{cuts}
-use Rattle.compose.specs.Pieces.{first_units, left_after, met, CutsText}
-use Rattle.compose.specs.Steps.{IsStep, AllSome}
-use Rattle.compose.proofs.Alongside.{composed-nothing, composed-front, composed-insert, composed-deleted, composed-kept, composed-letters_kept, composed-letters_deleted}
+use Rattle.compose.specs.Steps.{IsStep}
+use Rattle.compose.proofs.Alongside.{composed-nothing, composed-insert, composed-deleted}
 use Rattle.compose.proofs.Pairs.{cuts-nothing, cuts-insert, cuts-deleted}
 use Rattle.compose.proofs.CutPieces.{normal-parts, normal-rest}
 

@@ -3,7 +3,7 @@
 use Rattle.std.specs.Prelude.{Bool, true, false, not, ◌&&◌, ◌||◌, IsTrue, List, [], ◌∷◌}
 use Rattle.std.specs.Char.Utf16.{is_high_surrogate, is_low_surrogate}
 use Rattle.attributes.specs.Attributes.{same_attributes, same_changes}
-use Rattle.delta.specs.Element.{Element, Item, code_unit, embed}
+use Rattle.delta.specs.Element.{Element, Item, code_unit}
 use Rattle.delta.specs.Gaps.{Gaps, End, Gap, Fate, Del, Keep}
 use Rattle.compose.specs.Places.{inserts, fate, tail}
 use Rattle.compose.specs.Composed.{beyond}

@@ -1,5 +1,5 @@
 -- Operations cut at a code unit.
-use Rattle.std.specs.Prelude.{◌≡◌, ℕ, ◌-◌, ◌<◌, List, [], ◌∷◌, take, drop, Option, Some, None, nat_lt, if◌then◌else◌}
+use Rattle.std.specs.Prelude.{ℕ, ◌-◌, ◌<◌, List, [], ◌∷◌, take, drop, Option, Some, None, nat_lt, if◌then◌else◌}
 use Rattle.utf16.specs.Units.{PartsPair}
 use Rattle.attributes.specs.Attributes.{changed, composed as change_composed}
 use Rattle.delta.specs.Operation.{Operation, insert_text, insert_embed, retain, delete, op_len}

@@ -1,5 +1,5 @@
 -- One step along two lists of operations, the second over what the first leaves.
-use Rattle.std.specs.Prelude.{◌≡◌, ◌+◌, ℕ, ◌<◌, ◌≤◌, List, length, Option, Some, None, [], ◌∷◌}
+use Rattle.std.specs.Prelude.{◌≡◌, ◌+◌, ◌<◌, ◌≤◌, List, length, Option, Some, None, [], ◌∷◌}
 use Rattle.delta.specs.Operation.{Operation, base_of, op_len}
 use Rattle.delta.specs.Gaps.{counted, joined}
 use Rattle.delta.specs.Normal.{IsNormal, settled}

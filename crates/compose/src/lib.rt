@@ -1,6 +1,10 @@
 //! One delta for several, and the delta that undoes one.
 #![tactic(auto)]
 
+mod composing;
 pub mod laws;
+mod output;
 mod pieces;
 mod stepping;
+
+pub use composing::compose;

@@ -113,10 +113,13 @@ pub fn cut<'a>(op: OpRef<'a>, tail: &'a [Op], n: u64) -> Option<(OpRef<'a>, Rest
         return Some((op, all(tail)));
     }
     match split(op, n) {
-        Some((front, back)) => Some((front, Rest {
-            head: Some(back),
-            tail,
-        })),
+        Some((front, back)) => Some((
+            front,
+            Rest {
+                head: Some(back),
+                tail,
+            },
+        )),
         None => None,
     }
 }

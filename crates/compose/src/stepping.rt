@@ -22,7 +22,11 @@ pub struct Step<'a> {
 }
 
 /// One step along two lists, the second over what the first leaves; None where both have ended.
-pub fn next_step<'a>(alloc: Global, first: Rest<'a>, second: Rest<'a>) -> Result<Option<Step<'a>>, Refusal>
+pub fn next_step<'a>(
+    alloc: Global,
+    first: Rest<'a>,
+    second: Rest<'a>,
+) -> Result<Option<Step<'a>>, Refusal>
     requires first { IsNormal (left first) }
     requires second { IsNormal (left second) }
     ensures made { IfOk result (λ step. MatchOption step ((left first.entry ≡ []) × (left second.entry ≡ [])) (λ s. IsStep (left first.entry) (left second.entry) (listed s.made) (left s.first) (left s.second))) }
@@ -46,7 +50,12 @@ pub fn next_step<'a>(alloc: Global, first: Rest<'a>, second: Rest<'a>) -> Result
 }
 
 // the first list's operation as it is
-fn pass_first<'a>(alloc: Global, op: OpRef<'a>, tail: &'a [Op], second: Rest<'a>) -> Result<Step<'a>, Refusal>
+fn pass_first<'a>(
+    alloc: Global,
+    op: OpRef<'a>,
+    tail: &'a [Op],
+    second: Rest<'a>,
+) -> Result<Step<'a>, Refusal>
     requires first { IsNormal (operation_of op ∷ tail.now) }
     requires second { IsNormal (left second) }
     requires alone { (left second ≡ []) ⊎ (is_delete (operation_of op) ≡ true) }
@@ -61,7 +70,12 @@ fn pass_first<'a>(alloc: Global, op: OpRef<'a>, tail: &'a [Op], second: Rest<'a>
 }
 
 // the second list's operation as it is
-fn pass_second<'a>(alloc: Global, first: Rest<'a>, op: OpRef<'a>, tail: &'a [Op]) -> Result<Step<'a>, Refusal>
+fn pass_second<'a>(
+    alloc: Global,
+    first: Rest<'a>,
+    op: OpRef<'a>,
+    tail: &'a [Op],
+) -> Result<Step<'a>, Refusal>
     requires first { IsNormal (left first) }
     requires second { IsNormal (operation_of op ∷ tail.now) }
     requires alone { (left first ≡ []) ⊎ (is_insert (operation_of op) ≡ true) }
@@ -76,7 +90,13 @@ fn pass_second<'a>(alloc: Global, first: Rest<'a>, op: OpRef<'a>, tail: &'a [Op]
 }
 
 // what inserts or keeps some units, and what keeps or deletes them then, as far as both go
-fn meet<'a>(alloc: Global, op: OpRef<'a>, tail: &'a [Op], next: OpRef<'a>, rest: &'a [Op]) -> Result<Step<'a>, Refusal>
+fn meet<'a>(
+    alloc: Global,
+    op: OpRef<'a>,
+    tail: &'a [Op],
+    next: OpRef<'a>,
+    rest: &'a [Op],
+) -> Result<Step<'a>, Refusal>
     requires first { IsNormal (operation_of op ∷ tail.now) }
     requires second { IsNormal (operation_of next ∷ rest.now) }
     requires stays { is_delete (operation_of op) ≡ false }
