@@ -10,3 +10,4 @@ pub mod Trimmings
 pub mod HeldBack
 pub mod Outcomes
 pub mod Whole
+pub mod ManyDeltas

@@ -6,5 +6,6 @@ pub mod Cuts
 pub mod Pieces
 pub mod Steps
 pub mod Held
+pub mod Many
 pub mod Laws
 mod Examples

@@ -6,5 +6,7 @@ pub mod laws;
 mod output;
 mod pieces;
 mod stepping;
+#[cfg(test)]
+mod tests;
 
-pub use composing::compose;
+pub use composing::{compose, compose_many};
