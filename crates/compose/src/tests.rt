@@ -245,7 +245,8 @@ fn keeps_the_bound(rt: HostRuntime) -> Result<(), Fail> {
     let one = pushed(rt.alloc(), &[(0, 1, "")])?;
     assert!(rt; compose(rt.alloc(), &half, &one).err() == Some(Refusal::BadOps));
     let kept = pushed(rt.alloc(), &[(MAX_LEN, 0, "")])?;
-    assert!(rt; compose(rt.alloc(), &half, &kept)? == half);
+    let same = compose(rt.alloc(), &half, &kept)?;
+    assert_eq!(rt; shown(rt.alloc(), &same)?.as_str(), "del 281474976710656");
     let smile = pushed(rt.alloc(), &[(0, MAX_LEN, "😀")])?;
     let within = pushed(rt.alloc(), &[(1, MAX_LEN - 1, "")])?;
     assert!(rt; compose(rt.alloc(), &smile, &within).err() == Some(Refusal::CutsPair));
