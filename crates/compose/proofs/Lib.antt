@@ -1,0 +1,13 @@
+pub mod Compositions
+pub mod Inverses
+pub mod Alongside
+pub mod Pairs
+pub mod CutPieces
+pub mod Borders
+pub mod Progress
+pub mod Meetings
+pub mod Trimmings
+pub mod HeldBack
+pub mod Outcomes
+pub mod Whole
+pub mod ManyDeltas

@@ -1,0 +1,289 @@
+-- Two operations on the same units, the second after the first: what they make, and what is left.
+use Rattle.std.proofs.Common.{◌≡◌, ℕ, suc, ◌+◌, ◌-◌, ◌<◌, ◌≤◌, min, Bool, true, false, List, [], ◌∷◌, length, take, drop, refl, sym, ap, subst, ◌∙◌, ⊎_elim, arith}
+use Rattle.std.specs.Prelude.{◌&&◌, ◌||◌, slice_index}
+use Rattle.std.specs.Char.Utf16.{is_high_surrogate, is_low_surrogate}
+use Rattle.std.proofs.lemmas.List.{append-nil}
+use Rattle.std.proofs.lemmas.Bool.{cases_lt}
+use Rattle.std.proofs.Math.Seq.{take-length}
+use Rattle.attributes.specs.Attributes.{Attributes, changed}
+use Rattle.delta.specs.Element.{Element, letters, embedded}
+use Rattle.delta.specs.Operation.{Operation, insert_text, insert_embed, retain, delete, op_len, op_base, base_of, is_insert, is_delete}
+use Rattle.delta.specs.Gaps.{Gaps, End, Gap, Fate, Keep, Del, front, run, counted, joined}
+use Rattle.delta.specs.Normal.{IsNormal, settled}
+use Rattle.delta.proofs.Joins.{front-nil, joined-run}
+use Rattle.delta.proofs.Neighbours.{may_lead-text, built-parts}
+use Rattle.compose.specs.Places.{inserts}
+use Rattle.compose.specs.Composed.{composed, kept_then}
+use Rattle.compose.specs.Cuts.{parts, cuts, Cuts}
+use Rattle.compose.specs.Pieces.{first_units, left_after, met, CutsText}
+use Rattle.compose.specs.Steps.{IsStep, AllSome}
+use Rattle.compose.proofs.Alongside.{composed-front, composed-kept, composed-letters_kept, composed-letters_deleted}
+use Rattle.compose.proofs.Pairs.{border, cuts-border, cuts-kept}
+use Rattle.compose.proofs.CutPieces.{left_after-within, left_after-whole, normal-parts, normal-left, length-left, length-whole, counted-cut, len-first, base-cut}
+use Rattle.compose.proofs.Borders.{inserts-front, fate_of, parts-next, border-apart, border-embed, border-within}
+
+-- the first operation inserts or keeps, the second keeps or deletes
+pub record DoMeet (op next : Operation) : Type 0 where
+  pub stays : is_delete op ≡ false
+  pub stands : is_insert next ≡ false
+
+stays-first : (n : ℕ) (op next : Operation) → DoMeet op next → DoMeet (first_units n op) (first_units n next)
+stays-first n (delete k) next h = absurd (let e = h.stays in cc)
+stays-first n op (insert_text us a) h = absurd (let e = h.stands in cc)
+stays-first n op (insert_embed key value a) h = absurd (let e = h.stands in cc)
+stays-first n (insert_text us a) (retain k d) h = record { stays = refl; stands = refl }
+stays-first n (insert_text us a) (delete k) h = record { stays = refl; stands = refl }
+stays-first n (insert_embed key value a) (retain k d) h = record { stays = refl; stands = refl }
+stays-first n (insert_embed key value a) (delete k) h = record { stays = refl; stands = refl }
+stays-first n (retain m c) (retain k d) h = record { stays = refl; stands = refl }
+stays-first n (retain m c) (delete k) h = record { stays = refl; stands = refl }
+
+run-joined : (n : ℕ) (f : Fate) (k : Gaps) → joined (run n f (End [])) k ≡ run n f k
+run-joined n f k = joined-run n f (End []) k ∙ ap (run n f) (front-nil k)
+
+-- what they make stands before what the others make
+pub composed-met : (op next : Operation) (ops rest : List Operation) → DoMeet op next → op_len next ≡ op_len op
+    → composed (counted (op ∷ ops)) (counted (next ∷ rest)) ≡ joined (counted (met op next)) (composed (counted ops) (counted rest))
+composed-met (delete k) next ops rest h same = absurd (let e = h.stays in cc)
+composed-met op (insert_text us a) ops rest h same = absurd (let e = h.stands in cc)
+composed-met op (insert_embed key value a) ops rest h same = absurd (let e = h.stands in cc)
+composed-met (insert_text us a) (retain k d) ops rest h same =
+    ap (λ n. composed (front (letters us a) (counted ops)) (run n (Keep d) (counted rest))) same
+    ∙ (composed-letters_kept us a d (counted ops) (counted rest)
+    ∙ ap (λ l. front l (composed (counted ops) (counted rest))) (sym (append-nil (letters us (changed a d)))))
+composed-met (insert_text us a) (delete k) ops rest h same =
+    ap (λ n. composed (front (letters us a) (counted ops)) (run n Del (counted rest))) same
+    ∙ (composed-letters_deleted us a (counted ops) (counted rest) ∙ sym (front-nil (composed (counted ops) (counted rest))))
+composed-met (insert_embed key value a) (retain k d) ops rest h same =
+    ap (λ n. composed (front (embedded key value a ∷ []) (counted ops)) (run n (Keep d) (counted rest))) same
+    ∙ composed-front (embedded key value a ∷ []) (counted ops) (Gap [] (Keep d) (counted rest))
+composed-met (insert_embed key value a) (delete k) ops rest h same =
+    ap (λ n. composed (front (embedded key value a ∷ []) (counted ops)) (run n Del (counted rest))) same
+    ∙ composed-front (embedded key value a ∷ []) (counted ops) (Gap [] Del (counted rest))
+composed-met (retain m c) (retain k d) ops rest h same =
+    ap (λ n. composed (run m (Keep c) (counted ops)) (run n (Keep d) (counted rest))) same
+    ∙ (composed-kept m c (Keep d) (counted ops) (counted rest) ∙ sym (run-joined m (kept_then c (Keep d)) (composed (counted ops) (counted rest))))
+composed-met (retain m c) (delete k) ops rest h same =
+    ap (λ n. composed (run m (Keep c) (counted ops)) (run n Del (counted rest))) same
+    ∙ (composed-kept m c Del (counted ops) (counted rest) ∙ sym (run-joined m Del (composed (counted ops) (counted rest))))
+
+-- where they end
+abbrev pub border_of : Operation → List Element → Fate → Gaps → Bool
+border_of (insert_text us a) ys f h = border (letters us a) ys f h
+border_of (insert_embed key value a) ys f h = border (embedded key value a ∷ []) ys f h
+border_of op ys f h = false
+
+length-letters : (us : List ℕ) (a : Attributes) → length (letters us a) ≡ length us
+length-letters [] a = refl
+length-letters (u ∷ us) a = ap suc (length-letters us a)
+
+text-cuts : (us : List ℕ) (a : Attributes) (k : ℕ) (f : Fate) (g h : Gaps) → k ≡ length us
+    → cuts (front (letters us a) g) (run k f h) ≡ (border (letters us a) (inserts g) f h || cuts g h)
+text-cuts us a k f g h same =
+    ap (λ n. cuts (front (letters us a) g) (run n f h)) (same ∙ sym (length-letters us a)) ∙ cuts-border (letters us a) g f h
+
+pub cuts-met : (op next : Operation) (ops rest : List Operation) → DoMeet op next → op_len next ≡ op_len op
+    → cuts (counted (op ∷ ops)) (counted (next ∷ rest)) ≡ (border_of op (inserts (counted ops)) (fate_of next) (counted rest) || cuts (counted ops) (counted rest))
+cuts-met (delete k) next ops rest h same = absurd (let e = h.stays in cc)
+cuts-met op (insert_text us a) ops rest h same = absurd (let e = h.stands in cc)
+cuts-met op (insert_embed key value a) ops rest h same = absurd (let e = h.stands in cc)
+cuts-met (insert_text us a) (retain k d) ops rest h same = text-cuts us a k (Keep d) (counted ops) (counted rest) same
+cuts-met (insert_text us a) (delete k) ops rest h same = text-cuts us a k Del (counted ops) (counted rest) same
+cuts-met (insert_embed key value a) (retain k d) ops rest h same =
+    ap (λ n. cuts (front (embedded key value a ∷ []) (counted ops)) (run n (Keep d) (counted rest))) same
+    ∙ cuts-border (embedded key value a ∷ []) (counted ops) (Keep d) (counted rest)
+cuts-met (insert_embed key value a) (delete k) ops rest h same =
+    ap (λ n. cuts (front (embedded key value a ∷ []) (counted ops)) (run n Del (counted rest))) same
+    ∙ cuts-border (embedded key value a ∷ []) (counted ops) Del (counted rest)
+cuts-met (retain m c) (retain k d) ops rest h same =
+    ap (λ n. cuts (run m (Keep c) (counted ops)) (run n (Keep d) (counted rest))) same ∙ cuts-kept m c (Keep d) (counted ops) (counted rest)
+cuts-met (retain m c) (delete k) ops rest h same =
+    ap (λ n. cuts (run m (Keep c) (counted ops)) (run n Del (counted rest))) same ∙ cuts-kept m c Del (counted ops) (counted rest)
+
+-- the units at the border of a text that is cut
+border-cut : (n : ℕ) (us : List ℕ) (a : Attributes) (ops : List Operation) (f : Fate) (h : Gaps) → 0 < n → n < length us
+    → border_of (first_units n (insert_text us a)) (inserts (counted (left_after n (insert_text us a) ops))) f h
+    ≡ ((is_high_surrogate (slice_index us (n - 1)) && is_low_surrogate (slice_index us n)) && parts f h)
+border-cut n us a ops f h some within =
+    ap (λ l. border (letters (take n us) a) (inserts (counted l)) f h) (left_after-within n (insert_text us a) ops within)
+    ∙ (ap (λ l. border (letters (take n us) a) l f h) (inserts-front (letters (drop n us) a) (counted ops))
+    ∙ border-within n us a (inserts (counted ops)) f h some within)
+
+none-there : (s t u : Bool) → ¬ ((s ≡ true) × (t ≡ true)) → ((s && t) && u) ≡ false
+none-there true true u h = absurd (h (refl, refl))
+none-there true false u h = refl
+none-there false t u h = refl
+
+all-there : (s t u : Bool) → s ≡ true → t ≡ true → u ≡ true → ((s && t) && u) ≡ true
+all-there true true true p q r = refl
+all-there false t u p q r = absurd (cc)
+all-there true false u p q r = absurd (cc)
+all-there true true false p q r = absurd (cc)
+
+whole-text : (us : List ℕ) (a : Attributes) (ops : List Operation) (f : Fate) (h : Gaps) → IsNormal (insert_text us a ∷ ops) → border (letters us a) (inserts (counted ops)) f h ≡ false
+whole-text us a ops f h normal =
+    let built = built-parts (insert_text us a) ops (normal-parts (insert_text us a) ops normal).0 in
+    border-apart us a ops f h (sym (may_lead-text us a ops) ∙ built.1) built.2
+
+take-whole : (us : List ℕ) → take (length us) us ≡ us
+take-whole us = take-length us
+
+-- no pair stands there where the text isn't cut within one
+pub border-none : (n : ℕ) (op : Operation) (ops : List Operation) (f : Fate) (h : Gaps) → IsNormal (op ∷ ops) → 0 < n → n ≤ op_len op → ¬ (CutsText n op)
+    → border_of (first_units n op) (inserts (counted (left_after n op ops))) f h ≡ false
+border-none n (insert_text us a) ops f h normal some within whole =
+    ⊎_elim
+    (λ (less : n < length us).
+    border-cut n us a ops f h some less
+    ∙ none-there (is_high_surrogate (slice_index us (n - 1))) (is_low_surrogate (slice_index us n)) (parts f h) (λ pair. whole (less, (some, pair.0, pair.1))))
+    (λ (most : length us ≤ n).
+    let same : n ≡ length us = omega arith in
+    ap (λ k. border (letters (take k us) a) (inserts (counted (left_after k (insert_text us a) ops))) f h) same
+    ∙ (ap (λ vs. border (letters vs a) (inserts (counted (left_after (length us) (insert_text us a) ops))) f h) (take-whole us)
+    ∙ (ap (λ l. border (letters us a) (inserts (counted l)) f h) (left_after-whole (insert_text us a) ops) ∙ whole-text us a ops f h normal)))
+    (cases_lt n (length us))
+border-none n (insert_embed key value a) ops f h normal some within whole = border-embed key value a (inserts (counted (left_after n (insert_embed key value a) ops))) f h
+border-none n (retain m c) ops f h normal some within whole = refl
+border-none n (delete m) ops f h normal some within whole = refl
+
+-- and one is cut where it is
+border-there : (n : ℕ) (op : Operation) (ops : List Operation) (f : Fate) (h : Gaps) → CutsText n op → parts f h ≡ true
+    → border_of (first_units n op) (inserts (counted (left_after n op ops))) f h ≡ true
+border-there n (insert_text us a) ops f h cut parted =
+    border-cut n us a ops f h cut.1.0 cut.0
+    ∙ all-there (is_high_surrogate (slice_index us (n - 1))) (is_low_surrogate (slice_index us n)) (parts f h) cut.1.1 cut.1.2 parted
+border-there n (insert_embed key value a) ops f h cut parted = absurd (cut.1)
+border-there n (retain m c) ops f h cut parted = absurd (cut.1)
+border-there n (delete m) ops f h cut parted = absurd (cut.1)
+
+-- the lengths of what they make
+base-met : (op next : Operation) → base_of (met op next) ≤ op_base op
+base-met (insert_text us a) (retain n d) = omega arith
+base-met (insert_embed key value a) (retain n d) = omega arith
+base-met (retain m c) (retain n d) = omega arith
+base-met (retain m c) (delete n) = omega arith
+base-met (insert_text us a) (insert_text vs b) = omega arith
+base-met (insert_text us a) (insert_embed other w b) = omega arith
+base-met (insert_embed key value a) (insert_text vs b) = omega arith
+base-met (insert_embed key value a) (insert_embed other w b) = omega arith
+base-met (retain m c) (insert_text vs b) = omega arith
+base-met (retain m c) (insert_embed other w b) = omega arith
+base-met (delete m) (insert_text vs b) = omega arith
+base-met (delete m) (insert_embed other w b) = omega arith
+base-met (insert_text us a) (delete n) = omega arith
+base-met (insert_embed key value a) (delete n) = omega arith
+base-met (delete m) (retain n d) = omega arith
+base-met (delete m) (delete n) = omega arith
+
+some-met : (op next : Operation) → 0 < op_len op → AllSome (met op next)
+some-met (insert_text us a) (retain n d) some = (some, tt)
+some-met (insert_embed key value a) (retain n d) some = (some, tt)
+some-met (retain m c) (retain n d) some = (some, tt)
+some-met (retain m c) (delete n) some = (some, tt)
+some-met (insert_text us a) (insert_text vs b) some = tt
+some-met (insert_embed key value a) (insert_text vs b) some = tt
+some-met (retain m c) (insert_text vs b) some = tt
+some-met (delete m) (insert_text vs b) some = tt
+some-met (insert_text us a) (insert_embed other value b) some = tt
+some-met (insert_embed key value a) (insert_embed other w b) some = tt
+some-met (retain m c) (insert_embed other value b) some = tt
+some-met (delete m) (insert_embed other value b) some = tt
+some-met (insert_text us a) (delete n) some = tt
+some-met (insert_embed key value a) (delete n) some = tt
+some-met (delete m) (retain n d) some = tt
+some-met (delete m) (delete n) some = tt
+
+pub some-first : (op : Operation) (ops : List Operation) → IsNormal (op ∷ ops) → 0 < op_len op
+some-first op ops normal = (built-parts op ops (normal-parts op ops normal).0).0
+
+pub some-min : (op next : Operation) (ops rest : List Operation) (n : ℕ) → IsNormal (op ∷ ops) → IsNormal (next ∷ rest) → n ≡ min (op_len op) (op_len next) → 0 < n
+some-min op next ops rest n first second is_min = omega (arith, some-first op ops first, some-first next rest second)
+
+shorter-met : (op next : Operation) (ops rest : List Operation) (n : ℕ) → n ≡ min (op_len op) (op_len next)
+    → length (left_after n op ops) + length (left_after n next rest) < suc (length ops) + suc (length rest)
+shorter-met op next ops rest n is_min =
+    ⊎_elim
+    (λ (less : op_len op < op_len next).
+    let whole : n ≡ op_len op = omega arith in
+    omega (arith, length-whole n op ops whole, length-left n next rest))
+    (λ (more : op_len next ≤ op_len op).
+    let whole : n ≡ op_len next = omega arith in
+    omega (arith, length-whole n next rest whole, length-left n op ops))
+    (cases_lt (op_len op) (op_len next))
+
+pub IsStep-met : (op next : Operation) (ops rest : List Operation) (n : ℕ) → DoMeet op next → IsNormal (op ∷ ops) → IsNormal (next ∷ rest)
+    → n ≡ min (op_len op) (op_len next) → ¬ (CutsText n op)
+    → IsStep (op ∷ ops) (next ∷ rest) (met (first_units n op) (first_units n next)) (left_after n op ops) (left_after n next rest)
+IsStep-met op next ops rest n meet first second is_min whole =
+    let some : 0 < n = some-min op next ops rest n first second is_min in
+    let in_op : n ≤ op_len op = omega arith in
+    let in_next : n ≤ op_len next = omega arith in
+    let part : Operation = first_units n op in
+    let then : Operation = first_units n next in
+    let same : op_len then ≡ op_len part = len-first n next some in_next ∙ sym (len-first n op some in_op) in
+    let cut_op : counted (op ∷ ops) ≡ counted (part ∷ left_after n op ops) = counted-cut n op ops some in_op in
+    let cut_next : counted (next ∷ rest) ≡ counted (then ∷ left_after n next rest) = counted-cut n next rest some in_next in
+    record {
+      effect = ap settled
+          (ap (λ g. composed g (counted (next ∷ rest))) cut_op
+          ∙ (ap (composed (counted (part ∷ left_after n op ops))) cut_next
+          ∙ composed-met part then (left_after n op ops) (left_after n next rest) (stays-first n op next meet) same));
+      some = some-met part then (omega (arith, len-first n op some in_op));
+      cut = ap (λ g. cuts g (counted (next ∷ rest))) cut_op
+          ∙ (ap (cuts (counted (part ∷ left_after n op ops))) cut_next
+          ∙ (cuts-met part then (left_after n op ops) (left_after n next rest) (stays-first n op next meet) same
+          ∙ ap (λ t. t || cuts (counted (left_after n op ops)) (counted (left_after n next rest)))
+          (border-none n op ops (fate_of then) (counted (left_after n next rest)) first some in_op whole)));
+      base = omega (arith, base-met part then, base-cut n op ops in_op, base-cut n next rest in_next);
+      shorter = shorter-met op next ops rest n is_min;
+      first_normal = normal-left n op ops in_op first;
+      second_normal = normal-left n next rest in_next second;
+    }
+
+-- the same by equal operations
+pub met_made : (op next part then : Operation) (ops rest made left_first left_second : List Operation) (n : ℕ) → is_delete op ≡ false → is_insert next ≡ false
+    → IsNormal (op ∷ ops) → IsNormal (next ∷ rest) → n ≡ min (op_len op) (op_len next) → ¬ (CutsText n op)
+    → part ≡ first_units n op → then ≡ first_units n next → made ≡ met part then → left_first ≡ left_after n op ops → left_second ≡ left_after n next rest
+    → IsStep (op ∷ ops) (next ∷ rest) made left_first left_second
+met_made op next part then ops rest made left_first left_second n stays stands first second is_min whole part_is then_is made_is first_is second_is =
+    let all : made ≡ met (first_units n op) (first_units n next) = made_is ∙ (ap (λ o. met o then) part_is ∙ ap (met (first_units n op)) then_is) in
+    subst (λ m. IsStep (op ∷ ops) (next ∷ rest) m left_first left_second) (sym all)
+    (subst (λ l. IsStep (op ∷ ops) (next ∷ rest) (met (first_units n op) (first_units n next)) l left_second) (sym first_is)
+    (subst (λ l. IsStep (op ∷ ops) (next ∷ rest) (met (first_units n op) (first_units n next)) (left_after n op ops) l) (sym second_is)
+    (IsStep-met op next ops rest n (record { stays = stays; stands = stands }) first second is_min whole)))
+
+-- a pair is cut where the first operation is cut within one
+fate_of-first : (n : ℕ) (op : Operation) → fate_of (first_units n op) ≡ fate_of op
+fate_of-first n (insert_text us a) = refl
+fate_of-first n (insert_embed key value a) = refl
+fate_of-first n (retain m c) = refl
+fate_of-first n (delete m) = refl
+
+or-first : (s t : Bool) → s ≡ true → (s || t) ≡ true
+or-first true t e = refl
+or-first false t e = absurd (cc)
+
+pub pair_cut : (op next : Operation) (ops rest : List Operation) (n : ℕ) → is_delete op ≡ false → is_insert next ≡ false → IsNormal (op ∷ ops) → IsNormal (next ∷ rest)
+    → n ≡ min (op_len op) (op_len next) → CutsText n op → Cuts (counted (op ∷ ops)) (counted (next ∷ rest))
+pair_cut op next ops rest n stays stands first second is_min cut =
+    let some : 0 < n = some-min op next ops rest n first second is_min in
+    let within : n < op_len op = cut.0 in
+    let whole : n ≡ op_len next = omega arith in
+    let part : Operation = first_units n op in
+    let then : Operation = first_units n next in
+    let same : op_len then ≡ op_len part = len-first n next some (omega arith) ∙ sym (len-first n op some (omega arith)) in
+    let left_is : left_after n next rest ≡ rest = ap (λ k. left_after k next rest) whole ∙ left_after-whole next rest in
+    let parted : parts (fate_of then) (counted (left_after n next rest)) ≡ true =
+    ap (λ f. parts f (counted (left_after n next rest))) (fate_of-first n next) ∙ (ap (λ l. parts (fate_of next) (counted l)) left_is ∙ parts-next next rest second stands) in
+    ap (λ g. cuts g (counted (next ∷ rest))) (counted-cut n op ops some (omega arith))
+    ∙ (ap (cuts (counted (part ∷ left_after n op ops))) (counted-cut n next rest some (omega arith))
+    ∙ (cuts-met part then (left_after n op ops) (left_after n next rest) (stays-first n op next (record { stays = stays; stands = stands })) same
+    ∙ or-first (border_of part (inserts (counted (left_after n op ops))) (fate_of then) (counted (left_after n next rest))) (cuts (counted (left_after n op ops)) (counted (left_after n next rest)))
+    (border-there n op ops (fate_of then) (counted (left_after n next rest)) cut parted)))
+
+-- an operation that keeps or deletes has no text to cut
+pub never_cut : (n : ℕ) (op : Operation) → is_insert op ≡ false → ¬ (CutsText n op)
+never_cut n (insert_text us a) stands cut = absurd (cc)
+never_cut n (insert_embed key value a) stands cut = absurd (cc)
+never_cut n (retain m c) stands cut = cut.1
+never_cut n (delete m) stands cut = cut.1

@@ -1,0 +1,15 @@
+-- What holds of an outcome, from what holds of it.
+use Rattle.std.specs.Prelude.{Result, Ok, Err, IfOk, OnOk}
+
+module _ {T E : Type 0} where
+  pub on_ok : {P Q : Type 0} (r : Result T E) → (P → Q) → OnOk r P → OnOk r Q
+  on_ok (Ok x) f p = f p
+  on_ok (Err e) f p = tt
+
+  pub if_ok : {P R : T → Type 0} {Q : Type 0} (r : Result T E) → ((x : T) → Q → P x → R x) → OnOk r Q → IfOk r P → IfOk r R
+  if_ok (Ok x) f q p = f x q p
+  if_ok (Err e) f q p = tt
+
+  pub on_both : {P S : T → Type 0} {Q R : Type 0} (r : Result T E) → ((x : T) → Q → P x → S x → R) → OnOk r Q → IfOk r P → IfOk r S → OnOk r R
+  on_both (Ok x) f q p s = f x q p s
+  on_both (Err e) f q p s = tt

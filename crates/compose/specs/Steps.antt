@@ -1,0 +1,28 @@
+-- One step along two lists of operations, the second over what the first leaves.
+use Rattle.std.specs.Prelude.{◌≡◌, ◌+◌, ◌<◌, ◌≤◌, List, length, Option, Some, None, [], ◌∷◌}
+use Rattle.delta.specs.Operation.{Operation, base_of, op_len}
+use Rattle.delta.specs.Gaps.{counted, joined}
+use Rattle.delta.specs.Normal.{IsNormal, settled}
+use Rattle.compose.specs.Composed.{composed}
+use Rattle.compose.specs.Cuts.{cuts}
+
+-- none or one
+abbrev pub listed : Option Operation → List Operation
+listed None = []
+listed (Some op) = op ∷ []
+
+-- no operation is empty
+abbrev pub AllSome : List Operation → Type 0
+AllSome [] = Unit {0}
+AllSome (op ∷ ops) = (0 < op_len op) × AllSome ops
+
+-- a step makes some operations of the two lists and leaves shorter ones: they stand for the two as well
+pub record IsStep (first second made first_left second_left : List Operation) : Type 0 where
+  pub effect : settled (composed (counted first) (counted second))
+      ≡ settled (joined (counted made) (composed (counted first_left) (counted second_left)))
+  pub some : AllSome made
+  pub cut : cuts (counted first) (counted second) ≡ cuts (counted first_left) (counted second_left)
+  pub base : base_of made + (base_of first_left + base_of second_left) ≤ base_of first + base_of second
+  pub shorter : length first_left + length second_left < length first + length second
+  pub first_normal : IsNormal first_left
+  pub second_normal : IsNormal second_left

@@ -1,0 +1,22 @@
+//! What holds of one delta for two and of the way back, as contracts to cite: each function does nothing and promises one law.
+ghost use Rattle.compose.specs.Laws.{EffectOfComposed, ComposesByNormal, ComposesOnce, Undone};
+
+/// One gap form for two has their effect.
+pub fn effect_of_composed()
+    ensures { EffectOfComposed }
+{}
+
+/// Its normal form composes the two.
+pub fn composes_by_normal()
+    ensures { ComposesByNormal }
+{}
+
+/// Nothing else composes them.
+pub fn composes_once()
+    ensures { ComposesOnce }
+{}
+
+/// A delta and its inverse leave a document as it was.
+pub fn undone()
+    ensures { Undone }
+{}

@@ -1,0 +1,12 @@
+//! One delta for several, and the delta that undoes one.
+#![tactic(auto)]
+
+mod composing;
+pub mod laws;
+mod output;
+mod pieces;
+mod stepping;
+#[cfg(test)]
+mod tests;
+
+pub use composing::{compose, compose_many};
