@@ -1,0 +1,4 @@
+pub mod Answer
+pub mod Described
+pub mod Printed
+mod Examples
