@@ -1,2 +1,3 @@
 pub mod Deltas
 pub mod Embeds
+pub mod Members

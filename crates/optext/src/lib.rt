@@ -7,9 +7,8 @@
 //! It stands on `delta`, whose builder merges and bounds the operations, and on `serde_json`'s values.
 #![tactic(auto)]
 
-mod attributes_json;
-mod op_json;
-mod ops_json;
-mod value_json;
+mod reading;
+mod writing;
 
-pub use ops_json::{MAX_OPERATIONS, read_ops};
+pub use reading::{MAX_OPERATIONS, read_ops};
+pub use writing::write_ops;

@@ -2,7 +2,7 @@ use Rattle.std.proofs.Common.{◌≡◌}
 use Rattle.serde_json.specs.View.{members_view}
 use Rattle.attributes.specs.Map.{empty}
 use Rattle.optext.specs.Described.{filled, scalar_of}
-use Rattle.optext.proofs.attributes_json.read_attrs.Given as goal
+use Rattle.optext.proofs.reading.maps.read_attrs.Given as goal
 
 -- the attributes so far, filled with the members that are left, are those of all members
 abbrev pub invariant-loop-name : goal.invariant-loop-name

@@ -1,9 +1,13 @@
-//! The operations of a delta.
+//! The delta that an array of operations describes.
 ghost use Rattle.serde_json.specs.View.{items_view};
 ghost use Rattle.optext.specs.Answer.{IsDue};
 ghost use Rattle.optext.specs.Described.{delta_of};
 
-use crate::op_json::read_op;
+mod maps;
+mod operation;
+mod values;
+
+use crate::reading::operation::read_op;
 use delta::{Builder, Delta, laws};
 use refusal::Refusal;
 use serde_json::Value as Json;

@@ -2,7 +2,7 @@ use Rattle.std.proofs.Common.{inr, refl, arith, string_bytes}
 use Rattle.std.proofs.lemmas.Result.{err_from_is_err_and}
 use Rattle.serde_json.specs.View.{view}
 use Rattle.optext.proofs.Embeds.{embed_of-many, members_view-one, refused_embed, made_embed}
-use Rattle.optext.proofs.op_json.read_embed.Goals as goal
+use Rattle.optext.proofs.reading.operation.read_embed.Goals as goal
 
 pub returns-then-len-gt1 : goal.returns-then-len-gt1
 returns-then-len-gt1 c = inr (refl, embed_of-many c.args.members.now.entries c.args.attrs (omega (arith, c.len.ensures.len, c.if-len-gt1.true)))

@@ -4,8 +4,8 @@ ghost use Rattle.serde_json.specs.View.{view, members_view};
 ghost use Rattle.optext.specs.Answer.{IsRead};
 ghost use Rattle.optext.specs.Described.{operation_of, operation_by, insert_of, inserted, embed_of, retain_of, delete_of, length_of, member_count};
 
-use crate::attributes_json::{read_attributes, read_changes};
-use crate::value_json::read_value;
+use crate::reading::maps::{read_attributes, read_changes};
+use crate::reading::values::read_value;
 use attributes::Attrs;
 use delta::Op;
 use refusal::Refusal;

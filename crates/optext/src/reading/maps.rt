@@ -5,7 +5,7 @@ ghost use Rattle.attributes.specs.Map.{empty};
 ghost use Rattle.optext.specs.Answer.{IsRead};
 ghost use Rattle.optext.specs.Described.{attributes_of, changes_of, filled, scalar_of, change_of};
 
-use crate::value_json::{read_change_value, read_key, read_value};
+use crate::reading::values::{read_change_value, read_key, read_value};
 use attributes::{Attrs, Change};
 use refusal::Refusal;
 use serde_json::{Map, Value as Json};

@@ -2,7 +2,7 @@ use Rattle.std.proofs.Common.{◌≡◌}
 use Rattle.serde_json.specs.View.{members_view}
 use Rattle.attributes.specs.Map.{empty}
 use Rattle.optext.specs.Described.{filled, change_of}
-use Rattle.optext.proofs.attributes_json.read_change.Given as goal
+use Rattle.optext.proofs.reading.maps.read_change.Given as goal
 
 -- the change so far, filled with the members that are left, is that of all members
 abbrev pub invariant-loop-name : goal.invariant-loop-name

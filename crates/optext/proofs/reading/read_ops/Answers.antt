@@ -3,7 +3,7 @@ use Rattle.std.proofs.lemmas.Result.{err_from_is_err_and}
 use Rattle.std.specs.Prelude.{Ok}
 use Rattle.delta.specs.Operation.{IsBounded}
 use Rattle.optext.proofs.Deltas.{delta_of-many, delta_of-few, bounded_from, refused_op, refused_push, left-more, left-all}
-use Rattle.optext.proofs.ops_json.read_ops.Goals as goal
+use Rattle.optext.proofs.reading.read_ops.Goals as goal
 
 pub returns-then-operations-gt-MAX_OPERATIONS : goal.returns-then-operations-gt-MAX_OPERATIONS
 returns-then-operations-gt-MAX_OPERATIONS c = inl (sym (delta_of-many c.args.operations.now c.if-operations-gt-MAX_OPERATIONS.true))
