@@ -12,3 +12,6 @@ mod writing;
 
 pub use reading::{MAX_OPERATIONS, read_ops};
 pub use writing::write_ops;
+
+#[cfg(test)]
+mod tests;
