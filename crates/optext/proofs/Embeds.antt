@@ -33,7 +33,7 @@ pub refused_embed : (name : List ℕ) (value : Data) (a : Attributes) (e : Refus
 refused_embed name value a e (inl memory) = inl memory
 refused_embed name value a e (inr bad) = inr (bad.0, rw bad.1 refl)
 
-key_of-key : (name : List ℕ) → IsKey name → key_of name ≡ Some name
+pub key_of-key : (name : List ℕ) → IsKey name → key_of name ≡ Some name
 key_of-key name key = grind (arith, nat_tests)
 
 key_of-none : (name : List ℕ) → (IsKey name → ⊥) → key_of name ≡ None

@@ -7,6 +7,7 @@
 //! It stands on `delta`, whose builder merges and bounds the operations, and on `serde_json`'s values.
 #![tactic(auto)]
 
+pub mod laws;
 mod reading;
 mod writing;
 
