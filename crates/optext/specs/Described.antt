@@ -18,6 +18,7 @@ use Rattle.delta.specs.Normal.{nf}
 abbrev pub is_key : List ℕ → Bool
 is_key name = nat_le 1 (length name) && nat_le (length name) 64
 
+-- the name that a text is, where it is one
 abbrev pub key_of : List ℕ → Option (List ℕ)
 key_of name = if is_key name then Some name else None
 
@@ -25,6 +26,7 @@ key_of name = if is_key name then Some name else None
 abbrev pub exact : ℤ → Option Scalar
 exact n = if nat_lt (nat_abs n) (2 ^ 53) then Some (whole_scalar n) else None
 
+-- a number is one where it is whole
 abbrev pub whole_of : Num → Option Scalar
 whole_of n = option_and_then exact (as_integer n)
 
@@ -52,6 +54,7 @@ described_by value_of None = Some empty
 described_by value_of (Some (object members)) = filled value_of empty members
 described_by value_of (Some _) = None
 
+-- attributes of an insert, on which null describes nothing, and a change of a retain
 abbrev pub attributes_of : Option Data → Option Attributes
 attributes_of = described_by scalar_of
 
@@ -69,12 +72,13 @@ embed_of (member name value no_members) a =
     option_and_then (λ x. option_map (λ key. insert_embed key x a) (key_of name)) (scalar_of value)
 embed_of _ a = None
 
--- what is inserted: text, or an embed
+-- what is inserted with attributes: text, or an embed
 abbrev pub inserted : Data → Attributes → Option Operation
 inserted (string text) a = Some (insert_text (units_of text) a)
 inserted (object members) a = embed_of members a
 inserted _ a = None
 
+-- an insert, a retain and a delete by the values of their members
 abbrev pub insert_of : Data → Option Data → Option Operation
 insert_of what attributes = option_and_then (inserted what) (attributes_of attributes)
 
@@ -92,16 +96,16 @@ operation_by None (Some len) None attributes = retain_of len attributes
 operation_by None None (Some len) None = delete_of len
 operation_by _ _ _ _ = None
 
--- how many members this is
+-- how many members this is, of one that is there or not
 abbrev pub presence : Option Data → ℕ
 presence None = 0
 presence (Some _) = 1
 
+-- how many members an object has, 0 for any other value
 abbrev pub members_counted : Option Members → ℕ
 members_counted None = 0
 members_counted (Some members) = members_len members
 
--- how many members an object has, 0 for any other value
 abbrev pub member_count : Data → ℕ
 member_count value = members_counted (as_object value)
 
@@ -122,7 +126,7 @@ operations_of (item first others) = option_and_then (λ op. option_map (λ ops. 
 abbrev pub is_bounded : List Operation → Bool
 is_bounded ops = nat_le (base_of ops) (2 ^ 48) && nat_le (out_of ops) (2 ^ 48)
 
--- the delta of operations, in normal form
+-- the delta of operations, in normal form, where the bound holds
 abbrev pub delta_by : Option (List Operation) → Result (List Operation) Refusal
 delta_by None = Err BadOps
 delta_by (Some ops) = if is_bounded ops then Ok (nf (counted ops)) else Err BadOps

@@ -9,6 +9,7 @@ use Rattle.attributes.specs.Scalar.{Scalar, text_scalar, whole_scalar, flag_scal
 use Rattle.attributes.specs.Attributes.{Attributes, Changes}
 use Rattle.delta.specs.Operation.{Operation, insert_text, insert_embed, retain, delete}
 
+-- a value
 abbrev pub printed_scalar : Scalar → Data
 printed_scalar (text_scalar text) = string text
 printed_scalar (whole_scalar n) = number (of_integer n)
@@ -34,12 +35,14 @@ abbrev pub then_member : Members → List ℕ → Data → Members
 then_member no_members name value = member name value no_members
 then_member (member first x others) name value = member first x (then_member others name value)
 
+-- an insert of a printed text or embed, and a retain
 abbrev pub printed_insert : Attributes → Data → Data
 printed_insert a what = object (then_member (attributes_member (printed_entries printed_scalar a.entries)) (codes "insert") what)
 
 abbrev pub printed_retain : Changes → ℕ → Data
 printed_retain c n = object (then_member (attributes_member (printed_entries printed_change c.entries)) (codes "retain") (number (unsigned n)))
 
+-- an operation: its text is the one whose code units it inserts
 abbrev pub printed_operation : Operation → Data
 printed_operation (insert_text units a) = printed_insert a (string (utf8_of units))
 printed_operation (insert_embed name value a) = printed_insert a (object (member name (printed_scalar value) no_members))
