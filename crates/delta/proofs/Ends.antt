@@ -1,5 +1,5 @@
 -- A last retain without attributes: what is left without it is the normal form.
-use Rattle.std.proofs.Common.{◌≡◌, ℕ, zero, suc, ◌+◌, ◌-◌, ◌<◌, true, false, not, ◌&&◌, cond, List, [], ◌∷◌, ◌++◌, length, take, get_or, Some, None, refl, sym, ap, ◌∙◌, ◌⊎◌, inl, inr, ⊎_elim, arith}
+use Rattle.std.proofs.Common.{◌≡◌, ℕ, zero, suc, ◌+◌, ◌-◌, ◌<◌, true, false, not, ◌&&◌, cond, List, [], ◌∷◌, ◌++◌, length, take, get_or, Some, None, refl, sym, ap, subst, ◌∙◌, ◌⊎◌, inl, inr, ⊎_elim, arith}
 use Rattle.std.proofs.lemmas.List.{append-nil}
 use Rattle.std.proofs.lemmas.Bool.{and_parts, and_from}
 use Rattle.std.specs.Prelude.{is_none, nat_lt}
@@ -9,7 +9,7 @@ use Rattle.delta.specs.Element.{Element}
 use Rattle.delta.specs.Operation.{Operation, insert_text, insert_embed, retain, delete, is_plain, merged, op_len, base_of, out_of}
 use Rattle.delta.specs.Gaps.{Gaps, End, Gap, Fate, Del, Keep, front, run, counted, joined}
 use Rattle.delta.specs.Normal.{may_precede, is_built, ends_plain, IsNormal, past, settled, trim, trimmed, spelled, nf}
-use Rattle.delta.specs.Building.{without_plain}
+use Rattle.delta.specs.Building.{without_plain, IsBuilding, IsDelta}
 use Rattle.delta.proofs.Joins.{counted-append}
 use Rattle.delta.proofs.Settling.{settled-front}
 use Rattle.delta.proofs.BuiltLists.{nf-same}
@@ -129,7 +129,7 @@ ends_plain-without_plain (a ∷ b ∷ []) h =
     ] refl
 ends_plain-without_plain (a ∷ b ∷ c ∷ r) h = ends_plain-without_plain (b ∷ c ∷ r) (kept_apart a b (c ∷ r) h).2
 
-pub IsNormal-without_plain : (ops : List Operation) → is_built ops ≡ true → IsNormal (without_plain ops)
+IsNormal-without_plain : (ops : List Operation) → is_built ops ≡ true → IsNormal (without_plain ops)
 IsNormal-without_plain ops h =
     and_from (is_built (without_plain ops)) (not (ends_plain (without_plain ops))) (is_built-without_plain ops h) (ap not (ends_plain-without_plain ops h))
 
@@ -175,3 +175,13 @@ taken-lengths ops rest last n parts plain =
       omega (arith, ap base_of e, base_of-append rest (retain n empty ∷ [])),
       omega (arith, ap out_of e, out_of-append rest (retain n empty ∷ [])),
     )
+
+-- so a delta is made of what is left
+pub IsDelta-without_plain : (ops rest : List Operation) (base out n : ℕ) → IsBuilding ops base out → rest ≡ without_plain ops → base_of rest + n ≡ base_of ops → out_of rest + n ≡ out_of ops
+    → IsDelta rest (base - n) (out - n)
+IsDelta-without_plain ops rest base out n kept rest_is less_base less_out = record {
+  normal = subst IsNormal (sym rest_is) (IsNormal-without_plain ops kept.built);
+  bounded = record { base = omega (arith, kept.bounded.base); out = omega (arith, kept.bounded.out) };
+  base_is = omega (arith, kept.base_is);
+  out_is = omega (arith, kept.out_is);
+}

@@ -5,5 +5,6 @@ pub mod Gaps
 pub mod Normal
 pub mod Laws
 pub mod Building
+pub mod Equality
 mod Examples
 mod EffectExamples

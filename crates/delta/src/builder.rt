@@ -1,9 +1,9 @@
 //! The builder of deltas.
-ghost use Rattle.std.specs.Prelude.{◌≡◌, ◌+◌, ◌≤◌, ◌<◌, ◌^◌, ◌↔◌, ◌⊎◌, ◌++◌, [], ◌∷◌, take, drop, IfErr, IfOk, OnOk, OnErr, IsOkUnless, MatchBool, vec_len};
+ghost use Rattle.std.specs.Prelude.{◌≡◌, ◌+◌, ◌≤◌, ◌<◌, ◌^◌, ◌↔◌, ◌⊎◌, ◌++◌, [], ◌∷◌, IfErr, IfOk, OnOk, OnErr, IsOkUnless, MatchBool, vec_len};
 ghost use Rattle.delta.specs.Operation.{base_of, out_of, op_base, IsBounded};
 ghost use Rattle.delta.specs.Gaps.{counted};
 ghost use Rattle.delta.specs.Normal.{built, nf};
-ghost use Rattle.delta.specs.Building.{added, place_of, without_plain, IsAddedApart};
+ghost use Rattle.delta.specs.Building.{added_at, place_of, without_plain, IsAddedApart};
 
 use crate::delta::Delta;
 use crate::op::Op;
@@ -23,10 +23,10 @@ pub struct Builder {
 }
 
 impl Model for Builder {
-    ghost use Rattle.std.specs.Prelude.{◌≡◌, List, IsTrue};
+    ghost use Rattle.std.specs.Prelude.{List};
     ghost use Rattle.std.specs.Coded.{coded_list};
-    ghost use Rattle.delta.specs.Operation.{Operation, operation_code, base_of, out_of, IsBounded};
-    ghost use Rattle.delta.specs.Normal.{is_built};
+    ghost use Rattle.delta.specs.Operation.{Operation, operation_code};
+    ghost use Rattle.delta.specs.Building.{IsBuilding};
 
     ghost Value = { List Operation };
 
@@ -34,7 +34,7 @@ impl Model for Builder {
 
     ghost view = { λ b. b.ops.items };
 
-    ghost invariant = { λ b. IsTrue (is_built b.ops.items) × IsBounded b.ops.items × (b.base ≡ base_of b.ops.items) × (b.out ≡ out_of b.ops.items) };
+    ghost invariant = { λ b. IsBuilding b.ops.items b.base b.out };
 }
 
 impl Builder {
@@ -63,7 +63,8 @@ impl Builder {
         if base > MAX_LEN - self.base || out > MAX_LEN - self.out {
             return Err(Refusal::BadOps);
         }
-        if base == 0 && out == 0 {
+        let len = base.max(out);
+        if len == 0 {
             return Ok(());
         }
         put(&mut self.ops, op)?;
@@ -86,7 +87,7 @@ impl Builder {
 // adds an operation at its place
 fn put(ops: &mut Vec<Op>, op: Op) -> Result<(), Refusal>
     requires { base_of ops.old.items + op_base op ≤ 2 ^ 48 }
-    ensures ok { OnOk result (ops.new.items ≡ added (take (place_of ops.old.items op) ops.old.items) op ++ drop (place_of ops.old.items op) ops.old.items) }
+    ensures ok { OnOk result (ops.new.items ≡ added_at ops.old.items (place_of ops.old.items op) op) }
     ensures err { OnErr result (ops.new.items ≡ ops.old.items) }
     ensures only { IsOkUnless result Refusal.NoMemory }
 {
@@ -102,7 +103,8 @@ fn put(ops: &mut Vec<Op>, op: Op) -> Result<(), Refusal>
 fn merge_before(ops: &mut Vec<Op>, at: usize, op: &Op) -> Result<bool, Refusal>
     requires place { at ≤ vec_len ops.old }
     requires bound { base_of ops.old.items + op_base op.now ≤ 2 ^ 48 }
-    ensures ok { IfOk result (λ yes. MatchBool yes (ops.new.items ≡ added (take at ops.old.items) op.now ++ drop at ops.old.items) (IsAddedApart ops.old.items ops.new.items at op.now)) }
+    ensures ok { IfOk result (λ yes.
+        MatchBool yes (ops.new.items ≡ added_at ops.old.items at op.now) (IsAddedApart ops.old.items ops.new.items at op.now)) }
     ensures err { OnErr result (ops.new.items ≡ ops.old.items) }
     ensures only { IsOkUnless result Refusal.NoMemory }
     ensures len { vec_len ops.new ≡ vec_len ops.old }
@@ -120,10 +122,9 @@ fn place(ops: &[Op], op: &Op) -> usize
 {
     let len = ops.len();
     if len > 0 && ops[len - 1].is_delete() && op.is_insert() {
-        len - 1
-    } else {
-        len
+        return len - 1;
     }
+    len
 }
 
 // takes off a last retain without attributes, and gives its length

@@ -2,6 +2,7 @@
 ghost use Rattle.std.specs.Prelude.{◌≡◌, IfOk, IsOkUnless};
 ghost use Rattle.delta.specs.Operation.{base_of, out_of, IsBounded};
 ghost use Rattle.delta.specs.Normal.{IsNormal};
+ghost use Rattle.delta.specs.Building.{IsDelta};
 
 use crate::op::Op;
 use refusal::Refusal;
@@ -17,10 +18,10 @@ pub struct Delta {
 }
 
 impl Model for Delta {
-    ghost use Rattle.std.specs.Prelude.{◌≡◌, List};
+    ghost use Rattle.std.specs.Prelude.{List};
     ghost use Rattle.std.specs.Coded.{coded_list};
-    ghost use Rattle.delta.specs.Operation.{Operation, operation_code, base_of, out_of, IsBounded};
-    ghost use Rattle.delta.specs.Normal.{IsNormal};
+    ghost use Rattle.delta.specs.Operation.{Operation, operation_code};
+    ghost use Rattle.delta.specs.Building.{IsDelta};
 
     ghost Value = { List Operation };
 
@@ -28,16 +29,13 @@ impl Model for Delta {
 
     ghost view = { λ d. d.ops.items };
 
-    ghost invariant = { λ d. IsNormal d.ops.items × IsBounded d.ops.items × (d.base ≡ base_of d.ops.items) × (d.out ≡ out_of d.ops.items) };
+    ghost invariant = { λ d. IsDelta d.ops.items d.base d.out };
 }
 
 impl Delta {
     // the delta of operations in normal form, with their two lengths
     pub(crate) fn of(ops: Vec<Op>, base: u64, out: u64) -> Self
-        requires normal { IsNormal ops.items }
-        requires bounded { IsBounded ops.items }
-        requires base { base ≡ base_of ops.items }
-        requires out { out ≡ out_of ops.items }
+        requires { IsDelta ops.items base out }
         ensures { result ≡ ops.items }
     {
         Delta { ops, base, out }
@@ -89,4 +87,17 @@ fn copy_ops(alloc: Global, ops: &[Op]) -> Result<Vec<Op>, Refusal>
         copy.push(op.copy(alloc)?)?;
     }
     Ok(copy)
+}
+
+impl PartialEq for Delta {
+    ghost use Rattle.std.specs.Cmp.{decided, partial_equiv_from_equiv};
+    ghost use Rattle.delta.specs.Equality.{same_operations, same_operations-Decides};
+
+    ghost eq = { same_operations };
+
+    ghost laws = { partial_equiv_from_equiv (decided same_operations same_operations-Decides) };
+
+    fn eq(&self, other: &Self) -> bool {
+        self.ops() == other.ops()
+    }
 }

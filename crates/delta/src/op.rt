@@ -1,6 +1,7 @@
 //! Operations of a delta.
 ghost use Rattle.std.specs.Prelude.{◌≡◌, ◌+◌, ◌<◌, ◌^◌, ◌↔◌, ◌⊎◌, ◌++◌, IfOk, OnOk, OnErr, IfErr, IsOkUnless, MatchOption, MatchBool, false};
 ghost use Rattle.std.specs.String.{string_bytes};
+ghost use Rattle.std.specs.Str.{bytes_eq};
 ghost use Rattle.utf16.specs.Units.{units_of};
 ghost use Rattle.attributes.specs.Attributes.{IsKey};
 ghost use Rattle.attributes.specs.Map.{empty};
@@ -226,4 +227,36 @@ fn copy_text(alloc: Global, text: &str) -> Result<String, Refusal>
     ensures only { IsOkUnless result Refusal.NoMemory }
 {
     Ok(String::from_str(alloc, text)?)
+}
+
+impl PartialEq for Op {
+    ghost use Rattle.std.specs.Cmp.{decided, partial_equiv_from_equiv};
+    ghost use Rattle.delta.specs.Equality.{same_operation, same_operation-Decides};
+
+    ghost eq = { same_operation };
+
+    ghost laws = { partial_equiv_from_equiv (decided same_operation same_operation-Decides) };
+
+    fn eq(&self, other: &Self) -> bool {
+        match (&self.kind, &other.kind) {
+            (Kind::Text(text, attrs), Kind::Text(other, others)) => {
+                same_text(text.as_str(), other.as_str()) && attrs == others
+            }
+            (Kind::Embed(name, value, attrs), Kind::Embed(other, content, others)) => {
+                name == other && value == content && attrs == others
+            }
+            (Kind::Retain(len, change), Kind::Retain(other, changes)) => {
+                len == other && change == changes
+            }
+            (Kind::Delete(len), Kind::Delete(other)) => len == other,
+            _ => false,
+        }
+    }
+}
+
+// texts are the same where their code units are
+fn same_text(text: &str, other: &str) -> bool
+    ensures { result ≡ bytes_eq (units_of text.now) (units_of other.now) }
+{
+    text == other
 }

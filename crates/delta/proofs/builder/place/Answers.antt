@@ -10,8 +10,8 @@ returns-then-is_insert c =
     place_of-before c.args.ops.now c.args.op.now c.index-ops-len.result c.if-len-gt0.true
     (and_from _ _ (ap is_delete (sym c.index-ops-len.is) ∙ (sym c.is_delete.ensures ∙ c.if-is_delete.true)) (sym c.is_insert.ensures ∙ c.if-is_insert.true))
 
-pub returns-else-len-gt0 : goal.returns-else-len-gt0
-returns-else-len-gt0 c =
+pub returns : goal.returns
+returns c =
     elim c.else-len-gt0.branch [
       | else-len-gt0-via-then-len-gt0+then-is_delete+else-is_insert w ↦
           place_of-end c.args.ops.now c.args.op.now w.index-ops-len.result w.if-len-gt0.true
