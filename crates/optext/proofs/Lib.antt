@@ -1,0 +1,4 @@
+pub mod Deltas
+pub mod Embeds
+pub mod Members
+pub mod ReadBack

@@ -1,0 +1,36 @@
+-- What is printed is read as what it was.
+use Rattle.std.specs.Prelude.{◌≡◌, ◌≤◌, ◌<◌, ◌^◌, ℕ, List, length, All, IfSome, Option, Some, Ok}
+use Rattle.utf16.specs.Units.{units_of, utf8_of}
+use Rattle.attributes.specs.Attributes.{IsKey}
+use Rattle.attributes.specs.Scalar.{Scalar, IsExactScalar}
+use Rattle.delta.specs.Operation.{Operation, insert_text, insert_embed, retain, delete, IsBounded}
+use Rattle.delta.specs.Normal.{IsNormal}
+use Rattle.optext.specs.Described.{operation_of, delta_of}
+use Rattle.optext.specs.Printed.{printed_operation, printed}
+
+-- a name of 1 to 64 bytes with a value, or with one or null
+abbrev pub IsAttribute : List ℕ × Scalar → Type 0
+IsAttribute e = IsKey e.0 × IsExactScalar e.1
+
+abbrev pub IsAttributeChange : List ℕ × Option Scalar → Type 0
+IsAttributeChange e = IsKey e.0 × IfSome e.1 IsExactScalar
+
+-- the code units of a text
+abbrev pub IsText : List ℕ → Type 0
+IsText units = units_of (utf8_of units) ≡ units
+
+-- an operation that a message can spell: its text is a text, its names have 1 to 64 bytes, its whole numbers are exact, and
+-- its length is below 2^32
+abbrev pub IsSpelled : Operation → Type 0
+IsSpelled (insert_text units a) = IsText units × All IsAttribute a.entries
+IsSpelled (insert_embed name value a) = IsKey name × IsExactScalar value × All IsAttribute a.entries
+IsSpelled (retain n c) = (n < 2 ^ 32) × All IsAttributeChange c.entries
+IsSpelled (delete n) = n < 2 ^ 32
+
+-- such an operation, printed, describes itself
+abbrev pub OperationReadsBack : Type 0
+OperationReadsBack = (op : Operation) → IsSpelled op → operation_of (printed_operation op) ≡ Some op
+
+-- and a delta of at most 1,024 of them
+abbrev pub DeltaReadsBack : Type 0
+DeltaReadsBack = (ops : List Operation) → IsNormal ops → IsBounded ops → length ops ≤ 1024 → All IsSpelled ops → delta_of (printed ops) ≡ Ok ops

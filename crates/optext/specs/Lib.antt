@@ -1,0 +1,5 @@
+pub mod Answer
+pub mod Described
+pub mod Printed
+pub mod Laws
+mod Examples

@@ -1,0 +1,14 @@
+//! What holds of operations and their JSON, as contracts to cite: each function promises one law.
+ghost use Rattle.optext.specs.Laws.{OperationReadsBack, DeltaReadsBack};
+
+/// An operation that a message can spell, printed, describes itself.
+pub fn operation_reads_back()
+    ensures { OperationReadsBack }
+{}
+
+/// A delta of at most 1,024 such operations, printed, is read as itself.
+pub fn delta_reads_back()
+    ensures { DeltaReadsBack }
+{
+    delta::laws::normal_is_kept();
+}

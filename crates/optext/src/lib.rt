@@ -1,0 +1,19 @@
+//! Operations of a delta as JSON.
+//!
+//! A message or a command's word spells a delta as an array of operations: `{"insert":"Hi"}`, `{"retain":6}`,
+//! `{"delete":5}`, and `attributes` beside an insert or a retain. `read_ops` gives the delta that such an array
+//! describes, or says why it describes none, and `write_ops` gives the array that prints a delta. Which operation a
+//! value describes stands in specs/Described.antt, how one is printed in specs/Printed.antt, and that what is printed
+//! is read as what it was in `laws`.
+//! It stands on `delta`, whose builder merges and bounds the operations, and on `serde_json`'s values.
+#![tactic(auto)]
+
+pub mod laws;
+mod reading;
+mod writing;
+
+pub use reading::{MAX_OPERATIONS, read_ops};
+pub use writing::write_ops;
+
+#[cfg(test)]
+mod tests;

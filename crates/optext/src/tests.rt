@@ -1,0 +1,189 @@
+//! Arrays of operations, with ample memory: those of quill-delta's README, the other spellings of its operations, and what
+//! is no operation.
+use crate::{read_ops, write_ops};
+use delta::Delta;
+use refusal::Refusal;
+use serde_json::Value as Json;
+use std::alloc::Global;
+use std::process::Abort;
+use std::test::Fail;
+
+fn delta_of(alloc: Global, text: &str) -> Result<Delta, Refusal> {
+    let Ok(value) = Json::from_str(alloc, text) else {
+        return Err(Refusal::BadLine);
+    };
+    match value.as_array() {
+        Some(operations) => read_ops(alloc, operations.as_slice()),
+        None => Err(Refusal::BadMessage),
+    }
+}
+
+// how the delta is printed, or the name of the refusal
+fn read_and_written(alloc: Global, text: &str) -> Result<String, Fail> {
+    match delta_of(alloc, text) {
+        Ok(delta) => Ok(write_ops(alloc, &delta)?.to_string(alloc)?),
+        Err(refusal) => Ok(String::from_str(alloc, refusal.name())?),
+    }
+}
+
+fn row(rt: &impl Abort, alloc: Global, text: &str, printed: &str) -> Result<(), Fail> {
+    assert_eq!(rt; read_and_written(alloc, text)?.as_str(), printed, "{text}");
+    Ok(())
+}
+
+// the array is printed as it stands
+fn same(rt: &impl Abort, alloc: Global, text: &str) -> Result<(), Fail> {
+    row(rt, alloc, text, text)
+}
+
+fn refused(rt: &impl Abort, alloc: Global, text: &str) -> Result<(), Fail> {
+    row(rt, alloc, text, "BadOps")
+}
+
+fn operations(alloc: Global, count: usize) -> Result<String, Fail> {
+    let mut text = String::from_str(alloc, "[{\"delete\":1}")?;
+    for _ in 1..count {
+        text.push_str(",{\"delete\":1}")?;
+    }
+    text.push_str("]")?;
+    Ok(text)
+}
+
+// an array of one retain, whose attributes have one name of so many bytes
+fn named(alloc: Global, bytes: usize) -> Result<String, Fail> {
+    let mut text = String::from_str(alloc, "[{\"attributes\":{\"")?;
+    for _ in 0..bytes {
+        text.push_str("n")?;
+    }
+    text.push_str("\":true},\"retain\":1}]")?;
+    Ok(text)
+}
+
+#[test]
+fn reads_the_readme(rt: HostRuntime) -> Result<(), Fail> {
+    let alloc = rt.alloc();
+    row(
+        &rt,
+        alloc,
+        "[{\"insert\":\"Gandalf\",\"attributes\":{\"bold\":true}},{\"insert\":\" the \"},{\"insert\":\"Grey\",\"attributes\":{\"color\":\"#cccccc\"}}]",
+        "[{\"attributes\":{\"bold\":true},\"insert\":\"Gandalf\"},{\"insert\":\" the \"},{\"attributes\":{\"color\":\"#cccccc\"},\"insert\":\"Grey\"}]",
+    )?;
+    row(
+        &rt,
+        alloc,
+        "[{\"retain\":12},{\"insert\":\"White\",\"attributes\":{\"color\":\"#fff\"}},{\"delete\":4}]",
+        "[{\"retain\":12},{\"attributes\":{\"color\":\"#fff\"},\"insert\":\"White\"},{\"delete\":4}]",
+    )?;
+    row(
+        &rt,
+        alloc,
+        "[{\"insert\":{\"video\":\"https://www.youtube.com/watch?v=dMH0bHeiRNg\"},\"attributes\":{\"width\":420,\"height\":315}}]",
+        "[{\"attributes\":{\"height\":315,\"width\":420},\"insert\":{\"video\":\"https://www.youtube.com/watch?v=dMH0bHeiRNg\"}}]",
+    )?;
+    row(
+        &rt,
+        alloc,
+        "[{\"insert\":{\"image\":\"https://octodex.github.com/images/labtocat.png\"},\"attributes\":{\"alt\":\"Lab Octocat\"}}]",
+        "[{\"attributes\":{\"alt\":\"Lab Octocat\"},\"insert\":{\"image\":\"https://octodex.github.com/images/labtocat.png\"}}]",
+    )?;
+    row(
+        &rt,
+        alloc,
+        "[{\"retain\":5,\"attributes\":{\"bold\":null}}]",
+        "[{\"attributes\":{\"bold\":null},\"retain\":5}]",
+    )?;
+    same(&rt, alloc, "[{\"delete\":10}]")?;
+    row(&rt, alloc, "[{\"retain\":5}]", "[]")
+}
+
+#[test]
+fn reads_each_spelling(rt: HostRuntime) -> Result<(), Fail> {
+    let alloc = rt.alloc();
+    same(&rt, alloc, "[]")?;
+    same(&rt, alloc, "[{\"insert\":\"a😀\\n\\\"\"}]")?;
+    same(&rt, alloc, "[{\"insert\":{\"n\":-9007199254740991}}]")?;
+    same(
+        &rt,
+        alloc,
+        "[{\"attributes\":{\"a\":9007199254740991,\"b\":false},\"insert\":{\"n\":0}}]",
+    )?;
+    same(
+        &rt,
+        alloc,
+        "[{\"retain\":4294967295},{\"delete\":4294967295}]",
+    )?;
+    row(
+        &rt,
+        alloc,
+        "[{\"insert\":\"a\",\"attributes\":{}}]",
+        "[{\"insert\":\"a\"}]",
+    )?;
+    row(
+        &rt,
+        alloc,
+        "[{\"delete\":2},{\"insert\":\"x\"},{\"retain\":0},{\"insert\":\"\"}]",
+        "[{\"insert\":\"x\"},{\"delete\":2}]",
+    )?;
+    let longest = named(alloc, 64)?;
+    same(&rt, alloc, longest.as_str())
+}
+
+#[test]
+fn refuses_what_is_no_operation(rt: HostRuntime) -> Result<(), Fail> {
+    let alloc = rt.alloc();
+    refused(&rt, alloc, "[null]")?;
+    refused(&rt, alloc, "[[]]")?;
+    refused(&rt, alloc, "[{}]")?;
+    refused(&rt, alloc, "[{\"attributes\":{}}]")?;
+    refused(&rt, alloc, "[{\"delete\":1,\"insert\":\"a\"}]")?;
+    refused(&rt, alloc, "[{\"delete\":1,\"retain\":1}]")?;
+    refused(&rt, alloc, "[{\"insert\":\"a\",\"retain\":1}]")?;
+    refused(&rt, alloc, "[{\"insert\":\"a\",\"note\":1}]")?;
+    refused(&rt, alloc, "[{\"attributes\":{},\"delete\":1}]")?;
+    refused(&rt, alloc, "[{\"insert\":null}]")?;
+    refused(&rt, alloc, "[{\"insert\":1}]")?;
+    refused(&rt, alloc, "[{\"insert\":{}}]")?;
+    refused(&rt, alloc, "[{\"insert\":{\"a\":1,\"b\":2}}]")
+}
+
+#[test]
+fn refuses_lengths_and_values(rt: HostRuntime) -> Result<(), Fail> {
+    let alloc = rt.alloc();
+    refused(&rt, alloc, "[{\"delete\":4294967296}]")?;
+    refused(&rt, alloc, "[{\"retain\":-1}]")?;
+    refused(&rt, alloc, "[{\"retain\":1.5}]")?;
+    refused(&rt, alloc, "[{\"retain\":\"1\"}]")?;
+    refused(&rt, alloc, "[{\"retain\":{\"n\":1}}]")?;
+    refused(&rt, alloc, "[{\"insert\":{\"n\":null}}]")?;
+    refused(&rt, alloc, "[{\"insert\":{\"\":1}}]")?;
+    refused(
+        &rt,
+        alloc,
+        "[{\"attributes\":{\"bold\":null},\"insert\":\"a\"}]",
+    )?;
+    refused(&rt, alloc, "[{\"attributes\":null,\"retain\":1}]")?;
+    refused(&rt, alloc, "[{\"attributes\":[],\"retain\":1}]")?;
+    refused(
+        &rt,
+        alloc,
+        "[{\"attributes\":{\"a\":9007199254740992},\"retain\":1}]",
+    )?;
+    refused(
+        &rt,
+        alloc,
+        "[{\"attributes\":{\"a\":-9007199254740992},\"retain\":1}]",
+    )?;
+    refused(&rt, alloc, "[{\"attributes\":{\"a\":1.5},\"retain\":1}]")?;
+    refused(&rt, alloc, "[{\"attributes\":{\"a\":{}},\"retain\":1}]")?;
+    let too_long = named(alloc, 65)?;
+    refused(&rt, alloc, too_long.as_str())
+}
+
+#[test]
+fn reads_1024_operations(rt: HostRuntime) -> Result<(), Fail> {
+    let alloc = rt.alloc();
+    let most = operations(alloc, 1024)?;
+    row(&rt, alloc, most.as_str(), "[{\"delete\":1024}]")?;
+    let many = operations(alloc, 1025)?;
+    row(&rt, alloc, many.as_str(), "TooManyOps")
+}

@@ -1,0 +1,141 @@
+//! The array of operations that prints a delta.
+ghost use Rattle.std.specs.Prelude.{◌≡◌, IfOk, IsOkUnless};
+ghost use Rattle.serde_json.specs.Data.{array, string, object, member, no_members};
+ghost use Rattle.serde_json.specs.View.{view, members_view};
+ghost use Rattle.utf16.specs.Units.{units_of, utf8_of};
+ghost use Rattle.optext.specs.Printed.{printed, printed_operation, printed_insert, printed_retain, printed_entries, printed_scalar, printed_change, attributes_member};
+
+use attributes::{Attrs, Change, Key, Value, ValueRef};
+use delta::{Delta, Op, OpRef};
+use refusal::Refusal;
+use serde_json::{Map, Value as Json, json, put};
+use std::alloc::Global;
+use utf16::laws;
+
+/// The array of a delta's operations, as they are printed. Refused only as NoMemory.
+pub fn write_ops(alloc: Global, delta: &Delta) -> Result<Json, Refusal>
+    ensures printed { IfOk result (λ value. view value ≡ array (printed delta.now)) }
+    ensures only { IsOkUnless result Refusal.NoMemory }
+{
+    let ops = delta.ops();
+    let mut items = Vec::with_capacity(alloc, ops.len())?;
+    for op in ops {
+        let item = write_op(alloc, op)?;
+        items.push(item)?;
+    }
+    Ok(Json::Array(items))
+}
+
+fn write_op(alloc: Global, op: &Op) -> Result<Json, Refusal>
+    ensures printed { IfOk result (λ value. view value ≡ printed_operation op.now) }
+    ensures only { IsOkUnless result Refusal.NoMemory }
+{
+    match op.get() {
+        OpRef::Text(text, attrs) => {
+            let what = write_text(alloc, text)?;
+            write_insert(alloc, what, attrs)
+        }
+        OpRef::Embed(name, value, attrs) => {
+            let what = write_embed(alloc, name, value)?;
+            write_insert(alloc, what, attrs)
+        }
+        OpRef::Retain(len, change) => write_retain(alloc, len, change),
+        OpRef::Delete(len) => Ok(json!(in alloc; {"delete": len})?),
+    }
+}
+
+fn write_text(alloc: Global, text: &str) -> Result<Json, Refusal>
+    ensures text { IfOk result (λ value. view value ≡ string (utf8_of (units_of text.now))) }
+    ensures only { IsOkUnless result Refusal.NoMemory }
+{
+    laws::text_of_units();
+    Ok(Json::try_from_str(alloc, text)?)
+}
+
+fn write_embed(alloc: Global, name: &Key, value: &Value) -> Result<Json, Refusal>
+    ensures embed { IfOk result (λ embed. view embed ≡ object (member name.now (printed_scalar value.now) no_members)) }
+    ensures only { IsOkUnless result Refusal.NoMemory }
+{
+    let mut members = Map::new(alloc);
+    let value = write_value(alloc, value)?;
+    put(&mut members, alloc, name.as_str(), value)?;
+    Ok(Json::Object(members))
+}
+
+fn write_insert(alloc: Global, what: Json, attrs: &Attrs) -> Result<Json, Refusal>
+    ensures printed { IfOk result (λ value. view value ≡ printed_insert attrs.now (view what)) }
+    ensures only { IsOkUnless result Refusal.NoMemory }
+{
+    let attributes = write_attributes(alloc, attrs)?;
+    let mut members = begin(alloc, attributes)?;
+    put(&mut members, alloc, "insert", what)?;
+    Ok(Json::Object(members))
+}
+
+fn write_retain(alloc: Global, len: u64, change: &Change) -> Result<Json, Refusal>
+    ensures printed { IfOk result (λ value. view value ≡ printed_retain change.now len) }
+    ensures only { IsOkUnless result Refusal.NoMemory }
+{
+    let attributes = write_change(alloc, change)?;
+    let mut members = begin(alloc, attributes)?;
+    put(&mut members, alloc, "retain", Json::from(len))?;
+    Ok(Json::Object(members))
+}
+
+// an object's members with the attributes, where there are any
+fn begin(alloc: Global, attributes: Map<String, Json>) -> Result<Map<String, Json>, Refusal>
+    ensures begun { IfOk result (λ members. members_view members.entries ≡ attributes_member (members_view attributes.entries)) }
+    ensures only { IsOkUnless result Refusal.NoMemory }
+{
+    let mut members = Map::new(alloc);
+    if attributes.is_empty() {
+        return Ok(members);
+    }
+    put(&mut members, alloc, "attributes", Json::Object(attributes))?;
+    Ok(members)
+}
+
+fn write_attributes(alloc: Global, attrs: &Attrs) -> Result<Map<String, Json>, Refusal>
+    ensures printed { IfOk result (λ members. members_view members.entries ≡ printed_entries printed_scalar attrs.now.entries) }
+    ensures only { IsOkUnless result Refusal.NoMemory }
+{
+    let mut members = Map::new(alloc);
+    for (name, value) in attrs.entries() {
+        let value = write_value(alloc, value)?;
+        put(&mut members, alloc, name.as_str(), value)?;
+    }
+    Ok(members)
+}
+
+fn write_change(alloc: Global, change: &Change) -> Result<Map<String, Json>, Refusal>
+    ensures printed { IfOk result (λ members. members_view members.entries ≡ printed_entries printed_change change.now.entries) }
+    ensures only { IsOkUnless result Refusal.NoMemory }
+{
+    let mut members = Map::new(alloc);
+    for (name, value) in change.entries() {
+        let value = write_change_value(alloc, value)?;
+        put(&mut members, alloc, name.as_str(), value)?;
+    }
+    Ok(members)
+}
+
+fn write_value(alloc: Global, value: &Value) -> Result<Json, Refusal>
+    ensures printed { IfOk result (λ json. view json ≡ printed_scalar value.now) }
+    ensures only { IsOkUnless result Refusal.NoMemory }
+{
+    match value.get() {
+        ValueRef::Text(text) => Ok(Json::try_from_str(alloc, text)?),
+        ValueRef::Whole(number) => Ok(Json::from(number)),
+        ValueRef::Flag(flag) => Ok(Json::from(flag)),
+    }
+}
+
+fn write_change_value(alloc: Global, value: &Option<Value>) -> Result<Json, Refusal>
+    ensures printed { IfOk result (λ json. view json ≡ printed_change value.now) }
+    ensures only { IsOkUnless result Refusal.NoMemory }
+{
+    match value {
+        Some(value) => write_value(alloc, value),
+        None => Ok(Json::Null),
+    }
+}
