@@ -7,3 +7,4 @@ mod Replying
 mod Feeding
 mod Streams
 mod Whole
+mod Worked

@@ -1,6 +1,11 @@
 //! Laws of what comes of a session's input. Each is a function that does nothing: its contract is the law.
-ghost use Rattle.std.specs.Prelude.{◌≡◌, ◌≤◌, ◌<◌, ◌++◌, ◌∷◌, ℕ, List, [], Some, length};
-ghost use Rattle.refusal.specs.declared.Refusal.TheVariants.{LineTooLong};
+ghost use Rattle.std.specs.Prelude.{◌≡◌, ◌≤◌, ◌<◌, ◌++◌, ◌∷◌, ℕ, List, [], Some, length, codes};
+ghost use Rattle.refusal.specs.declared.Refusal.TheVariants.{LineTooLong, Exists};
+ghost use Rattle.document.specs.Delta.{inserting};
+ghost use Rattle.serde_json.specs.Written.{compact_text};
+ghost use Rattle.server.specs.declared.session.reply.Reply.TheVariants.{Taken, Again};
+ghost use Rattle.server.specs.Dump as dump;
+ghost use Rattle.server.specs.Reply.{greeting, acknowledgement, line_of};
 ghost use Rattle.server.specs.Line.{HasNoEnd};
 ghost use Rattle.server.specs.Session.{Session};
 ghost use Rattle.server.specs.Replies.{Exchange, Replies, IsReplied, IsLine, refusal_line};
@@ -28,4 +33,13 @@ pub fn long_line()
     ensures { (line : List ℕ) (old new : Session) (asked : List Exchange) (text : List ℕ)
         → old.line ≡ Some [] → HasNoEnd line → 65536 < length line → Replies old (line ++ 10 ∷ []) asked new text
         → (asked ≡ []) × (new ≡ old) × IsLine (refusal_line LineTooLong) text }
+{}
+
+/// Lines as they are written: the replies to hello and to a creation, a refusal, and a document's line.
+pub fn worked_lines()
+    ensures hello { line_of greeting ≡ codes "{\"ok\":\"hello\"}\n" }
+    ensures taken { line_of (acknowledgement (codes "d") 1 (Taken 1)) ≡ codes "{\"doc\":\"d\",\"n\":1,\"ok\":\"taken\",\"rev\":1}\n" }
+    ensures again { line_of (acknowledgement (codes "d") 1 (Again 1)) ≡ codes "{\"doc\":\"d\",\"n\":1,\"ok\":\"again\",\"rev\":1}\n" }
+    ensures exists { refusal_line Exists ≡ codes "{\"code\":7,\"error\":\"Exists\"}\n" }
+    ensures printed { dump.line_of (codes "d") 1 0 (compact_text (dump.content (inserting (codes "z")))) ≡ codes "d 1 0 {\"ops\":[{\"insert\":\"z\"}]}\n" }
 {}
