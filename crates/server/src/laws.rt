@@ -1,6 +1,11 @@
 //! Laws of what comes of a session's input. Each is a function that does nothing: its contract is the law.
-ghost use Rattle.std.specs.Prelude.{◌≡◌, ◌≤◌, ◌<◌, ◌++◌, ◌∷◌, ℕ, List, [], Some, length};
-ghost use Rattle.refusal.specs.declared.Refusal.TheVariants.{LineTooLong};
+ghost use Rattle.std.specs.Prelude.{◌≡◌, ◌≤◌, ◌<◌, ◌++◌, ◌∷◌, ℕ, List, [], Some, length, codes};
+ghost use Rattle.refusal.specs.declared.Refusal.TheVariants.{LineTooLong, Exists};
+ghost use Rattle.plain.specs.Delta.{inserting};
+ghost use Rattle.serde_json.specs.Written.{compact_text};
+ghost use Rattle.server.specs.declared.session.reply.Reply.TheVariants.{Taken, Again};
+ghost use Rattle.server.specs.Dump as dump;
+ghost use Rattle.server.specs.Reply.{greeting, acknowledgement, line_of};
 ghost use Rattle.server.specs.Line.{HasNoEnd};
 ghost use Rattle.server.specs.Asked.{AskedKeepsAll};
 ghost use Rattle.server.specs.Session.{Session};
@@ -33,9 +38,19 @@ pub fn long_line()
         → (asked ≡ []) × (new ≡ old) × IsLine (refusal_line LineTooLong) text }
 {}
 
+<<<<<<< HEAD
 /// Whatever is asked of a desk over a store that is open, one command after another: the store holds all that was
 /// answered as taken, a crash at any moment leaves what was answered by then, with or without the command that was
 /// being answered, and a crash after all of them leaves all that was answered as taken.
 pub fn asked_keeps_all<D: Disk>()
     ensures { AskedKeepsAll ⟦<D as Disk>⟧ }
+=======
+/// Lines as they are written: the replies to hello and to a creation, a refusal, and a document's line.
+pub fn worked_lines()
+    ensures hello { line_of greeting ≡ codes "{\"ok\":\"hello\"}\n" }
+    ensures taken { line_of (acknowledgement (codes "d") 1 (Taken 1)) ≡ codes "{\"doc\":\"d\",\"n\":1,\"ok\":\"taken\",\"rev\":1}\n" }
+    ensures again { line_of (acknowledgement (codes "d") 1 (Again 1)) ≡ codes "{\"doc\":\"d\",\"n\":1,\"ok\":\"again\",\"rev\":1}\n" }
+    ensures exists { refusal_line Exists ≡ codes "{\"code\":7,\"error\":\"Exists\"}\n" }
+    ensures printed { dump.line_of (codes "d") 1 0 (compact_text (dump.content (inserting (codes "z")))) ≡ codes "d 1 0 {\"ops\":[{\"insert\":\"z\"}]}\n" }
+>>>>>>> 2aabc5471da801982bd960d485783a09bffab3c0
 {}

@@ -1,8 +1,13 @@
 //! The program `richd`, as a call over its words and its standard streams.
 //!
-//! `run` reads the words and makes, serves or prints the store of a file. It stands on `recovery` for the store, on
-//! `journal` for what becomes of a command, and on `disk` for the file. Operations as JSON (`optext`) and the lines of
-//! a session (`session`) are modules of this crate until they are crates of their own.
+//! `run` reads the words and makes, serves or prints the store of a file. A served session writes what comes of the
+//! lines of its input, with the answers of its desk (`specs/Replies.antt`, `specs/Serving.antt`); the desk answers from
+//! its store, and acknowledges a command when it is on the device (`specs/Desk.antt`); `dump` writes each document's
+//! line (`specs/Dump.antt`). What a line's text and its end are, and that pieces don't matter, is in `laws`.
+//!
+//! It stands on `recovery` for the store, on `journal` for what becomes of a command, and on `disk` for the file.
+//! Operations as JSON (`optext`) and the lines of a session (`session`) are modules of this crate until they are crates
+//! of their own.
 #![tactic(auto)]
 
 mod desk;

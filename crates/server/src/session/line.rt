@@ -76,7 +76,7 @@ impl Line {
         Event::More
     }
 
-    /// The bytes, none of a line that is dropped.
+    /// The bytes of a line that is not dropped.
     pub fn bytes(&self) -> &[u8]
         ensures { IfSome self.now (λ bytes. result.now ≡ bytes) }
     {
