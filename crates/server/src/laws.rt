@@ -38,13 +38,11 @@ pub fn long_line()
         → (asked ≡ []) × (new ≡ old) × IsLine (refusal_line LineTooLong) text }
 {}
 
-<<<<<<< HEAD
 /// Whatever is asked of a desk over a store that is open, one command after another: the store holds all that was
 /// answered as taken, a crash at any moment leaves what was answered by then, with or without the command that was
 /// being answered, and a crash after all of them leaves all that was answered as taken.
 pub fn asked_keeps_all<D: Disk>()
     ensures { AskedKeepsAll ⟦<D as Disk>⟧ }
-=======
 /// Lines as they are written: the replies to hello and to a creation, a refusal, and a document's line.
 pub fn worked_lines()
     ensures hello { line_of greeting ≡ codes "{\"ok\":\"hello\"}\n" }
@@ -52,5 +50,4 @@ pub fn worked_lines()
     ensures again { line_of (acknowledgement (codes "d") 1 (Again 1)) ≡ codes "{\"doc\":\"d\",\"n\":1,\"ok\":\"again\",\"rev\":1}\n" }
     ensures exists { refusal_line Exists ≡ codes "{\"code\":7,\"error\":\"Exists\"}\n" }
     ensures printed { dump.line_of (codes "d") 1 0 (compact_text (dump.content (inserting (codes "z")))) ≡ codes "d 1 0 {\"ops\":[{\"insert\":\"z\"}]}\n" }
->>>>>>> 2aabc5471da801982bd960d485783a09bffab3c0
 {}
