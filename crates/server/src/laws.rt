@@ -43,6 +43,8 @@ pub fn long_line()
 /// being answered, and a crash after all of them leaves all that was answered as taken.
 pub fn asked_keeps_all<D: Disk>()
     ensures { AskedKeepsAll ⟦<D as Disk>⟧ }
+{}
+
 /// Lines as they are written: the replies to hello and to a creation, a refusal, and a document's line.
 pub fn worked_lines()
     ensures hello { line_of greeting ≡ codes "{\"ok\":\"hello\"}\n" }
