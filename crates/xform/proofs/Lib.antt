@@ -1,4 +1,5 @@
 pub mod Afterwards
+pub mod AtEachPlace
 pub mod Places
 pub mod Heads
 pub mod Trimming
