@@ -1,5 +1,5 @@
 //! What holds of two deltas of one document, as contracts to cite: each function does nothing and promises one law.
-ghost use Rattle.xform.specs.Laws.{BothWays, DefinedAfter, BothAtEachPlace};
+ghost use Rattle.xform.specs.Laws.{BothWays, DefinedAfter, BothAtEachPlace, PlaceBetween};
 
 /// One delta and then the other after it, in either order, is both at once.
 pub fn both_ways()
@@ -14,4 +14,9 @@ pub fn defined_after()
 /// Both deltas at once, place by place.
 pub fn both_at_each_place()
     ensures { BothAtEachPlace }
+{}
+
+/// Where a place goes, told by the document.
+pub fn place_between()
+    ensures { PlaceBetween }
 {}
