@@ -1,4 +1,6 @@
 pub mod Afterwards
+pub mod AtEachPlace
+pub mod Between
 pub mod Places
 pub mod Heads
 pub mod Trimming

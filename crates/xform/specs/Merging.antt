@@ -37,7 +37,7 @@ made_of (Retain m c) (Retain n e) k priority = retain k (transformed c.now e.now
 made_of End (Retain n e) k priority = retain k e.now ∷ []
 made_of one two k priority = []
 
--- whose turn it is: an insert of the first, an insert of the second, or units that neither inserts
+-- what a turn makes: units that the first inserts are kept, and the second's insert stands
 abbrev pub made_by : Turn → Bool → List Operation
 made_by (First op) priority = retain (op_out op.now) empty ∷ []
 made_by (Second op) priority = op.now ∷ []
@@ -61,6 +61,10 @@ pub record IsNext (a b made a2 b2 : List Operation) (priority : Bool) : Type 0 w
   pub second_filled : IsFilled b → IsFilled b2
   pub room : base_of made + (out_of a2 + base_of b2) ≤ out_of a + base_of b
   pub shorter : length a2 + length b2 < length a + length b
+
+-- a turn that may be taken
+abbrev pub IsTurn : List Operation → List Operation → Bool → Turn → Type 0
+IsTurn a b priority turn = IsNext a b (made_by turn priority) (first_after turn a) (second_after turn b) priority
 
 -- operations were made, and units are held back; with what is left of both they settle to the second after the first
 pub record IsMerged (first second : List Operation) (priority : Bool) (a b : List Operation) (plain : ℕ) (made : List Operation) : Type 0 where

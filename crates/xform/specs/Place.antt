@@ -1,5 +1,5 @@
 -- Where a place of a document is after a delta (quill-delta's README, "transformPosition()").
-use Rattle.std.specs.Prelude.{ℕ, zero, suc, ◌+◌, Bool, List, length, if◌then◌else◌}
+use Rattle.std.specs.Prelude.{ℕ, zero, suc, ◌+◌, Bool, List, [], length, if◌then◌else◌}
 use Rattle.delta.specs.Element.{Element}
 use Rattle.delta.specs.Gaps.{Gaps, End, Gap, Fate, Del, Keep}
 
@@ -18,3 +18,16 @@ place (End xs) zero priority = moved_by xs priority
 place (End xs) (suc i) priority = length xs + suc i
 place (Gap xs f g) zero priority = moved_by xs priority
 place (Gap xs f g) (suc i) priority = length xs + (units_left f + place g i priority)
+
+-- the delta up to a place, and from there on: what is inserted just there stands before it, but where the place has priority
+abbrev pub up_to : Gaps → ℕ → Bool → Gaps
+up_to (End xs) zero priority = End (if priority then [] else xs)
+up_to (End xs) (suc i) priority = End xs
+up_to (Gap xs f g) zero priority = End (if priority then [] else xs)
+up_to (Gap xs f g) (suc i) priority = Gap xs f (up_to g i priority)
+
+abbrev pub onward : Gaps → ℕ → Bool → Gaps
+onward (End xs) zero priority = End (if priority then xs else [])
+onward (End xs) (suc i) priority = End []
+onward (Gap xs f g) zero priority = Gap (if priority then xs else []) f g
+onward (Gap xs f g) (suc i) priority = onward g i priority

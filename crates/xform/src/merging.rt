@@ -6,7 +6,7 @@ ghost use Rattle.delta.specs.Gaps.{Gaps, counted, joined};
 ghost use Rattle.delta.specs.Normal.{built, nf, settled};
 ghost use Rattle.xform.specs.After.{after};
 ghost use Rattle.xform.specs.Cursor.{rest, IsFilled};
-ghost use Rattle.xform.specs.Merging.{held_back, listed, shared, made_of, made_by, first_after, second_after, IsNext, IsUnderWay, ops_left, IsDue};
+ghost use Rattle.xform.specs.Merging.{held_back, listed, shared, made_of, made_by, first_after, second_after, IsTurn, IsUnderWay, ops_left, IsDue};
 
 use crate::cursor::{Cursor, Head};
 use attributes::Change;
@@ -72,7 +72,7 @@ fn next_turn<'a>(first: &'a [Op], second: &'a [Op], at: Progress, priority: bool
     requires first { IsFilled (rest at.first first.now) }
     requires second { IsFilled (rest at.second second.now) }
     requires more { rest at.second second.now ≢ [] }
-    ensures next { IsNext (rest at.first first.now) (rest at.second second.now) (made_by result priority) (first_after result (rest at.first first.now)) (second_after result (rest at.second second.now)) priority }
+    ensures next { IsTurn (rest at.first first.now) (rest at.second second.now) priority result }
     ensures filled { IsFilled (made_by result priority) }
 {
     let one = at.first.head(first);
@@ -162,9 +162,12 @@ fn made_of_both(
 fn give(alloc: Global, out: &mut Builder, plain: u64, op: Option<Op>) -> Result<u64, Refusal>
     requires room { plain + base_of (listed op) < 2 ^ 64 }
     requires filled { IsFilled (listed op) }
-    ensures ok { IfOk result (λ left. settled (counted (held_back out.new left)) ≡ settled (counted (held_back out.old plain ++ listed op))) }
+    ensures ok { IfOk result (λ left.
+        settled (counted (held_back out.new left)) ≡ settled (counted (held_back out.old plain ++ listed op))) }
     ensures room { IfOk result (λ left. left ≤ plain + base_of (listed op)) }
-    ensures err { IfErr result (λ e. (rest : Gaps) → IsDue (nf (joined (counted (held_back out.old plain ++ listed op)) rest)) e) }
+    // the operation stays, whatever follows it
+    ensures err { IfErr result (λ e.
+        (rest : Gaps) → IsDue (nf (joined (counted (held_back out.old plain ++ listed op)) rest)) e) }
 {
     let Some(op) = op else {
         return Ok(plain);

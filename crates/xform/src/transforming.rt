@@ -22,7 +22,8 @@ pub fn transform(
 ) -> Result<Delta, Refusal>
     ensures delta { IfOk result (λ delta. delta ≡ nf (after (counted first.now) (counted second.now) priority)) }
     ensures bounded { OnOk result (IsBounded (nf (after (counted first.now) (counted second.now) priority))) }
-    ensures bad { result ≡ Err Refusal.BadOps → ¬ (IsBounded (nf (after (counted first.now) (counted second.now) priority))) }
+    ensures bad { result ≡ Err Refusal.BadOps
+        → ¬ (IsBounded (nf (after (counted first.now) (counted second.now) priority))) }
     ensures only { IfErr result (λ e. (e ≡ Refusal.BadOps) ⊎ (e ≡ Refusal.NoMemory)) }
 {
     let one = first.ops();
