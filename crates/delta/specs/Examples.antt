@@ -2,8 +2,8 @@
 use Rattle.std.specs.Prelude.{◌≡◌, ℕ, true, List, [], ◌∷◌, refl, codes}
 use Rattle.attributes.specs.Map.{empty, insert}
 use Rattle.attributes.specs.Attributes.{Attributes, Changes}
-use Rattle.attributes.specs.Scalar.{Scalar, flag_scalar}
-use Rattle.delta.specs.Operation.{Operation, insert_text, insert_embed, retain, delete}
+use Rattle.attributes.specs.Scalar.{flag_scalar}
+use Rattle.delta.specs.Operation.{Operation, insert_text, retain, delete}
 use Rattle.delta.specs.Gaps.{counted}
 use Rattle.delta.specs.Normal.{nf, built}
 

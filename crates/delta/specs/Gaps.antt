@@ -1,5 +1,5 @@
 -- Counting out: what a delta does at each place, unit by unit, however its operations are cut.
-use Rattle.std.specs.Prelude.{ℕ, zero, suc, ◌+◌, List, [], ◌∷◌, ◌++◌, length}
+use Rattle.std.specs.Prelude.{ℕ, zero, suc, List, [], ◌∷◌, ◌++◌}
 use Rattle.attributes.specs.Attributes.{Changes, changed}
 use Rattle.delta.specs.Element.{Element, letters, embedded}
 use Rattle.delta.specs.Operation.{Operation, insert_text, insert_embed, retain, delete}

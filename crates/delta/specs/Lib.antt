@@ -4,3 +4,4 @@ pub mod Gaps
 pub mod Normal
 pub mod Laws
 mod Examples
+mod EffectExamples

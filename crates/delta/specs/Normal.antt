@@ -1,8 +1,7 @@
 -- Normal form: the one spelling of what a delta does (quill-delta's `Delta` merges and orders its operations so as they are pushed).
-use Rattle.std.specs.Prelude.{◌≡◌, ℕ, zero, suc, ◌<◌, Bool, true, false, not, ◌&&◌, IsTrue, List, [], ◌∷◌, ◌++◌, is_none, nat_lt, if◌then◌else◌}
+use Rattle.std.specs.Prelude.{ℕ, suc, Bool, true, false, not, ◌&&◌, IsTrue, List, [], ◌∷◌, is_none, nat_lt, if◌then◌else◌}
 use Rattle.attributes.specs.Map.{empty}
-use Rattle.attributes.specs.Attributes.{Attributes, Changes, same_attributes, same_changes}
-use Rattle.attributes.specs.Scalar.{Scalar}
+use Rattle.attributes.specs.Attributes.{Attributes, same_attributes, same_changes}
 use Rattle.delta.specs.Element.{Element, Item, code_unit, embed}
 use Rattle.delta.specs.Operation.{Operation, insert_text, insert_embed, retain, delete, op_len, is_insert, is_delete, is_plain, merged}
 use Rattle.delta.specs.Gaps.{Gaps, End, Gap, Fate, Del, Keep, front, counted}

@@ -1,2 +1,4 @@
 //! Deltas in normal form.
 #![tactic(auto)]
+
+pub mod laws;

@@ -1,0 +1,5 @@
+use Rattle.delta.proofs.Parts.{effect_of_text}
+use Rattle.delta.proofs.laws.effect_of_text.Goals as goal
+
+pub returns : goal.returns
+returns c = effect_of_text
