@@ -1,0 +1,5 @@
+pub mod Pairs
+pub mod Places
+pub mod Weight
+pub mod Laws
+mod Examples

@@ -1,0 +1,3 @@
+//! Documents of rich text.
+#![tactic(auto)]
+
