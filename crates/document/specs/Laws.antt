@@ -3,7 +3,6 @@ use Rattle.std.specs.Prelude.{◌≡◌, ◌+◌, ◌-◌, ◌≤◌, List, ◌+
 use Rattle.delta.specs.Element.{Element}
 use Rattle.delta.specs.Operation.{Operation, base_of, out_of}
 use Rattle.delta.specs.Gaps.{Gaps, counted, apply}
-use Rattle.delta.specs.Laws.{HaveSameEffect}
 use Rattle.delta.specs.Normal.{nf}
 use Rattle.document.specs.Pairs.{IsWellFormed}
 use Rattle.document.specs.Places.{IsDefined, Cuts, InsertsWellFormed}
@@ -14,7 +13,7 @@ StaysWellFormed = (d : List Element) (g : Gaps) → IsWellFormed d → InsertsWe
 
 -- the document after a delta depends on the delta's effect alone: on its normal form
 abbrev pub EffectAlone : Type 0
-EffectAlone = (d : List Element) (a b : List Operation) → nf (counted a) ≡ nf (counted b) → apply d (counted a) ≡ apply d (counted b)
+EffectAlone = (d : List Element) (g h : Gaps) → nf g ≡ nf h → apply d g ≡ apply d h
 
 -- the length of a document after a delta
 abbrev pub LengthAfter : Type 0

@@ -1,3 +1,4 @@
 //! Documents of rich text.
 #![tactic(auto)]
 
+pub mod laws;
