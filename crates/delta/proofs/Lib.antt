@@ -9,3 +9,8 @@ pub mod Lengths
 pub mod Parts
 pub mod Telling
 pub mod SameEffects
+pub mod Folding
+pub mod Pushing
+pub mod Places
+pub mod Pushed
+pub mod Ends

@@ -1,8 +1,10 @@
 -- Operations of a delta (quill-delta's README, "Operations"), their lengths, and which neighbours are merged.
-use Rattle.std.specs.Prelude.{ℕ, ◌+◌, ◌≤◌, ◌^◌, Bool, true, false, List, [], ◌∷◌, ◌++◌, length, Option, Some, None, if◌then◌else◌}
-use Rattle.attributes.specs.Map.{empty}
+use Rattle.std.specs.Prelude.{◌≡◌, ℕ, ◌+◌, ◌≤◌, ◌^◌, Bool, true, false, List, [], ◌∷◌, ◌++◌, length, Option, Some, None, if◌then◌else◌, refl}
+use Rattle.std.specs.Coded.{Coded, code_by, coded×, coded⊎, coded_list, coded_ℕ, coded_option}
+use Rattle.std.proofs.Common.{◌⊎◌, inl, inr}
+use Rattle.attributes.specs.Map.{empty, map_code}
 use Rattle.attributes.specs.Attributes.{Attributes, Changes, same_attributes, same_changes}
-use Rattle.attributes.specs.Scalar.{Scalar}
+use Rattle.attributes.specs.Scalar.{Scalar, scalar_code}
 
 -- insert a text, by its code units, or an embed; keep units, with a change of their attributes; delete units
 pub data Operation : Type 0 where
@@ -10,6 +12,32 @@ pub data Operation : Type 0 where
   insert_embed : List ℕ → Scalar → Attributes → Operation
   retain : ℕ → Changes → Operation
   delete : ℕ → Operation
+
+-- how an operation is told from every other
+abbrev pub Parts : Type 0
+Parts = (List ℕ × Attributes) ⊎ ((List ℕ × (Scalar × Attributes)) ⊎ ((ℕ × Changes) ⊎ ℕ))
+
+abbrev pub parts : Operation → Parts
+parts (insert_text us a) = inl (us, a)
+parts (insert_embed key value a) = inr (inl (key, (value, a)))
+parts (retain n c) = inr (inr (inl (n, c)))
+parts (delete n) = inr (inr (inr n))
+
+abbrev pub of_parts : Parts → Operation
+of_parts (inl p) = insert_text p.0 p.1
+of_parts (inr (inl p)) = insert_embed p.0 p.1.0 p.1.1
+of_parts (inr (inr (inl p))) = retain p.0 p.1
+of_parts (inr (inr (inr n))) = delete n
+
+pub of_parts-parts : (op : Operation) → of_parts (parts op) ≡ op
+of_parts-parts (insert_text us a) = refl
+of_parts-parts (insert_embed key value a) = refl
+of_parts-parts (retain n c) = refl
+of_parts-parts (delete n) = refl
+
+abbrev pub operation_code : Coded Operation
+operation_code =
+    code_by Parts (coded⊎ (coded× (coded_list coded_ℕ) (map_code scalar_code)) (coded⊎ (coded× (coded_list coded_ℕ) (coded× scalar_code (map_code scalar_code))) (coded⊎ (coded× coded_ℕ (map_code (coded_option scalar_code))) coded_ℕ))) parts of_parts of_parts-parts
 
 -- how many units it inserts, keeps or deletes
 abbrev pub op_len : Operation → ℕ

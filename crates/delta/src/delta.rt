@@ -1,0 +1,92 @@
+//! Deltas.
+ghost use Rattle.std.specs.Prelude.{◌≡◌, IfOk, IsOkUnless};
+ghost use Rattle.delta.specs.Operation.{base_of, out_of, IsBounded};
+ghost use Rattle.delta.specs.Normal.{IsNormal};
+
+use crate::op::Op;
+use refusal::Refusal;
+use std::alloc::Global;
+use std::marker::Model;
+
+/// A delta: operations in normal form. Its base length and its output length are each at most 2^48 UTF-16 code units.
+#[derive(Drop)]
+pub struct Delta {
+    ops: Vec<Op>,
+    base: u64,
+    out: u64,
+}
+
+impl Model for Delta {
+    ghost use Rattle.std.specs.Prelude.{◌≡◌, List};
+    ghost use Rattle.std.specs.Coded.{coded_list};
+    ghost use Rattle.delta.specs.Operation.{Operation, operation_code, base_of, out_of, IsBounded};
+    ghost use Rattle.delta.specs.Normal.{IsNormal};
+
+    ghost Value = { List Operation };
+
+    ghost coded = { coded_list operation_code };
+
+    ghost view = { λ d. d.ops.items };
+
+    ghost invariant = { λ d. IsNormal d.ops.items × IsBounded d.ops.items × (d.base ≡ base_of d.ops.items) × (d.out ≡ out_of d.ops.items) };
+}
+
+impl Delta {
+    // the delta of operations in normal form, with their two lengths
+    pub(crate) fn of(ops: Vec<Op>, base: u64, out: u64) -> Self
+        requires normal { IsNormal ops.items }
+        requires bounded { IsBounded ops.items }
+        requires base { base ≡ base_of ops.items }
+        requires out { out ≡ out_of ops.items }
+        ensures { result ≡ ops.items }
+    {
+        Delta { ops, base, out }
+    }
+
+    /// The operations.
+    pub fn ops(&self) -> &[Op]
+        ensures ops { result.now ≡ self.now }
+        ensures normal { IsNormal self.now }
+        ensures bounded { IsBounded self.now }
+    {
+        self.ops.as_slice()
+    }
+
+    /// The base length: how many code units are retained and deleted. Constant time.
+    pub fn base_len(&self) -> u64
+        ensures { result ≡ base_of self.now }
+    {
+        self.base
+    }
+
+    /// The output length: how many code units are inserted and retained. Constant time.
+    pub fn out_len(&self) -> u64
+        ensures { result ≡ out_of self.now }
+    {
+        self.out
+    }
+
+    /// An equal delta.
+    pub fn copy(&self, alloc: Global) -> Result<Self, Refusal>
+        ensures same { IfOk result (λ delta. delta ≡ self.now) }
+        ensures only { IsOkUnless result Refusal.NoMemory }
+    {
+        let ops = copy_ops(alloc, self.ops.as_slice())?;
+        Ok(Delta {
+            ops,
+            base: self.base,
+            out: self.out,
+        })
+    }
+}
+
+fn copy_ops(alloc: Global, ops: &[Op]) -> Result<Vec<Op>, Refusal>
+    ensures same { IfOk result (λ copy. copy.items ≡ ops.now) }
+    ensures only { IsOkUnless result Refusal.NoMemory }
+{
+    let mut copy = Vec::with_capacity(alloc, ops.len())?;
+    for op in ops {
+        copy.push(op.copy(alloc)?)?;
+    }
+    Ok(copy)
+}

@@ -1,0 +1,229 @@
+//! Operations of a delta.
+ghost use Rattle.std.specs.Prelude.{◌≡◌, ◌+◌, ◌<◌, ◌^◌, ◌↔◌, ◌⊎◌, ◌++◌, IfOk, OnOk, OnErr, IfErr, IsOkUnless, MatchOption, MatchBool, false};
+ghost use Rattle.std.specs.String.{string_bytes};
+ghost use Rattle.utf16.specs.Units.{units_of};
+ghost use Rattle.attributes.specs.Attributes.{IsKey};
+ghost use Rattle.attributes.specs.Map.{empty};
+ghost use Rattle.delta.specs.Operation.{insert_text, insert_embed, retain, delete, op_base, op_out, is_insert, is_delete, is_plain, merged};
+
+use attributes::{Attrs, Change, Key, Value};
+use refusal::Refusal;
+use std::alloc::Global;
+use std::marker::Model;
+use utf16::len16;
+
+/// One operation: insert a text or an embed, retain units, or delete units. Lengths count UTF-16 code units; an embed
+/// has length 1.
+#[derive(Drop)]
+pub struct Op {
+    kind: Kind,
+}
+
+#[derive(Drop)]
+enum Kind {
+    Text(String, Attrs),
+    Embed(Key, Value, Attrs),
+    Retain(u64, Change),
+    Delete(u64),
+}
+
+/// An operation as it is, to match on.
+#[derive(Clone, Copy)]
+pub enum OpRef<'a> {
+    /// Insert a text with attributes.
+    Text(&'a str, &'a Attrs),
+    /// Insert an embed, by its name and value, with attributes.
+    Embed(&'a Key, &'a Value, &'a Attrs),
+    /// Keep so many code units, with a change of their attributes.
+    Retain(u64, &'a Change),
+    /// Delete so many code units.
+    Delete(u64),
+}
+
+impl Model for Op {
+    ghost use Rattle.delta.specs.Operation.{Operation, operation_code};
+
+    ghost Value = { Operation };
+
+    ghost coded = { operation_code };
+
+    ghost use Rattle.delta.specs.Kind.{operation_of_kind};
+
+    ghost view = { λ op. operation_of_kind op.kind };
+}
+
+impl Op {
+    ghost use Rattle.delta.specs.Kind.{operation_of};
+
+    /// Inserts a text.
+    pub fn text(text: String, attrs: Attrs) -> Self
+        ensures { result ≡ insert_text (units_of (string_bytes text)) attrs }
+    {
+        Op {
+            kind: Kind::Text(text, attrs),
+        }
+    }
+
+    /// Inserts an embed; refused as BadOps where its name has no byte or more than 64.
+    pub fn embed(alloc: Global, name: &str, value: Value, attrs: Attrs) -> Result<Self, Refusal>
+        ensures embed { IfOk result (λ op. op ≡ insert_embed name.now value attrs) }
+        ensures kept { OnOk result (IsKey name.now) }
+        ensures bad { (result ≡ Err Refusal.BadOps) ↔ ¬ (IsKey name.now) }
+        ensures only { IfErr result (λ e. (e ≡ Refusal.BadOps) ⊎ (e ≡ Refusal.NoMemory)) }
+    {
+        match Key::new(alloc, name) {
+            Ok(key) => Ok(Op {
+                kind: Kind::Embed(key, value, attrs),
+            }),
+            Err(refusal) => Err(refusal),
+        }
+    }
+
+    /// Keeps so many code units, with a change of their attributes.
+    pub fn retain(len: u64, change: Change) -> Self
+        ensures { result ≡ retain len change }
+    {
+        Op {
+            kind: Kind::Retain(len, change),
+        }
+    }
+
+    /// Deletes so many code units.
+    pub fn delete(len: u64) -> Self
+        ensures { result ≡ delete len }
+    {
+        Op {
+            kind: Kind::Delete(len),
+        }
+    }
+
+    /// The operation as it is.
+    pub fn get(&self) -> OpRef<'_>
+        ensures { operation_of result ≡ self.now }
+    {
+        match &self.kind {
+            Kind::Text(text, attrs) => OpRef::Text(text.as_str(), attrs),
+            Kind::Embed(name, value, attrs) => OpRef::Embed(name, value, attrs),
+            Kind::Retain(len, change) => OpRef::Retain(*len, change),
+            Kind::Delete(len) => OpRef::Delete(*len),
+        }
+    }
+
+    /// How many code units of the document before it the operation stands on: what it retains or deletes.
+    pub fn base_len(&self) -> u64
+        ensures { result ≡ op_base self.now }
+    {
+        match &self.kind {
+            Kind::Text(_, _) | Kind::Embed(_, _, _) => 0,
+            Kind::Retain(len, _) => *len,
+            Kind::Delete(len) => *len,
+        }
+    }
+
+    /// How many code units of the document after it the operation makes up: what it inserts or retains.
+    pub fn out_len(&self) -> u64
+        ensures { result ≡ op_out self.now }
+    {
+        match &self.kind {
+            Kind::Text(text, _) => len16(text.as_str()),
+            Kind::Embed(_, _, _) => 1,
+            Kind::Retain(len, _) => *len,
+            Kind::Delete(_) => 0,
+        }
+    }
+
+    pub(crate) fn is_insert(&self) -> bool
+        ensures { result ≡ is_insert self.now }
+    {
+        match &self.kind {
+            Kind::Text(_, _) | Kind::Embed(_, _, _) => true,
+            Kind::Retain(_, _) | Kind::Delete(_) => false,
+        }
+    }
+
+    pub(crate) fn is_delete(&self) -> bool
+        ensures { result ≡ is_delete self.now }
+    {
+        match &self.kind {
+            Kind::Delete(_) => true,
+            Kind::Text(_, _) | Kind::Embed(_, _, _) | Kind::Retain(_, _) => false,
+        }
+    }
+
+    // the length of a retain without attributes
+    pub(crate) fn plain_len(&self) -> Option<u64>
+        ensures { MatchOption result (is_plain self.now ≡ false) (λ len. self.now ≡ retain len empty) }
+    {
+        match &self.kind {
+            Kind::Retain(len, change) => { if change.is_empty() { Some(*len) } else { None } }
+            Kind::Text(_, _) | Kind::Embed(_, _, _) | Kind::Delete(_) => None,
+        }
+    }
+
+    // takes the next operation in, where they merge, and says whether they do
+    pub(crate) fn merge(&mut self, next: &Op) -> Result<bool, Refusal>
+        requires { op_base self.old + op_base next.now < 2 ^ 64 }
+        ensures ok { IfOk result (λ yes. MatchBool yes (merged self.old next.now ≡ Some self.new) ((merged self.old next.now ≡ None) × (self.new ≡ self.old))) }
+        ensures err { OnErr result (self.new ≡ self.old) }
+        ensures only { IsOkUnless result Refusal.NoMemory }
+    {
+        match (&mut self.kind, &next.kind) {
+            (Kind::Text(text, attrs), Kind::Text(more, others)) => {
+                let same = *attrs == *others;
+                if same {
+                    append(text, more.as_str())?;
+                }
+                Ok(same)
+            }
+            (Kind::Retain(len, change), Kind::Retain(more, other)) => {
+                let same = *change == *other;
+                if same {
+                    *len += *more;
+                }
+                Ok(same)
+            }
+            (Kind::Delete(len), Kind::Delete(more)) => {
+                *len += *more;
+                Ok(true)
+            }
+            _ => Ok(false),
+        }
+    }
+
+    /// An equal operation.
+    pub fn copy(&self, alloc: Global) -> Result<Self, Refusal>
+        ensures same { IfOk result (λ op. op ≡ self.now) }
+        ensures only { IsOkUnless result Refusal.NoMemory }
+    {
+        let kind = match &self.kind {
+            Kind::Text(text, attrs) => Kind::Text(
+                copy_text(alloc, text.as_str())?,
+                attrs.copy(alloc)?,
+            ),
+            Kind::Embed(name, value, attrs) => {
+                Kind::Embed(name.copy(alloc)?, value.copy(alloc)?, attrs.copy(alloc)?)
+            }
+            Kind::Retain(len, change) => Kind::Retain(*len, change.copy(alloc)?),
+            Kind::Delete(len) => Kind::Delete(*len),
+        };
+        Ok(Op { kind })
+    }
+}
+
+// a text with another at its end
+fn append(text: &mut String, more: &str) -> Result<(), Refusal>
+    ensures ok { OnOk result (units_of (string_bytes text.new) ≡ units_of (string_bytes text.old) ++ units_of more.now) }
+    ensures err { OnErr result (string_bytes text.new ≡ string_bytes text.old) }
+    ensures only { IsOkUnless result Refusal.NoMemory }
+{
+    let _ = text.as_str();
+    text.push_str(more)?;
+    Ok(())
+}
+
+fn copy_text(alloc: Global, text: &str) -> Result<String, Refusal>
+    ensures same { IfOk result (λ copy. string_bytes copy ≡ text.now) }
+    ensures only { IsOkUnless result Refusal.NoMemory }
+{
+    Ok(String::from_str(alloc, text)?)
+}
