@@ -1,5 +1,5 @@
 -- Well-formed documents, from the front: single units and pairs, one after another.
-use Rattle.std.proofs.Common.{◌≡◌, ℕ, zero, suc, Bool, true, false, IsTrue, List, [], ◌∷◌, ◌++◌, ◌⊎◌, inl, inr, refl, sym, arith}
+use Rattle.std.proofs.Common.{◌≡◌, ℕ, zero, suc, Bool, true, false, IsTrue, List, [], ◌∷◌, ◌++◌, ◌⊎◌, length, inl, inr, refl, sym, arith}
 use Rattle.std.proofs.lemmas.Bool.{and_parts, leb-true, ltb-true, false≢true}
 use Rattle.std.specs.Char.Utf16.{is_high_surrogate, is_low_surrogate}
 use Rattle.delta.specs.Element.{Element, Item, code_unit, embed}
@@ -105,3 +105,53 @@ formed-of_well_formed (x ∷ y ∷ d) formed =
           inr (pair, formed-of_well_formed d (after_pair x y d pair formed))
       | inr other ↦ inl ((other, λ h. formed.low zero h), formed-of_well_formed (y ∷ d) (after_other x y d other formed))
     ]
+
+pub IsWellFormed-append : (a b : List Element) → IsWellFormed a → IsWellFormed b → IsWellFormed (a ++ b)
+IsWellFormed-append a b fa fb =
+    well_formed-of_formed (a ++ b) (Formed-append a b (formed-of_well_formed a fa) (formed-of_well_formed b fb))
+
+-- no pair is parted at the end of what is well formed
+IsWithinPair-later : (x : Element) (d : List Element) (i : ℕ) → IsWithinPair (x ∷ d) (suc (suc i)) → IsWithinPair d (suc i)
+IsWithinPair-later x d i within = IsPairAt-earlier x d i within
+
+Formed-seam : (a b : List Element) → Formed a → ¬ (IsWithinPair (a ++ b) (length a))
+Formed-seam [] b formed within = within
+Formed-seam (x ∷ []) [] formed within = within
+Formed-seam (x ∷ []) (y ∷ b) formed within = formed.0 within.0
+Formed-seam (x ∷ y ∷ a) b (inl single) within = Formed-seam (y ∷ a) b single.1 (IsWithinPair-later x ((y ∷ a) ++ b) (length a) within)
+Formed-seam (x ∷ y ∷ []) [] (inr pair) within = within
+Formed-seam (x ∷ y ∷ []) (z ∷ b) (inr pair) within = not_both y.item within.0 pair.0.1
+Formed-seam (x ∷ y ∷ z ∷ a) b (inr pair) within = Formed-seam (z ∷ a) b pair.1 (IsWithinPair-later y ((z ∷ a) ++ b) (length a) (IsWithinPair-later x (y ∷ (z ∷ a) ++ b) (suc (length a)) within))
+
+pub IsWellFormed-seam : (a b : List Element) → IsWellFormed a → ¬ (IsWithinPair (a ++ b) (length a))
+IsWellFormed-seam a b formed = Formed-seam a b (formed-of_well_formed a formed)
+
+-- the two parts of what is well formed, where no pair is parted between them
+Formed-parts : (a b : List Element) → Formed (a ++ b) → ¬ (IsWithinPair (a ++ b) (length a)) → Formed a × Formed b
+Formed-parts [] b formed whole = (tt, formed)
+Formed-parts (x ∷ []) [] formed whole = (formed, tt)
+Formed-parts (x ∷ []) (y ∷ b) (inl single) whole = (single.0, single.1)
+Formed-parts (x ∷ []) (y ∷ b) (inr pair) whole = absurd (whole pair.0)
+Formed-parts (x ∷ y ∷ a) b (inl single) whole =
+    let parts = Formed-parts (y ∷ a) b single.1 (λ within. whole (IsPairAt-later x ((y ∷ a) ++ b) (length a) within)) in
+    (inl (single.0, parts.0), parts.1)
+Formed-parts (x ∷ y ∷ []) b (inr pair) whole = (inr (pair.0, tt), pair.1)
+Formed-parts (x ∷ y ∷ z ∷ a) b (inr pair) whole =
+    let parts = Formed-parts (z ∷ a) b pair.1 (λ within. whole (IsPairAt-later x (y ∷ (z ∷ a) ++ b) (suc (length a)) (IsPairAt-later y ((z ∷ a) ++ b) (length a) within))) in
+    (inr (pair.0, parts.0), parts.1)
+
+pub IsWellFormed-parts : (a b : List Element) → IsWellFormed (a ++ b) → ¬ (IsWithinPair (a ++ b) (length a)) → IsWellFormed a × IsWellFormed b
+IsWellFormed-parts a b formed whole =
+    let parts = Formed-parts a b (formed-of_well_formed (a ++ b) formed) whole in
+    (well_formed-of_formed a parts.0, well_formed-of_formed b parts.1)
+
+-- a pair of a document is one with more behind it
+pub IsPairAt-append : (a b : List Element) (i : ℕ) → IsPairAt a i → IsPairAt (a ++ b) i
+IsPairAt-append [] b i at = absurd at
+IsPairAt-append (x ∷ []) b i at = absurd at
+IsPairAt-append (x ∷ y ∷ a) b zero at = at
+IsPairAt-append (x ∷ y ∷ a) b (suc i) at = IsPairAt-append (y ∷ a) b i at
+
+pub IsWithinPair-append : (a b : List Element) (n : ℕ) → IsWithinPair a n → IsWithinPair (a ++ b) n
+IsWithinPair-append a b zero within = within
+IsWithinPair-append a b (suc i) within = IsPairAt-append a b i within

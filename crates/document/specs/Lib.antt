@@ -1,5 +1,9 @@
 pub mod Pairs
 pub mod Places
 pub mod Weight
+pub mod Elements
+pub mod Runs
+pub mod Pieces
+pub mod Passes
 pub mod Laws
 mod Examples
