@@ -1,5 +1,5 @@
 -- A text cut in two, by its units.
-use Rattle.std.proofs.Common.{◌≡◌, ℕ, zero, suc, ◌+◌, ◌-◌, ◌<◌, ◌≤◌, List, [], ◌∷◌, ◌++◌, length, take, drop, get_or, refl, sym, ap, subst, ◌∙◌, arith, length-append, Ok, Err, Result, OnErr, ◌↔◌}
+use Rattle.std.proofs.Common.{◌≡◌, ℕ, zero, suc, ◌-◌, ◌<◌, ◌≤◌, List, [], ◌∷◌, ◌++◌, length, take, drop, get_or, refl, sym, ap, subst, ◌∙◌, arith, Ok, Err, Result, OnErr, ◌↔◌}
 use Rattle.std.proofs.lemmas.Bool.{false≢true}
 use Rattle.std.proofs.lemmas.List.{take-append-drop, length-drop, length-take}
 use Rattle.attributes.specs.Attributes.{Attributes}
@@ -10,7 +10,7 @@ use Rattle.document.specs.declared.run.Piece.TheVariants as piece
 use Rattle.document.specs.Pieces.{IsPiece}
 use Rattle.utf16.specs.declared.cut.Cut.{Cut}
 use Rattle.utf16.specs.declared.cut.Cut.TheVariants.{PastEnd, InPair}
-use Rattle.delta.specs.Element.{Element, letters}
+use Rattle.delta.specs.Element.{letters}
 use Rattle.document.specs.Pairs.{IsPairAt, IsWithinPair, IsWellFormed}
 use Rattle.document.proofs.Formed.{IsWellFormed-parts}
 use Rattle.document.proofs.Letters.{letters-append, length-letters}

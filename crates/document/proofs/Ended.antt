@@ -1,9 +1,8 @@
 -- The last of a list of runs: one more, or one that takes a text in.
-use Rattle.std.proofs.Common.{◌≡◌, ◌≢◌, ℕ, zero, suc, ◌+◌, ◌-◌, ◌<◌, ◌≤◌, Bool, true, false, MatchBool, List, [], ◌∷◌, ◌++◌, length, take, drop, get_or, set, Option, Some, None, refl, sym, ap, subst, ◌∙◌, arith, length-append, append_assoc}
-use Rattle.std.proofs.lemmas.List.{take-append-drop}
-use Rattle.std.proofs.Math.Seq.{get_or-append_seam, set-append_seam}
+use Rattle.std.proofs.Common.{◌≡◌, ◌≢◌, ℕ, zero, suc, ◌+◌, Bool, true, false, MatchBool, List, [], ◌∷◌, ◌++◌, length, get_or, set, Option, Some, None, refl, sym, ap, subst, ◌∙◌, arith, length-append, append_assoc}
+use Rattle.std.proofs.Math.Seq.{set-append_seam}
 use Rattle.attributes.specs.Attributes.{Attributes}
-use Rattle.delta.specs.Element.{Element, letters}
+use Rattle.delta.specs.Element.{Element}
 use Rattle.document.specs.Runs.{units_of_runs, text_attributes, last_attributes, IsApart, IsRun, AreRuns, TakesText}
 use Rattle.document.specs.Pairs.{IsWellFormed}
 use Rattle.document.proofs.Formed.{IsWellFormed-append}

@@ -1,7 +1,7 @@
 -- Well-formed documents, from the front: single units and pairs, one after another.
-use Rattle.std.proofs.Common.{◌≡◌, ℕ, zero, suc, Bool, true, false, IsTrue, List, [], ◌∷◌, ◌++◌, ◌⊎◌, length, inl, inr, refl, sym, arith}
+use Rattle.std.proofs.Common.{ℕ, zero, suc, Bool, true, false, IsTrue, List, [], ◌∷◌, ◌++◌, ◌⊎◌, length, inl, inr, refl, arith}
 use Rattle.std.proofs.lemmas.Bool.{and_parts, leb-true, ltb-true, false≢true}
-use Rattle.std.specs.Char.Utf16.{is_high_surrogate, is_low_surrogate}
+use Rattle.std.specs.Char.Utf16.{is_high_surrogate}
 use Rattle.delta.specs.Element.{Element, Item, code_unit, embed}
 use Rattle.document.specs.Pairs.{IsHighItem, IsLowItem, IsPair, IsHighAt, IsLowAt, IsPairAt, IsWithinPair, IsWellFormed}
 

@@ -1,15 +1,14 @@
 -- Well-formed documents after a delta that cuts no pair.
-use Rattle.std.proofs.Common.{◌≡◌, ◌≢◌, ℕ, zero, suc, Bool, true, false, List, [], ◌∷◌, ◌++◌, ◌⊎◌, inl, inr, refl, sym, ap, subst, ◌∙◌}
+use Rattle.std.proofs.Common.{◌≡◌, ◌≢◌, ℕ, zero, suc, Bool, true, false, List, [], ◌∷◌, ◌++◌, inl, inr, refl, sym, ap, subst, ◌∙◌}
 use Rattle.std.proofs.lemmas.Bool.{false≢true}
-use Rattle.attributes.specs.Attributes as attributes
 use Rattle.attributes.specs.Attributes.{Changes, same_changes, same_changes-Decides, changed, changed_by}
 use Rattle.attributes.specs.Map.{empty}
 use Rattle.delta.specs.Element.{Element}
 use Rattle.delta.specs.Gaps.{Gaps, End, Gap, Fate, Del, Keep, fated, apply}
-use Rattle.document.specs.Pairs.{IsPair, IsWellFormed}
-use Rattle.document.specs.Places.{fate_at, inserted_at, Cuts, InsertsWellFormed}
+use Rattle.document.specs.Pairs.{IsPair}
+use Rattle.document.specs.Places.{inserted_at, Cuts}
 use Rattle.document.specs.Laws.{StaysWellFormed}
-use Rattle.document.proofs.Formed.{Formed, IsSingle, Formed-single, Formed-append, formed-of_well_formed, well_formed-of_formed, IsPairAt-later}
+use Rattle.document.proofs.Formed.{Formed, IsSingle, Formed-append, formed-of_well_formed, well_formed-of_formed, IsPairAt-later}
 
 -- fates that can't differ are equal
 same_keep : (c e : Changes) (b : Bool) → same_changes c e ≡ b → ¬ (Keep c ≢ Keep e) → Keep c ≡ Keep e

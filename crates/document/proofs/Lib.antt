@@ -5,3 +5,5 @@ pub mod Letters
 pub mod Joined
 pub mod Ended
 pub mod Cutting
+pub mod Passing
+pub mod Progress

@@ -1,13 +1,12 @@
 -- The definitions, computed on small documents.
-use Rattle.std.specs.Prelude.{◌≡◌, ℕ, zero, suc, List, [], ◌∷◌, ◌++◌, refl, true, codes}
+use Rattle.std.specs.Prelude.{◌≡◌, List, [], ◌∷◌, ◌++◌, refl, true, codes}
 use Rattle.std.proofs.Common.{inl, inr, arith}
 use Rattle.attributes.specs.Map.{empty, insert}
 use Rattle.attributes.specs.Attributes.{Attributes, Changes, changed_by}
 use Rattle.attributes.specs.Scalar.{text_scalar, flag_scalar}
 use Rattle.delta.specs.Element.{Element, letters, embedded}
 use Rattle.delta.specs.Operation.{insert_text, retain, delete}
-use Rattle.delta.specs.Gaps.{counted, apply, units_below}
-use Rattle.document.specs.Pairs.{IsPairAt, IsWellFormed}
+use Rattle.delta.specs.Gaps.{counted, apply}
 use Rattle.document.specs.Places.{IsDefined, Cuts}
 use Rattle.document.specs.Weight.{weight_of}
 

@@ -1,5 +1,5 @@
 -- What a run of the program is, and a piece of one, as units.
-use Rattle.std.specs.Prelude.{◌≡◌, ℕ, ◌<◌, List, [], ◌∷◌, length, string_bytes, Option, Some, None}
+use Rattle.std.specs.Prelude.{◌≡◌, ◌<◌, List, [], ◌∷◌, length, string_bytes, Option, Some, None}
 use Rattle.utf16.specs.Units.{units_of}
 use Rattle.attributes.specs.Attributes.{Attributes}
 use Rattle.delta.specs.Element.{Element, letters, embedded}

@@ -1,5 +1,5 @@
 -- A document in runs: a run is seen as its units, and the document as those of all its runs.
-use Rattle.std.specs.Prelude.{◌≡◌, ◌≢◌, ℕ, ◌<◌, List, [], ◌∷◌, ◌++◌, length, Option, Some, None}
+use Rattle.std.specs.Prelude.{◌≡◌, ◌≢◌, ◌<◌, List, [], ◌∷◌, ◌++◌, length, Option, Some, None}
 use Rattle.attributes.specs.Attributes.{Attributes}
 use Rattle.delta.specs.Element.{Element, Item, code_unit, embed}
 use Rattle.document.specs.Pairs.{IsWellFormed}

@@ -1,6 +1,6 @@
 -- The weight of a document (this project's own measure of what a document takes): 12 for each unit; for each attribute of
 -- each unit, and for each embed's value, 12, the bytes of its name and the bytes of a text value.
-use Rattle.std.specs.Prelude.{ℕ, ◌+◌, List, [], ◌∷◌, length, sum_by}
+use Rattle.std.specs.Prelude.{ℕ, ◌+◌, List, [], ◌∷◌, length}
 use Rattle.attributes.specs.Attributes.{Attributes}
 use Rattle.attributes.specs.Scalar.{Scalar, text_scalar, whole_scalar, flag_scalar}
 use Rattle.delta.specs.Element.{Element, Item, code_unit, embed}

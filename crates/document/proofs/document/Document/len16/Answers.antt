@@ -1,4 +1,4 @@
-use Rattle.std.proofs.Common.{◌≡◌, ◌+◌, ◌≤◌, ◌^◌, ◌∙◌, length, take, ap, sym, subst, arith}
+use Rattle.std.proofs.Common.{◌≡◌, ◌+◌, length, take, ap, subst, arith}
 use Rattle.document.specs.Runs.{units_of_runs}
 use Rattle.document.proofs.Joined.{length-one_more, length-before, IsWellFormed-runs}
 use Rattle.document.specs.Pairs.{IsWellFormed}

@@ -1,7 +1,5 @@
 use Rattle.std.proofs.Common.{◌≡◌, ℕ, ◌<◌, ◌∙◌, List, length, sym, ap, arith}
-use Rattle.std.specs.Prelude.{string_bytes}
-use Rattle.utf16.specs.Units.{units_of}
-use Rattle.delta.specs.Element.{Element, letters}
+use Rattle.delta.specs.Element.{Element}
 use Rattle.document.specs.Pieces.{content_units}
 use Rattle.document.proofs.Letters.{merged_in, not_merged}
 use Rattle.document.proofs.run.Run.merge.Goals as goal
