@@ -46,7 +46,7 @@ pub IsPairAt-later : (x : Element) (d : List Element) (i : ℕ) → IsPairAt d i
 IsPairAt-later x [] i at = at
 IsPairAt-later x (y ∷ d) i at = at
 
-IsPairAt-earlier : (x : Element) (d : List Element) (i : ℕ) → IsPairAt (x ∷ d) (suc i) → IsPairAt d i
+pub IsPairAt-earlier : (x : Element) (d : List Element) (i : ℕ) → IsPairAt (x ∷ d) (suc i) → IsPairAt d i
 IsPairAt-earlier x [] i at = at
 IsPairAt-earlier x (y ∷ d) i at = at
 

@@ -41,7 +41,7 @@ Formed-pair Del x y d pair formed = formed
 Formed-pair (Keep c) x y d pair formed = inr ((pair.0, pair.1, ap (λ a. changed a c) pair.2), formed)
 
 -- the cuts of the rest are cuts
-cuts_later : (x : Element) (d : List Element) (xs : List Element) (f : Fate) (g : Gaps) → Cuts d g → Cuts (x ∷ d) (Gap xs f g)
+pub cuts_later : (x : Element) (d : List Element) (xs : List Element) (f : Fate) (g : Gaps) → Cuts d g → Cuts (x ∷ d) (Gap xs f g)
 cuts_later x d xs f g cut = (suc cut.0, IsPairAt-later x d cut.0 cut.1, cut.2)
 
 pub Formed-apply : (d : List Element) (g : Gaps) → Formed d → ((i : ℕ) → Formed (inserted_at g i)) → ¬ (Cuts d g) → Formed (apply d g)

@@ -7,3 +7,5 @@ pub mod Ended
 pub mod Cutting
 pub mod Passing
 pub mod Progress
+pub mod Parting
+pub mod Deciding

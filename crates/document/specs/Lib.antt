@@ -5,5 +5,6 @@ pub mod Elements
 pub mod Runs
 pub mod Pieces
 pub mod Passes
+pub mod Outcome
 pub mod Laws
 mod Examples
