@@ -1,11 +1,10 @@
 -- What the checks of a delta on runs decide of the document.
-use Rattle.std.proofs.Common.{◌≡◌, ◌+◌, ◌-◌, ◌≤◌, ◌<◌, List, length, sym, ap, subst, ◌∙◌, arith}
+use Rattle.std.proofs.Common.{◌≡◌, ◌≤◌, List, length, sym, ap, subst, ◌∙◌, arith}
 use Rattle.delta.specs.Element.{Element}
-use Rattle.delta.specs.Operation.{Operation, base_of, out_of}
-use Rattle.delta.specs.Gaps.{counted, apply}
+use Rattle.delta.specs.Operation.{Operation, base_of}
+use Rattle.delta.specs.Gaps.{counted}
 use Rattle.delta.specs.Normal.{IsNormal}
 use Rattle.delta.proofs.Joins.{units_below-counted}
-use Rattle.delta.proofs.Lengths.{length-apply_counted}
 use Rattle.document.specs.Passes.{PartsPair}
 use Rattle.document.specs.Places.{IsDefined, Cuts}
 use Rattle.document.specs.Runs.{units_of_runs}

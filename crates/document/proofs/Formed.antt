@@ -1,5 +1,5 @@
 -- Well-formed documents, from the front: single units and pairs, one after another.
-use Rattle.std.proofs.Common.{ℕ, zero, suc, Bool, true, false, IsTrue, List, [], ◌∷◌, ◌++◌, ◌⊎◌, length, inl, inr, refl, arith}
+use Rattle.std.proofs.Common.{◌<◌, ◌≤◌, ℕ, zero, suc, Bool, true, false, IsTrue, List, [], ◌∷◌, ◌++◌, ◌⊎◌, length, inl, inr, refl, arith}
 use Rattle.std.proofs.lemmas.Bool.{and_parts, leb-true, ltb-true, false≢true}
 use Rattle.std.specs.Char.Utf16.{is_high_surrogate}
 use Rattle.delta.specs.Element.{Element, Item, code_unit, embed}
@@ -26,8 +26,8 @@ high_or_not (embed key value) = inr (λ h. h)
 -- no unit is both
 pub not_both : (i : Item) → IsHighItem i → IsLowItem i → ⊥
 not_both (code_unit u) high low =
-    let below = ltb-true u 0xDC00 (and_parts _ _ high).1 in
-    let from = leb-true 0xDC00 u (and_parts _ _ low).0 in
+    let below : u < 0xDC00 = ltb-true u 0xDC00 (and_parts _ _ high).1 in
+    let from : 0xDC00 ≤ u = leb-true 0xDC00 u (and_parts _ _ low).0 in
     absurd (omega arith)
 not_both (embed key value) high low = high
 

@@ -9,3 +9,5 @@ pub mod Passing
 pub mod Progress
 pub mod Parting
 pub mod Deciding
+pub mod Weighing
+pub mod Inserting

@@ -5,10 +5,10 @@ use Rattle.std.proofs.lemmas.Bool.{false≢true, and_parts, ltb-true}
 use Rattle.attributes.specs.Attributes.{Attributes, Changes, same_changes, same_changes-Decides}
 use Rattle.attributes.specs.Map.{empty}
 use Rattle.delta.specs.Element.{Element, letters, embedded}
-use Rattle.delta.specs.Operation.{Operation, insert_text, insert_embed, retain, delete, op_len, merged, is_plain, is_insert, is_delete}
+use Rattle.delta.specs.Operation.{Operation, insert_text, insert_embed, retain, delete, op_len, merged}
 use Rattle.delta.specs.Gaps.{Gaps, End, Gap, Fate, Del, Keep, front, run, counted}
-use Rattle.delta.specs.Normal.{is_built, ends_plain, may_precede, IsNormal}
-use Rattle.document.specs.Pairs.{IsPairAt, IsWithinPair}
+use Rattle.delta.specs.Normal.{is_built, ends_plain, IsNormal}
+use Rattle.document.specs.Pairs.{IsPairAt}
 use Rattle.document.specs.Passes.{PartsPair}
 use Rattle.document.specs.Places.{fate_at, inserted_at, Cuts}
 use Rattle.document.proofs.Formed.{IsPairAt-later, IsPairAt-earlier}

@@ -1,5 +1,5 @@
 -- What a delta on a document comes to: accepted, or refused for the first reason that holds.
-use Rattle.std.specs.Prelude.{◌≡◌, ◌≤◌, ◌<◌, ◌^◌, List, length}
+use Rattle.std.specs.Prelude.{◌≤◌, ◌<◌, ◌^◌, List, length}
 use Rattle.refusal.specs.declared.Refusal.{Refusal}
 use Rattle.refusal.specs.declared.Refusal.TheVariants.{PastEnd, CutsPair, BadOps, NoMemory}
 use Rattle.delta.specs.Element.{Element}

@@ -1,9 +1,10 @@
 -- What a run of the program is, and a piece of one, as units.
-use Rattle.std.specs.Prelude.{◌≡◌, ◌<◌, List, [], ◌∷◌, length, string_bytes, Option, Some, None}
+use Rattle.std.specs.Prelude.{ℕ, ◌≡◌, ◌<◌, List, [], ◌∷◌, length, string_bytes, Option, Some, None}
 use Rattle.utf16.specs.Units.{units_of}
 use Rattle.attributes.specs.Attributes.{Attributes}
 use Rattle.delta.specs.Element.{Element, letters, embedded}
 use Rattle.document.specs.Pairs.{IsWellFormed}
+use Rattle.document.specs.Weight.{named_weight}
 use Rattle.document.specs.declared.run.Content.{Content}
 use Rattle.document.specs.declared.run.Content.TheVariants as content
 use Rattle.document.specs.declared.run.Piece.{Piece}
@@ -45,3 +46,8 @@ piece_attributes (piece.Embed key value a) = a.now
 abbrev pub piece_dressed : Piece → Attributes → List Element
 piece_dressed (piece.Text text units a) b = letters (units_of text.now) b
 piece_dressed (piece.Embed key value a) b = embedded key.now value.now b ∷ []
+
+-- an embed's value; a text has none
+abbrev pub content_weight : Content → ℕ
+content_weight (content.Text text) = 0
+content_weight (content.Embed key value) = named_weight key value

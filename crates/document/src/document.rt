@@ -1,14 +1,17 @@
 //! Documents.
-ghost use Rattle.std.specs.Prelude.{◌≡◌, ◌+◌, ◌≤◌, ◌<◌, ◌^◌, ◌↔◌, [], length, IfOk, IfErr, OnOk, OnErr, IsOkUnless};
+ghost use Rattle.std.specs.Prelude.{◌≡◌, ◌+◌, ◌≤◌, ◌<◌, ◌^◌, ◌↔◌, ◌-◌, min, [], ◌∷◌, length, IfOk, IfErr, OnOk, OnErr, IsOkUnless};
 ghost use Rattle.document.specs.Pairs.{IsWellFormed};
-ghost use Rattle.delta.specs.Gaps.{counted, apply};
-ghost use Rattle.delta.specs.Operation.{base_of};
+ghost use Rattle.delta.specs.Gaps.{counted, apply, End};
+ghost use Rattle.delta.specs.Normal.{nf};
+ghost use Rattle.document.specs.Weight.{weight_of};
+ghost use Rattle.document.specs.Pieces.{piece_units};
+ghost use Rattle.delta.specs.Operation.{base_of, op_base, op_out};
 ghost use Rattle.document.specs.Places.{IsDefined, Cuts};
 ghost use Rattle.document.specs.Outcome.{IsAccepted, IsTooLong, IsRefused};
 
 use crate::applying::{applied, parts_pair};
-use crate::run::Run;
-use delta::{Delta, MAX_LEN};
+use crate::run::{Piece, Run};
+use delta::{Builder, Delta, MAX_LEN, Op};
 use refusal::Refusal;
 use std::alloc::Global;
 use std::marker::Model;
@@ -59,6 +62,45 @@ impl Document {
         units
     }
 
+    /// Its weight: 12 for each unit; for each attribute of each unit, and for each embed's value, 12, the bytes of its
+    /// name and the bytes of a text value. 2^64 - 1 where it is more. Linear in the runs and their attributes; it takes
+    /// no memory.
+    pub fn weight(&self) -> u64
+        ensures { result ≡ min (weight_of self.now) (2 ^ 64 - 1) }
+    {
+        let mut weight: u64 = 0;
+        for run in &self.runs {
+            weight = weight.saturating_add(run.weight());
+        }
+        weight
+    }
+
+    /// An equal document.
+    pub fn copy(&self, alloc: Global) -> Result<Self, Refusal>
+        ensures same { IfOk result (λ document. document ≡ self.now) }
+        ensures only { IsOkUnless result Refusal.NoMemory }
+    {
+        let runs = applied(alloc, self.runs.as_slice(), &[], self.len16())?;
+        Ok(Document { runs })
+    }
+
+    /// The delta that makes it of the empty document, by inserts alone.
+    pub fn as_delta(&self, alloc: Global) -> Result<Delta, Refusal>
+        ensures delta { IfOk result (λ delta. delta ≡ nf (End self.now)) }
+        ensures inserts { IfOk result (λ delta. base_of delta ≡ 0) }
+        ensures back { IfOk result (λ delta. apply [] (counted delta) ≡ self.now) }
+        ensures only { IsOkUnless result Refusal.NoMemory }
+    {
+        let mut builder = Builder::new(alloc);
+        for run in &self.runs {
+            let op = inserted(alloc, run.piece())?;
+            if let Err(refusal) = builder.push(op) {
+                return Err(refusal);
+            }
+        }
+        Ok(builder.finish())
+    }
+
     /// Applies a delta. It is refused as PastEnd where the delta reaches past the end, else as CutsPair where it parts a
     /// surrogate pair, else as BadOps where the document would have more than 2^48 code units, and as NoMemory; the
     /// document is then as it was. Linear in the runs and the operations, and no text is copied more than once.
@@ -100,5 +142,25 @@ impl Document {
             return Err(Refusal::BadOps);
         }
         Ok(behind)
+    }
+}
+
+// the operation that inserts a piece
+fn inserted(alloc: Global, piece: Piece<'_>) -> Result<Op, Refusal>
+    ensures units { IfOk result (λ op. counted (op ∷ []) ≡ End (piece_units piece.entry)) }
+    ensures out { IfOk result (λ op. op_out op ≡ length (piece_units piece.entry)) }
+    ensures base { IfOk result (λ op. op_base op ≡ 0) }
+    ensures only { IsOkUnless result Refusal.NoMemory }
+{
+    match piece {
+        Piece::Text(text, _, attrs) => {
+            Ok(Op::text(String::from_str(alloc, text)?, attrs.copy(alloc)?))
+        }
+        Piece::Embed(key, value, attrs) => {
+            match Op::embed(alloc, key.as_str(), value.copy(alloc)?, attrs.copy(alloc)?) {
+                Ok(op) => Ok(op),
+                Err(refusal) => Err(refusal),
+            }
+        }
     }
 }

@@ -1,10 +1,11 @@
 //! Runs of a document.
-ghost use Rattle.std.specs.Prelude.{◌≡◌, ◌≢◌, ◌+◌, ◌<◌, ◌^◌, ◌++◌, [], ◌∷◌, length, IfOk, OnOk, OnErr, IsOkUnless, MatchBool, Some, string_bytes};
+ghost use Rattle.std.specs.Prelude.{◌≡◌, ◌≢◌, ◌+◌, ◌-◌, min, ◌<◌, ◌^◌, ◌++◌, [], ◌∷◌, length, IfOk, OnOk, OnErr, IsOkUnless, MatchBool, Some, string_bytes};
 ghost use Rattle.utf16.specs.Units.{units_of};
 ghost use Rattle.delta.specs.Element.{letters, embedded};
 ghost use Rattle.document.specs.Runs.{text_attributes};
+ghost use Rattle.document.specs.Weight.{weight_of, attributes_weight, named_weight, scalar_weight};
 
-use attributes::{Attrs, Key, Value};
+use attributes::{Attrs, Key, Value, ValueRef};
 use refusal::Refusal;
 use std::alloc::Global;
 use std::marker::Model;
@@ -28,6 +29,21 @@ enum Content {
 pub enum Piece<'a> {
     Text(&'a str, u64, &'a Attrs),
     Embed(&'a Key, &'a Value, &'a Attrs),
+}
+
+impl Content {
+    ghost use Rattle.document.specs.Pieces.{content_weight};
+
+    // the weight of an embed's value; a text has none
+    fn weight(&self) -> u64
+        ensures weight { result ≡ content_weight self.now }
+        ensures small { result < 2 ^ 63 + 76 }
+    {
+        match self {
+            Content::Text(_) => 0,
+            Content::Embed(key, value) => named_weight(key, value),
+        }
+    }
 }
 
 impl<'a> Piece<'a> {
@@ -120,6 +136,14 @@ impl Run {
         }
     }
 
+    /// Its weight, and 2^64 - 1 where that is more.
+    pub fn weight(&self) -> u64
+        ensures { result ≡ min (weight_of self.now) (2 ^ 64 - 1) }
+    {
+        let each = attributes_weight(&self.attrs).saturating_add(12 + self.content.weight());
+        each.saturating_mul(self.units)
+    }
+
     /// Takes a text in at the end where the run is a text with equal attributes, and says whether it is.
     pub fn merge(&mut self, text: &str, units: u64, attrs: &Attrs) -> Result<bool, Refusal>
         requires counted { units ≡ length (units_of text.now) }
@@ -153,4 +177,35 @@ fn append(text: &mut String, more: &str) -> Result<(), Refusal>
     let _ = text.as_str();
     text.push_str(more)?;
     Ok(())
+}
+
+// the weight of attributes, and 2^64 - 1 where that is more
+fn attributes_weight(attrs: &Attrs) -> u64
+    ensures { result ≡ min (attributes_weight attrs.now) (2 ^ 64 - 1) }
+{
+    let mut weight: u64 = 0;
+    for (key, value) in attrs.entries() {
+        weight = weight.saturating_add(named_weight(key, value));
+    }
+    weight
+}
+
+// the weight of a name with its value
+fn named_weight(key: &Key, value: &Value) -> u64
+    ensures weight { result ≡ named_weight key.now value.now }
+    ensures small { result < 2 ^ 63 + 76 }
+{
+    12 + (key.as_str().len() as u64 + scalar_weight(value))
+}
+
+// the bytes of a text; a whole number or a flag has none
+fn scalar_weight(value: &Value) -> u64
+    ensures weight { result ≡ scalar_weight value.now }
+    ensures small { result < 2 ^ 63 }
+{
+    match value.get() {
+        ValueRef::Text(text) => text.len() as u64,
+        ValueRef::Whole(_) => 0,
+        ValueRef::Flag(_) => 0,
+    }
 }
