@@ -118,7 +118,7 @@ impl Document {
         };
         let runs = match applied(alloc, self.runs.as_slice(), delta.ops(), behind) {
             Ok(runs) => runs,
-            Err(refusal) => return Err(refusal),
+            Err(no_memory) => return Err(no_memory),
         };
         self.runs = runs;
         Ok(())
