@@ -11,3 +11,9 @@ pub mod Entries
 pub mod Numbers
 pub mod Texts
 pub mod Batches
+pub mod ReadingOn
+pub mod NormalForms
+pub mod ReadValues
+pub mod ReadPairs
+pub mod ReadOperations
+pub mod ReadDeltas

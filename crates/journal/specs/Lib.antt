@@ -11,3 +11,5 @@ pub mod Planned
 pub mod Spelling
 pub mod Reading
 pub mod Refusals
+pub mod DeltaSpelling
+pub mod DeltaReading

@@ -8,8 +8,15 @@ ghost use Rattle.journal.specs.Command.{is_delta};
 ghost use Rattle.journal.specs.Spelling as spelling;
 ghost use Rattle.journal.specs.Reading.{Gives, part_at, number_at, fixed_at, tag_at, utf8_at, text_at, name_at, insertion_at, delta_at, entry_at, entries_at, batch_at, whole_at};
 
+mod deltas;
+mod normal_form;
+mod operations;
+mod pairs;
+mod values;
+
 use super::unread::Unread;
 use crate::revision::{Name, Taken};
+pub use deltas::read_delta;
 use plain::Delta;
 use refusal::Refusal;
 use std::alloc::{AllocError, Global};

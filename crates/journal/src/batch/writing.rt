@@ -5,7 +5,12 @@ ghost use Rattle.plain.specs.Delta.{Insert};
 ghost use Rattle.journal.specs.Command.{IsTaken, is_delta};
 ghost use Rattle.journal.specs.Spelling as spelling;
 
+mod operations;
+mod pairs;
+mod values;
+
 use crate::revision::{Name, Taken};
+pub use operations::write_delta;
 use plain::Delta;
 use std::alloc::{AllocError, Global};
 

@@ -1,0 +1,38 @@
+//! Reading of deltas.
+ghost use Rattle.std.specs.Prelude.{◌≡◌, ◌++◌, ℕ, List, IfOk, IfSome, IfNone};
+ghost use Rattle.delta.specs.Operation.{Operation};
+ghost use Rattle.journal.specs.DeltaSpelling as spelling;
+ghost use Rattle.journal.specs.DeltaSpelling.{IsSpellable};
+ghost use Rattle.journal.specs.Reading.{Gives};
+ghost use Rattle.journal.specs.DeltaReading.{delta_at};
+
+use super::normal_form::delta_of_ops;
+use super::number32;
+use super::operations::operations;
+use crate::batch::unread::Unread;
+use delta::Delta;
+use std::alloc::{AllocError, Global};
+
+/// The delta whose spelling begins the bytes, with the bytes behind it, or none.
+pub fn read_delta(alloc: Global, bytes: &[u8]) -> Result<Option<(Delta, &[u8])>, AllocError>
+    ensures found { IfOk result (λ found. IfSome found
+        (λ x. IsSpellable x.0 × (bytes.now ≡ spelling.delta x.0 ++ x.1.now))) }
+    ensures none { IfOk result (λ found. IfNone found
+        ((operations : List Operation) (rest : List ℕ) → IsSpellable operations → bytes.now ≡ spelling.delta operations ++ rest → ⊥)) }
+{
+    match delta_in(alloc, bytes) {
+        Ok((delta, rest)) => Ok(Some((delta, rest))),
+        Err(Unread::Malformed) => Ok(None),
+        Err(Unread::NoMemory) => Err(AllocError),
+    }
+}
+
+#[tactic(auto, unfolding(crate::specs::DeltaReading::delta_at))]
+fn delta_in(alloc: Global, bytes: &[u8]) -> Result<(Delta, &[u8]), Unread>
+    ensures { Gives (λ x. (x.0, x.1.now)) result (delta_at bytes.now) }
+{
+    let (count, rest) = number32(bytes)?;
+    let (ops, rest) = operations(alloc, count, rest)?;
+    let delta = delta_of_ops(alloc, ops)?;
+    Ok((delta, rest))
+}

@@ -1,0 +1,88 @@
+//! The delta of operations that are in normal form.
+ghost use Rattle.std.specs.Prelude.{◌≡◌, ◌++◌, [], ◌∷◌, true, nat_lt, OnOk, IfErr};
+ghost use Rattle.delta.specs.Operation.{op_len, is_plain, IsBounded};
+ghost use Rattle.delta.specs.Normal.{may_precede, built};
+ghost use Rattle.journal.specs.Reading.{Gives};
+ghost use Rattle.journal.specs.DeltaReading.{begins_normal, is_normal, is_bounded, delta_of};
+
+use crate::batch::unread::Unread;
+use delta::{Builder, Delta, Op, OpRef};
+use refusal::Refusal;
+use std::alloc::Global;
+
+/// The delta of these operations, where they are in normal form and within the bound.
+#[tactic(auto, unfolding(crate::specs::DeltaReading::delta_of))]
+pub(super) fn delta_of_ops(alloc: Global, ops: Vec<Op>) -> Result<Delta, Unread>
+    ensures { Gives (λ x. x) result (delta_of ops.items) }
+{
+    if !has_normal_form(ops.as_slice()) {
+        return Err(Unread::Malformed);
+    }
+    let mut builder = Builder::new(alloc);
+    for op in ops {
+        push(&mut builder, op)?;
+    }
+    Ok(builder.finish())
+}
+
+// adds an operation that neither merges nor moves
+fn push(builder: &mut Builder, op: Op) -> Result<(), Unread>
+    requires { built (builder.old ++ op ∷ []) ≡ builder.old ++ op ∷ [] }
+    ensures ok { OnOk result (builder.new ≡ builder.old ++ op ∷ []) }
+    ensures bounded { OnOk result (is_bounded builder.new ≡ true) }
+    ensures bad { IfErr result (λ e. e ≡ Unread.Malformed → ¬ (IsBounded (builder.old ++ op ∷ []))) }
+{
+    match builder.push(op) {
+        Ok(()) => Ok(()),
+        Err(Refusal::NoMemory) => Err(Unread::NoMemory),
+        Err(_) => Err(Unread::Malformed),
+    }
+}
+
+fn has_normal_form(ops: &[Op]) -> bool
+    ensures { result ≡ is_normal ops.now }
+{
+    for i in 0..ops.len() {
+        if !begins_normal_form(&ops[i..]) {
+            return false;
+        }
+    }
+    true
+}
+
+fn begins_normal_form(ops: &[Op]) -> bool
+    ensures { result ≡ begins_normal ops.now }
+{
+    match ops {
+        [first, next, ..] => has_units(first) && may_stand_before(first, next),
+        [last] => has_units(last) && !is_plain_retain(last),
+        [] => true,
+    }
+}
+
+#[tactic(auto, using(crate::proofs::NormalForms::op_len_max))]
+fn has_units(op: &Op) -> bool
+    ensures { result ≡ nat_lt 0 (op_len op.now) }
+{
+    op.base_len().max(op.out_len()) > 0
+}
+
+fn is_plain_retain(op: &Op) -> bool
+    ensures { result ≡ is_plain op.now }
+{
+    match op.get() {
+        OpRef::Retain(_, change) => change.is_empty(),
+        OpRef::Text(_, _) | OpRef::Embed(_, _, _) | OpRef::Delete(_) => false,
+    }
+}
+
+fn may_stand_before(first: &Op, next: &Op) -> bool
+    ensures { result ≡ may_precede first.now next.now }
+{
+    match (first.get(), next.get()) {
+        (OpRef::Text(_, attrs), OpRef::Text(_, others)) => *attrs != *others,
+        (OpRef::Retain(_, change), OpRef::Retain(_, other)) => *change != *other,
+        (OpRef::Delete(_), OpRef::Text(_, _) | OpRef::Embed(_, _, _) | OpRef::Delete(_)) => false,
+        _ => true,
+    }
+}

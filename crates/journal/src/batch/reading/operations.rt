@@ -1,0 +1,92 @@
+//! Reading of operations.
+ghost use Rattle.std.specs.Prelude.{◌≡◌, []};
+ghost use Rattle.journal.specs.Reading.{Gives};
+ghost use Rattle.journal.specs.DeltaReading.{text_insert_at, embed_insert_at, retain_at, delete_at, operation_behind, operation_at, operations_at};
+
+use super::pairs::{attributes, change, name};
+use super::values::{byte, value};
+use super::{number64, text32};
+use crate::batch::unread::Unread;
+use delta::Op;
+use refusal::Refusal;
+use std::alloc::Global;
+
+/// So many operations, one behind the other.
+pub(super) fn operations(
+    alloc: Global,
+    count: u32,
+    bytes: &[u8],
+) -> Result<(Vec<Op>, &[u8]), Unread>
+    ensures { Gives (λ x. (x.0.items, x.1.now)) result (operations_at count [] bytes.now) }
+{
+    let mut ops = Vec::new(alloc);
+    let mut rest = bytes;
+    for _ in 0..count {
+        let (op, after) = operation(alloc, rest)?;
+        ops.push(op)?;
+        rest = after;
+    }
+    Ok((ops, rest))
+}
+
+#[tactic(auto, unfolding(crate::specs::DeltaReading::operation_at))]
+fn operation(alloc: Global, bytes: &[u8]) -> Result<(Op, &[u8]), Unread>
+    ensures { Gives (λ x. (x.0, x.1.now)) result (operation_at bytes.now) }
+{
+    let (tag, rest) = byte(bytes)?;
+    operation_of_tag(alloc, tag, rest)
+}
+
+#[tactic(auto, unfolding(crate::specs::DeltaReading::operation_behind))]
+fn operation_of_tag(alloc: Global, tag: u8, bytes: &[u8]) -> Result<(Op, &[u8]), Unread>
+    ensures { Gives (λ x. (x.0, x.1.now)) result (operation_behind tag bytes.now) }
+{
+    match tag {
+        1 => text_insert(alloc, bytes),
+        2 => embed_insert(alloc, bytes),
+        3 => retain(alloc, bytes),
+        4 => delete(bytes),
+        _ => Err(Unread::Malformed),
+    }
+}
+
+#[tactic(auto, unfolding(crate::specs::DeltaReading::text_insert_at))]
+fn text_insert(alloc: Global, bytes: &[u8]) -> Result<(Op, &[u8]), Unread>
+    ensures { Gives (λ x. (x.0, x.1.now)) result (text_insert_at bytes.now) }
+{
+    let (text, rest) = text32(bytes)?;
+    let (attrs, rest) = attributes(alloc, rest)?;
+    let text = String::from_str(alloc, text)?;
+    Ok((Op::text(text, attrs), rest))
+}
+
+#[tactic(auto, unfolding(crate::specs::DeltaReading::embed_insert_at))]
+fn embed_insert(alloc: Global, bytes: &[u8]) -> Result<(Op, &[u8]), Unread>
+    ensures { Gives (λ x. (x.0, x.1.now)) result (embed_insert_at bytes.now) }
+{
+    let (name, rest) = name(bytes)?;
+    let (value, rest) = value(alloc, rest)?;
+    let (attrs, rest) = attributes(alloc, rest)?;
+    match Op::embed(alloc, name, value, attrs) {
+        Ok(op) => Ok((op, rest)),
+        Err(Refusal::NoMemory) => Err(Unread::NoMemory),
+        Err(_) => unreachable!(),
+    }
+}
+
+#[tactic(auto, unfolding(crate::specs::DeltaReading::retain_at))]
+fn retain(alloc: Global, bytes: &[u8]) -> Result<(Op, &[u8]), Unread>
+    ensures { Gives (λ x. (x.0, x.1.now)) result (retain_at bytes.now) }
+{
+    let (len, rest) = number64(bytes)?;
+    let (change, rest) = change(alloc, rest)?;
+    Ok((Op::retain(len, change), rest))
+}
+
+#[tactic(auto, unfolding(crate::specs::DeltaReading::delete_at))]
+fn delete(bytes: &[u8]) -> Result<(Op, &[u8]), Unread>
+    ensures { Gives (λ x. (x.0, x.1.now)) result (delete_at bytes.now) }
+{
+    let (len, rest) = number64(bytes)?;
+    Ok((Op::delete(len), rest))
+}
