@@ -8,5 +8,6 @@ mod pieces;
 mod stepping;
 #[cfg(test)]
 mod tests;
+mod undoing;
 
 pub use composing::{compose, compose_many};
