@@ -1,0 +1,66 @@
+-- The inserts that make a document, run by run.
+use Rattle.std.proofs.Common.{◌≡◌, ℕ, ◌+◌, ◌<◌, ◌≤◌, ◌^◌, ◌⊎◌, inl, inr, List, [], ◌∷◌, ◌++◌, length, take, get_or, sym, ap, ◌∙◌, arith, append-nil, Err, Result, ◌↔◌}
+use Rattle.std.proofs.lemmas.List.{take_more}
+use Rattle.refusal.specs.declared.Refusal.{Refusal}
+use Rattle.refusal.specs.declared.Refusal.TheVariants.{BadOps, NoMemory}
+use Rattle.delta.specs.Element.{Element}
+use Rattle.delta.specs.Operation.{Operation, op_base, op_out, base_of, out_of, IsBounded}
+use Rattle.delta.specs.Gaps.{End, front, joined, counted, units_below, apply}
+use Rattle.delta.specs.Normal.{spelled, settled, built, nf}
+use Rattle.delta.proofs.Effects.{apply-nf}
+use Rattle.delta.proofs.Joins.{counted-append, units_below-counted}
+use Rattle.delta.proofs.Lengths.{base_of-append, out_of-append, base_of-nf, length-apply_counted}
+use Rattle.delta.proofs.Spellings.{counted-spelled}
+use Rattle.document.specs.Runs.{units_of_runs}
+use Rattle.document.proofs.Joined.{units_of_runs-last}
+
+counted_of : (us : List Element) (ops : List Operation) → ops ≡ spelled (End us) → counted ops ≡ End us
+counted_of us ops e = ap counted e ∙ counted-spelled (End us)
+
+-- one insert more
+pub spelled_more : (us more all : List Element) (op : Operation) (before new : List Operation) → before ≡ spelled (End us) → counted (op ∷ []) ≡ End more
+    → new ≡ built (before ++ op ∷ []) → all ≡ us ++ more → new ≡ spelled (End all)
+spelled_more us more all op before new e one push whole =
+    push
+    ∙ (ap (λ g. spelled (settled g)) (counted-append before (op ∷ []) ∙ (ap (λ g. joined g (counted (op ∷ []))) (counted_of us before e) ∙ ap (front us) one))
+    ∙ ap (λ l. spelled (End l)) (sym whole))
+
+pub runs_before_next : (rs : List (List Element)) (i : ℕ) (r piece : List Element) → i < length rs → r ≡ get_or rs i r → piece ≡ r
+    → units_of_runs (take (i + 1) rs) ≡ units_of_runs (take i rs) ++ piece
+runs_before_next rs i r piece within is same =
+    ap units_of_runs (take_more rs i r within)
+    ∙ (units_of_runs-last (take i rs) (get_or rs i r) ∙ ap (λ l. units_of_runs (take i rs) ++ l) (sym is ∙ sym same))
+
+-- inserts have no base length, and the length of what they insert
+base_of_inserts : (us : List Element) (ops : List Operation) → ops ≡ spelled (End us) → base_of ops ≡ 0
+base_of_inserts us ops e =
+    sym (units_below-counted ops) ∙ ap units_below (counted_of us ops e)
+
+out_of_inserts : (us : List Element) (ops : List Operation) → ops ≡ spelled (End us) → out_of ops ≡ length us
+out_of_inserts us ops e =
+    let made : apply [] (counted ops) ≡ us = ap (apply []) (counted_of us ops e) ∙ append-nil us in
+    omega (arith, length-apply_counted [] ops (omega (arith, base_of_inserts us ops e)), base_of_inserts us ops e, ap length made)
+
+-- so a builder takes them as long as the document is within the bound
+pub bounded_more : (us : List Element) (ops : List Operation) (op : Operation) → ops ≡ spelled (End us) → op_base op ≡ 0 → length us + op_out op ≤ 2 ^ 48 → IsBounded (ops ++ op ∷ [])
+bounded_more us ops op e base bound = record {
+  base = omega (arith, base_of-append ops (op ∷ []), base_of_inserts us ops e, base);
+  out = omega (arith, out_of-append ops (op ∷ []), out_of_inserts us ops e, bound);
+}
+
+abbrev refused : Refusal → Result (Unit {0}) Refusal
+refused refusal = Err refusal
+
+pub only_memory : (refusal : Refusal) (P : Type 0) → P → ((refused refusal ≡ refused BadOps) ↔ ¬ P) → (refusal ≡ BadOps) ⊎ (refusal ≡ NoMemory) → refusal ≡ NoMemory
+only_memory refusal P p bad (inl e) = absurd (bad.0 (ap refused e) p)
+only_memory refusal P p bad (inr e) = e
+
+-- the finished delta
+pub finished : (us : List Element) (ops result : List Operation) → ops ≡ spelled (End us) → result ≡ nf (counted ops) → result ≡ nf (End us)
+finished us ops result e finish = finish ∙ ap nf (counted_of us ops e)
+
+pub finished_base : (us : List Element) (result : List Operation) → result ≡ nf (End us) → base_of result ≡ 0
+finished_base us result e = omega (arith, ap base_of e, base_of-nf (End us))
+
+pub finished_back : (us : List Element) (result : List Operation) → result ≡ nf (End us) → apply [] (counted result) ≡ us
+finished_back us result e = ap (λ ops. apply [] (counted ops)) e ∙ (apply-nf [] (End us) ∙ append-nil us)

@@ -1,0 +1,13 @@
+pub mod Formed
+pub mod Kept
+pub mod Characters
+pub mod Letters
+pub mod Joined
+pub mod Ended
+pub mod Cutting
+pub mod Passing
+pub mod Progress
+pub mod Parting
+pub mod Deciding
+pub mod Weighing
+pub mod Inserting

@@ -1,0 +1,10 @@
+pub mod Pairs
+pub mod Places
+pub mod Weight
+pub mod Elements
+pub mod Runs
+pub mod Pieces
+pub mod Passes
+pub mod Outcome
+pub mod Laws
+mod Examples

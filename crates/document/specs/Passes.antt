@@ -1,0 +1,35 @@
+-- The two passes of a delta over a document, operation by operation: whether a pair is parted, and what is made.
+use Rattle.std.specs.Prelude.{◌≡◌, ℕ, ◌⊎◌, List, [], ◌∷◌, ◌++◌, length, drop, map}
+use Rattle.attributes.specs.Attributes.{Changes, changed}
+use Rattle.delta.specs.Element.{Element}
+use Rattle.delta.specs.Operation.{Operation, op_base}
+use Rattle.delta.specs.Gaps.{counted, apply}
+use Rattle.document.specs.Pairs.{IsWithinPair, IsWellFormed}
+
+-- some operation ends between the two units of a pair
+abbrev pub PartsPair : List Element → List Operation → Type 0
+PartsPair d [] = ⊥
+PartsPair d (op ∷ ops) = IsWithinPair d (op_base op) ⊎ PartsPair (drop (op_base op) d) ops
+
+-- units with a change of their attributes
+abbrev pub kept : Changes → List Element → List Element
+kept c d = map (λ (x : Element). record x { attributes = changed x.attributes c }) d
+
+-- so many units, by themselves well formed, were stepped over
+pub record IsPassed (old new : List Element) (len : ℕ) : Type 0 where
+  pub taken : List Element
+  pub parts : old ≡ taken ++ new
+  pub count : length taken ≡ len
+  pub formed : IsWellFormed taken
+
+-- so many units were stepped over, and put out with a change
+pub record IsKept (old new : List Element) (len : ℕ) (c : Changes) (out made : List Element) : Type 0 where
+  pub passed : IsPassed old new len
+  pub made_of : made ≡ out ++ kept c passed.taken
+
+-- the units that an operation stands on were stepped over, and what it makes of them was put out
+pub record IsDone (old new : List Element) (op : Operation) (out made : List Element) : Type 0 where
+  pub taken : List Element
+  pub parts : old ≡ taken ++ new
+  pub count : length taken ≡ op_base op
+  pub made_of : made ≡ out ++ apply taken (counted (op ∷ []))

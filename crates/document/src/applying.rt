@@ -1,0 +1,84 @@
+//! The two passes of a delta over runs: whether it parts a pair, and the runs after it.
+ghost use Rattle.std.specs.Prelude.{◌≡◌, ◌+◌, ◌≤◌, ◌<◌, ◌^◌, ◌↔◌, length, IfOk, OnOk, IsOkUnless, IsTrue};
+ghost use Rattle.delta.specs.Operation.{op_base, op_out, base_of, out_of};
+ghost use Rattle.delta.specs.Gaps.{counted, apply};
+ghost use Rattle.document.specs.Pairs.{IsWithinPair};
+ghost use Rattle.document.specs.Passes.{PartsPair, IsDone};
+ghost use Rattle.document.specs.Runs.{units_of_runs, AreRuns};
+
+use crate::cursor::Cursor;
+use crate::run::Run;
+use crate::runs::{put_embed, put_text};
+use crate::walk::{keep, skip};
+use attributes::Change;
+use delta::{Op, OpRef};
+use refusal::Refusal;
+use std::alloc::Global;
+use utf16::len16;
+
+/// Whether an operation ends between the two units of a pair.
+pub fn parts_pair(runs: &[Run], ops: &[Op]) -> bool
+    requires runs { AreRuns runs.now }
+    requires there { base_of ops.now ≤ length (units_of_runs runs.now) }
+    ensures { IsTrue result ↔ PartsPair (units_of_runs runs.now) ops.now }
+{
+    let mut cursor = Cursor::new(runs);
+    for op in ops {
+        if skip(&mut cursor, op.base_len()).is_err() {
+            return true;
+        }
+    }
+    false
+}
+
+/// The runs after the operations, which leave so many code units behind them as they are.
+pub fn applied(alloc: Global, runs: &[Run], ops: &[Op], behind: u64) -> Result<Vec<Run>, Refusal>
+    requires runs { AreRuns runs.now }
+    requires there { length (units_of_runs runs.now) ≡ base_of ops.now + behind }
+    requires whole { ¬ (PartsPair (units_of_runs runs.now) ops.now) }
+    requires out { out_of ops.now ≤ 2 ^ 48 }
+    requires behind { behind ≤ 2 ^ 48 }
+    ensures units { IfOk result (λ made. units_of_runs made.items ≡ apply (units_of_runs runs.now) (counted ops.now)) }
+    ensures runs { IfOk result (λ made. AreRuns made.items) }
+    ensures only { IsOkUnless result Refusal.NoMemory }
+{
+    let mut made = Vec::new(alloc);
+    let mut cursor = Cursor::new(runs);
+    for op in ops {
+        step(alloc, &mut cursor, op, &mut made)?;
+    }
+    let same = Change::new(alloc);
+    keep(alloc, &mut cursor, behind, &same, &mut made)?;
+    Ok(made)
+}
+
+// one operation
+fn step(alloc: Global, cursor: &mut Cursor<'_>, op: &Op, made: &mut Vec<Run>) -> Result<(), Refusal>
+    requires there { op_base op.now ≤ length cursor.old }
+    requires whole { ¬ (IsWithinPair cursor.old (op_base op.now)) }
+    requires bound { length (units_of_runs made.old.items) + op_out op.now < 2 ^ 64 }
+    requires runs { AreRuns made.old.items }
+    ensures done { OnOk result (IsDone cursor.old cursor.new op.now (units_of_runs made.old.items) (units_of_runs made.new.items)) }
+    ensures runs { OnOk result (AreRuns made.new.items) }
+    ensures only { IsOkUnless result Refusal.NoMemory }
+{
+    match op.get() {
+        OpRef::Text(text, attrs) => {
+            put_text(alloc, made, text, len16(text), attrs.copy(alloc)?)?;
+        }
+        OpRef::Embed(key, value, attrs) => {
+            put_embed(
+                made,
+                key.copy(alloc)?,
+                value.copy(alloc)?,
+                attrs.copy(alloc)?,
+            )?;
+        }
+        OpRef::Retain(len, change) => keep(alloc, cursor, len, change, made)?,
+        OpRef::Delete(len) => match skip(cursor, len) {
+            Ok(()) => {}
+            Err(_) => unreachable!(),
+        },
+    }
+    Ok(())
+}

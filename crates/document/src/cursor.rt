@@ -1,0 +1,100 @@
+//! A walk over the units of runs, piece by piece.
+ghost use Rattle.std.specs.Prelude.{◌≡◌, ◌≤◌, ◌<◌, ◌++◌, length, IfOk, OnErr};
+ghost use Rattle.document.specs.Pairs.{IsWithinPair};
+ghost use Rattle.document.specs.Pieces.{piece_units, begun_units, IsPiece, IsBegun};
+ghost use Rattle.document.specs.Runs.{units_of_runs, AreRuns};
+
+use crate::run::{Piece, Run};
+use std::marker::Model;
+use utf16::{Cut, split_at16};
+
+/// A place in runs, seen as the units from there on.
+#[derive(Drop)]
+pub struct Cursor<'a> {
+    begun: Option<Piece<'a>>,
+    rest: &'a [Run],
+}
+
+impl<'a> Model for Cursor<'a> {
+    ghost use Rattle.std.specs.Prelude.{◌++◌, List};
+    ghost use Rattle.std.specs.Coded.{coded_list};
+    ghost use Rattle.delta.specs.Element.{Element};
+    ghost use Rattle.document.specs.Elements.{element_code};
+    ghost use Rattle.document.specs.Pieces.{begun_units, IsBegun};
+    ghost use Rattle.document.specs.Runs.{units_of_runs, AreRuns};
+
+    ghost Value = { List Element };
+
+    ghost coded = { coded_list element_code };
+
+    ghost view = { λ c. begun_units c.begun ++ units_of_runs c.rest.now };
+
+    ghost invariant = { λ c. IsBegun c.begun × AreRuns c.rest.now };
+}
+
+impl<'a> Cursor<'a> {
+    /// The start of the runs.
+    pub fn new(runs: &'a [Run]) -> Self
+        requires { AreRuns runs.now }
+        ensures { result ≡ units_of_runs runs.now }
+    {
+        Cursor {
+            begun: None,
+            rest: runs,
+        }
+    }
+
+    /// The next piece, of at most so many code units, and steps over it; refused where that would part a pair.
+    pub fn next(&mut self, most: u64) -> Result<Piece<'a>, Cut>
+        requires some { 0 < most }
+        requires there { most ≤ length self.old }
+        ensures parts { IfOk result (λ p. piece_units p ++ self.new ≡ self.old) }
+        ensures piece { IfOk result (λ p. IsPiece p) }
+        ensures most { IfOk result (λ p. length (piece_units p) ≤ most) }
+        ensures parted { OnErr result (IsWithinPair self.old most) }
+    {
+        let (whole, rest) = first(self.begun, self.rest);
+        let (piece, left) = cut(whole, most)?;
+        self.begun = left;
+        self.rest = rest;
+        Ok(piece)
+    }
+}
+
+// what is left of the run begun, or the next run, and the runs after it
+fn first<'a>(begun: Option<Piece<'a>>, rest: &'a [Run]) -> (Piece<'a>, &'a [Run])
+    requires some { 0 < length (begun_units begun ++ units_of_runs rest.now) }
+    requires begun { IsBegun begun }
+    requires rest { AreRuns rest.now }
+    ensures parts { piece_units result.0 ++ units_of_runs result.1.now ≡ begun_units begun.entry ++ units_of_runs rest.now }
+    ensures piece { IsPiece result.0 }
+    ensures rest { AreRuns result.1.now }
+{
+    match begun {
+        Some(piece) => (piece, rest),
+        None => (rest[0].piece(), &rest[1..]),
+    }
+}
+
+// parts a piece after at most so many code units
+fn cut<'a>(piece: Piece<'a>, most: u64) -> Result<(Piece<'a>, Option<Piece<'a>>), Cut>
+    requires piece { IsPiece piece }
+    requires some { 0 < most }
+    ensures parts { IfOk result (λ p. piece_units p.0 ++ begun_units p.1 ≡ piece_units piece.entry) }
+    ensures front { IfOk result (λ p. IsPiece p.0) }
+    ensures back { IfOk result (λ p. IsBegun p.1) }
+    ensures most { IfOk result (λ p. length (piece_units p.0) ≤ most) }
+    ensures parted { OnErr result (IsWithinPair (piece_units piece.entry) most) }
+{
+    match piece {
+        Piece::Text(text, units, attrs) => {
+            if units <= most {
+                return Ok((piece, None));
+            }
+            let (front, back) = split_at16(text, most)?;
+            let left = Piece::Text(back, units - most, attrs);
+            Ok((Piece::Text(front, most, attrs), Some(left)))
+        }
+        Piece::Embed(_, _, _) => Ok((piece, None)),
+    }
+}

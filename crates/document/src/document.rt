@@ -1,0 +1,166 @@
+//! Documents.
+ghost use Rattle.std.specs.Prelude.{◌≡◌, ◌+◌, ◌≤◌, ◌<◌, ◌^◌, ◌↔◌, ◌-◌, min, [], ◌∷◌, length, IfOk, IfErr, OnOk, OnErr, IsOkUnless};
+ghost use Rattle.document.specs.Pairs.{IsWellFormed};
+ghost use Rattle.delta.specs.Gaps.{counted, apply, End};
+ghost use Rattle.delta.specs.Normal.{nf};
+ghost use Rattle.document.specs.Weight.{weight_of};
+ghost use Rattle.document.specs.Pieces.{piece_units};
+ghost use Rattle.delta.specs.Operation.{base_of, op_base, op_out};
+ghost use Rattle.document.specs.Places.{IsDefined, Cuts};
+ghost use Rattle.document.specs.Outcome.{IsAccepted, IsTooLong, IsRefused};
+
+use crate::applying::{applied, parts_pair};
+use crate::run::{Piece, Run};
+use delta::{Builder, Delta, MAX_LEN, Op};
+use refusal::Refusal;
+use std::alloc::Global;
+use std::marker::Model;
+
+/// A document of rich text, seen as its list of units: UTF-16 code units and embeds, each with attributes. It has at
+/// most 2^48 units.
+#[derive(Drop)]
+pub struct Document {
+    runs: Vec<Run>,
+}
+
+impl Model for Document {
+    ghost use Rattle.std.specs.Prelude.{◌≤◌, ◌^◌, List, length};
+    ghost use Rattle.std.specs.Coded.{coded_list};
+    ghost use Rattle.delta.specs.Element.{Element};
+    ghost use Rattle.document.specs.Elements.{element_code};
+    ghost use Rattle.document.specs.Runs.{units_of_runs, AreRuns};
+
+    ghost Value = { List Element };
+
+    ghost coded = { coded_list element_code };
+
+    ghost view = { λ d. units_of_runs d.runs.items };
+
+    ghost invariant = { λ d. (length (units_of_runs d.runs.items) ≤ 2 ^ 48) × AreRuns d.runs.items };
+}
+
+impl Document {
+    /// The document without a unit. It takes no memory.
+    pub fn empty(alloc: Global) -> Self
+        ensures { result ≡ [] }
+    {
+        Document {
+            runs: Vec::new(alloc),
+        }
+    }
+
+    /// How many code units it has; an embed counts as one. Linear in the runs; it takes no memory.
+    pub fn len16(&self) -> u64
+        ensures len { result ≡ length self.now }
+        ensures bounded { length self.now ≤ 2 ^ 48 }
+        ensures well_formed { IsWellFormed self.now }
+    {
+        let mut units = 0;
+        for run in &self.runs {
+            units += run.units();
+        }
+        units
+    }
+
+    /// Its weight: 12 for each unit; for each attribute of each unit, and for each embed's value, 12, the bytes of its
+    /// name and the bytes of a text value. 2^64 - 1 where it is more. Linear in the runs and their attributes; it takes
+    /// no memory.
+    pub fn weight(&self) -> u64
+        ensures { result ≡ min (weight_of self.now) (2 ^ 64 - 1) }
+    {
+        let mut weight: u64 = 0;
+        for run in &self.runs {
+            weight = weight.saturating_add(run.weight());
+        }
+        weight
+    }
+
+    /// An equal document.
+    pub fn copy(&self, alloc: Global) -> Result<Self, Refusal>
+        ensures same { IfOk result (λ document. document ≡ self.now) }
+        ensures only { IsOkUnless result Refusal.NoMemory }
+    {
+        let runs = applied(alloc, self.runs.as_slice(), &[], self.len16())?;
+        Ok(Document { runs })
+    }
+
+    /// The delta that makes it of the empty document, by inserts alone.
+    pub fn as_delta(&self, alloc: Global) -> Result<Delta, Refusal>
+        ensures delta { IfOk result (λ delta. delta ≡ nf (End self.now)) }
+        ensures inserts { IfOk result (λ delta. base_of delta ≡ 0) }
+        ensures back { IfOk result (λ delta. apply [] (counted delta) ≡ self.now) }
+        ensures only { IsOkUnless result Refusal.NoMemory }
+    {
+        let mut builder = Builder::new(alloc);
+        for run in &self.runs {
+            let op = inserted(alloc, run.piece())?;
+            if let Err(refusal) = builder.push(op) {
+                return Err(refusal);
+            }
+        }
+        Ok(builder.finish())
+    }
+
+    /// Applies a delta. It is refused as PastEnd where the delta reaches past the end, else as CutsPair where it parts a
+    /// surrogate pair, else as BadOps where the document would have more than 2^48 code units, and as NoMemory; the
+    /// document is then as it was. Linear in the runs and the operations, and no text is copied more than once.
+    pub fn apply(&mut self, alloc: Global, delta: &Delta) -> Result<(), Refusal>
+        ensures ok { OnOk result (self.new ≡ apply self.old (counted delta.now)) }
+        ensures err { OnErr result (self.new ≡ self.old) }
+        ensures past_end { (result ≡ Err Refusal.PastEnd) ↔ ¬ (IsDefined self.old (counted delta.now)) }
+        ensures cuts { (result ≡ Err Refusal.CutsPair) ↔ (IsDefined self.old (counted delta.now) × Cuts self.old (counted delta.now)) }
+        ensures bad { (result ≡ Err Refusal.BadOps) ↔ IsTooLong self.old (counted delta.now) }
+        ensures only { IfErr result (IsRefused self.old (counted delta.now)) }
+    {
+        let behind = match self.behind(delta) {
+            Ok(behind) => behind,
+            Err(refusal) => return Err(refusal),
+        };
+        let runs = match applied(alloc, self.runs.as_slice(), delta.ops(), behind) {
+            Ok(runs) => runs,
+            Err(no_memory) => return Err(no_memory),
+        };
+        self.runs = runs;
+        Ok(())
+    }
+
+    // how many code units a delta leaves behind it as they are, where it may be applied
+    fn behind(&self, delta: &Delta) -> Result<u64, Refusal>
+        ensures accepted { OnOk result (IsAccepted self.now (counted delta.now)) }
+        ensures behind { IfOk result (λ behind. length self.now ≡ base_of delta.now + behind) }
+        ensures refused { IfErr result (IsRefused self.now (counted delta.now)) }
+    {
+        let len = self.len16();
+        if delta.base_len() > len {
+            return Err(Refusal::PastEnd);
+        }
+        if parts_pair(self.runs.as_slice(), delta.ops()) {
+            return Err(Refusal::CutsPair);
+        }
+        let behind = len - delta.base_len();
+        if behind + delta.out_len() > MAX_LEN {
+            return Err(Refusal::BadOps);
+        }
+        Ok(behind)
+    }
+}
+
+// the operation that inserts a piece
+fn inserted(alloc: Global, piece: Piece<'_>) -> Result<Op, Refusal>
+    ensures units { IfOk result (λ op. counted (op ∷ []) ≡ End (piece_units piece.entry)) }
+    ensures out { IfOk result (λ op. op_out op ≡ length (piece_units piece.entry)) }
+    ensures base { IfOk result (λ op. op_base op ≡ 0) }
+    ensures only { IsOkUnless result Refusal.NoMemory }
+{
+    match piece {
+        Piece::Text(text, _, attrs) => {
+            Ok(Op::text(String::from_str(alloc, text)?, attrs.copy(alloc)?))
+        }
+        Piece::Embed(key, value, attrs) => {
+            match Op::embed(alloc, key.as_str(), value.copy(alloc)?, attrs.copy(alloc)?) {
+                Ok(op) => Ok(op),
+                Err(refusal) => Err(refusal),
+            }
+        }
+    }
+}

@@ -1,0 +1,211 @@
+//! Runs of a document.
+ghost use Rattle.std.specs.Prelude.{◌≡◌, ◌≢◌, ◌+◌, ◌-◌, min, ◌<◌, ◌^◌, ◌++◌, [], ◌∷◌, length, IfOk, OnOk, OnErr, IsOkUnless, MatchBool, Some, string_bytes};
+ghost use Rattle.utf16.specs.Units.{units_of};
+ghost use Rattle.delta.specs.Element.{letters, embedded};
+ghost use Rattle.document.specs.Runs.{text_attributes};
+ghost use Rattle.document.specs.Weight.{weight_of, attributes_weight, named_weight, scalar_weight};
+
+use attributes::{Attrs, Key, Value, ValueRef};
+use refusal::Refusal;
+use std::alloc::Global;
+use std::marker::Model;
+
+/// A text or an embed with attributes, seen as its units. Its number of code units is kept beside it.
+#[derive(Drop)]
+pub struct Run {
+    content: Content,
+    attrs: Attrs,
+    units: u64,
+}
+
+#[derive(Drop)]
+enum Content {
+    Text(String),
+    Embed(Key, Value),
+}
+
+/// A part of a run: a text with its number of code units, or an embed, and the attributes.
+#[derive(Clone, Copy)]
+pub enum Piece<'a> {
+    Text(&'a str, u64, &'a Attrs),
+    Embed(&'a Key, &'a Value, &'a Attrs),
+}
+
+impl Content {
+    ghost use Rattle.document.specs.Pieces.{content_weight};
+
+    // the weight of an embed's value; a text has none
+    fn weight(&self) -> u64
+        ensures weight { result ≡ content_weight self.now }
+        ensures small { result < 2 ^ 63 + 76 }
+    {
+        match self {
+            Content::Text(_) => 0,
+            Content::Embed(key, value) => named_weight(key, value),
+        }
+    }
+}
+
+impl<'a> Piece<'a> {
+    ghost use Rattle.document.specs.Pieces.{piece_units, piece_attributes, IsCounted};
+
+    /// How many code units it has.
+    pub fn units(&self) -> u64
+        requires { IsCounted self.now }
+        ensures units { result ≡ length (piece_units self.now) }
+        ensures some { 0 < result }
+    {
+        match self {
+            Piece::Text(_, units, _) => *units,
+            Piece::Embed(_, _, _) => 1,
+        }
+    }
+
+    /// Its attributes.
+    pub fn attrs(&self) -> &'a Attrs
+        ensures { result.now ≡ piece_attributes self.now }
+    {
+        match self {
+            Piece::Text(_, _, attrs) => attrs,
+            Piece::Embed(_, _, attrs) => attrs,
+        }
+    }
+}
+
+impl Model for Run {
+    ghost use Rattle.std.specs.Prelude.{◌≡◌, ◌<◌, List, length};
+    ghost use Rattle.std.specs.Coded.{coded_list};
+    ghost use Rattle.delta.specs.Element.{Element};
+    ghost use Rattle.document.specs.Elements.{element_code};
+
+    ghost Value = { List Element };
+
+    ghost coded = { coded_list element_code };
+
+    ghost use Rattle.document.specs.Pieces.{content_units};
+
+    ghost view = { λ r. content_units r.content r.attrs };
+
+    ghost invariant = { λ r. (r.units ≡ length (content_units r.content r.attrs)) × (0 < r.units) };
+}
+
+impl Run {
+    ghost use Rattle.document.specs.Pieces.{piece_units, IsCounted};
+
+    /// A run of a text with so many code units.
+    pub fn text(alloc: Global, text: &str, units: u64, attrs: Attrs) -> Result<Self, Refusal>
+        requires counted { units ≡ length (units_of text.now) }
+        requires some { 0 < units }
+        ensures run { IfOk result (λ run. run ≡ letters (units_of text.now) attrs) }
+        ensures only { IsOkUnless result Refusal.NoMemory }
+    {
+        Ok(Run {
+            content: Content::Text(String::from_str(alloc, text)?),
+            attrs,
+            units,
+        })
+    }
+
+    /// A run of an embed.
+    pub fn embed(key: Key, value: Value, attrs: Attrs) -> Self
+        ensures { result ≡ embedded key value attrs ∷ [] }
+    {
+        Run {
+            content: Content::Embed(key, value),
+            attrs,
+            units: 1,
+        }
+    }
+
+    /// How many code units it has.
+    pub fn units(&self) -> u64
+        ensures units { result ≡ length self.now }
+        ensures some { 0 < result }
+    {
+        self.units
+    }
+
+    /// The whole run as a piece.
+    pub fn piece(&self) -> Piece<'_>
+        ensures units { piece_units result ≡ self.now }
+        ensures counted { IsCounted result }
+    {
+        match &self.content {
+            Content::Text(text) => Piece::Text(text.as_str(), self.units, &self.attrs),
+            Content::Embed(key, value) => Piece::Embed(key, value, &self.attrs),
+        }
+    }
+
+    /// Its weight, and 2^64 - 1 where that is more.
+    pub fn weight(&self) -> u64
+        ensures { result ≡ min (weight_of self.now) (2 ^ 64 - 1) }
+    {
+        let each = attributes_weight(&self.attrs).saturating_add(12 + self.content.weight());
+        each.saturating_mul(self.units)
+    }
+
+    /// Takes a text in at the end where the run is a text with equal attributes, and says whether it is.
+    pub fn merge(&mut self, text: &str, units: u64, attrs: &Attrs) -> Result<bool, Refusal>
+        requires counted { units ≡ length (units_of text.now) }
+        requires bound { length self.old + units < 2 ^ 64 }
+        ensures ok { IfOk result (λ yes. MatchBool yes
+            ((self.new ≡ self.old ++ letters (units_of text.now) attrs.now) × (text_attributes self.old ≡ Some attrs.now))
+            ((self.new ≡ self.old) × (text_attributes self.old ≢ Some attrs.now))) }
+        ensures err { OnErr result (self.new ≡ self.old) }
+        ensures only { IsOkUnless result Refusal.NoMemory }
+    {
+        match &mut self.content {
+            Content::Text(mine) => {
+                let same = self.attrs == *attrs;
+                if same {
+                    append(mine, text)?;
+                    self.units += units;
+                }
+                Ok(same)
+            }
+            Content::Embed(_, _) => Ok(false),
+        }
+    }
+}
+
+// a text with another at its end
+fn append(text: &mut String, more: &str) -> Result<(), Refusal>
+    ensures ok { OnOk result (units_of (string_bytes text.new) ≡ units_of (string_bytes text.old) ++ units_of more.now) }
+    ensures err { OnErr result (string_bytes text.new ≡ string_bytes text.old) }
+    ensures only { IsOkUnless result Refusal.NoMemory }
+{
+    let _ = text.as_str();
+    text.push_str(more)?;
+    Ok(())
+}
+
+// the weight of attributes, and 2^64 - 1 where that is more
+fn attributes_weight(attrs: &Attrs) -> u64
+    ensures { result ≡ min (attributes_weight attrs.now) (2 ^ 64 - 1) }
+{
+    let mut weight: u64 = 0;
+    for (key, value) in attrs.entries() {
+        weight = weight.saturating_add(named_weight(key, value));
+    }
+    weight
+}
+
+// the weight of a name with its value
+fn named_weight(key: &Key, value: &Value) -> u64
+    ensures weight { result ≡ named_weight key.now value.now }
+    ensures small { result < 2 ^ 63 + 76 }
+{
+    12 + (key.as_str().len() as u64 + scalar_weight(value))
+}
+
+// the bytes of a text; a whole number or a flag has none
+fn scalar_weight(value: &Value) -> u64
+    ensures weight { result ≡ scalar_weight value.now }
+    ensures small { result < 2 ^ 63 }
+{
+    match value.get() {
+        ValueRef::Text(text) => text.len() as u64,
+        ValueRef::Whole(_) => 0,
+        ValueRef::Flag(_) => 0,
+    }
+}

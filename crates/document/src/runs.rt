@@ -1,0 +1,67 @@
+//! Lists of runs that grow at their end.
+ghost use Rattle.std.specs.Prelude.{◌≡◌, ◌≢◌, Some, ◌+◌, ◌<◌, ◌^◌, ◌++◌, [], ◌∷◌, length, OnOk, OnErr, IsOkUnless, IfOk, MatchBool};
+ghost use Rattle.utf16.specs.Units.{units_of};
+ghost use Rattle.delta.specs.Element.{letters, embedded};
+ghost use Rattle.document.specs.Runs.{units_of_runs, AreRuns, TakesText, last_attributes};
+
+use crate::run::Run;
+use attributes::{Attrs, Key, Value};
+use refusal::Refusal;
+use std::alloc::Global;
+
+/// Puts a text with so many code units at the end: into the last run where that is a text of equal attributes.
+pub fn put_text(
+    alloc: Global,
+    runs: &mut Vec<Run>,
+    text: &str,
+    units: u64,
+    attrs: Attrs,
+) -> Result<(), Refusal>
+    requires counted { units ≡ length (units_of text.now) }
+    requires bound { length (units_of_runs runs.old.items) + units < 2 ^ 64 }
+    requires kept { AreRuns runs.old.items }
+    ensures ok { OnOk result (units_of_runs runs.new.items ≡ units_of_runs runs.old.items ++ letters (units_of text.now) attrs) }
+    ensures kept { AreRuns runs.new.items }
+    ensures err { OnErr result (runs.new.items ≡ runs.old.items) }
+    ensures only { IsOkUnless result Refusal.NoMemory }
+{
+    if units == 0 {
+        return Ok(());
+    }
+    if merge_last(runs, text, units, &attrs)? {
+        return Ok(());
+    }
+    let run = Run::text(alloc, text, units, attrs)?;
+    runs.push(run)?;
+    Ok(())
+}
+
+/// Puts an embed at the end.
+pub fn put_embed(runs: &mut Vec<Run>, key: Key, value: Value, attrs: Attrs) -> Result<(), Refusal>
+    requires kept { AreRuns runs.old.items }
+    ensures ok { OnOk result (units_of_runs runs.new.items ≡ units_of_runs runs.old.items ++ embedded key value attrs ∷ []) }
+    ensures kept { AreRuns runs.new.items }
+    ensures err { OnErr result (runs.new.items ≡ runs.old.items) }
+    ensures only { IsOkUnless result Refusal.NoMemory }
+{
+    runs.push(Run::embed(key, value, attrs))?;
+    Ok(())
+}
+
+// takes a text into the last run, where that is a text of equal attributes, and says whether it is
+fn merge_last(runs: &mut Vec<Run>, text: &str, units: u64, attrs: &Attrs) -> Result<bool, Refusal>
+    requires counted { units ≡ length (units_of text.now) }
+    requires bound { length (units_of_runs runs.old.items) + units < 2 ^ 64 }
+    ensures ok { IfOk result (λ yes. MatchBool yes
+        (TakesText runs.old.items runs.new.items (letters (units_of text.now) attrs.now) attrs.now)
+        ((last_attributes runs.old.items ≢ Some attrs.now) × (runs.new.items ≡ runs.old.items))) }
+    ensures err { OnErr result (runs.new.items ≡ runs.old.items) }
+    ensures only { IsOkUnless result Refusal.NoMemory }
+{
+    let len = runs.len();
+    if len == 0 {
+        return Ok(false);
+    }
+    let merged = runs[len - 1].merge(text, units, attrs)?;
+    Ok(merged)
+}

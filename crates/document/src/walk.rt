@@ -1,0 +1,74 @@
+//! Steps over units of runs: past them, or out with a change.
+ghost use Rattle.std.specs.Prelude.{◌≡◌, ◌+◌, ◌≤◌, ◌<◌, ◌^◌, ◌++◌, length, IfOk, OnOk, OnErr, IsOkUnless};
+ghost use Rattle.document.specs.Pairs.{IsWithinPair};
+ghost use Rattle.document.specs.Passes.{IsPassed, IsKept};
+ghost use Rattle.document.specs.Pieces.{piece_dressed, IsPiece};
+ghost use Rattle.document.specs.Runs.{units_of_runs, AreRuns};
+
+use crate::cursor::Cursor;
+use crate::run::{Piece, Run};
+use crate::runs::{put_embed, put_text};
+use attributes::{Attrs, Change, apply};
+use refusal::Refusal;
+use std::alloc::Global;
+use utf16::Cut;
+
+/// Steps over so many code units; refused where that would part a pair.
+pub fn skip(cursor: &mut Cursor<'_>, len: u64) -> Result<(), Cut>
+    requires { len ≤ length cursor.old }
+    ensures passed { OnOk result (IsPassed cursor.old cursor.new len) }
+    ensures parted { OnErr result (IsWithinPair cursor.old len) }
+{
+    let mut left = len;
+    while left > 0 {
+        let piece = cursor.next(left)?;
+        left -= piece.units();
+    }
+    Ok(())
+}
+
+/// Steps over so many code units, and puts them out with a change of their attributes.
+pub fn keep(
+    alloc: Global,
+    cursor: &mut Cursor<'_>,
+    len: u64,
+    change: &Change,
+    out: &mut Vec<Run>,
+) -> Result<(), Refusal>
+    requires there { len ≤ length cursor.old }
+    requires whole { ¬ (IsWithinPair cursor.old len) }
+    requires bound { length (units_of_runs out.old.items) + len < 2 ^ 64 }
+    requires runs { AreRuns out.old.items }
+    ensures kept { OnOk result (IsKept cursor.old cursor.new len change.now (units_of_runs out.old.items) (units_of_runs out.new.items)) }
+    ensures runs { OnOk result (AreRuns out.new.items) }
+    ensures only { IsOkUnless result Refusal.NoMemory }
+{
+    let mut left = len;
+    while left > 0 {
+        let piece = match cursor.next(left) {
+            Ok(piece) => piece,
+            Err(_) => unreachable!(),
+        };
+        let attrs = apply(alloc, piece.attrs(), change)?;
+        put(alloc, out, piece, attrs)?;
+        left -= piece.units();
+    }
+    Ok(())
+}
+
+// puts a piece out with other attributes
+fn put(alloc: Global, out: &mut Vec<Run>, piece: Piece<'_>, attrs: Attrs) -> Result<(), Refusal>
+    requires piece { IsPiece piece }
+    requires bound { length (units_of_runs out.old.items) + length (piece_dressed piece attrs) < 2 ^ 64 }
+    requires runs { AreRuns out.old.items }
+    ensures units { OnOk result (units_of_runs out.new.items ≡ units_of_runs out.old.items ++ piece_dressed piece.entry attrs) }
+    ensures runs { OnOk result (AreRuns out.new.items) }
+    ensures only { IsOkUnless result Refusal.NoMemory }
+{
+    match piece {
+        Piece::Text(text, units, _) => put_text(alloc, out, text, units, attrs),
+        Piece::Embed(key, value, _) => {
+            put_embed(out, key.copy(alloc)?, value.copy(alloc)?, attrs)
+        }
+    }
+}
