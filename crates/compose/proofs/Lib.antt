@@ -13,3 +13,4 @@ pub mod Whole
 pub mod ManyDeltas
 pub mod StepsBack
 pub mod WayBack
+pub mod DocumentCuts

@@ -2,6 +2,7 @@
 #![tactic(auto)]
 
 mod composing;
+mod inverting;
 pub mod laws;
 mod output;
 mod pieces;
@@ -11,3 +12,4 @@ mod tests;
 mod undoing;
 
 pub use composing::{compose, compose_many};
+pub use inverting::invert;
