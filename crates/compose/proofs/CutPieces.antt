@@ -97,7 +97,7 @@ counted-last n (insert_embed key value a) ops some within = absurd (omega arith)
 counted-last n (retain m c) ops some within = run-parts m n (m - n) (Keep c) (counted ops) (omega arith)
 counted-last n (delete m) ops some within = run-parts m n (m - n) Del (counted ops) (omega arith)
 
-first-whole : (op : Operation) → first_units (op_len op) op ≡ op
+pub first-whole : (op : Operation) → first_units (op_len op) op ≡ op
 first-whole (insert_text us a) = ap (λ vs. insert_text vs a) (take-length us)
 first-whole (insert_embed key value a) = refl
 first-whole (retain m c) = refl

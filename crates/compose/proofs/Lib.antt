@@ -11,3 +11,6 @@ pub mod HeldBack
 pub mod Outcomes
 pub mod Whole
 pub mod ManyDeltas
+pub mod StepsBack
+pub mod WayBack
+pub mod DocumentCuts

@@ -38,7 +38,7 @@ stays-first n (insert_embed key value a) (delete k) h = record { stays = refl; s
 stays-first n (retain m c) (retain k d) h = record { stays = refl; stands = refl }
 stays-first n (retain m c) (delete k) h = record { stays = refl; stands = refl }
 
-run-joined : (n : ℕ) (f : Fate) (k : Gaps) → joined (run n f (End [])) k ≡ run n f k
+pub run-joined : (n : ℕ) (f : Fate) (k : Gaps) → joined (run n f (End [])) k ≡ run n f k
 run-joined n f k = joined-run n f (End []) k ∙ ap (run n f) (front-nil k)
 
 -- what they make stands before what the others make

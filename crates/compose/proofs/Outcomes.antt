@@ -1,5 +1,8 @@
 -- What holds of an outcome, from what holds of it.
-use Rattle.std.specs.Prelude.{Result, Ok, Err, IfOk, OnOk}
+use Rattle.std.proofs.Common.{◌≡◌, ◌⊎◌, inl, inr}
+use Rattle.std.specs.Prelude.{Result, Ok, Err, IfOk, OnOk, IfErr}
+use Rattle.refusal.specs.declared.Refusal.{Refusal}
+use Rattle.refusal.specs.declared.Refusal.TheVariants.{PastEnd, CutsPair, NoMemory}
 
 module _ {T E : Type 0} where
   pub on_ok : {P Q : Type 0} (r : Result T E) → (P → Q) → OnOk r P → OnOk r Q
@@ -13,3 +16,14 @@ module _ {T E : Type 0} where
   pub on_both : {P S : T → Type 0} {Q R : Type 0} (r : Result T E) → ((x : T) → Q → P x → S x → R) → OnOk r Q → IfOk r P → IfOk r S → OnOk r R
   on_both (Ok x) f q p s = f x q p s
   on_both (Err e) f q p s = tt
+
+  pub map_ok : {P R : T → Type 0} (r : Result T E) → ((x : T) → P x → R x) → IfOk r P → IfOk r R
+  map_ok (Ok x) f p = f x p
+  map_ok (Err e) f p = tt
+
+-- a call that parts a pair or lacks memory doesn't reach past the end
+module _ {T : Type 0} where
+  pub never_past_end : (r : Result T Refusal) → IfErr r (λ e. (e ≡ CutsPair) ⊎ (e ≡ NoMemory)) → ¬ (r ≡ Err PastEnd)
+  never_past_end (Ok x) only past = absurd (cc)
+  never_past_end (Err e) (inl cut) past = absurd (cc)
+  never_past_end (Err e) (inr memory) past = absurd (cc)

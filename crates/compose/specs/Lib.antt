@@ -7,5 +7,6 @@ pub mod Pieces
 pub mod Steps
 pub mod Held
 pub mod Many
+pub mod Undoing
 pub mod Laws
 mod Examples

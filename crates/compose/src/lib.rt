@@ -2,11 +2,14 @@
 #![tactic(auto)]
 
 mod composing;
+mod inverting;
 pub mod laws;
 mod output;
 mod pieces;
 mod stepping;
 #[cfg(test)]
 mod tests;
+mod undoing;
 
 pub use composing::{compose, compose_many};
+pub use inverting::invert;

@@ -1,0 +1,44 @@
+use Rattle.std.proofs.Common.{◌≡◌, ◌∙◌, ap, refl}
+use Rattle.delta.specs.Gaps.{counted}
+use Rattle.delta.specs.Normal.{nf}
+use Rattle.compose.specs.Inverse.{inverse}
+use Rattle.compose.proofs.Outcomes.{map_ok, on_ok, never_past_end}
+use Rattle.compose.proofs.DocumentCuts.{units-made, inserts-made, defined-made, past-end, not-past, cut-document, whole-document}
+use Rattle.compose.proofs.inverting.invert.Goals as goal
+
+pub returns-then-base_len-len16-clause-past_end : goal.returns-then-base_len-len16-clause-past_end
+returns-then-base_len-len16-clause-past_end c = (
+  λ _. past-end c.args.delta.now c.args.document.now c.base_len.result c.len16.result c.base_len.ensures c.len16.ensures.len c.if-base_len-len16.true,
+  λ _. refl,
+)
+
+pub returns-in-Err-clause-past_end : goal.returns-in-Err-clause-past_end
+returns-in-Err-clause-past_end c =
+    let memory = c.in-Err.ensures.only in (
+      λ e. absurd (cc),
+      λ past. absurd (past (not-past c.args.delta.now c.args.document.now c.base_len.result c.len16.result c.base_len.ensures c.len16.ensures.len c.if-base_len-len16.false)),
+    )
+
+pub undo-requires-clause-inserted : goal.undo-requires-clause-inserted
+undo-requires-clause-inserted c = inserts-made c.in-Ok.base c.args.document.now c.in-Ok.ensures.delta c.in-Ok.ensures.inserts
+
+pub undo-requires-clause-defined : goal.undo-requires-clause-defined
+undo-requires-clause-defined c =
+    defined-made c.in-Ok.base c.args.delta.now c.args.document.now c.base_len.result c.len16.result c.in-Ok.ensures.delta c.base_len.ensures c.len16.ensures.len c.if-base_len-len16.false
+
+pub returns-clause-one : goal.returns-clause-one
+returns-clause-one c =
+    map_ok c.undo.result (λ back is. is ∙ ap (λ d. nf (inverse (counted c.args.delta.now) d)) (units-made c.in-Ok.base c.args.document.now c.in-Ok.ensures.delta)) c.undo.ensures.one
+
+pub returns-clause-past_end : goal.returns-clause-past_end
+returns-clause-past_end c = (
+  λ e. absurd (never_past_end c.undo.result c.undo.ensures.only e),
+  λ past. absurd (past (not-past c.args.delta.now c.args.document.now c.base_len.result c.len16.result c.base_len.ensures c.len16.ensures.len c.if-base_len-len16.false)),
+)
+
+pub returns-clause-whole : goal.returns-clause-whole
+returns-clause-whole c =
+    on_ok c.undo.result (λ whole. whole-document c.in-Ok.base c.args.delta.now c.args.document.now c.in-Ok.ensures.delta whole) c.undo.ensures.whole
+
+pub returns-clause-cut : goal.returns-clause-cut
+returns-clause-cut c = λ e. cut-document c.in-Ok.base c.args.delta.now c.args.document.now c.in-Ok.ensures.delta (c.undo.ensures.cut e)

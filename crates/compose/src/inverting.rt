@@ -1,0 +1,32 @@
+//! The delta that undoes one.
+ghost use Rattle.std.specs.Prelude.{◌≡◌, ◌↔◌, ◌⊎◌, IfOk, OnOk, IfErr};
+ghost use Rattle.delta.specs.Gaps.{counted};
+ghost use Rattle.delta.specs.Normal.{nf};
+ghost use Rattle.document.specs.Places.{IsDefined, Cuts};
+ghost use Rattle.compose.specs.Inverse.{inverse};
+
+use crate::undoing::undo;
+use delta::Delta;
+use document::Document;
+use refusal::Refusal;
+use std::alloc::Global;
+
+/// The delta that takes back another on a document: after both the document is as it was. Refused just where the document
+/// refuses the delta: as PastEnd where it reaches past the end, else as CutsPair where it parts a surrogate pair; and as
+/// NoMemory. Linear in the runs of the document and the operations; the document's text is copied once.
+pub fn invert(alloc: Global, delta: &Delta, document: &Document) -> Result<Delta, Refusal>
+    ensures one { IfOk result (λ back. back ≡ nf (inverse (counted delta.now) document.now)) }
+    ensures past_end { (result ≡ Err Refusal.PastEnd) ↔ ¬ (IsDefined document.now (counted delta.now)) }
+    ensures whole { OnOk result (¬ (Cuts document.now (counted delta.now))) }
+    ensures cut { result ≡ Err Refusal.CutsPair → Cuts document.now (counted delta.now) }
+    ensures only { IfErr result (λ e. (e ≡ Refusal.PastEnd) ⊎ ((e ≡ Refusal.CutsPair) ⊎ (e ≡ Refusal.NoMemory))) }
+{
+    if delta.base_len() > document.len16() {
+        return Err(Refusal::PastEnd);
+    }
+    let base = match document.as_delta(alloc) {
+        Ok(base) => base,
+        Err(refusal) => return Err(refusal),
+    };
+    undo(alloc, &base, delta)
+}
