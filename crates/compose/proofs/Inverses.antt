@@ -2,8 +2,10 @@
 use Rattle.std.proofs.Common.{◌≡◌, List, [], ◌∷◌, ◌++◌, length, refl, ap, ◌∙◌}
 use Rattle.attributes.proofs.AtEachName.{changed-reverted}
 use Rattle.delta.specs.Element.{Element}
-use Rattle.delta.specs.Gaps.{Gaps, End, Gap, Fate, Del, Keep, run, fated, apply}
-use Rattle.delta.proofs.Effects.{apply-front}
+use Rattle.delta.specs.Gaps.{Gaps, End, Gap, Fate, Del, Keep, run, fated, apply, counted}
+use Rattle.delta.specs.Operation.{Operation}
+use Rattle.delta.specs.Normal.{nf}
+use Rattle.delta.proofs.Effects.{apply-front, apply-nf}
 use Rattle.compose.specs.Inverse.{inverse, unit_back}
 use Rattle.compose.specs.Laws.{Undone}
 
@@ -23,3 +25,8 @@ undone [] (Gap xs f g) = apply-deleted xs (apply [] g) (inverse g []) ∙ undone
 undone (x ∷ d) (Gap xs f g) =
     apply-deleted xs (fated f x ++ apply d g) (unit_back f x (inverse g d))
     ∙ (apply-back f x (apply d g) (inverse g d) ∙ ap (λ l. x ∷ l) (undone d g))
+
+-- and so does the normal form of the inverse
+pub undone_by : (d : List Element) (ops back : List Operation) → back ≡ nf (inverse (counted ops) d) → apply (apply d (counted ops)) (counted back) ≡ d
+undone_by d ops back is =
+    ap (λ l. apply (apply d (counted ops)) (counted l)) is ∙ (apply-nf (apply d (counted ops)) (inverse (counted ops) d) ∙ undone d (counted ops))

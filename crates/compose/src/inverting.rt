@@ -1,6 +1,6 @@
 //! The delta that undoes one.
 ghost use Rattle.std.specs.Prelude.{◌≡◌, ◌↔◌, ◌⊎◌, IfOk, OnOk, IfErr};
-ghost use Rattle.delta.specs.Gaps.{counted};
+ghost use Rattle.delta.specs.Gaps.{counted, apply};
 ghost use Rattle.delta.specs.Normal.{nf};
 ghost use Rattle.document.specs.Places.{IsDefined, Cuts};
 ghost use Rattle.compose.specs.Inverse.{inverse};
@@ -16,6 +16,7 @@ use std::alloc::Global;
 /// NoMemory. Linear in the runs of the document and the operations; the document's text is copied once.
 pub fn invert(alloc: Global, delta: &Delta, document: &Document) -> Result<Delta, Refusal>
     ensures one { IfOk result (λ back. back ≡ nf (inverse (counted delta.now) document.now)) }
+    ensures undoes { IfOk result (λ back. apply (apply document.now (counted delta.now)) (counted back) ≡ document.now) }
     ensures past_end { (result ≡ Err Refusal.PastEnd) ↔ ¬ (IsDefined document.now (counted delta.now)) }
     ensures whole { OnOk result (¬ (Cuts document.now (counted delta.now))) }
     ensures cut { result ≡ Err Refusal.CutsPair → Cuts document.now (counted delta.now) }

@@ -1,9 +1,10 @@
-//! Composing with ample memory, on the cases that quill-delta publishes (its README, and the tests of `compose`). Rows are
+//! Composing and inverting with ample memory, on the cases that quill-delta publishes (its README, and the tests of `compose` and `invert`). Rows are
 //! written so: `ins TEXT`, `emb NAME`, `ret LENGTH`, `del LENGTH`, each with `{NAMES}` for attributes that are true, where
 //! `-NAME` is one that a retain removes.
-use crate::{compose, compose_many};
+use crate::{compose, compose_many, invert};
 use attributes::{Attrs, Change, Key, Value};
 use delta::{Builder, Delta, MAX_LEN, Op, OpRef};
+use document::Document;
 use refusal::Refusal;
 use std::alloc::Global;
 use std::process::Abort;
@@ -271,5 +272,60 @@ fn composes_many(rt: HostRuntime) -> Result<(), Fail> {
     deltas.push(built(alloc, "ins 😀")?)?;
     deltas.push(built(alloc, "ret 1, del 1")?)?;
     assert!(rt; compose_many(alloc, &deltas).err() == Some(Refusal::CutsPair));
+    Ok(())
+}
+
+fn document_of(alloc: Global, row: &str) -> Result<Document, Fail> {
+    let mut document = Document::empty(alloc);
+    document.apply(alloc, &built(alloc, row)?)?;
+    Ok(document)
+}
+
+// (document, delta, the delta back)
+#[test]
+fn inverts(rt: HostRuntime) -> Result<(), Fail> {
+    let rows = [
+        ("ins 123456", "ret 2, ins A", "ret 2, del 1"),
+        ("ins 123456", "ret 2, del 3", "ret 2, ins 345"),
+        ("ins 123456", "ret 2, ret 3 {bold}", "ret 2, ret 3 {-bold}"),
+        ("ins 123, ins 4 {bold}", "ret 4 {italic}", "ret 4 {-italic}"),
+        (
+            "ins 123 {bold}, ins 456 {italic}, ins 789 {color bold}",
+            "ret 2, del 2, ins AB {italic}, ret 2 {-italic bold}, ret 2 {color}, del 1",
+            "ret 2, ins 3 {bold}, ins 4 {italic}, del 2, ret 2 {-bold italic}, ret 2, ins 9 {bold color}",
+        ),
+        (
+            "ins Hello\nWorld",
+            "ret 6 {bold}, ins !, del 5",
+            "ret 6 {-bold}, ins World, del 1",
+        ),
+        ("ins ab", "ret 1 {-bold}", ""),
+        ("ins a😀b", "ret 1, del 2", "ret 1, ins 😀"),
+        (
+            "ins a, emb image {alt}",
+            "ret 1, del 1",
+            "ret 1, emb image {alt}",
+        ),
+    ];
+    let alloc = rt.alloc();
+    for (base, delta, wanted) in rows {
+        let mut document = document_of(alloc, base)?;
+        let delta = built(alloc, delta)?;
+        let back = invert(alloc, &delta, &document)?;
+        assert_eq!(rt; shown(alloc, &back)?.as_str(), wanted, "on {base}");
+        document.apply(alloc, &delta)?;
+        document.apply(alloc, &back)?;
+        assert_eq!(rt;
+            shown(alloc, &document.as_delta(alloc)?)?.as_str(),
+            shown(alloc, &built(alloc, base)?)?.as_str()
+        );
+    }
+    let smile = document_of(alloc, "ins a😀")?;
+    assert!(rt;
+        invert(alloc, &built(alloc, "ret 4, ins x")?, &smile).err() == Some(Refusal::PastEnd)
+    );
+    assert!(rt;
+        invert(alloc, &built(alloc, "ret 2, del 1")?, &smile).err() == Some(Refusal::CutsPair)
+    );
     Ok(())
 }

@@ -2,6 +2,7 @@ use Rattle.std.proofs.Common.{◌≡◌, ◌∙◌, ap, refl}
 use Rattle.delta.specs.Gaps.{counted}
 use Rattle.delta.specs.Normal.{nf}
 use Rattle.compose.specs.Inverse.{inverse}
+use Rattle.compose.proofs.Inverses.{undone_by}
 use Rattle.compose.proofs.Outcomes.{map_ok, on_ok, never_past_end}
 use Rattle.compose.proofs.DocumentCuts.{units-made, inserts-made, defined-made, past-end, not-past, cut-document, whole-document}
 use Rattle.compose.proofs.inverting.invert.Goals as goal
@@ -29,6 +30,14 @@ undo-requires-clause-defined c =
 pub returns-clause-one : goal.returns-clause-one
 returns-clause-one c =
     map_ok c.undo.result (λ back is. is ∙ ap (λ d. nf (inverse (counted c.args.delta.now) d)) (units-made c.in-Ok.base c.args.document.now c.in-Ok.ensures.delta)) c.undo.ensures.one
+
+pub returns-clause-undoes : goal.returns-clause-undoes
+returns-clause-undoes c =
+    map_ok c.undo.result
+    (λ back is.
+    undone_by c.args.document.now c.args.delta.now back
+    (is ∙ ap (λ d. nf (inverse (counted c.args.delta.now) d)) (units-made c.in-Ok.base c.args.document.now c.in-Ok.ensures.delta)))
+    c.undo.ensures.one
 
 pub returns-clause-past_end : goal.returns-clause-past_end
 returns-clause-past_end c = (
