@@ -13,3 +13,4 @@ pub mod Reading
 pub mod Refusals
 pub mod DeltaSpelling
 pub mod DeltaReading
+pub mod DeltaWidth
