@@ -14,3 +14,4 @@ pub mod Refusals
 pub mod DeltaSpelling
 pub mod DeltaReading
 pub mod DeltaWidth
+mod DeltaExamples

@@ -13,4 +13,6 @@ pub use widths::delta_width;
 pub use writing::{encode_batch, write_delta};
 
 #[cfg(test)]
+mod delta_tests;
+#[cfg(test)]
 mod tests;
