@@ -17,3 +17,4 @@ pub mod ReadValues
 pub mod ReadPairs
 pub mod ReadOperations
 pub mod ReadDeltas
+pub mod DeltaWidths

@@ -24,7 +24,8 @@ use Rattle.journal.proofs.ReadPairs.{key_takes, key_again, attributes_take, attr
 abbrev Behind : ℕ → List ℕ → Operation × List ℕ → Type 0
 Behind tag bytes x = ReadBehind operation IsOperation tag bytes x
 
-IsText-units_of : (text : List ℕ) → length text < 2 ^ 32 → is_utf8 text ≡ true → IsText (units_of text)
+-- the code units of a text
+pub IsText-units_of : (text : List ℕ) → length text < 2 ^ 32 → is_utf8 text ≡ true → IsText (units_of text)
 IsText-units_of text short valid =
     let same : utf8_of (units_of text) ≡ text = utf8_of-units_of text (IsUtf8-from_is_utf8 text valid) in
     record {

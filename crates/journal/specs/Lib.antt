@@ -13,3 +13,5 @@ pub mod Reading
 pub mod Refusals
 pub mod DeltaSpelling
 pub mod DeltaReading
+pub mod DeltaWidth
+mod DeltaExamples

@@ -5,10 +5,14 @@
 
 mod reading;
 mod unread;
+mod widths;
 mod writing;
 
-pub use reading::decode_batch;
-pub use writing::encode_batch;
+pub use reading::{decode_batch, read_delta};
+pub use widths::delta_width;
+pub use writing::{encode_batch, write_delta};
 
+#[cfg(test)]
+mod delta_tests;
 #[cfg(test)]
 mod tests;

@@ -4,6 +4,10 @@ ghost use Rattle.journal.specs.Command.{Taken, width_of};
 ghost use Rattle.journal.specs.State.{State};
 ghost use Rattle.journal.specs.Agree.{Agree, AgreeingGrow};
 ghost use Rattle.journal.specs.Spelling as spelling;
+ghost use Rattle.delta.specs.Operation.{Operation};
+ghost use Rattle.journal.specs.DeltaSpelling as deltas;
+ghost use Rattle.journal.specs.DeltaSpelling.{IsSpellable};
+ghost use Rattle.journal.specs.DeltaWidth as wide;
 
 /// Two batches whose spellings begin one list of bytes are equal, and so is what is behind them.
 pub fn one_spelling()
@@ -27,4 +31,15 @@ pub fn agree()
 /// States that agree are continued by the same commands, and agree after them.
 pub fn agreeing_grow()
     ensures { AgreeingGrow }
+{}
+
+/// Two deltas whose spellings begin one list of bytes are equal, and so is what is behind them.
+pub fn one_delta_spelling()
+    ensures { (a b : List Operation) (x y : List ℕ) → IsSpellable a → IsSpellable b
+        → deltas.delta a ++ x ≡ deltas.delta b ++ y → (a ≡ b) × (x ≡ y) }
+{}
+
+/// A delta's spelling is as long as the delta is wide.
+pub fn delta_width()
+    ensures { (operations : List Operation) → length (deltas.delta operations) ≡ wide.delta_width operations }
 {}

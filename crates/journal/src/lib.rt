@@ -14,7 +14,7 @@ mod revision;
 mod scan;
 
 pub use area::{AppendError, Area};
-pub use batch::{decode_batch, encode_batch};
+pub use batch::{decode_batch, delta_width, encode_batch, read_delta, write_delta};
 pub use gate::{CLOSED, OPEN, write_gated};
 pub use revision::{Action, Command, DocState, Limits, Name, Plan, SourceEntry, State, Taken};
 pub use scan::{Scan, ScanError};
