@@ -2,8 +2,9 @@
 //!
 //! To the layer above the crate promises: a command is answered by the first case of the rule of acceptance that
 //! holds; a batch of commands that were taken has one spelling, which is read back; an area holds the bodies that
-//! were appended to it, and a crash at any moment of an append leaves them with the new one or without. It stands on
-//! `disk` and `plain`. The rule of acceptance (`revision`) is a module of this crate until it is a crate of its own.
+//! were appended to it, and a crash at any moment of an append leaves them with the new one or without. The spelling of
+//! deltas of rich text stands beside that of batches, which don't hold any yet. It stands on `disk`, `plain` and `delta`.
+//! The rule of acceptance (`revision`) is a module of this crate until it is a crate of its own.
 #![tactic(auto)]
 
 mod area;
