@@ -3,12 +3,11 @@ use Rattle.std.proofs.Common.{◌≡◌, ◌≢◌, ℕ, zero, suc, ◌≤◌, �
 use Rattle.std.specs.Prelude.{IsTrue, not, ◌&&◌, ◌||◌}
 use Rattle.std.specs.Char.Utf16.{is_high_surrogate, is_low_surrogate}
 use Rattle.std.proofs.lemmas.Bool.{and_parts, and_from}
-use Rattle.attributes.specs.Map.{empty}
-use Rattle.attributes.specs.Attributes.{same_attributes, same_changes, same_attributes-Decides, same_changes-Decides}
+use Rattle.attributes.specs.Attributes.{same_attributes, same_attributes-Decides, same_changes-Decides}
 use Rattle.delta.specs.Element.{Element, Item, code_unit, embed}
-use Rattle.delta.specs.Operation.{Operation, insert_text, insert_embed, retain, delete, base_of, out_of, op_base, is_insert}
-use Rattle.delta.specs.Gaps.{Gaps, End, Gap, Fate, Del, Keep, counted, units_below}
-use Rattle.delta.specs.Normal.{IsNormal, is_built, nf, spelled}
+use Rattle.delta.specs.Operation.{Operation, insert_text, insert_embed, retain, delete, base_of, out_of}
+use Rattle.delta.specs.Gaps.{Gaps, End, Gap, Fate, Del, Keep, counted}
+use Rattle.delta.specs.Normal.{IsNormal, is_built, nf}
 use Rattle.delta.proofs.Joins.{units_below-counted}
 use Rattle.delta.proofs.Lengths.{out_of-spelled}
 use Rattle.delta.proofs.Neighbours.{built-parts}
@@ -17,7 +16,7 @@ use Rattle.delta.proofs.Spellings.{counted-spelled}
 use Rattle.document.specs.Pairs.{IsHighItem, IsLowItem, IsPair, IsPairAt}
 use Rattle.document.specs.Places.{IsDefined, Cuts, fate_at, inserted_at}
 use Rattle.compose.specs.Places.{inserts, fate, tail}
-use Rattle.compose.specs.Cuts.{are_high_and_low, is_pair, same_fate, is_nothing, parts, is_parted, cuts_units, cuts}
+use Rattle.compose.specs.Cuts.{are_high_and_low, is_pair, same_fate, is_nothing, parts, cuts_units, cuts}
 use Rattle.compose.specs.Undoing.{AllInsert, units_inserted}
 
 -- the delta that makes a document inserts its units

@@ -1,14 +1,14 @@
 -- One delta for several, one after another.
-use Rattle.std.proofs.Common.{◌≡◌, ℕ, zero, suc, ◌+◌, ◌<◌, ◌≤◌, ◌⊎◌, inl, inr, List, [], ◌∷◌, ◌++◌, length, length-append, refl, sym, ap, subst, ◌∙◌, arith}
+use Rattle.std.proofs.Common.{◌≡◌, ℕ, suc, ◌+◌, ◌≤◌, inr, List, [], ◌∷◌, ◌++◌, length, length-append, refl, sym, ap, subst, ◌∙◌, arith}
 use Rattle.delta.specs.Element.{Element}
-use Rattle.delta.specs.Operation.{Operation, base_of, IsBounded}
-use Rattle.delta.specs.Gaps.{Gaps, End, Gap, Fate, Del, Keep, front, fated, counted, apply, units_below}
-use Rattle.delta.specs.Normal.{IsNormal, nf}
+use Rattle.delta.specs.Operation.{Operation, IsBounded}
+use Rattle.delta.specs.Gaps.{Gaps, End, Gap, Del, Keep, fated, counted, apply, units_below}
+use Rattle.delta.specs.Normal.{IsNormal}
 use Rattle.delta.proofs.Joins.{units_below-counted, units_below-front}
 use Rattle.delta.proofs.Lengths.{base_of-nf}
 use Rattle.compose.specs.Places.{tail}
-use Rattle.compose.specs.Composed.{laid, beyond, composed, kept_then}
-use Rattle.compose.specs.Composes.{Composes, IsDefined}
+use Rattle.compose.specs.Composed.{laid, beyond, composed}
+use Rattle.compose.specs.Composes.{IsDefined}
 use Rattle.compose.specs.Cuts.{Cuts}
 use Rattle.compose.specs.Many.{one_of, many_after, many, AreDefined, applied, ComposesAll, AreTaken, OneCuts, OnePasses}
 use Rattle.compose.proofs.Compositions.{composes_by_normal}

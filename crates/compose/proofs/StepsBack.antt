@@ -1,24 +1,22 @@
 -- One step of the way back from a delta.
-use Rattle.std.proofs.Common.{◌≡◌, ℕ, zero, suc, ◌+◌, ◌<◌, ◌≤◌, min, Bool, true, false, List, [], ◌∷◌, ◌++◌, length, refl, sym, ap, subst, ◌∙◌, ⊎_elim, inr, arith}
-use Rattle.std.specs.Prelude.{◌||◌}
-use Rattle.std.proofs.lemmas.List.{length-append, length-drop, length-take-le, append-nil}
+use Rattle.std.proofs.Common.{◌≡◌, ℕ, suc, ◌+◌, ◌<◌, ◌≤◌, min, true, false, List, [], ◌∷◌, ◌++◌, length, refl, sym, ap, subst, ◌∙◌, ⊎_elim, inr, arith}
+use Rattle.std.proofs.lemmas.List.{length-drop, length-take-le, append-nil}
 use Rattle.std.proofs.lemmas.Bool.{cases_lt}
 use Rattle.attributes.specs.Attributes.{Attributes, Changes, reverted}
 use Rattle.delta.specs.Element.{Element, letters, lettered, embedded}
 use Rattle.delta.specs.Operation.{Operation, insert_text, insert_embed, retain, delete, op_len, op_base, op_out, base_of, out_of, is_insert, is_delete}
-use Rattle.delta.specs.Gaps.{Gaps, End, Gap, Fate, Del, Keep, front, run, counted, joined}
+use Rattle.delta.specs.Gaps.{Gaps, End, Gap, Del, Keep, front, run, counted, joined}
 use Rattle.delta.specs.Normal.{IsNormal, settled}
-use Rattle.delta.proofs.Joins.{front-nil, front-front, joined-run}
+use Rattle.delta.proofs.Joins.{front-nil, front-front}
 use Rattle.compose.specs.Places.{inserts}
-use Rattle.compose.specs.Cuts.{cuts}
 use Rattle.compose.specs.Inverse.{inverse, unit_back}
 use Rattle.compose.specs.Pieces.{first_units, last_units, left_after, CutsText}
-use Rattle.compose.specs.Steps.{IsStep, AllSome}
+use Rattle.compose.specs.Steps.{AllSome}
 use Rattle.compose.specs.Undoing.{AllInsert, units_inserted, turned_back, IsStepBack}
 use Rattle.compose.proofs.CutPieces.{counted-cut, len-first, base-cut, left_after-within, left_after-whole, first-whole}
 use Rattle.compose.proofs.Borders.{inserts-front}
 use Rattle.compose.proofs.Progress.{IsStep-second}
-use Rattle.compose.proofs.Meetings.{run-joined, IsStep-met, some-first, some-min, DoMeet}
+use Rattle.compose.proofs.Meetings.{run-joined, IsStep-met, some-first, some-min}
 
 -- inserted units are deleted first
 run-append : (xs ys : List Element) (g : Gaps) → run (length (xs ++ ys)) Del g ≡ run (length xs) Del (run (length ys) Del g)

@@ -1,4 +1,4 @@
-use Rattle.std.proofs.Common.{◌≡◌, ◌∙◌, ap, refl}
+use Rattle.std.proofs.Common.{◌∙◌, ap, refl}
 use Rattle.delta.specs.Gaps.{counted}
 use Rattle.delta.specs.Normal.{nf}
 use Rattle.compose.specs.Inverse.{inverse}

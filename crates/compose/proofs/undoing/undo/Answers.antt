@@ -1,4 +1,4 @@
-use Rattle.std.proofs.Common.{◌≡◌, ◌∙◌, sym, ap, true, false}
+use Rattle.std.proofs.Common.{◌∙◌}
 use Rattle.compose.specs.Pieces.{left}
 use Rattle.compose.specs.Steps.{listed}
 use Rattle.compose.proofs.Outcomes.{if_ok, on_ok}
