@@ -54,7 +54,7 @@ Holds state (exchange ∷ others) content =
     × (state_after (state_with state exchange.0 exchange.1) others ≡ state))
 
 -- A desk over a store that is open was asked these commands, one after another: the store then holds all that was
--- answered as taken, and no crash at any moment leaves less than was answered by then.
+-- answered as taken, and so does what a crash afterwards leaves.
 pub record KeepsAll {D : Type 0} (disk : Ghosts D) (old new : StoreDesk D disk) (asked : List Exchange) : Type 0 where
   pub state : state_of (store_of new) ≡ state_after (state_of (store_of old)) asked
   pub any_moment : LeavesOnly disk (MayHold (state_of (store_of old)) asked) (device_of (store_of old)) (device_of (store_of new))

@@ -39,8 +39,8 @@ pub fn long_line()
 {}
 
 /// Whatever is asked of a desk over a store that is open, one command after another: the store holds all that was
-/// answered as taken, a crash at any moment leaves what was answered by then, with or without the command that was
-/// being answered, and a crash after all of them leaves all that was answered as taken.
+/// answered as taken, a crash at any moment leaves the state after a first part of the commands, with or without the
+/// next one, and a crash after all of them leaves all that was answered as taken.
 pub fn asked_keeps_all<D: Disk>()
     ensures { AskedKeepsAll ⟦<D as Disk>⟧ }
 {}
