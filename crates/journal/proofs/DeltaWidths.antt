@@ -9,37 +9,8 @@ use Rattle.attributes.specs.Scalar.{Scalar, text_scalar, whole_scalar, flag_scal
 use Rattle.delta.specs.Operation.{Operation, insert_text, insert_embed, retain, delete}
 use Rattle.journal.specs.Spelling.{number, text16, text32}
 use Rattle.journal.specs.DeltaSpelling.{value, new_value, pair, pairs, operation, delta}
-use Rattle.journal.specs.DeltaWidth.{value_width, new_value_width, pair_width, pairs_width, operation_width, delta_width}
+use Rattle.revision.specs.Width.{value_width, new_value_width, pair_width, pairs_width, operation_width, delta_width}
 use Rattle.journal.proofs.Widths.{length-number16, length-number32, length-number64}
-
--- ---- sums
-
-module _ {X : Type 0} (f : X → ℕ) where
-  more : (xs : List X) (i : ℕ) (d : X) → i < length xs → sum_by f (take (suc i) xs) ≡ sum_by f (take i xs) + f (get_or xs i d)
-  more [] i d lt = absurd (omega arith)
-  more (x ∷ xs) zero d lt = omega (arith, sum_by-cons f x [])
-  more (x ∷ xs) (suc i) d lt =
-      omega (arith, sum_by-cons f x (take (suc i) xs), sum_by-cons f x (take i xs), more xs i d (omega arith))
-
-  -- one more of them
-  pub sum_by-more : (xs : List X) (i : ℕ) (d : X) → i < length xs → sum_by f (take (i + 1) xs) ≡ sum_by f (take i xs) + f (get_or xs i d)
-  sum_by-more xs i d lt = rw add-one (more xs i d lt)
-
-  -- where each is 1 or more, the sum is no less than their number
-  pub length-le-sum_by : ((x : X) → 1 ≤ f x) → (xs : List X) → length xs ≤ sum_by f xs
-  length-le-sum_by some [] = omega arith
-  length-le-sum_by some (x ∷ xs) = omega (arith, some x, sum_by-cons f x xs, length-le-sum_by some xs)
-
-pub pair_width-some : {X : Type 0} (f : X → ℕ) (p : List ℕ × X) → 1 ≤ pair_width f p
-pair_width-some f p = omega arith
-
-pub operation_width-some : (op : Operation) → 1 ≤ operation_width op
-operation_width-some (insert_text us a) = omega arith
-operation_width-some (insert_embed name v a) = omega arith
-operation_width-some (retain n c) = omega arith
-operation_width-some (delete n) = omega arith
-
--- ---- lengths of spellings
 
 length-text16 : (text : List ℕ) → length (text16 text) ≡ 2 + length text
 unfolding text16

@@ -8,7 +8,8 @@ use Rattle.std.proofs.lemmas.List.Elements.{All-from_recursion, recursion_from_A
 use Rattle.std.proofs.lemmas.Option.{cond_some, option_and_then_some, same_Some, some_pair_parts}
 use Rattle.delta.specs.Operation.{Operation, base_of, out_of, IsBounded}
 use Rattle.journal.specs.Spelling.{number}
-use Rattle.journal.specs.DeltaSpelling.{operation, delta, IsOperation, IsSpellable}
+use Rattle.journal.specs.DeltaSpelling.{operation, delta}
+use Rattle.revision.specs.Spellable.{IsOperation, IsSpellable}
 use Rattle.journal.specs.Reading.{number_at}
 use Rattle.journal.specs.DeltaReading.{operations_at, is_normal, is_bounded, delta_of, delta_at}
 use Rattle.journal.proofs.Numbers.{IsBytes, Takes, Takes-then, number32, number_takes, number_again}

@@ -12,9 +12,11 @@ use Rattle.attributes.specs.Attributes.{Attributes, Changes}
 use Rattle.attributes.specs.Scalar.{Scalar}
 use Rattle.delta.specs.Operation.{Operation, insert_text, insert_embed, retain, delete}
 use Rattle.journal.specs.Spelling.{number, text16, text32}
-use Rattle.journal.specs.DeltaSpelling.{value, new_value, pairs, operation, IsText, IsValue, IsNewValue, IsPairs, IsOperation}
+use Rattle.journal.specs.DeltaSpelling.{value, new_value, pairs, operation}
+use Rattle.revision.specs.Spellable.{IsText, IsValue, IsNewValue, IsPairs, IsOperation}
 use Rattle.journal.specs.Reading.{number_at, text_at}
 use Rattle.journal.specs.DeltaReading.{byte_at, key_at, value_at, attributes_at, change_at, text_insert_at, embed_insert_at, retain_at, delete_at, operation_behind, operation_at, operations_at}
+use Rattle.revision.proofs.Texts.{IsText-units_of}
 use Rattle.journal.proofs.Numbers.{IsBytes, Takes, Takes-then, number32, number64, number_takes, number_again}
 use Rattle.journal.proofs.Texts.{text_takes, text_again}
 use Rattle.journal.proofs.ReadValues.{ReadBehind, either_way, with_tag, byte_takes, value_takes, value_again}
@@ -23,16 +25,6 @@ use Rattle.journal.proofs.ReadPairs.{key_takes, key_again, attributes_take, attr
 -- what each kind of operation is read from
 abbrev Behind : ℕ → List ℕ → Operation × List ℕ → Type 0
 Behind tag bytes x = ReadBehind operation IsOperation tag bytes x
-
--- the code units of a text
-pub IsText-units_of : (text : List ℕ) → length text < 2 ^ 32 → is_utf8 text ≡ true → IsText (units_of text)
-IsText-units_of text short valid =
-    let same : utf8_of (units_of text) ≡ text = utf8_of-units_of text (IsUtf8-from_is_utf8 text valid) in
-    record {
-      back = ap units_of same;
-      valid = subst (λ (t : List ℕ). is_utf8 t ≡ true) (sym same) valid;
-      short = subst (λ (t : List ℕ). length t < 2 ^ 32) (sym same) short;
-    }
 
 text_insert_behind : (bytes : List ℕ) (x : Operation × List ℕ) → IsBytes bytes → text_insert_at bytes ≡ Some x → Behind 1 bytes x
 unfolding text_insert_at operation text32

@@ -14,7 +14,8 @@ use Rattle.attributes.specs.Map.{Map, empty, insert, by_bytes, same_entries_map}
 use Rattle.attributes.specs.Attributes.{Attributes, Changes, IsKey}
 use Rattle.attributes.specs.Scalar.{Scalar}
 use Rattle.journal.specs.Spelling.{number, text16}
-use Rattle.journal.specs.DeltaSpelling.{value, new_value, pair, pairs, IsValue, IsNewValue, IsName, IsPair, IsPairs}
+use Rattle.journal.specs.DeltaSpelling.{value, new_value, pair, pairs}
+use Rattle.revision.specs.Spellable.{IsValue, IsNewValue, IsName, IsPair, IsPairs}
 use Rattle.journal.specs.Reading.{◌>>=◌, number_at, text_at, name_at}
 use Rattle.journal.specs.DeltaReading.{is_key, key_at, key_above, pair_at, pairs_at, value_at, new_value_at, attributes_at, change_at}
 use Rattle.journal.proofs.Numbers.{IsBytes, Takes, Takes-then, number16, number32, number_takes, number_again}

@@ -8,7 +8,8 @@ use Rattle.std.proofs.lemmas.Int.{of_z-to_z, to_z-of_z, ints}
 use Rattle.std.proofs.lemmas.Option.{cond_some, option_and_then_some, same_Some}
 use Rattle.attributes.specs.Scalar.{Scalar, text_scalar, whole_scalar, flag_scalar, IsExact}
 use Rattle.journal.specs.Spelling.{number, text32}
-use Rattle.journal.specs.DeltaSpelling.{value, new_value, IsValue, IsNewValue}
+use Rattle.journal.specs.DeltaSpelling.{value, new_value}
+use Rattle.revision.specs.Spellable.{IsValue, IsNewValue}
 use Rattle.journal.specs.Reading.{number_at, text_at}
 use Rattle.journal.specs.DeltaReading.{byte_at, is_exact, whole_at, text_value_at, value_behind, value_at, new_value_behind, new_value_at}
 use Rattle.journal.proofs.Numbers.{IsBytes, Takes, Takes-then, number32, number64, number_takes, number_again}

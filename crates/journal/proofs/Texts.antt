@@ -9,8 +9,8 @@ use Rattle.std.proofs.lemmas.List.{append-nil}
 use Rattle.std.proofs.lemmas.Option.{cond_some, option_and_then_some, same_Some}
 use Rattle.std.proofs.lemmas.Str.{IsUtf8-from_ascii, is_utf8-from_IsUtf8}
 use Rattle.plain.specs.Delta.{Operation, Insert, inserting}
-use Rattle.journal.specs.Name.{is_name_byte, is_name}
-use Rattle.journal.specs.Command.{is_delta}
+use Rattle.revision.specs.Name.{is_name_byte, is_name}
+use Rattle.revision.specs.Command.{is_delta}
 use Rattle.journal.specs.Spelling.{number, text16, text32, attributes, operation, delta}
 use Rattle.journal.specs.Reading.{part_at, number_at, fixed_at, tag_at, utf8_at, text_at, name_at, insertion_at, operations_at, delta_at}
 use Rattle.journal.proofs.Numbers.{IsBytes, Takes, Takes-then, IsNumber, number16, number32, part_takes, part_again, number_takes, number_again, fixed_takes, fixed_again, tag_takes, tag_again}

@@ -5,7 +5,7 @@ use Rattle.std.specs.Int.{w16, w32, w64}
 use Rattle.std.proofs.lemmas.List.{length-append}
 use Rattle.std.proofs.lemmas.List.Sums.{sum_by-cons}
 use Rattle.plain.specs.Delta.{Operation, Insert}
-use Rattle.journal.specs.Command.{Taken, operation_width, operations_width, name_width, width_of}
+use Rattle.revision.specs.Command.{Taken, operation_width, operations_width, name_width, width_of}
 use Rattle.journal.specs.Spelling.{number, text16, text32, attributes, operation, delta, created_name, entry, batch, batch_width}
 
 pub length-number16 : (n : ℕ) → length (number w16 n) ≡ 2

@@ -1,7 +1,7 @@
 -- A batch spelled out, 45 bytes: the source "a" creates the document "d" with the text "z".
 use Rattle.std.proofs.Common.{◌≡◌, Some, [], ◌∷◌, refl}
 use Rattle.plain.specs.Delta.{Insert}
-use Rattle.journal.specs.Command.{Taken}
+use Rattle.revision.specs.Command.{Taken}
 use Rattle.journal.specs.Spelling.{number, text16, text32, attributes, operation, delta, created_name, entry, batch}
 
 abbrev creation : Taken

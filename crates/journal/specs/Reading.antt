@@ -6,8 +6,8 @@ use Rattle.std.specs.Int.{Width, w16, w32, w64, byte_len, from_le_bytes}
 use Rattle.plain.specs.Delta.{Operation, inserting}
 use Rattle.journal.specs.declared.batch.unread.Unread.{Unread}
 use Rattle.journal.specs.declared.batch.unread.Unread.TheVariants.{Malformed, NoMemory}
-use Rattle.journal.specs.Name.{is_source_name, is_document_name}
-use Rattle.journal.specs.Command.{Taken}
+use Rattle.revision.specs.Name.{is_source_name, is_document_name}
+use Rattle.revision.specs.Command.{Taken}
 
 infixl 10 ◌>>=◌
 abbrev pub ◌>>=◌ : {A B : Type 0} → Option A → (A → Option B) → Option B

@@ -3,7 +3,7 @@ use Rattle.std.specs.Prelude.{ℕ, ◌+◌, ◌<◌, ◌≤◌, ◌^◌, Option,
 use Rattle.std.specs.List.{flat_map}
 use Rattle.std.specs.Int.{Width, w16, w32, w64, to_le_bytes}
 use Rattle.plain.specs.Delta.{Operation, Insert}
-use Rattle.journal.specs.Command.{Taken, IsTaken, width_of}
+use Rattle.revision.specs.Command.{Taken, IsTaken, width_of}
 
 -- a number, in as many bytes as the width has
 unfoldable pub number : Width → ℕ → List ℕ

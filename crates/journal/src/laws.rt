@@ -1,13 +1,13 @@
 //! Laws of the spelling of batches and of states, for the layers above. Each is a function that does nothing: its contract is the law.
 ghost use Rattle.std.specs.Prelude.{◌≡◌, ℕ, ◌++◌, List, length};
-ghost use Rattle.journal.specs.Command.{Taken, width_of};
-ghost use Rattle.journal.specs.State.{State};
-ghost use Rattle.journal.specs.Agree.{Agree, AgreeingGrow};
+ghost use Rattle.revision.specs.Command.{Taken, width_of};
+ghost use Rattle.revision.specs.State.{State};
+ghost use Rattle.revision.specs.Agree.{Agree, AgreeingGrow};
 ghost use Rattle.journal.specs.Spelling as spelling;
 ghost use Rattle.delta.specs.Operation.{Operation};
 ghost use Rattle.journal.specs.DeltaSpelling as deltas;
-ghost use Rattle.journal.specs.DeltaSpelling.{IsSpellable};
-ghost use Rattle.journal.specs.DeltaWidth as wide;
+ghost use Rattle.revision.specs.Spellable.{IsSpellable};
+ghost use Rattle.revision.specs.Width as wide;
 
 /// Two batches whose spellings begin one list of bytes are equal, and so is what is behind them.
 pub fn one_spelling()

@@ -1,10 +1,10 @@
 -- What a content stands for after an append to the first slot.
 use Rattle.std.proofs.Common.{◌≡◌, ◌⊎◌, inl, inr, ⊎_elim, ℕ, true, Option, List, [], ◌∷◌, ◌++◌, sym, ◌∙◌, ap, subst}
 use Rattle.disk.specs.Device.{SameOutside}
-use Rattle.journal.specs.Command.{Taken}
+use Rattle.revision.specs.Command.{Taken}
 use Rattle.journal.specs.Spelling.{IsBatch, batch}
-use Rattle.journal.specs.State.{State, folded, all_grow}
-use Rattle.journal.proofs.Agreeing.{agrees}
+use Rattle.revision.specs.State.{State, folded, all_grow}
+use Rattle.revision.proofs.Agreeing.{agrees}
 use Rattle.recovery.specs.declared.shape.Shape.{Shape}
 use Rattle.recovery.specs.declared.segments.Ring.{Ring}
 use Rattle.recovery.specs.Shape.{slot_place}

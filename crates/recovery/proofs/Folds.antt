@@ -5,9 +5,9 @@ use Rattle.std.specs.List.{flat_map}
 use Rattle.std.proofs.lemmas.List.{map_push, append-nil, take_all, take-append-le}
 use Rattle.std.proofs.lemmas.List.Concat.{flat_map-append}
 use Rattle.std.proofs.lemmas.List.Elements.{All-append, All-cons, All-nil}
-use Rattle.journal.specs.Command.{Taken}
+use Rattle.revision.specs.Command.{Taken}
 use Rattle.journal.specs.Spelling.{IsBatch, batch}
-use Rattle.journal.specs.State.{State, grows, grown, grown_by_name, created, folded, all_grow}
+use Rattle.revision.specs.State.{State, grows, grown, grown_by_name, created, folded, all_grow}
 use Rattle.recovery.specs.declared.shape.Shape.{Shape}
 use Rattle.recovery.specs.Found.{StandFor, commands_of, empty_state}
 

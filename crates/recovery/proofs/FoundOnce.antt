@@ -1,7 +1,7 @@
 -- A content is found as one state at most.
 use Rattle.std.proofs.Common.{◌≡◌, ℕ, Option, Some, None, List, sym, subst}
-use Rattle.journal.specs.Command.{Taken}
-use Rattle.journal.specs.State.{State}
+use Rattle.revision.specs.Command.{Taken}
+use Rattle.revision.specs.State.{State}
 use Rattle.journal.proofs.Records.{holds_same}
 use Rattle.recovery.specs.declared.shape.Shape.{Shape}
 use Rattle.recovery.specs.Shape.{slot_place}

@@ -4,10 +4,10 @@ use Rattle.std.specs.List.{AllByRecursion}
 use Rattle.std.specs.declared.alloc.Global.{Global}
 use Rattle.std.proofs.lemmas.List.{at_drop_more, drop_all}
 use Rattle.std.proofs.lemmas.List.Elements.{All-from_recursion, recursion_from_All}
-use Rattle.journal.specs.Command.{Taken}
+use Rattle.revision.specs.Command.{Taken}
 use Rattle.journal.specs.Scan.{items_of}
 use Rattle.journal.specs.Spelling.{IsBatch, batch}
-use Rattle.journal.specs.State.{State, folded, all_grow}
+use Rattle.revision.specs.State.{State, folded, all_grow}
 use Rattle.journal.proofs.Batches.{batch-append_same}
 use Rattle.recovery.specs.declared.shape.Shape.{Shape}
 use Rattle.recovery.specs.Found.{StandFor, empty_state, commands_of}

@@ -2,9 +2,9 @@
 use Rattle.std.proofs.Common.{◌≡◌, ◌⊎◌, inl, inr, ℕ, ◌+◌, ◌≤◌, ◌<◌, List, [], ◌∷◌, ◌++◌, length, take, get_or, refl, sym, ◌∙◌, ap, subst, arith}
 use Rattle.std.proofs.lemmas.List.{take_more, take_all}
 use Rattle.disk.specs.declared.device.Disk.{Ghosts}
-use Rattle.journal.specs.Command.{Taken}
-use Rattle.journal.specs.State.{State, folded}
-use Rattle.journal.proofs.Agreeing.{agrees}
+use Rattle.revision.specs.Command.{Taken}
+use Rattle.revision.specs.State.{State, folded}
+use Rattle.revision.proofs.Agreeing.{agrees}
 use Rattle.recovery.specs.declared.run.StoreStep.{StoreStep}
 use Rattle.recovery.specs.declared.store.Store.{Store}
 use Rattle.recovery.specs.Found.{Found, FoundAs}

@@ -1,11 +1,11 @@
 -- Which state the content of a device stands for.
 use Rattle.std.specs.Prelude.{◌≡◌, ℕ, ◌-◌, true, Option, List, [], map, All}
 use Rattle.std.specs.List.{flat_map}
-use Rattle.journal.specs.Command.{Taken}
+use Rattle.revision.specs.Command.{Taken}
 use Rattle.journal.specs.Spelling.{IsBatch, batch}
-use Rattle.journal.specs.State.{State, folded, all_grow}
-use Rattle.journal.specs.Agree.{Agree}
-use Rattle.journal.specs.declared.revision.state.Limits.{Limits}
+use Rattle.revision.specs.State.{State, folded, all_grow}
+use Rattle.revision.specs.Agree.{Agree}
+use Rattle.revision.specs.declared.state.Limits.{Limits}
 use Rattle.recovery.specs.declared.shape.Shape.{Shape}
 use Rattle.recovery.specs.Slot.{Segment, bodies_of}
 use Rattle.recovery.specs.Layout.{IsLaidOut}

@@ -1,9 +1,9 @@
 -- A store that is open, and what a crash within a commit leaves of it.
 use Rattle.std.specs.Prelude.{◌≡◌, ◌⊎◌, ℕ, Bool, Option, List, []}
 use Rattle.disk.specs.declared.device.Disk.{Ghosts}
-use Rattle.journal.specs.Command.{Taken}
+use Rattle.revision.specs.Command.{Taken}
 use Rattle.journal.specs.Spelling.{batch_width}
-use Rattle.journal.specs.State.{State, folded}
+use Rattle.revision.specs.State.{State, folded}
 use Rattle.recovery.specs.declared.store.Store.{Store}
 use Rattle.recovery.specs.Shape.{slot_place}
 use Rattle.recovery.specs.Slot.{Segment, bodies_of}

@@ -1,6 +1,6 @@
 //! Laws of what a content stands for, for the layers above. Each is a function that does nothing: its contract is the law.
 ghost use Rattle.std.specs.Prelude.{◌≡◌, ℕ, List};
-ghost use Rattle.journal.specs.State.{State};
+ghost use Rattle.revision.specs.State.{State};
 ghost use Rattle.recovery.specs.Found.{Found};
 
 /// A content is found as one state at most.

@@ -2,7 +2,7 @@
 ghost use Rattle.std.specs.Prelude.{◌≡◌, ◌⊎◌, ◌↔◌, ◌≤◌, true, [], length, IsTrue, OnOk, OnErr, IfOk, IfErr, IsErrOf};
 ghost use Rattle.disk.specs.Device.{Closes, GoesOn, Rose};
 ghost use Rattle.disk.specs.Crash.{history_of};
-ghost use Rattle.journal.specs.State.{State as StateValue};
+ghost use Rattle.revision.specs.State.{State as StateValue};
 ghost use Rattle.recovery.specs.declared.shape.Shape.{Shape as ShapeValue};
 ghost use Rattle.recovery.specs.Shape.{is_in_range, layout_length, slot_place};
 ghost use Rattle.recovery.specs.Layout.{IsFormatted};

@@ -3,7 +3,7 @@ ghost use Rattle.std.specs.Prelude.{◌≡◌, ◌≢◌, ◌⊎◌, ◌↔◌, 
 ghost use Rattle.disk.specs.Device.{Rose};
 ghost use Rattle.disk.specs.Crash.{LeavesOnly, MayLeaveNow};
 ghost use Rattle.refusal.specs.declared.Refusal.TheVariants.{JournalFull, Stranger, NoMemory, Fault};
-ghost use Rattle.journal.specs.State.{all_grow};
+ghost use Rattle.revision.specs.State.{all_grow};
 ghost use Rattle.recovery.specs.Open.{IsOpen, device_of, state_of, has_failed, has_room};
 ghost use Rattle.recovery.specs.Run.{CanCommit, IsAfterSome, state_after, batch_at};
 

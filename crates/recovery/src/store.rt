@@ -30,10 +30,10 @@ pub struct Store<D: Disk> {
 impl<D: Disk> Store<D> {
     ghost use Rattle.disk.specs.Device.{Rose, GoesOn, Closes};
     ghost use Rattle.disk.specs.Crash.{LeavesOnly, MayLeaveNow, history_of};
-    ghost use Rattle.journal.specs.State.{State as StateValue};
+    ghost use Rattle.revision.specs.State.{State as StateValue};
     ghost use Rattle.recovery.specs.Layout.{IsFormatted};
     ghost use Rattle.recovery.specs.Found.{Found};
-    ghost use Rattle.journal.specs.State.{folded, all_grow};
+    ghost use Rattle.revision.specs.State.{folded, all_grow};
     ghost use Rattle.recovery.specs.Open.{IsOpen, WasOpen, IsUnchanged, IsWithOrWithout, device_of, state_of, has_failed, has_room};
 
     /// Opens a formatted device: syncs it, then reads, and writes nothing. `NotFormatted` comes just where the

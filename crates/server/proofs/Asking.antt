@@ -6,9 +6,9 @@ use Rattle.disk.proofs.Contents.{synced_leaves}
 use Rattle.disk.proofs.Moments.{begins, leaves_map, goes_on_run}
 use Rattle.refusal.specs.declared.Refusal.{Refusal}
 use Rattle.refusal.specs.declared.Refusal.TheVariants.{NoMemory, StoreFailed}
-use Rattle.journal.specs.Command.{Command}
-use Rattle.journal.specs.State.{State, folded}
-use Rattle.journal.specs.Acceptance.{Answer}
+use Rattle.revision.specs.Command.{Command}
+use Rattle.revision.specs.State.{State, folded}
+use Rattle.revision.specs.Acceptance.{Answer}
 use Rattle.recovery.specs.Found.{FoundAs}
 use Rattle.recovery.specs.Open.{IsOpen, device_of, state_of, has_failed as store_has_failed}
 use Rattle.recovery.proofs.Runs.{found_open, found_as}

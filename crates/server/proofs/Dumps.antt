@@ -2,7 +2,7 @@
 use Rattle.std.proofs.Common.{◌≡◌, ◌++◌, List, ℕ, [], ◌∷◌, false, refl, sym, ap, ◌∙◌, append_assoc, append-nil}
 use Rattle.serde_json.specs.Written.{has_float}
 use Rattle.plain.specs.Delta.{inserting}
-use Rattle.journal.specs.State.{DocumentRecord}
+use Rattle.revision.specs.State.{DocumentRecord}
 use Rattle.server.specs.Dump.{content, IsLineOf, IsDumpOf}
 
 -- the content of a text has no float

@@ -2,7 +2,7 @@
 use Rattle.std.proofs.lemmas.List.{take_more}
 use Rattle.std.proofs.Common.{zero, suc, get_or, ◌<◌, add-zero, ◌≡◌, ◌≤◌, ◌+◌, ◌++◌, ℕ, List, [], ◌∷◌, Option, Result, length, take, refl, sym, ap, subst, ◌∙◌, append_assoc, append-nil, arith}
 use Rattle.refusal.specs.declared.Refusal.{Refusal}
-use Rattle.journal.specs.Command.{Command}
+use Rattle.revision.specs.Command.{Command}
 use Rattle.server.specs.declared.session.reply.Reply.{Reply}
 use Rattle.server.specs.Session.{Session}
 use Rattle.server.specs.Replies.{Exchange, Replies, Asks, Feeds, Stops}

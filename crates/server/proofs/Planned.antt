@@ -4,12 +4,12 @@ use Rattle.std.specs.Prelude.{◌&&◌, ◌==◌, nat_lt, nat_le, is_none}
 use Rattle.std.proofs.lemmas.Bool.Decides.{nat_tests}
 use Rattle.refusal.specs.declared.Refusal.TheVariants.{Exists, Gap, TooManyDocuments, TooHeavy, TooWide}
 use Rattle.plain.specs.Delta.{Operation, inserted}
-use Rattle.journal.specs.declared.revision.planning.Plan.{Plan}
-use Rattle.journal.specs.declared.revision.planning.Plan.TheVariants as plans
-use Rattle.journal.specs.Planned.{Gives}
-use Rattle.journal.specs.Command.{Action, Create, Command, Taken, width_of}
-use Rattle.journal.specs.State.{DocumentRecord, State, record_of, last_of, weight_of, creates, grows}
-use Rattle.journal.specs.Acceptance.{Answer, Takes, Repeats, Refuses, creation, create_new, create_existing, create_answer, answer_to, answer}
+use Rattle.revision.specs.declared.planning.Plan.{Plan}
+use Rattle.revision.specs.declared.planning.Plan.TheVariants as plans
+use Rattle.revision.specs.Planned.{Gives}
+use Rattle.revision.specs.Command.{Action, Create, Command, Taken, width_of}
+use Rattle.revision.specs.State.{DocumentRecord, State, record_of, last_of, weight_of, creates, grows}
+use Rattle.revision.specs.Acceptance.{Answer, Takes, Repeats, Refuses, creation, create_new, create_existing, create_answer, answer_to, answer}
 
 -- where a test refuses, what is taken is not refused by it
 passed_test : (b : Bool) (refusal second : Answer) (taken : Taken) → (refusal ≡ Takes taken → ⊥) → cond b refusal second ≡ Takes taken → (b ≡ false) × (second ≡ Takes taken)

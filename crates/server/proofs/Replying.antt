@@ -4,7 +4,7 @@ use Rattle.std.proofs.Common.{Bool, true, false, cond, length, ◌≡◌, ◌++�
 use Rattle.std.specs.Io.KnownBytes.{Appends}
 use Rattle.refusal.specs.declared.Refusal.{Refusal}
 use Rattle.refusal.specs.declared.Refusal.TheVariants.{NoMemory, LineTooLong}
-use Rattle.journal.specs.Command.{Command}
+use Rattle.revision.specs.Command.{Command}
 use Rattle.server.specs.declared.session.reply.Reply.{Reply}
 use Rattle.server.specs.declared.session.line.Event.{Event}
 use Rattle.server.specs.declared.session.line.Event.TheVariants.{More, TooLong, Complete}

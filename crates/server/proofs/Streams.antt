@@ -2,7 +2,7 @@
 use Rattle.std.proofs.Common.{◌++◌, ℕ, List, [], Option, Some, None, Result, Bool, true, false, ◌≡◌, refl, sym, ap, ◌∙◌, append_assoc}
 use Rattle.std.specs.Io.KnownBytes.{Appends, Consumes, Keeps}
 use Rattle.refusal.specs.declared.Refusal.{Refusal}
-use Rattle.journal.specs.Command.{Command}
+use Rattle.revision.specs.Command.{Command}
 use Rattle.server.specs.declared.session.reply.Reply.{Reply}
 use Rattle.server.specs.Session.{Session}
 use Rattle.server.specs.Replies.{Feeds, Stops}

@@ -4,9 +4,9 @@ use Rattle.disk.specs.declared.device.Disk.{Ghosts}
 use Rattle.disk.specs.Crash.{LeavesOnly, MayLeaveNow}
 use Rattle.refusal.specs.declared.Refusal.{Refusal}
 use Rattle.refusal.specs.declared.Refusal.TheVariants.{StoreFailed}
-use Rattle.journal.specs.Command.{Command, Taken}
-use Rattle.journal.specs.State.{State, folded}
-use Rattle.journal.specs.Acceptance.{Answer, Takes, Repeats, Refuses, answer}
+use Rattle.revision.specs.Command.{Command, Taken}
+use Rattle.revision.specs.State.{State, folded}
+use Rattle.revision.specs.Acceptance.{Answer, Takes, Repeats, Refuses, answer}
 use Rattle.recovery.specs.Found.{FoundAs}
 use Rattle.recovery.specs.Open.{IsOpen, device_of, state_of, has_failed as store_has_failed}
 use Rattle.server.specs.declared.session.reply.Reply.{Reply}

@@ -5,9 +5,9 @@ use Rattle.disk.specs.Device.{Rose}
 use Rattle.disk.specs.Crash.{LeavesOnly}
 use Rattle.refusal.specs.declared.Refusal.{Refusal}
 use Rattle.refusal.specs.declared.Refusal.TheVariants.{NoMemory, StoreFailed}
-use Rattle.journal.specs.Command.{Command, Taken}
-use Rattle.journal.specs.State.{folded}
-use Rattle.journal.specs.Acceptance.{Answer, Takes, Repeats, Refuses, answer}
+use Rattle.revision.specs.Command.{Command, Taken}
+use Rattle.revision.specs.State.{folded}
+use Rattle.revision.specs.Acceptance.{Answer, Takes, Repeats, Refuses, answer}
 use Rattle.recovery.specs.declared.store.Store.{Store}
 use Rattle.recovery.specs.Open.{IsOpen, IsWithOrWithout, device_of, state_of, has_room, has_failed as store_has_failed}
 use Rattle.server.specs.declared.session.reply.Reply.{Reply}

@@ -6,7 +6,7 @@ use Rattle.serde_json.specs.Data.{Data, object, array, member, no_members}
 use Rattle.serde_json.specs.Written.{compact_text}
 use Rattle.plain.specs.Units.{units_of}
 use Rattle.plain.specs.Delta.{Operation, inserting}
-use Rattle.journal.specs.State.{DocumentRecord}
+use Rattle.revision.specs.State.{DocumentRecord}
 use Rattle.server.specs.Operations.{printed}
 
 -- `{"ops":[..]}`

@@ -6,8 +6,8 @@ use Rattle.serde_json.specs.Read.{read}
 use Rattle.refusal.specs.declared.Refusal.{Refusal}
 use Rattle.refusal.specs.declared.Refusal.TheVariants.{BadLine, BadMessage, NoHello, BadName, BadOps}
 use Rattle.plain.specs.Delta.{Operation, inserted}
-use Rattle.journal.specs.Name.{is_document_name, is_source_name}
-use Rattle.journal.specs.Command as command
+use Rattle.revision.specs.Name.{is_document_name, is_source_name}
+use Rattle.revision.specs.Command as command
 use Rattle.server.specs.Operations.{delta_of}
 use Rattle.server.specs.Message as message
 use Rattle.server.specs.declared.session.request.Request.{Request}

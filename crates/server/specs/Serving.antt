@@ -2,7 +2,7 @@
 use Rattle.std.specs.Prelude.{ℕ, List, [], false, Option, Some, None, Result}
 use Rattle.std.specs.Io.KnownBytes.{Consumes, IsAtEnd}
 use Rattle.refusal.specs.declared.Refusal.{Refusal}
-use Rattle.journal.specs.Command.{Command}
+use Rattle.revision.specs.Command.{Command}
 use Rattle.server.specs.declared.session.reply.Reply.{Reply}
 use Rattle.server.specs.Session.{Session}
 use Rattle.server.specs.Replies.{Exchange, Asks, Feeds}

@@ -19,7 +19,7 @@ pub struct StoreDesk<D: Disk> {
 impl<D: Disk> StoreDesk<D> {
     ghost use Rattle.std.specs.Prelude.{◌≡◌, ◌↔◌, [], ◌∷◌, true, false, Err, OnOk, OnErr};
     ghost use Rattle.disk.specs.Crash.{LeavesOnly};
-    ghost use Rattle.journal.specs.State.{grows, folded};
+    ghost use Rattle.revision.specs.State.{grows, folded};
     ghost use Rattle.recovery.specs.Open.{IsOpen, IsWithOrWithout, device_of, state_of, has_room, has_failed as store_has_failed};
     ghost use Rattle.server.specs.Desk.{IsToldOf, FailsCommit, store_of, has_failed};
 

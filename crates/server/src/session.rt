@@ -4,7 +4,7 @@ ghost use Rattle.std.specs.String.{string_bytes};
 ghost use Rattle.std.specs.Io.KnownBytes.{Appends};
 ghost use Rattle.refusal.specs.declared.Refusal as refusal;
 ghost use Rattle.server.specs.declared.session.reply.Reply as reply;
-ghost use Rattle.journal.specs.Name.{is_source_name};
+ghost use Rattle.revision.specs.Name.{is_source_name};
 ghost use Rattle.server.specs.Due.{IsDue};
 ghost use Rattle.server.specs.Line.{with_byte};
 ghost use Rattle.server.specs.Request.{request_of, GreetsSource};
@@ -30,7 +30,7 @@ use thiserror::Error;
 /// What answers the commands of a session.
 pub trait Desk {
     ghost use Rattle.std.specs.Prelude.{Result};
-    ghost use Rattle.journal.specs.Command as command;
+    ghost use Rattle.revision.specs.Command as command;
     ghost use Rattle.refusal.specs.declared.Refusal as refusal;
     ghost use Rattle.server.specs.declared.session.reply.Reply as reply;
 
@@ -58,7 +58,7 @@ pub struct Session {
 impl Model for Session {
     ghost use Rattle.std.specs.Prelude.{◌≡◌, true};
     ghost use Rattle.std.specs.Option.{ForSome};
-    ghost use Rattle.journal.specs.Name.{is_source_name};
+    ghost use Rattle.revision.specs.Name.{is_source_name};
     ghost use Rattle.server.specs.Session as spec;
 
     ghost Value = { spec.Session };

@@ -2,9 +2,9 @@
 ghost use Rattle.std.specs.Prelude.{◌≡◌, ◌<◌, ◌^◌, List, true, length, IfOk, IfErr, IfSome, IfNone};
 ghost use Rattle.std.specs.Int.{w16, w32, w64};
 ghost use Rattle.plain.specs.Delta.{inserting};
-ghost use Rattle.journal.specs.Name.{is_source_name, is_document_name};
-ghost use Rattle.journal.specs.Command as command;
-ghost use Rattle.journal.specs.Command.{is_delta};
+ghost use Rattle.revision.specs.Name.{is_source_name, is_document_name};
+ghost use Rattle.revision.specs.Command as command;
+ghost use Rattle.revision.specs.Command.{is_delta};
 ghost use Rattle.journal.specs.Spelling as spelling;
 ghost use Rattle.journal.specs.Reading.{Gives, part_at, number_at, fixed_at, tag_at, utf8_at, text_at, name_at, insertion_at, delta_at, entry_at, entries_at, batch_at, whole_at};
 

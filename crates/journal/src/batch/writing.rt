@@ -2,7 +2,7 @@
 ghost use Rattle.std.specs.Prelude.{◌≡◌, ◌≤◌, ◌<◌, ◌^◌, ◌++◌, true, length, option_map, OnOk, IfOk};
 ghost use Rattle.std.specs.Int.{w16, w32, w64};
 ghost use Rattle.plain.specs.Delta.{Insert};
-ghost use Rattle.journal.specs.Command.{IsTaken, is_delta};
+ghost use Rattle.revision.specs.Command.{IsTaken, is_delta};
 ghost use Rattle.journal.specs.Spelling as spelling;
 
 mod operations;

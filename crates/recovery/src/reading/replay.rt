@@ -1,7 +1,7 @@
 //! Replaying the batches that were read.
 ghost use Rattle.std.specs.Prelude.{◌≡◌, ◌⊎◌, true, List, OnOk, OnErr, IfOk, IfErr};
-ghost use Rattle.journal.specs.Command.{Taken};
-ghost use Rattle.journal.specs.State.{State as StateValue};
+ghost use Rattle.revision.specs.Command.{Taken};
+ghost use Rattle.revision.specs.State.{State as StateValue};
 ghost use Rattle.journal.specs.Scan.{items_of};
 ghost use Rattle.recovery.specs.Shape.{is_in_range};
 ghost use Rattle.recovery.specs.Found.{StandFor};

@@ -2,7 +2,7 @@
 ghost use Rattle.std.specs.Prelude.{◌≡◌, ◌⊎◌, ◌≤◌, ◌<◌, ◌^◌, IfOk, IfErr, Some, None, true, option_copied};
 ghost use Rattle.std.specs.Option.{ForSome};
 ghost use Rattle.serde_json.specs.View.{view, items_view};
-ghost use Rattle.journal.specs.Name.{is_source_name};
+ghost use Rattle.revision.specs.Name.{is_source_name};
 ghost use Rattle.server.specs.Due.{IsDue};
 ghost use Rattle.server.specs.Message.{Create, IsNumbered};
 ghost use Rattle.server.specs.MessageView.{message_view};

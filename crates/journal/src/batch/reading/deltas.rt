@@ -2,7 +2,7 @@
 ghost use Rattle.std.specs.Prelude.{◌≡◌, ◌++◌, ℕ, List, IfOk, IfSome, IfNone};
 ghost use Rattle.delta.specs.Operation.{Operation};
 ghost use Rattle.journal.specs.DeltaSpelling as spelling;
-ghost use Rattle.journal.specs.DeltaSpelling.{IsSpellable};
+ghost use Rattle.revision.specs.Spellable.{IsSpellable};
 ghost use Rattle.journal.specs.Reading.{Gives};
 ghost use Rattle.journal.specs.DeltaReading.{delta_at};
 

@@ -3,7 +3,7 @@ ghost use Rattle.std.specs.Prelude.{◌≡◌, ◌++◌, OnOk};
 ghost use Rattle.utf16.specs.Units.{units_of};
 ghost use Rattle.delta.specs.Operation.{insert_text};
 ghost use Rattle.journal.specs.DeltaSpelling as spelling;
-ghost use Rattle.journal.specs.DeltaSpelling.{IsOperation, IsSpellable};
+ghost use Rattle.revision.specs.Spellable.{IsOperation, IsSpellable};
 
 use super::pairs::{put_attributes, put_change, put_text16};
 use super::values::put_value;

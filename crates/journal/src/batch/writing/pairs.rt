@@ -2,7 +2,7 @@
 ghost use Rattle.std.specs.Prelude.{◌≡◌, ◌<◌, ◌^◌, ◌++◌, length, OnOk};
 ghost use Rattle.journal.specs.Spelling.{text16};
 ghost use Rattle.journal.specs.DeltaSpelling as spelling;
-ghost use Rattle.journal.specs.DeltaSpelling.{IsValue, IsNewValue, IsPair, IsPairs};
+ghost use Rattle.revision.specs.Spellable.{IsValue, IsNewValue, IsPair, IsPairs};
 
 use super::values::{put_new_value, put_value};
 use super::{put_number16, put_number32};

@@ -1,7 +1,7 @@
 //! Writing of values, and of what a change makes of a name.
 ghost use Rattle.std.specs.Prelude.{◌≡◌, ◌++◌, OnOk};
 ghost use Rattle.journal.specs.DeltaSpelling as spelling;
-ghost use Rattle.journal.specs.DeltaSpelling.{IsValue, IsNewValue};
+ghost use Rattle.revision.specs.Spellable.{IsValue, IsNewValue};
 
 use super::{put_number64, put_text32};
 use attributes::{Value, ValueRef};

@@ -1,6 +1,6 @@
 use Rattle.std.proofs.Common.{◌≡◌, ℕ, List, subst}
 use Rattle.std.specs.Prelude.{IfErr}
-use Rattle.journal.specs.State.{State}
+use Rattle.revision.specs.State.{State}
 use Rattle.refusal.specs.declared.Refusal.TheVariants.{Damaged}
 use Rattle.recovery.specs.Found.{Found}
 use Rattle.recovery.proofs.reading.read_store.Goals as goal

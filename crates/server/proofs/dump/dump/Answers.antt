@@ -2,7 +2,7 @@ use Rattle.std.proofs.Common.{◌≡◌, ◌<◌, ◌++◌, ◌∙◌, List, [],
 use Rattle.std.proofs.lemmas.List.{take_more}
 use Rattle.std.specs.String.{string_bytes}
 use Rattle.std.specs.Io.KnownBytes.{Appends}
-use Rattle.journal.specs.State.{DocumentRecord}
+use Rattle.revision.specs.State.{DocumentRecord}
 use Rattle.server.specs.Dump.{IsDumpOf}
 use Rattle.server.proofs.Dumps.{dump-snoc}
 use Rattle.server.proofs.Writes.{on_ok, appends-both}

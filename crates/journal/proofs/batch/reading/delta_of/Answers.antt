@@ -1,7 +1,7 @@
 use Rattle.std.proofs.Common.{◌≡◌, ◌∙◌, true, Err, length, subst, sym, ap, arith}
 use Rattle.plain.specs.Delta.{inserting}
 use Rattle.plain.specs.Units.{units_of}
-use Rattle.journal.specs.Command.{is_delta}
+use Rattle.revision.specs.Command.{is_delta}
 use Rattle.journal.proofs.Inserting.{is_delta-inserting}
 use Rattle.journal.proofs.Units.{length-units_of}
 use Rattle.journal.proofs.batch.reading.delta_of.Goals as goal

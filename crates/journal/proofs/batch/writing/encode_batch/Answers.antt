@@ -2,7 +2,7 @@ use Rattle.std.proofs.Common.{All, length, subst, ap, ◌∙◌, arith}
 use Rattle.std.proofs.lemmas.Grind.{common_steps}
 use Rattle.std.proofs.lemmas.List.{take_all}
 use Rattle.std.proofs.lemmas.List.Elements.{All-more}
-use Rattle.journal.specs.Command.{IsTaken}
+use Rattle.revision.specs.Command.{IsTaken}
 use Rattle.journal.specs.Spelling.{batch}
 use Rattle.journal.proofs.Widths.{length-batch}
 use Rattle.journal.proofs.batch.writing.encode_batch.Goals as goal

@@ -1,7 +1,7 @@
 use Rattle.std.proofs.Common.{◌≡◌, ◌++◌, All, length, take}
 use Rattle.std.specs.Int.{w32}
 use Rattle.std.specs.List.{flat_map}
-use Rattle.journal.specs.Command.{IsTaken}
+use Rattle.revision.specs.Command.{IsTaken}
 use Rattle.journal.specs.Spelling.{number, entry}
 use Rattle.journal.proofs.batch.writing.encode_batch.Given as goal
 

@@ -1,6 +1,6 @@
 use Rattle.std.proofs.Common.{◌≡◌, ◌∙◌, List, true, false, sym, ap, refl}
-use Rattle.journal.specs.Command.{Taken}
-use Rattle.journal.specs.State.{all_grow}
+use Rattle.revision.specs.Command.{Taken}
+use Rattle.revision.specs.State.{all_grow}
 use Rattle.recovery.proofs.Replays.{batch_same}
 use Rattle.recovery.proofs.reading.replay.replay.Goals as goal
 

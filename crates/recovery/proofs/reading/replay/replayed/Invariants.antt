@@ -1,5 +1,5 @@
 use Rattle.std.proofs.Common.{◌↔◌, drop}
-use Rattle.journal.specs.State.{State}
+use Rattle.revision.specs.State.{State}
 use Rattle.journal.specs.Scan.{items_of}
 use Rattle.recovery.specs.Found.{empty_state}
 use Rattle.recovery.proofs.Replays.{Leads}

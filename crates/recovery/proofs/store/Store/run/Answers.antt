@@ -2,7 +2,7 @@ use Rattle.std.proofs.Common.{◌≡◌, ◌∙◌, ◌+◌, List, ℕ, length, 
 use Rattle.disk.specs.Crash.{history_of}
 use Rattle.disk.proofs.Contents.{synced_leaves}
 use Rattle.disk.proofs.Moments.{begins, leaves_map, goes_on_run}
-use Rattle.journal.specs.State.{State, folded}
+use Rattle.revision.specs.State.{State, folded}
 use Rattle.recovery.specs.declared.run.StoreStep.{StoreStep}
 use Rattle.std.proofs.lemmas.List.{at_drop_more, take_all}
 use Rattle.recovery.specs.Found.{FoundAs}

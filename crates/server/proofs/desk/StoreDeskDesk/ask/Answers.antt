@@ -1,5 +1,5 @@
 use Rattle.std.proofs.Common.{ap, inr, sym, ◌∙◌}
-use Rattle.journal.specs.Acceptance.{answer}
+use Rattle.revision.specs.Acceptance.{answer}
 use Rattle.recovery.specs.Open.{state_of}
 use Rattle.server.proofs.Planned.{planned_due, planned_grows}
 use Rattle.server.proofs.desk.StoreDeskDesk.ask.Goals as goal

@@ -1,0 +1,5 @@
+pub mod Sums
+pub mod Texts
+pub mod Lookups
+pub mod Creations
+pub mod Agreeing

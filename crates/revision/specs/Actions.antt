@@ -1,0 +1,7 @@
+-- An action of the program as what it asks for.
+use Rattle.revision.specs.declared.command.Action as program
+use Rattle.revision.specs.declared.command.Action.TheVariants as variants
+use Rattle.revision.specs.Command.{Action, Create}
+
+abbrev pub action_of : program.Action → Action
+action_of (variants.Create delta) = Create delta

@@ -1,0 +1,52 @@
+-- What a source asks for, and what is taken of it.
+use Rattle.std.specs.Prelude.{ℕ, ◌≡◌, ◌<◌, ◌≤◌, ◌^◌, ◌+◌, ◌==◌, ◌&&◌, Bool, true, false, Option, Some, None, List, length}
+use Rattle.delta.specs.Operation.{Operation, base_of, out_of}
+use Rattle.revision.specs.Name.{is_document_name, is_source_name}
+use Rattle.revision.specs.Spellable.{IsSpellable}
+use Rattle.revision.specs.Width.{delta_width}
+
+-- what is to be done to a document
+pub data Action : Type 0 where
+  -- make it, by a delta on the empty document
+  Create : (delta : List Operation) → Action
+
+-- the delta of what is to be done stands on at most 2^44 code units, and its output has at most 2^44
+abbrev pub IsShort : Action → Type 0
+IsShort (Create delta) = (base_of delta ≤ 2 ^ 44) × (out_of delta ≤ 2 ^ 44)
+
+-- a source's command to the document of this name, with the source's number for it
+pub record Command : Type 0 where
+  pub name : List ℕ
+  pub source : List ℕ
+  pub number : ℕ
+  pub action : Action
+
+-- A command that was taken: the document's number in order of creation, its name where the command makes it, the
+-- revision that comes of it, the source with its number, and the delta from the revision before.
+pub record Taken : Type 0 where
+  pub document : ℕ
+  pub name : Option (List ℕ)
+  pub revision : ℕ
+  pub source : List ℕ
+  pub number : ℕ
+  pub delta : List Operation
+
+-- a creation is of revision 1, and has number 1; so far nothing else is taken
+abbrev pub is_kind : Option (List ℕ) → ℕ → ℕ → Bool
+is_kind None revision number = false
+is_kind (Some name) revision number = is_document_name name && (revision == 1) && (number == 1)
+
+-- what every command that was taken is
+pub record IsTaken (taken : Taken) : Type 0 where
+  pub document : taken.document < 2 ^ 32
+  pub source : is_source_name taken.source ≡ true
+  pub kind : is_kind taken.name taken.revision taken.number ≡ true
+  pub delta : IsSpellable taken.delta
+
+-- how many bytes a command takes in the journal
+abbrev pub name_width : Option (List ℕ) → ℕ
+name_width None = 0
+name_width (Some name) = 2 + length name
+
+abbrev pub width_of : Taken → ℕ
+width_of taken = 23 + length taken.source + name_width taken.name + delta_width taken.delta

@@ -1,0 +1,10 @@
+pub mod Name
+pub mod Spellable
+pub mod Width
+pub mod Command
+pub mod Actions
+pub mod TakenView
+pub mod State
+pub mod Agree
+pub mod Acceptance
+pub mod Planned

@@ -1,0 +1,100 @@
+//! What a source asks for.
+ghost use Rattle.std.specs.Prelude.{◌≡◌, ◌<◌, ◌≤◌, ◌^◌, ◌↔◌, ◌⊎◌, ◌+◌, true, IsErrOf, IfErr, IfOk};
+ghost use Rattle.delta.specs.Operation.{base_of, out_of};
+ghost use Rattle.revision.specs.Name.{is_source_name};
+ghost use Rattle.revision.specs.Command.{Create, IsShort};
+ghost use Rattle.revision.specs.Actions.{action_of};
+
+use crate::name::Name;
+use delta::Delta;
+use refusal::Refusal;
+use std::marker::Model;
+
+/// The longest base and output of a command's delta: 2^44 UTF-16 code units.
+const MAX_LEN: u64 = 1 << 44;
+
+/// What is to be done to a document.
+#[derive(Drop)]
+pub enum Action {
+    /// Make it, by a delta on the empty document.
+    Create(Delta),
+}
+
+/// A source's command to a document, with the source's number for it, 1 to 2^53 - 1.
+#[derive(Drop)]
+pub struct Command {
+    name: Name,
+    source: Name,
+    number: u64,
+    action: Action,
+}
+
+impl Model for Command {
+    ghost use Rattle.std.specs.Prelude.{◌≡◌, ◌≤◌, ◌<◌, ◌^◌, true};
+    ghost use Rattle.revision.specs.Name.{is_source_name};
+    ghost use Rattle.revision.specs.Command as spec;
+    ghost use Rattle.revision.specs.Command.{IsShort};
+
+    ghost Value = { spec.Command };
+
+    ghost use Rattle.revision.specs.Actions.{action_of};
+
+    ghost view = { λ c. record { name = c.name; source = c.source; number = c.number; action = action_of c.action } };
+
+    ghost invariant = { λ c. (is_source_name c.source ≡ true) × (1 ≤ c.number) × (c.number < 2 ^ 53) × IsShort (action_of c.action) };
+}
+
+impl Command {
+    /// Makes the document of this name. Refused with `BadOps` where the delta stands on more than 2^44 code
+    /// units, or its output has more.
+    pub fn create(name: Name, source: Name, number: u64, delta: Delta) -> Result<Command, Refusal>
+        requires source { is_source_name source ≡ true }
+        requires first { 1 ≤ number }
+        requires last { number < 2 ^ 53 }
+        ensures ok { IfOk result (λ c. c ≡ record { name = name; source = source; number = number; action = Create delta }) }
+        ensures bad { IsErrOf result Refusal.BadOps ↔ ((2 ^ 44 < base_of delta) ⊎ (2 ^ 44 < out_of delta)) }
+        ensures only { IfErr result (λ e. e ≡ Refusal.BadOps) }
+    {
+        if delta.base_len() > MAX_LEN || delta.out_len() > MAX_LEN {
+            return Err(Refusal::BadOps);
+        }
+        Ok(Command {
+            name,
+            source,
+            number,
+            action: Action::Create(delta),
+        })
+    }
+
+    /// The document's name.
+    pub fn name(&self) -> &Name
+        ensures { result.now ≡ self.now.name }
+    {
+        &self.name
+    }
+
+    /// The source's name.
+    pub fn source(&self) -> &Name
+        ensures source { result.now ≡ self.now.source }
+        ensures valid { is_source_name self.now.source ≡ true }
+    {
+        &self.source
+    }
+
+    /// The source's number, 1 to 2^53 - 1.
+    pub fn number(&self) -> u64
+        ensures number { result ≡ self.now.number }
+        ensures first { 1 ≤ result }
+        ensures last { result < 2 ^ 53 }
+    {
+        self.number
+    }
+
+    /// What is to be done.
+    pub fn action(&self) -> &Action
+        ensures action { action_of result.now ≡ self.now.action }
+        ensures short { IsShort self.now.action }
+    {
+        &self.action
+    }
+}

@@ -1,0 +1,26 @@
+//! The rule of acceptance: which command is taken, which revision comes of it, and what the store then holds.
+//!
+//! A state is the documents in order of creation, each a document of rich text with its revision and its sources.
+//! `State::plan` answers a command by the first case that holds and leaves the state alone; `State::absorb` adds what was
+//! taken, just where it continues the state. So far commands create documents. The definitions stand in
+//! specs/Acceptance.antt and specs/State.antt; when two states hold the same, and that such states stay so, in
+//! specs/Agree.antt and `laws`.
+//! It stands on `delta` and `document`.
+#![tactic(auto)]
+
+mod command;
+mod growing;
+pub mod laws;
+mod made;
+mod name;
+mod planning;
+mod state;
+mod taken;
+mod widths;
+
+pub use command::{Action, Command};
+pub use name::Name;
+pub use planning::Plan;
+pub use state::{DocState, Limits, SourceEntry, State};
+pub use taken::Taken;
+pub use widths::delta_width;

@@ -1,0 +1,104 @@
+//! Names of documents and of sources.
+ghost use Rattle.std.specs.Prelude.{◌≡◌, ◌⊎◌, ◌↔◌, ◌≤◌, true, false, length, IsTrue, IfOk, IfErr, IsErrOf};
+ghost use Rattle.std.specs.List.{list_all};
+ghost use Rattle.revision.specs.Name.{is_name_byte, is_name, is_document_name, is_source_name};
+
+use refusal::Refusal;
+use std::alloc::Global;
+use std::marker::Model;
+
+/// A name of 1 to 64 characters of `A-Z a-z 0-9 . _ -`, seen as its bytes.
+#[derive(Debug, Drop)]
+pub struct Name {
+    text: String,
+}
+
+impl Model for Name {
+    ghost use Rattle.std.specs.Prelude.{◌≡◌, List, ℕ, true};
+    ghost use Rattle.std.specs.String.{string_bytes};
+    ghost use Rattle.revision.specs.Name.{is_document_name};
+
+    ghost Value = { List ℕ };
+
+    ghost view = { λ n. string_bytes n.text };
+
+    ghost invariant = { λ n. is_document_name (string_bytes n.text) ≡ true };
+}
+
+impl Name {
+    /// The name of a document: 1 to 64 characters. Refused with `BadName` where the text is none, or with `NoMemory`.
+    pub fn doc(alloc: Global, text: &str) -> Result<Name, Refusal>
+        ensures ok { IfOk result (λ name. (name ≡ text.now) × (is_document_name name ≡ true)) }
+        ensures bad { IsErrOf result Refusal.BadName ↔ (is_document_name text.now ≡ false) }
+        ensures only { IfErr result (λ e. (e ≡ Refusal.BadName) ⊎ (e ≡ Refusal.NoMemory)) }
+    {
+        if !is_name_of(text, 64) {
+            return Err(Refusal::BadName);
+        }
+        Ok(Name {
+            text: String::from_str(alloc, text)?,
+        })
+    }
+
+    /// The name of a source: 1 to 32 characters. Refused with `BadName` where the text is none, or with `NoMemory`.
+    pub fn source(alloc: Global, text: &str) -> Result<Name, Refusal>
+        ensures ok { IfOk result (λ name. (name ≡ text.now) × (is_source_name name ≡ true)) }
+        ensures bad { IsErrOf result Refusal.BadName ↔ (is_source_name text.now ≡ false) }
+        ensures only { IfErr result (λ e. (e ≡ Refusal.BadName) ⊎ (e ≡ Refusal.NoMemory)) }
+    {
+        if !is_name_of(text, 32) {
+            return Err(Refusal::BadName);
+        }
+        Name::doc(alloc, text)
+    }
+
+    /// The name as text.
+    pub fn as_str(&self) -> &str
+        ensures text { result.now ≡ self.now }
+        ensures valid { is_document_name self.now ≡ true }
+    {
+        self.text.as_str()
+    }
+
+    /// The length in bytes, 1 to 64.
+    #[allow(clippy::len_without_is_empty)]
+    pub fn len(&self) -> u64
+        ensures len { result ≡ length self.now }
+        ensures bound { result ≤ 64 }
+    {
+        self.text.len() as u64
+    }
+
+    /// An equal name, or `NoMemory`.
+    pub fn copy(&self, alloc: Global) -> Result<Name, Refusal>
+        ensures ok { IfOk result (λ name. name ≡ self.now) }
+        ensures only { IfErr result (λ e. e ≡ Refusal.NoMemory) }
+    {
+        Ok(Name {
+            text: String::from_str(alloc, self.text.as_str())?,
+        })
+    }
+}
+
+fn is_name_of(text: &str, longest: usize) -> bool
+    ensures { result ≡ is_name longest text.now }
+{
+    !text.is_empty() && text.len() <= longest && has_name_bytes(text.as_bytes())
+}
+
+fn has_name_bytes(text: &[u8]) -> bool
+    ensures { result ≡ list_all is_name_byte text.now }
+{
+    text.iter().all(|b| is_name_byte_of(*b))
+}
+
+fn is_name_byte_of(b: u8) -> bool
+    ensures { result ≡ is_name_byte b }
+{
+    (65 <= b && b <= 90)
+        || (97 <= b && b <= 122)
+        || (48 <= b && b <= 57)
+        || b == 46
+        || b == 95
+        || b == 45
+}

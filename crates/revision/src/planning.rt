@@ -1,0 +1,78 @@
+//! Which commands are taken.
+ghost use Rattle.std.specs.Prelude.{◌≡◌, ◌⊎◌, ◌<◌, ◌≤◌, ◌^◌, ◌+◌, true, length, Some};
+ghost use Rattle.delta.specs.Operation.{IsBounded};
+ghost use Rattle.revision.specs.Acceptance.{answer, create_existing, create_new, creation};
+ghost use Rattle.revision.specs.Planned.{Gives};
+
+use crate::command::{Action, Command};
+use crate::made::{made_by, weight_with};
+use crate::state::{DocState, State};
+use crate::taken::{Taken, creation_width};
+use delta::Delta;
+use refusal::Refusal;
+use std::alloc::Global;
+
+/// What becomes of a command that isn't refused.
+#[derive(Drop)]
+pub enum Plan {
+    /// It is taken: this is to be added.
+    Taken(Taken),
+    /// It was taken before, and made this revision.
+    Again { rev: u64 },
+}
+
+impl State {
+    /// The answer to a command, which leaves the state as it is. Want of memory (`NoMemory`) may come in place of
+    /// any other answer.
+    pub fn plan(&self, alloc: Global, command: &Command) -> Result<Plan, Refusal>
+        ensures { Gives result (answer self.now command.now) }
+    {
+        match command.action() {
+            Action::Create(delta) => match self.document(command.name()) {
+                Some(found) => plan_existing(found, command),
+                None => plan_creation(alloc, self, command, delta),
+            },
+        }
+    }
+}
+
+fn plan_existing(found: &DocState, command: &Command) -> Result<Plan, Refusal>
+    ensures { Gives result (create_existing found.now command.now) }
+{
+    let (number, rev) = found.last(command.source());
+    if 0 < number && command.number() == number {
+        Ok(Plan::Again { rev })
+    } else {
+        Err(Refusal::Exists)
+    }
+}
+
+fn plan_creation(
+    alloc: Global,
+    state: &State,
+    command: &Command,
+    delta: &Delta,
+) -> Result<Plan, Refusal>
+    requires { IsBounded delta.now }
+    ensures { Gives result (create_new state.now command.now delta.now) }
+{
+    let limits = state.limits();
+    let count = state.documents().len();
+    if command.number() > 1 {
+        return Err(Refusal::Gap);
+    }
+    if count as u64 >= u64::from(limits.docs) {
+        return Err(Refusal::TooManyDocuments);
+    }
+    let document = made_by(alloc, delta)?;
+    if weight_with(&document, 1) > u64::from(limits.weight) {
+        return Err(Refusal::TooHeavy);
+    }
+    if creation_width(command.name(), command.source(), delta) > u64::from(limits.width) {
+        return Err(Refusal::TooWide);
+    }
+    let name = command.name().copy(alloc)?;
+    let source = command.source().copy(alloc)?;
+    let delta = delta.copy(alloc)?;
+    Ok(Plan::Taken(Taken::creation(count as u32, name, source, delta)))
+}

@@ -1,0 +1,112 @@
+//! A command that was taken.
+ghost use Rattle.std.specs.Prelude.{◌≡◌, ◌<◌, ◌^◌, ◌+◌, ◌-◌, min, true, Some, length, option_map};
+ghost use Rattle.revision.specs.Spellable.{IsSpellable};
+ghost use Rattle.revision.specs.Width as wide;
+ghost use Rattle.revision.specs.Command.{IsTaken, width_of};
+
+use crate::name::Name;
+use crate::widths::delta_width;
+use delta::Delta;
+use std::marker::Model;
+
+/// A command that was taken: which document's next revision it makes, for whom, and by which delta.
+#[derive(Drop)]
+pub struct Taken {
+    document: u32,
+    name: Option<Name>,
+    revision: u64,
+    source: Name,
+    number: u64,
+    delta: Delta,
+}
+
+impl Model for Taken {
+    ghost use Rattle.revision.specs.Command as spec;
+
+    ghost Value = { spec.Taken };
+
+    ghost use Rattle.revision.specs.TakenView.{taken_of};
+
+    ghost view = { taken_of };
+
+    ghost invariant = { λ t. spec.IsTaken (taken_of t) };
+}
+
+impl Taken {
+    /// The creation of a document: its number in order of creation, its name, the source, and its first delta.
+    pub fn creation(document: u32, name: Name, source: Name, delta: Delta) -> Taken
+        requires { IsTaken (record { document = document; name = Some name; revision = 1; source = source; number = 1; delta = delta }) }
+        ensures { result ≡ record { document = document; name = Some name; revision = 1; source = source; number = 1; delta = delta } }
+    {
+        Taken {
+            document,
+            name: Some(name),
+            revision: 1,
+            source,
+            number: 1,
+            delta,
+        }
+    }
+
+    /// The document's number in order of creation, from 0.
+    pub fn document(&self) -> u32
+        ensures { result ≡ self.now.document }
+    {
+        self.document
+    }
+
+    /// The document's name, where the command makes it.
+    pub fn name(&self) -> Option<&Name>
+        ensures { option_map (λ n. n.now) result ≡ self.now.name }
+    {
+        self.name.as_ref()
+    }
+
+    /// The revision that comes of it.
+    pub fn revision(&self) -> u64
+        ensures { result ≡ self.now.revision }
+    {
+        self.revision
+    }
+
+    /// The source's name.
+    pub fn source(&self) -> &Name
+        ensures { result.now ≡ self.now.source }
+    {
+        &self.source
+    }
+
+    /// The source's number for it.
+    pub fn number(&self) -> u64
+        ensures { result ≡ self.now.number }
+    {
+        self.number
+    }
+
+    /// The delta from the revision before.
+    pub fn delta(&self) -> &Delta
+        ensures delta { result.now ≡ self.now.delta }
+        ensures taken { IsTaken self.now }
+    {
+        &self.delta
+    }
+
+    /// How many bytes it takes in the journal; 2^64 - 1 where it would be more.
+    pub fn width(&self) -> u64
+        ensures width { result ≡ min (width_of self.now) (2 ^ 64 - 1) }
+    {
+        let name = match &self.name {
+            Some(name) => 2 + name.len(),
+            None => 0,
+        };
+        delta_width(&self.delta).saturating_add(23 + self.source.len() + name)
+    }
+}
+
+/// How many bytes a creation would take in the journal; 2^64 - 1 where it would be more.
+pub(crate) fn creation_width(name: &Name, source: &Name, delta: &Delta) -> u64
+    ensures width { result ≡ min (23 + length source.now + (2 + length name.now) + wide.delta_width delta.now) (2 ^ 64 - 1) }
+    ensures short { result < 2 ^ 32 → IsSpellable delta.now }
+{
+    delta_width(delta).saturating_add(25 + source.len() + name.len())
+}
