@@ -6,13 +6,18 @@ use Rattle.std.proofs.lemmas.Bool.{and_parts, ltb-true, lt-ltb, eqb-true}
 use Rattle.std.proofs.lemmas.List.{append-nil, nil_from_length}
 use Rattle.std.proofs.lemmas.List.Elements.{All-from_recursion, recursion_from_All}
 use Rattle.std.proofs.lemmas.Option.{cond_some, option_and_then_some, same_Some, some_pair_parts}
-use Rattle.plain.specs.Delta.{Operation}
+use Rattle.delta.specs.Operation.{Operation}
 use Rattle.revision.specs.Name.{is_document_name, is_source_name}
 use Rattle.revision.specs.Command.{Taken, IsTaken, is_kind}
-use Rattle.journal.specs.Spelling.{number, text16, created_name, delta, entry, batch, IsBatch}
-use Rattle.journal.specs.Reading.{number_at, fixed_at, tag_at, name_at, delta_at, entry_at, entries_at, batch_at, whole_at}
+use Rattle.journal.specs.Spelling.{number, text16}
+use Rattle.journal.specs.DeltaSpelling.{delta}
+use Rattle.journal.specs.BatchSpelling.{created_name, entry, batch, IsBatch}
+use Rattle.journal.specs.Reading.{number_at, fixed_at, tag_at, name_at}
+use Rattle.journal.specs.BatchReading.{entry_at, entries_at, batch_at, whole_at}
+use Rattle.journal.specs.DeltaReading.{delta_at}
 use Rattle.journal.proofs.Numbers.{IsBytes, Takes, Takes-then, number32, number64, number_takes, number_again, fixed_takes, fixed_again, tag_takes, tag_again}
-use Rattle.journal.proofs.Texts.{name_takes, name_again, delta_takes, delta_again}
+use Rattle.journal.proofs.Texts.{name_takes, name_again}
+use Rattle.journal.proofs.ReadDeltas.{delta_takes, delta_again}
 
 -- ---- entries
 

@@ -10,15 +10,7 @@ use Rattle.delta.specs.Operation.{Operation, insert_text, insert_embed, retain, 
 use Rattle.journal.specs.Spelling.{number, text16, text32}
 use Rattle.journal.specs.DeltaSpelling.{value, new_value, pair, pairs, operation, delta}
 use Rattle.revision.specs.Width.{value_width, new_value_width, pair_width, pairs_width, operation_width, delta_width}
-use Rattle.journal.proofs.Widths.{length-number16, length-number32, length-number64}
-
-length-text16 : (text : List ℕ) → length (text16 text) ≡ 2 + length text
-unfolding text16
-length-text16 text = omega (arith, length-append (number w16 (length text)) text, length-number16 (length text))
-
-length-text32 : (text : List ℕ) → length (text32 text) ≡ 4 + length text
-unfolding text32
-length-text32 text = omega (arith, length-append (number w32 (length text)) text, length-number32 (length text))
+use Rattle.journal.proofs.Widths.{length-number32, length-number64, length-text16, length-text32}
 
 length-value : (v : Scalar) → length (value v) ≡ value_width v
 unfolding value

@@ -1,12 +1,10 @@
-pub mod Inserting
-pub mod Lookups
 pub mod Gated
 pub mod Areas
 pub mod Records
 pub mod Widths
-pub mod Agreeing
+pub mod DeltaWidths
+pub mod BatchWidths
 pub mod Worked
-pub mod Units
 pub mod Entries
 pub mod Numbers
 pub mod Texts
@@ -17,4 +15,3 @@ pub mod ReadValues
 pub mod ReadPairs
 pub mod ReadOperations
 pub mod ReadDeltas
-pub mod DeltaWidths

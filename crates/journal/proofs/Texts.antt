@@ -1,4 +1,4 @@
--- Reading from the front of bytes: texts, names and deltas.
+-- Reading from the front of bytes: texts and names.
 use Rattle.std.proofs.Common.{◌≡◌, ℕ, zero, suc, ◌^◌, ◌<◌, ◌≤◌, Bool, true, ltb, Some, List, [], ◌∷◌, ◌++◌, length, get_or, refl, ap, subst, ◌∙◌, append_assoc, arith}
 use Rattle.std.specs.Int.{Width, w16, w32}
 use Rattle.std.specs.List.{flat_map, list_all}
@@ -8,11 +8,9 @@ use Rattle.std.proofs.lemmas.Bool.Decides.{nat_tests}
 use Rattle.std.proofs.lemmas.List.{append-nil}
 use Rattle.std.proofs.lemmas.Option.{cond_some, option_and_then_some, same_Some}
 use Rattle.std.proofs.lemmas.Str.{IsUtf8-from_ascii, is_utf8-from_IsUtf8}
-use Rattle.plain.specs.Delta.{Operation, Insert, inserting}
 use Rattle.revision.specs.Name.{is_name_byte, is_name}
-use Rattle.revision.specs.Command.{is_delta}
-use Rattle.journal.specs.Spelling.{number, text16, text32, attributes, operation, delta}
-use Rattle.journal.specs.Reading.{part_at, number_at, fixed_at, tag_at, utf8_at, text_at, name_at, insertion_at, operations_at, delta_at}
+use Rattle.journal.specs.Spelling.{number, text16}
+use Rattle.journal.specs.Reading.{part_at, number_at, fixed_at, tag_at, utf8_at, text_at, name_at}
 use Rattle.journal.proofs.Numbers.{IsBytes, Takes, Takes-then, IsNumber, number16, number32, part_takes, part_again, number_takes, number_again, fixed_takes, fixed_again, tag_takes, tag_again}
 
 -- ---- texts
@@ -65,66 +63,3 @@ pub name_again : (longest : ℕ) (text rest : List ℕ) → longest < 2 ^ 16 →
 unfolding name_at text16
 name_again longest text rest lt valid =
     rw (text_again w16 (2 ^ 16) number16 text rest (omega (arith, is_name-short longest text valid)) (is_utf8-is_name longest text valid), valid) refl
-
--- ---- insertions and deltas
-
-insertion_takes : (bytes : List ℕ) (x : List ℕ × List ℕ) → IsBytes bytes → insertion_at bytes ≡ Some x → Takes bytes (operation (Insert x.0)) x.1 × (is_delta (Insert x.0 ∷ []) ≡ true)
-unfolding insertion_at operation text32 attributes
-insertion_takes bytes x fit e =
-    option_and_then_some _ (tag_at 1 bytes) x e (λ tagged e1 k1.
-    option_and_then_some _ (text_at w32 tagged) x k1 (λ text e2 k2.
-    option_and_then_some _ (fixed_at w32 0 text.1) x k2 (λ rest e3 made.
-    let t1 = tag_takes 1 bytes tagged fit e1 in
-    let t2 = text_takes w32 (2 ^ 32) number32 tagged text t1.rest_fits e2 in
-    let t3 = fixed_takes w32 (2 ^ 32) number32 0 text.1 rest t2.0.rest_fits e3 in
-    let g = cond_some (ltb 0 (length text.0)) (text.0, rest) x made in
-    let short : ltb (length text.0) (2 ^ 32) ≡ true = lt-ltb _ _ t2.1 in
-    subst (λ (y : List ℕ × List ℕ). Takes bytes (1 ∷ (number w32 (length y.0) ++ y.0) ++ number w32 0) y.1 × (is_delta (Insert y.0 ∷ []) ≡ true)) g.1
-    (Takes-then (Takes-then t1 t2.0) t3, rw (g.0, short, t2.2) refl))))
-
-insertion_again : (text rest : List ℕ) → is_delta (Insert text ∷ []) ≡ true → insertion_at (operation (Insert text) ++ rest) ≡ Some (text, rest)
-unfolding insertion_at operation text32 attributes
-insertion_again text rest valid =
-    let both = and_parts _ (is_utf8 text) valid in
-    let bounds = and_parts (ltb 0 (length text)) (ltb (length text) (2 ^ 32)) both.0 in
-    let regrouped : operation (Insert text) ++ rest ≡ 1 ∷ (text32 text ++ (number w32 0 ++ rest)) = ap (λ (x : List ℕ). 1 ∷ x) (append_assoc (text32 text) (number w32 0) rest) in
-    ap insertion_at regrouped
-    ∙ rw (tag_again 1 (text32 text ++ (number w32 0 ++ rest)), text_again w32 (2 ^ 32) number32 text (number w32 0 ++ rest) (ltb-true _ _ bounds.1) both.1, fixed_again w32 (2 ^ 32) number32 0 rest (omega arith), bounds.0) refl
-
-inserting-is : (text : List ℕ) → is_delta (Insert text ∷ []) ≡ true → inserting text ≡ Insert text ∷ []
-inserting-is [] valid = absurd cc
-inserting-is (b ∷ bytes) valid = refl
-
-operations_take : (count : ℕ) (bytes : List ℕ) (x : List Operation × List ℕ) → IsBytes bytes → operations_at count bytes ≡ Some x → Takes bytes (flat_map operation x.0) x.1 × (length x.0 ≡ count) × (is_delta x.0 ≡ true)
-operations_take zero bytes x fit e =
-    subst (λ (y : List Operation × List ℕ). Takes bytes (flat_map operation y.0) y.1 × (length y.0 ≡ 0) × (is_delta y.0 ≡ true)) (same_Some _ _ e) (record { parts = refl; rest_fits = fit }, refl, refl)
-operations_take (suc zero) bytes x fit e =
-    option_and_then_some (λ (text : List ℕ × List ℕ). Some (inserting text.0, text.1)) (insertion_at bytes) x e (λ text found made.
-    let t = insertion_takes bytes text fit found in
-    let one : Takes bytes (flat_map operation (Insert text.0 ∷ [])) text.1 = rw (append-nil (operation (Insert text.0))) t.0 in
-    let all : Takes bytes (flat_map operation (inserting text.0)) text.1 × (length (inserting text.0) ≡ 1) × (is_delta (inserting text.0) ≡ true) = rw (inserting-is text.0 t.1) (one, refl, t.1) in
-    subst (λ (y : List Operation × List ℕ). Takes bytes (flat_map operation y.0) y.1 × (length y.0 ≡ 1) × (is_delta y.0 ≡ true)) (same_Some _ _ made) all)
-operations_take (suc (suc n)) bytes x fit e = absurd cc
-
-operations_again : (operations : List Operation) (rest : List ℕ) → is_delta operations ≡ true → operations_at (length operations) (flat_map operation operations ++ rest) ≡ Some (operations, rest)
-operations_again [] rest valid = refl
-operations_again (Insert text ∷ []) rest valid = rw (append-nil (operation (Insert text)), insertion_again text rest valid, inserting-is text valid) refl
-operations_again (Insert text ∷ next ∷ more) rest valid = absurd cc
-
-pub delta_takes : (bytes : List ℕ) (x : List Operation × List ℕ) → IsBytes bytes → delta_at bytes ≡ Some x → Takes bytes (delta x.0) x.1 × (is_delta x.0 ≡ true)
-unfolding delta_at delta
-delta_takes bytes x fit e =
-    option_and_then_some _ (number_at w32 bytes) x e (λ count counted e'.
-    let t = number_takes w32 (2 ^ 32) number32 bytes count fit counted in
-    let u = operations_take count.0 count.1 x t.0.rest_fits e' in
-    (rw u.1 (Takes-then t.0 u.0), u.2))
-
-is_delta-short : (operations : List Operation) → is_delta operations ≡ true → length operations < 2 ^ 32
-is_delta-short [] valid = omega arith
-is_delta-short (Insert text ∷ []) valid = omega arith
-is_delta-short (Insert text ∷ next ∷ more) valid = absurd cc
-
-pub delta_again : (operations : List Operation) (rest : List ℕ) → is_delta operations ≡ true → delta_at (delta operations ++ rest) ≡ Some (operations, rest)
-unfolding delta_at delta
-delta_again operations rest valid =
-    rw (append_assoc (number w32 (length operations)) (flat_map operation operations) rest, number_again w32 (2 ^ 32) number32 (length operations) (flat_map operation operations ++ rest) (is_delta-short operations valid)) (operations_again operations rest valid)

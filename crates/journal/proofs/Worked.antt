@@ -1,8 +1,13 @@
 -- A batch spelled out, 45 bytes: the source "a" creates the document "d" with the text "z".
 use Rattle.std.proofs.Common.{◌≡◌, Some, [], ◌∷◌, refl}
-use Rattle.plain.specs.Delta.{Insert}
+use Rattle.attributes.specs.Map.{empty}
+use Rattle.delta.specs.Operation.{insert_text}
 use Rattle.revision.specs.Command.{Taken}
-use Rattle.journal.specs.Spelling.{number, text16, text32, attributes, operation, delta, created_name, entry, batch}
+use Rattle.journal.specs.Spelling.{number, text16, text32}
+use Rattle.journal.specs.BatchSpelling.{created_name, entry, batch}
+use Rattle.journal.specs.DeltaSpelling.{value, pairs, operation, delta}
+use Rattle.std.specs.Char.{encode_utf8}
+use Rattle.std.specs.Char.Utf16.{utf16_chars}
 
 abbrev creation : Taken
 creation = record {
@@ -11,7 +16,7 @@ creation = record {
   revision = 1;
   source = 97 ∷ [];
   number = 1;
-  delta = Insert (122 ∷ []) ∷ [];
+  delta = insert_text (122 ∷ []) empty ∷ [];
 }
 
 -- the count; the tag, the document, the revision; the source, its number; the name; the delta
@@ -21,5 +26,5 @@ pub batch-of_creation : batch (creation ∷ []) ≡
     ∷ 1 ∷ 0 ∷ 97 ∷ 1 ∷ 0 ∷ 0 ∷ 0 ∷ 0 ∷ 0 ∷ 0 ∷ 0
     ∷ 1 ∷ 0 ∷ 100
     ∷ 1 ∷ 0 ∷ 0 ∷ 0 ∷ 1 ∷ 1 ∷ 0 ∷ 0 ∷ 0 ∷ 122 ∷ 0 ∷ 0 ∷ 0 ∷ 0 ∷ []
-unfolding number text16 text32 attributes operation delta created_name entry batch
+unfolding number text16 text32 value pairs operation delta created_name entry batch utf16_chars encode_utf8
 batch-of_creation = refl

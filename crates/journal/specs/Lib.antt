@@ -1,17 +1,10 @@
 pub mod Area
 pub mod Scan
-pub mod Name
-pub mod Command
-pub mod Actions
-pub mod TakenView
-pub mod State
-pub mod Agree
-pub mod Acceptance
-pub mod Planned
 pub mod Spelling
-pub mod Reading
-pub mod Refusals
 pub mod DeltaSpelling
+pub mod BatchSpelling
+pub mod Reading
 pub mod DeltaReading
-pub mod DeltaWidth
+pub mod BatchReading
+pub mod Refusals
 mod DeltaExamples

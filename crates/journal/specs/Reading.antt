@@ -1,13 +1,10 @@
--- Reading of spellings on lists: a value with the bytes behind it, or none. Private to the reader's proof.
+-- Reading of numbers and texts on lists: a value with the bytes behind it, or none. Private to the reader's proof.
 use Rattle.std.specs.Prelude.{◌≡◌, ℕ, zero, suc, ◌==◌, nat_le, nat_lt, if◌then◌else◌, Bool, Option, Some, None, Result, Ok, Err, List, [], ◌∷◌, length, take, drop}
 use Rattle.std.specs.Option.{option_and_then}
 use Rattle.std.specs.Str.{is_utf8}
 use Rattle.std.specs.Int.{Width, w16, w32, w64, byte_len, from_le_bytes}
-use Rattle.plain.specs.Delta.{Operation, inserting}
 use Rattle.journal.specs.declared.batch.unread.Unread.{Unread}
 use Rattle.journal.specs.declared.batch.unread.Unread.TheVariants.{Malformed, NoMemory}
-use Rattle.revision.specs.Name.{is_source_name, is_document_name}
-use Rattle.revision.specs.Command.{Taken}
 
 infixl 10 ◌>>=◌
 abbrev pub ◌>>=◌ : {A B : Type 0} → Option A → (A → Option B) → Option B
@@ -60,57 +57,3 @@ unfoldable pub name_at : (List ℕ → Bool) → List ℕ → Option (List ℕ �
 name_at is_valid bytes = do
   text ← text_at w16 bytes
   if is_valid text.0 then Some text else None
-
--- the text of an insertion
-unfoldable pub insertion_at : List ℕ → Option (List ℕ × List ℕ)
-insertion_at bytes = do
-  tagged ← tag_at 1 bytes
-  text ← text_at w32 tagged
-  rest ← fixed_at w32 0 text.1
-  if nat_lt 0 (length text.0) then Some (text.0, rest) else None
-
--- as many operations as were counted: none or one
-abbrev pub operations_at : ℕ → List ℕ → Option (List Operation × List ℕ)
-operations_at zero bytes = Some ([], bytes)
-operations_at (suc zero) bytes = do
-  text ← insertion_at bytes
-  Some (inserting text.0, text.1)
-operations_at (suc (suc n)) bytes = None
-
--- a delta
-unfoldable pub delta_at : List ℕ → Option (List Operation × List ℕ)
-delta_at bytes = do
-  count ← number_at w32 bytes
-  operations_at count.0 count.1
-
--- a creation
-unfoldable pub entry_at : List ℕ → Option (Taken × List ℕ)
-entry_at bytes = do
-  tagged ← tag_at 1 bytes
-  document ← number_at w32 tagged
-  revised ← fixed_at w64 1 document.1
-  source ← name_at is_source_name revised
-  numbered ← fixed_at w64 1 source.1
-  name ← name_at is_document_name numbered
-  delta ← delta_at name.1
-  Some (record { document = document.0; name = Some name.0; revision = 1; source = source.0; number = 1; delta = delta.0 }, delta.1)
-
--- so many entries
-unfoldable pub entries_at : ℕ → List ℕ → Option (List Taken × List ℕ)
-entries_at zero bytes = Some ([], bytes)
-entries_at (suc n) bytes = do
-  first ← entry_at bytes
-  others ← entries_at n first.1
-  Some (first.0 ∷ others.0, others.1)
-
--- a batch, and what is behind it
-unfoldable pub batch_at : List ℕ → Option (List Taken × List ℕ)
-batch_at bytes = do
-  count ← number_at w32 bytes
-  if nat_lt 0 count.0 then entries_at count.0 count.1 else None
-
--- a batch and nothing behind it
-unfoldable pub whole_at : List ℕ → Option (List Taken)
-whole_at bytes = do
-  batch ← batch_at bytes
-  if length batch.1 == 0 then Some batch.0 else None

@@ -1,9 +1,6 @@
--- How the journal spells a batch of commands that were taken. Numbers are little-endian.
-use Rattle.std.specs.Prelude.{ℕ, ◌+◌, ◌<◌, ◌≤◌, ◌^◌, Option, Some, None, List, [], ◌∷◌, ◌++◌, length, All, sum_by}
-use Rattle.std.specs.List.{flat_map}
-use Rattle.std.specs.Int.{Width, w16, w32, w64, to_le_bytes}
-use Rattle.plain.specs.Delta.{Operation, Insert}
-use Rattle.revision.specs.Command.{Taken, IsTaken, width_of}
+-- How the journal spells numbers and texts. Numbers are little-endian.
+use Rattle.std.specs.Prelude.{ℕ, List, ◌++◌, length}
+use Rattle.std.specs.Int.{Width, w16, w32, to_le_bytes}
 
 -- a number, in as many bytes as the width has
 unfoldable pub number : Width → ℕ → List ℕ
@@ -16,45 +13,3 @@ text16 text = number w16 (length text) ++ text
 -- a text of less than 2^32 bytes, behind its length
 unfoldable pub text32 : List ℕ → List ℕ
 text32 text = number w32 (length text) ++ text
-
--- the attributes of an operation, behind their count: so far none
-unfoldable pub attributes : List ℕ
-attributes = number w32 0
-
--- an operation behind its tag: 1 for an insertion of text
-unfoldable pub operation : Operation → List ℕ
-operation (Insert text) = 1 ∷ text32 text ++ attributes
-
--- a delta's operations, behind their count
-unfoldable pub delta : List Operation → List ℕ
-delta operations = number w32 (length operations) ++ flat_map operation operations
-
--- an entry's tag: 1 for a creation, 2 for a change of a document that is there
-abbrev pub entry_tag : Option (List ℕ) → ℕ
-entry_tag None = 2
-entry_tag (Some name) = 1
-
--- the name of the document, in a creation alone
-unfoldable pub created_name : Option (List ℕ) → List ℕ
-created_name None = []
-created_name (Some name) = text16 name
-
--- a command that was taken
-unfoldable pub entry : Taken → List ℕ
-entry taken =
-    entry_tag taken.name ∷ number w32 taken.document ++ number w64 taken.revision ++ text16 taken.source
-    ++ number w64 taken.number ++ created_name taken.name ++ delta taken.delta
-
--- the commands in order, behind their count
-unfoldable pub batch : List Taken → List ℕ
-batch commands = number w32 (length commands) ++ flat_map entry commands
-
--- what has a spelling: one command or more, each of them taken
-pub record IsBatch (commands : List Taken) : Type 0 where
-  pub some : 1 ≤ length commands
-  pub short : length commands < 2 ^ 32
-  pub taken : All IsTaken commands
-
--- how many bytes a batch takes in the journal: its count, and the width of each command
-abbrev pub batch_width : List Taken → ℕ
-batch_width commands = 4 + sum_by width_of commands

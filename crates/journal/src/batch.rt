@@ -5,11 +5,9 @@
 
 mod reading;
 mod unread;
-mod widths;
 mod writing;
 
 pub use reading::{decode_batch, read_delta};
-pub use widths::delta_width;
 pub use writing::{encode_batch, write_delta};
 
 #[cfg(test)]

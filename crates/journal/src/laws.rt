@@ -1,9 +1,7 @@
-//! Laws of the spelling of batches and of states, for the layers above. Each is a function that does nothing: its contract is the law.
+//! Laws of the spelling of deltas and batches, for the layers above. Each is a function that does nothing: its contract is the law.
 ghost use Rattle.std.specs.Prelude.{◌≡◌, ℕ, ◌++◌, List, length};
 ghost use Rattle.revision.specs.Command.{Taken, width_of};
-ghost use Rattle.revision.specs.State.{State};
-ghost use Rattle.revision.specs.Agree.{Agree, AgreeingGrow};
-ghost use Rattle.journal.specs.Spelling as spelling;
+ghost use Rattle.journal.specs.BatchSpelling as spelling;
 ghost use Rattle.delta.specs.Operation.{Operation};
 ghost use Rattle.journal.specs.DeltaSpelling as deltas;
 ghost use Rattle.revision.specs.Spellable.{IsSpellable};
@@ -19,18 +17,6 @@ pub fn one_spelling()
 pub fn batch_width()
     ensures entry { (taken : Taken) → length (spelling.entry taken) ≡ width_of taken }
     ensures batch { (batch : List Taken) → length (spelling.batch batch) ≡ spelling.batch_width batch }
-{}
-
-/// To agree is an equivalence of states.
-pub fn agree()
-    ensures same { (s : State) → Agree s s }
-    ensures turned { (s t : State) → Agree s t → Agree t s }
-    ensures through { (s t u : State) → Agree s t → Agree t u → Agree s u }
-{}
-
-/// States that agree are continued by the same commands, and agree after them.
-pub fn agreeing_grow()
-    ensures { AgreeingGrow }
 {}
 
 /// Two deltas whose spellings begin one list of bytes are equal, and so is what is behind them.

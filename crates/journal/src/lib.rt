@@ -1,21 +1,17 @@
-//! What is taken of each command, and how it is kept in the journal.
+//! How what was taken is kept in the journal.
 //!
-//! To the layer above the crate promises: a command is answered by the first case of the rule of acceptance that
-//! holds; a batch of commands that were taken has one spelling, which is read back; an area holds the bodies that
-//! were appended to it, and a crash at any moment of an append leaves them with the new one or without. The spelling of
-//! deltas of rich text stands beside that of batches, which don't hold any yet. It stands on `disk`, `plain` and `delta`.
-//! The rule of acceptance (`revision`) is a module of this crate until it is a crate of its own.
+//! To the layer above the crate promises: a batch of commands that were taken has one spelling, which is read back, and
+//! so has a delta; an area holds the bodies that were appended to it, and a crash at any moment of an append leaves them
+//! with the new one or without. It stands on `revision` for what a command that was taken is, on `delta` and on `disk`.
 #![tactic(auto)]
 
 mod area;
 mod batch;
 mod gate;
 pub mod laws;
-mod revision;
 mod scan;
 
 pub use area::{AppendError, Area};
-pub use batch::{decode_batch, delta_width, encode_batch, read_delta, write_delta};
+pub use batch::{decode_batch, encode_batch, read_delta, write_delta};
 pub use gate::{CLOSED, OPEN, write_gated};
-pub use revision::{Action, Command, DocState, Limits, Name, Plan, SourceEntry, State, Taken};
 pub use scan::{Scan, ScanError};

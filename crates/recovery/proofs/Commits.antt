@@ -2,7 +2,7 @@
 use Rattle.std.proofs.Common.{◌≡◌, ◌⊎◌, inl, inr, ⊎_elim, ℕ, true, Option, List, [], ◌∷◌, ◌++◌, sym, ◌∙◌, ap, subst}
 use Rattle.disk.specs.Device.{SameOutside}
 use Rattle.revision.specs.Command.{Taken}
-use Rattle.journal.specs.Spelling.{IsBatch, batch}
+use Rattle.journal.specs.BatchSpelling.{IsBatch, batch}
 use Rattle.revision.specs.State.{State, folded, all_grow}
 use Rattle.revision.proofs.Agreeing.{agrees}
 use Rattle.recovery.specs.declared.shape.Shape.{Shape}

@@ -9,7 +9,7 @@ use Rattle.disk.specs.Crash.{Leaves}
 use Rattle.disk.proofs.Contents.{same_at, drop-overwritten, overwritten_same_outside, get_or-overwritten}
 use Rattle.disk.proofs.Moments.{begins, goes_on_write, goes_on_first_write, goes_on_sync, goes_on_run, leaves_map}
 use Rattle.journal.specs.Area.{open_gate}
-use Rattle.journal.specs.Spelling.{IsBatch}
+use Rattle.journal.specs.BatchSpelling.{IsBatch}
 use Rattle.recovery.specs.declared.shape.Shape.{Shape}
 use Rattle.recovery.specs.Shape.{is_in_range, layout_length, cell_place, slot_place, superblock}
 use Rattle.recovery.specs.Layout.{IsClosed, IsLaidOut}

@@ -6,7 +6,7 @@ use Rattle.std.proofs.lemmas.List.{map_push, append-nil, take_all, take-append-l
 use Rattle.std.proofs.lemmas.List.Concat.{flat_map-append}
 use Rattle.std.proofs.lemmas.List.Elements.{All-append, All-cons, All-nil}
 use Rattle.revision.specs.Command.{Taken}
-use Rattle.journal.specs.Spelling.{IsBatch, batch}
+use Rattle.journal.specs.BatchSpelling.{IsBatch, batch}
 use Rattle.revision.specs.State.{State, grows, grown, grown_by_name, created, folded, all_grow}
 use Rattle.recovery.specs.declared.shape.Shape.{Shape}
 use Rattle.recovery.specs.Found.{StandFor, commands_of, empty_state}

@@ -6,7 +6,7 @@ use Rattle.std.proofs.lemmas.List.{at_drop_more, drop_all}
 use Rattle.std.proofs.lemmas.List.Elements.{All-from_recursion, recursion_from_All}
 use Rattle.revision.specs.Command.{Taken}
 use Rattle.journal.specs.Scan.{items_of}
-use Rattle.journal.specs.Spelling.{IsBatch, batch}
+use Rattle.journal.specs.BatchSpelling.{IsBatch, batch}
 use Rattle.revision.specs.State.{State, folded, all_grow}
 use Rattle.journal.proofs.Batches.{batch-append_same}
 use Rattle.recovery.specs.declared.shape.Shape.{Shape}

@@ -7,7 +7,9 @@ use Rattle.std.specs.Char.{encode_utf8}
 use Rattle.std.specs.Str.{chars, is_utf8}
 use Rattle.plain.specs.Delta.{Insert}
 use Rattle.revision.specs.Command.{Taken, IsTaken}
-use Rattle.journal.specs.Spelling.{IsBatch, number, text16, text32, attributes, operation, delta, created_name, entry, batch}
+use Rattle.journal.specs.Spelling.{number, text16, text32}
+use Rattle.journal.specs.BatchSpelling.{IsBatch, created_name, entry, batch}
+use Rattle.journal.specs.DeltaSpelling.{attributes, operation, delta}
 use Rattle.revision.specs.State.{State, DocumentRecord, folded, all_grow}
 use Rattle.recovery.specs.declared.shape.Shape.{Shape}
 use Rattle.recovery.specs.Shape.{superblock, layout_length, cell_place, slot_place}

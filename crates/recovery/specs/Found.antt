@@ -2,7 +2,7 @@
 use Rattle.std.specs.Prelude.{◌≡◌, ℕ, ◌-◌, true, Option, List, [], map, All}
 use Rattle.std.specs.List.{flat_map}
 use Rattle.revision.specs.Command.{Taken}
-use Rattle.journal.specs.Spelling.{IsBatch, batch}
+use Rattle.journal.specs.BatchSpelling.{IsBatch, batch}
 use Rattle.revision.specs.State.{State, folded, all_grow}
 use Rattle.revision.specs.Agree.{Agree}
 use Rattle.revision.specs.declared.state.Limits.{Limits}

@@ -2,7 +2,7 @@
 use Rattle.std.specs.Prelude.{◌≡◌, ◌⊎◌, ℕ, Bool, Option, List, []}
 use Rattle.disk.specs.declared.device.Disk.{Ghosts}
 use Rattle.revision.specs.Command.{Taken}
-use Rattle.journal.specs.Spelling.{batch_width}
+use Rattle.journal.specs.BatchSpelling.{batch_width}
 use Rattle.revision.specs.State.{State, folded}
 use Rattle.recovery.specs.declared.store.Store.{Store}
 use Rattle.recovery.specs.Shape.{slot_place}

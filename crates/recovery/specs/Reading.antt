@@ -1,7 +1,7 @@
 -- What is read of the content of a device.
 use Rattle.std.specs.Prelude.{◌≡◌, ℕ, ◌+◌, ◌*◌, ◌<◌, ◌≤◌, true, Option, List, length, take, drop}
 use Rattle.revision.specs.Command.{Taken}
-use Rattle.journal.specs.Spelling.{IsBatch, batch}
+use Rattle.journal.specs.BatchSpelling.{IsBatch, batch}
 use Rattle.revision.specs.State.{State, folded, all_grow}
 use Rattle.recovery.specs.declared.shape.Shape.{Shape}
 use Rattle.recovery.specs.declared.segments.Ring.{Ring}

@@ -1,12 +1,12 @@
 //! Reading: each part of the spelling has one function, which answers what it read and the bytes behind it.
 ghost use Rattle.std.specs.Prelude.{◌≡◌, ◌<◌, ◌^◌, List, true, length, IfOk, IfErr, IfSome, IfNone};
 ghost use Rattle.std.specs.Int.{w16, w32, w64};
-ghost use Rattle.plain.specs.Delta.{inserting};
 ghost use Rattle.revision.specs.Name.{is_source_name, is_document_name};
 ghost use Rattle.revision.specs.Command as command;
-ghost use Rattle.revision.specs.Command.{is_delta};
-ghost use Rattle.journal.specs.Spelling as spelling;
-ghost use Rattle.journal.specs.Reading.{Gives, part_at, number_at, fixed_at, tag_at, utf8_at, text_at, name_at, insertion_at, delta_at, entry_at, entries_at, batch_at, whole_at};
+ghost use Rattle.journal.specs.BatchSpelling as spelling;
+ghost use Rattle.journal.specs.Reading.{Gives, part_at, number_at, fixed_at, tag_at, utf8_at, text_at, name_at};
+ghost use Rattle.journal.specs.BatchReading.{entry_at, entries_at, batch_at, whole_at};
+ghost use Rattle.journal.specs.DeltaReading.{delta_at};
 
 mod deltas;
 mod normal_form;
@@ -15,10 +15,10 @@ mod pairs;
 mod values;
 
 use super::unread::Unread;
-use crate::revision::{Name, Taken};
+use deltas::delta;
 pub use deltas::read_delta;
-use plain::Delta;
 use refusal::Refusal;
+use revision::{Name, Taken};
 use std::alloc::{AllocError, Global};
 use std::str;
 
@@ -42,7 +42,7 @@ pub fn decode_batch(alloc: Global, bytes: &[u8]) -> Result<Option<Vec<Taken>>, A
     }
 }
 
-#[tactic(auto, unfolding(crate::specs::Reading::whole_at))]
+#[tactic(auto, unfolding(crate::specs::BatchReading::whole_at))]
 fn whole(alloc: Global, bytes: &[u8]) -> Result<Vec<Taken>, Unread>
     ensures { Gives (λ batch. batch.items) result (whole_at bytes.now) }
 {
@@ -53,7 +53,7 @@ fn whole(alloc: Global, bytes: &[u8]) -> Result<Vec<Taken>, Unread>
     Ok(batch)
 }
 
-#[tactic(auto, unfolding(crate::specs::Reading::batch_at))]
+#[tactic(auto, unfolding(crate::specs::BatchReading::batch_at))]
 fn batch_of(alloc: Global, bytes: &[u8]) -> Result<(Vec<Taken>, &[u8]), Unread>
     ensures { Gives (λ x. (x.0.items, x.1.now)) result (batch_at bytes.now) }
 {
@@ -77,7 +77,7 @@ fn entries(alloc: Global, count: u32, bytes: &[u8]) -> Result<(Vec<Taken>, &[u8]
     Ok((batch, rest))
 }
 
-#[tactic(auto, unfolding(crate::specs::Reading::entry_at))]
+#[tactic(auto, unfolding(crate::specs::BatchReading::entry_at))]
 fn entry(alloc: Global, bytes: &[u8]) -> Result<(Taken, &[u8]), Unread>
     ensures { Gives (λ x. (x.0, x.1.now)) result (entry_at bytes.now) }
 {
@@ -115,48 +115,6 @@ fn document_name(alloc: Global, bytes: &[u8]) -> Result<(Name, &[u8]), Unread>
         Err(Refusal::NoMemory) => Err(Unread::NoMemory),
         Err(_) => Err(Unread::Malformed),
     }
-}
-
-#[tactic(auto, unfolding(crate::specs::Reading::delta_at))]
-fn delta(alloc: Global, bytes: &[u8]) -> Result<(Delta, &[u8]), Unread>
-    ensures read { Gives (λ x. (x.0, x.1.now)) result (delta_at bytes.now) }
-    ensures valid { IfOk result (λ x. is_delta x.0 ≡ true) }
-{
-    let (count, rest) = number32(bytes)?;
-    match count {
-        0 => Ok((delta_of(alloc, "")?, rest)),
-        1 => {
-            let (text, rest) = insertion(rest)?;
-            Ok((delta_of(alloc, text)?, rest))
-        }
-        _ => Err(Unread::Malformed),
-    }
-}
-
-fn delta_of(alloc: Global, text: &str) -> Result<Delta, Unread>
-    requires { length text.now < 2 ^ 32 }
-    ensures delta { IfOk result (λ delta. delta ≡ inserting text.now) }
-    ensures valid { IfOk result (λ delta. is_delta delta ≡ true) }
-    ensures only { IfErr result (λ e. e ≡ Unread.NoMemory) }
-{
-    match Delta::inserting(String::from_str(alloc, text)?) {
-        Ok(delta) => Ok(delta),
-        Err(_) => unreachable!(),
-    }
-}
-
-#[tactic(auto, unfolding(crate::specs::Reading::insertion_at))]
-fn insertion(bytes: &[u8]) -> Result<(&str, &[u8]), Unread>
-    ensures read { Gives (λ x. (x.0.now, x.1.now)) result (insertion_at bytes.now) }
-    ensures short { IfOk result (λ x. length x.0.now < 2 ^ 32) }
-{
-    let rest = tag(1, bytes)?;
-    let (text, rest) = text32(rest)?;
-    let rest = fixed32(0, rest)?;
-    if text.is_empty() {
-        return Err(Unread::Malformed);
-    }
-    Ok((text, rest))
 }
 
 #[tactic(auto, unfolding(crate::specs::Reading::text_at))]

@@ -1,26 +1,25 @@
 //! Writing: each part of the spelling has one function.
 ghost use Rattle.std.specs.Prelude.{◌≡◌, ◌≤◌, ◌<◌, ◌^◌, ◌++◌, true, length, option_map, OnOk, IfOk};
 ghost use Rattle.std.specs.Int.{w16, w32, w64};
-ghost use Rattle.plain.specs.Delta.{Insert};
-ghost use Rattle.revision.specs.Command.{IsTaken, is_delta};
+ghost use Rattle.revision.specs.Command.{IsTaken};
 ghost use Rattle.journal.specs.Spelling as spelling;
+ghost use Rattle.journal.specs.BatchSpelling as batches;
 
 mod operations;
 mod pairs;
 mod values;
 
-use crate::revision::{Name, Taken};
 pub use operations::write_delta;
-use plain::Delta;
+use revision::{Name, Taken};
 use std::alloc::{AllocError, Global};
 
 /// The spelling of a batch of 1 to 2^32 - 1 commands.
 pub fn encode_batch(alloc: Global, batch: &[Taken]) -> Result<Vec<u8>, AllocError>
     requires some { 1 ≤ length batch.now }
     requires short { length batch.now < 2 ^ 32 }
-    ensures spelled { IfOk result (λ v. v.items ≡ spelling.batch batch.now) }
-    ensures width { IfOk result (λ v. length v.items ≡ spelling.batch_width batch.now) }
-    ensures batch { OnOk result (spelling.IsBatch batch.now) }
+    ensures spelled { IfOk result (λ v. v.items ≡ batches.batch batch.now) }
+    ensures width { IfOk result (λ v. length v.items ≡ batches.batch_width batch.now) }
+    ensures batch { OnOk result (batches.IsBatch batch.now) }
 {
     let mut out = Vec::new(alloc);
     put_number32(&mut out, batch.len() as u32)?;
@@ -30,9 +29,9 @@ pub fn encode_batch(alloc: Global, batch: &[Taken]) -> Result<Vec<u8>, AllocErro
     Ok(out)
 }
 
-#[tactic(auto, unfolding(crate::specs::Spelling::entry))]
+#[tactic(auto, unfolding(crate::specs::BatchSpelling::entry))]
 fn put_entry(out: &mut Vec<u8>, taken: &Taken) -> Result<(), AllocError>
-    ensures spelled { OnOk result (out.new.items ≡ out.old.items ++ spelling.entry taken.now) }
+    ensures spelled { OnOk result (out.new.items ≡ out.old.items ++ batches.entry taken.now) }
     ensures taken { OnOk result (IsTaken taken.now) }
 {
     out.push(if taken.name().is_some() { 1 } else { 2 })?;
@@ -41,44 +40,19 @@ fn put_entry(out: &mut Vec<u8>, taken: &Taken) -> Result<(), AllocError>
     put_name(out, taken.source())?;
     put_number64(out, taken.number())?;
     put_created_name(out, taken.name())?;
-    put_delta(out, taken.delta())?;
+    write_delta(out, taken.delta())?;
     Ok(())
 }
 
-#[tactic(auto, unfolding(crate::specs::Spelling::created_name))]
+#[tactic(auto, unfolding(crate::specs::BatchSpelling::created_name))]
 fn put_created_name(out: &mut Vec<u8>, name: Option<&Name>) -> Result<(), AllocError>
     ensures { OnOk result
-        (out.new.items ≡ out.old.items ++ spelling.created_name (option_map (λ n. n.now) name.entry)) }
+        (out.new.items ≡ out.old.items ++ batches.created_name (option_map (λ n. n.now) name.entry)) }
 {
     match name {
         Some(name) => put_name(out, name),
         None => Ok(()),
     }
-}
-
-#[tactic(auto, unfolding(crate::specs::Spelling::delta))]
-fn put_delta(out: &mut Vec<u8>, delta: &Delta) -> Result<(), AllocError>
-    requires { is_delta delta.now ≡ true }
-    ensures { OnOk result (out.new.items ≡ out.old.items ++ spelling.delta delta.now) }
-{
-    let text = delta.text();
-    if text.is_empty() {
-        return put_number32(out, 0);
-    }
-    put_number32(out, 1)?;
-    put_insertion(out, text)?;
-    Ok(())
-}
-
-#[tactic(auto, unfolding(crate::specs::Spelling::operation, crate::specs::Spelling::attributes))]
-fn put_insertion(out: &mut Vec<u8>, text: &str) -> Result<(), AllocError>
-    requires { length text.now < 2 ^ 32 }
-    ensures { OnOk result (out.new.items ≡ out.old.items ++ spelling.operation (Insert text.now)) }
-{
-    out.push(1)?;
-    put_text32(out, text)?;
-    put_number32(out, 0)?;
-    Ok(())
 }
 
 #[tactic(auto, unfolding(crate::specs::Spelling::text16))]

@@ -1,4 +1,4 @@
-use Rattle.journal.proofs.Widths.{length-entry, length-batch}
+use Rattle.journal.proofs.BatchWidths.{length-entry, length-batch}
 use Rattle.journal.proofs.laws.batch_width.Goals as goal
 
 pub returns-clause-entry : goal.returns-clause-entry

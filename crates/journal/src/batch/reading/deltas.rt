@@ -27,6 +27,15 @@ pub fn read_delta(alloc: Global, bytes: &[u8]) -> Result<Option<(Delta, &[u8])>,
     }
 }
 
+/// The delta, which has a spelling, with the bytes behind it.
+pub(super) fn delta(alloc: Global, bytes: &[u8]) -> Result<(Delta, &[u8]), Unread>
+    ensures read { Gives (λ x. (x.0, x.1.now)) result (delta_at bytes.now) }
+    ensures spellable { IfOk result (λ x. IsSpellable x.0) }
+{
+    let (delta, rest) = delta_in(alloc, bytes)?;
+    Ok((delta, rest))
+}
+
 #[tactic(auto, unfolding(crate::specs::DeltaReading::delta_at))]
 fn delta_in(alloc: Global, bytes: &[u8]) -> Result<(Delta, &[u8]), Unread>
     ensures { Gives (λ x. (x.0, x.1.now)) result (delta_at bytes.now) }

@@ -3,8 +3,8 @@ use Rattle.std.proofs.lemmas.Grind.{common_steps}
 use Rattle.std.proofs.lemmas.List.{take_all}
 use Rattle.std.proofs.lemmas.List.Elements.{All-more}
 use Rattle.revision.specs.Command.{IsTaken}
-use Rattle.journal.specs.Spelling.{batch}
-use Rattle.journal.proofs.Widths.{length-batch}
+use Rattle.journal.specs.BatchSpelling.{batch}
+use Rattle.journal.proofs.BatchWidths.{length-batch}
 use Rattle.journal.proofs.batch.writing.encode_batch.Goals as goal
 
 pub loop-taken-preserved : goal.loop-taken-preserved

@@ -2,7 +2,8 @@ use Rattle.std.proofs.Common.{◌≡◌, ◌++◌, All, length, take}
 use Rattle.std.specs.Int.{w32}
 use Rattle.std.specs.List.{flat_map}
 use Rattle.revision.specs.Command.{IsTaken}
-use Rattle.journal.specs.Spelling.{number, entry}
+use Rattle.journal.specs.Spelling.{number}
+use Rattle.journal.specs.BatchSpelling.{entry}
 use Rattle.journal.proofs.batch.writing.encode_batch.Given as goal
 
 -- the count is written, and each command so far, which was taken

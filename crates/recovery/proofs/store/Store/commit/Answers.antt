@@ -1,5 +1,5 @@
 use Rattle.std.proofs.Common.{◌≡◌, ◌∙◌, ◌⊎◌, ⊎_elim, ℕ, true, false, List, [], ◌∷◌, ◌++◌, Err, length, take, ap, subst, sym, inl, refl, rules}
-use Rattle.journal.specs.Spelling.{batch}
+use Rattle.journal.specs.BatchSpelling.{batch}
 use Rattle.revision.specs.State.{DocumentRecord, folded}
 use Rattle.recovery.specs.Slot.{bodies_of}
 use Rattle.recovery.specs.Ring.{HasBeforeOrAfter, HasAfter}

@@ -1,0 +1,39 @@
+-- Reading of the spelling of batches on lists: a value with the bytes behind it, or none. Private to the reader's proof.
+use Rattle.std.specs.Prelude.{ℕ, zero, suc, ◌==◌, nat_lt, if◌then◌else◌, Option, Some, None, List, [], ◌∷◌, length}
+use Rattle.std.specs.Int.{w32, w64}
+use Rattle.revision.specs.Name.{is_source_name, is_document_name}
+use Rattle.revision.specs.Command.{Taken}
+use Rattle.journal.specs.Reading.{◌>>=◌, number_at, fixed_at, tag_at, name_at}
+use Rattle.journal.specs.DeltaReading.{delta_at}
+
+-- a creation
+unfoldable pub entry_at : List ℕ → Option (Taken × List ℕ)
+entry_at bytes = do
+  tagged ← tag_at 1 bytes
+  document ← number_at w32 tagged
+  revised ← fixed_at w64 1 document.1
+  source ← name_at is_source_name revised
+  numbered ← fixed_at w64 1 source.1
+  name ← name_at is_document_name numbered
+  delta ← delta_at name.1
+  Some (record { document = document.0; name = Some name.0; revision = 1; source = source.0; number = 1; delta = delta.0 }, delta.1)
+
+-- so many entries
+unfoldable pub entries_at : ℕ → List ℕ → Option (List Taken × List ℕ)
+entries_at zero bytes = Some ([], bytes)
+entries_at (suc n) bytes = do
+  first ← entry_at bytes
+  others ← entries_at n first.1
+  Some (first.0 ∷ others.0, others.1)
+
+-- a batch, and what is behind it
+unfoldable pub batch_at : List ℕ → Option (List Taken × List ℕ)
+batch_at bytes = do
+  count ← number_at w32 bytes
+  if nat_lt 0 count.0 then entries_at count.0 count.1 else None
+
+-- a batch and nothing behind it
+unfoldable pub whole_at : List ℕ → Option (List Taken)
+whole_at bytes = do
+  batch ← batch_at bytes
+  if length batch.1 == 0 then Some batch.0 else None

@@ -1,0 +1,37 @@
+-- How the journal spells a batch of commands that were taken.
+use Rattle.std.specs.Prelude.{ℕ, ◌+◌, ◌<◌, ◌≤◌, ◌^◌, Option, Some, None, List, [], ◌∷◌, ◌++◌, length, All, sum_by}
+use Rattle.std.specs.List.{flat_map}
+use Rattle.std.specs.Int.{w32, w64}
+use Rattle.revision.specs.Command.{Taken, IsTaken, width_of}
+use Rattle.journal.specs.Spelling.{number, text16}
+use Rattle.journal.specs.DeltaSpelling.{delta}
+
+-- an entry's tag: 1 for a creation, 2 for a change of a document that is there
+abbrev pub entry_tag : Option (List ℕ) → ℕ
+entry_tag None = 2
+entry_tag (Some name) = 1
+
+-- the name of the document, in a creation alone
+unfoldable pub created_name : Option (List ℕ) → List ℕ
+created_name None = []
+created_name (Some name) = text16 name
+
+-- a command that was taken
+unfoldable pub entry : Taken → List ℕ
+entry taken =
+    entry_tag taken.name ∷ number w32 taken.document ++ number w64 taken.revision ++ text16 taken.source
+    ++ number w64 taken.number ++ created_name taken.name ++ delta taken.delta
+
+-- the commands in order, behind their count
+unfoldable pub batch : List Taken → List ℕ
+batch commands = number w32 (length commands) ++ flat_map entry commands
+
+-- what has a spelling: one command or more, each of them taken
+pub record IsBatch (commands : List Taken) : Type 0 where
+  pub some : 1 ≤ length commands
+  pub short : length commands < 2 ^ 32
+  pub taken : All IsTaken commands
+
+-- how many bytes a batch takes in the journal: its count, and the width of each command
+abbrev pub batch_width : List Taken → ℕ
+batch_width commands = 4 + sum_by width_of commands
