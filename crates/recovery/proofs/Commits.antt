@@ -1,5 +1,5 @@
 -- What a content stands for after an append to the first slot.
-use Rattle.std.proofs.Common.{◌≡◌, ◌⊎◌, inl, inr, ⊎_elim, ℕ, true, Option, List, [], ◌∷◌, ◌++◌, sym, ◌∙◌, ap, subst}
+use Rattle.std.proofs.Common.{◌≡◌, inl, inr, ⊎_elim, ℕ, true, Option, List, [], ◌∷◌, ◌++◌, sym, subst}
 use Rattle.disk.specs.Device.{SameOutside}
 use Rattle.revision.specs.Command.{Taken}
 use Rattle.journal.specs.BatchSpelling.{IsBatch, batch}
@@ -10,8 +10,8 @@ use Rattle.recovery.specs.declared.segments.Ring.{Ring}
 use Rattle.recovery.specs.Shape.{slot_place}
 use Rattle.recovery.specs.Slot.{Segment, HoldsSlot, bodies_of}
 use Rattle.recovery.specs.Layout.{IsLaidOut}
-use Rattle.recovery.specs.Found.{StandFor, Found, FoundAs}
-use Rattle.recovery.specs.Ring.{HasBeforeOrAfter, HasAfter, HasKept, FitsSlot}
+use Rattle.recovery.specs.Found.{StandFor, FoundAs}
+use Rattle.recovery.specs.Ring.{HasBeforeOrAfter, HasAfter, HasKept}
 use Rattle.recovery.specs.Open.{IsWithOrWithout}
 use Rattle.recovery.proofs.Layouts.{laid_out_again}
 use Rattle.recovery.proofs.Folds.{stand_more}

@@ -1,5 +1,5 @@
 -- A layout stays when the first slot alone changes.
-use Rattle.std.proofs.Common.{◌≡◌, ◌≢◌, ℕ, ◌+◌, ◌-◌, ◌*◌, ◌≤◌, ◌<◌, true, Option, List, length, take, drop, get_or, sym, ◌∙◌, ap, arith}
+use Rattle.std.proofs.Common.{◌≡◌, ℕ, ◌+◌, ◌*◌, ◌≤◌, ◌<◌, Option, List, take, drop, get_or, sym, ◌∙◌, ap, arith}
 use Rattle.std.proofs.lemmas.List.{take-take, drop-take}
 use Rattle.std.proofs.Math.Nat.{mul-le-mul_right}
 use Rattle.disk.specs.Device.{SameOutside}

@@ -1,5 +1,5 @@
 -- Steps of a run, and what contents stand for within it.
-use Rattle.std.proofs.Common.{◌≡◌, ◌⊎◌, inl, inr, ℕ, ◌+◌, ◌≤◌, ◌<◌, List, [], ◌∷◌, ◌++◌, length, take, get_or, refl, sym, ◌∙◌, ap, subst, arith}
+use Rattle.std.proofs.Common.{◌≡◌, inl, inr, ℕ, ◌+◌, ◌<◌, List, [], ◌∷◌, ◌++◌, length, take, get_or, refl, sym, ◌∙◌, ap, subst, arith}
 use Rattle.std.proofs.lemmas.List.{take_more, take_all}
 use Rattle.disk.specs.declared.device.Disk.{Ghosts}
 use Rattle.revision.specs.Command.{Taken}
@@ -8,7 +8,7 @@ use Rattle.revision.proofs.Agreeing.{agrees}
 use Rattle.recovery.specs.declared.run.StoreStep.{StoreStep}
 use Rattle.recovery.specs.declared.store.Store.{Store}
 use Rattle.recovery.specs.Found.{Found, FoundAs}
-use Rattle.recovery.specs.Open.{IsOpen, WasOpen, IsWithOrWithout, state_of}
+use Rattle.recovery.specs.Open.{IsOpen, WasOpen, IsWithOrWithout}
 use Rattle.recovery.specs.Run.{batch_of, state_after, IsAfterSome}
 
 -- the content under a store that is open stands for its state

@@ -1,12 +1,11 @@
 -- What a slot holds after the writes of an append.
-use Rattle.std.proofs.Common.{◌≡◌, ◌≢◌, ◌⊎◌, inl, inr, ⊎_elim, ℕ, suc, ◌+◌, ◌-◌, ◌^◌, ◌≤◌, ◌<◌, Bool, true, false, Option, Some, None, List, [], ◌∷◌, ◌++◌, length, take, drop, get_or, refl, sym, ◌∙◌, ap, subst, arith, append_assoc, take-append-drop, length-append, length-take}
+use Rattle.std.proofs.Common.{◌≡◌, ◌≢◌, ◌⊎◌, inl, inr, ⊎_elim, ℕ, suc, ◌+◌, ◌-◌, ◌≤◌, ◌<◌, true, Option, Some, None, List, [], ◌∷◌, ◌++◌, length, take, drop, get_or, refl, sym, ◌∙◌, ap, subst, arith}
 use Rattle.std.specs.Prelude.{nat_le}
-use Rattle.std.specs.Int.{w64, to_le_bytes}
 use Rattle.std.proofs.lemmas.Bool.Decides.{nat_tests}
 use Rattle.std.proofs.lemmas.Bool.{cases_eq}
-use Rattle.std.proofs.lemmas.List.{take-take, take_at, drop_at, drop-take, drop-drop, get_or-take, get_or-drop, append-nil, drop_more}
+use Rattle.std.proofs.lemmas.List.{drop-take, drop-drop, get_or-take, get_or-drop}
 use Rattle.disk.specs.Device.{overwritten, SameOutside}
-use Rattle.disk.proofs.Contents.{length-overwritten, take-overwritten, drop-overwritten, overwritten_same_outside}
+use Rattle.disk.proofs.Contents.{length-overwritten, drop-overwritten, overwritten_same_outside}
 use Rattle.journal.specs.Area.{open_gate, HoldsBodies, Place, area_bytes, entries, Stands, IsGated, IsBeforeOrAfter, IsAfter}
 use Rattle.journal.proofs.Areas.{same_outside_wider, same_outside_then}
 use Rattle.refusal.specs.declared.Refusal.TheVariants.{JournalFull, NoMemory}

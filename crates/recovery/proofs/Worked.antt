@@ -1,21 +1,25 @@
 -- What contents stand for, computed in a small shape: zeros, a formatted device, and the device after a first and a second
 -- creation.
-use Rattle.std.proofs.Common.{◌≡◌, ◌≢◌, ◌+◌, ◌*◌, ◌<◌, ◌≤◌, true, ℕ, zero, suc, Option, Some, None, List, [], ◌∷◌, ◌++◌, All, length, take, drop, refl, sym, ◌∙◌, ap, lit<, lit≤, arith}
-use Rattle.std.specs.Prelude.{replicate, slice_index}
+use Rattle.std.proofs.Common.{◌≡◌, ◌<◌, ◌≤◌, true, ℕ, zero, suc, Some, None, List, [], ◌∷◌, ◌++◌, refl, sym, ◌∙◌, ap, lit<, lit≤, arith}
+use Rattle.std.specs.Prelude.{replicate}
 use Rattle.std.proofs.lemmas.List.Elements.{All-cons, All-nil}
 use Rattle.std.specs.Char.{encode_utf8}
 use Rattle.std.specs.Str.{chars, is_utf8}
-use Rattle.plain.specs.Delta.{Insert}
+use Rattle.std.specs.Char.Utf16.{utf16_chars}
+use Rattle.attributes.specs.Map.{empty}
+use Rattle.delta.specs.Element.{lettered}
+use Rattle.delta.specs.Operation.{insert_text}
+use Rattle.revision.specs.Spellable.{IsSpellable, IsOperation, IsPair, IsValue}
 use Rattle.revision.specs.Command.{Taken, IsTaken}
 use Rattle.journal.specs.Spelling.{number, text16, text32}
 use Rattle.journal.specs.BatchSpelling.{IsBatch, created_name, entry, batch}
-use Rattle.journal.specs.DeltaSpelling.{attributes, operation, delta}
+use Rattle.journal.specs.DeltaSpelling.{value, pairs, operation, delta}
 use Rattle.revision.specs.State.{State, DocumentRecord, folded, all_grow}
 use Rattle.recovery.specs.declared.shape.Shape.{Shape}
 use Rattle.recovery.specs.Shape.{superblock, layout_length, cell_place, slot_place}
 use Rattle.recovery.specs.Slot.{Segment, HoldsSegment}
 use Rattle.recovery.specs.Layout.{IsFormatted, IsClosed, IsLaidOut}
-use Rattle.recovery.specs.Found.{Found, StandFor, limits_of, empty_state}
+use Rattle.recovery.specs.Found.{Found, limits_of, empty_state}
 
 -- 2 slots of 256 bytes, 2 documents with cells of 256: 1,600 bytes
 abbrev small : Shape
@@ -83,7 +87,7 @@ creation document name letter = record {
   revision = 1;
   source = 97 ∷ [];
   number = 1;
-  delta = Insert (letter ∷ []) ∷ [];
+  delta = insert_text (letter ∷ []) empty ∷ [];
 }
 
 -- its batch of 45 bytes
@@ -96,11 +100,11 @@ spelling document name letter =
     ∷ 1 ∷ 0 ∷ 0 ∷ 0 ∷ 1 ∷ 1 ∷ 0 ∷ 0 ∷ 0 ∷ letter ∷ 0 ∷ 0 ∷ 0 ∷ 0 ∷ []
 
 spelled_first : batch (creation 0 100 122 ∷ []) ≡ spelling 0 100 122
-unfolding number text16 text32 attributes operation delta created_name entry batch
+unfolding number text16 text32 value pairs operation delta created_name entry batch utf16_chars encode_utf8
 spelled_first = refl
 
 spelled_second : batch (creation 1 101 120 ∷ []) ≡ spelling 1 101 120
-unfolding number text16 text32 attributes operation delta created_name entry batch
+unfolding number text16 text32 value pairs operation delta created_name entry batch utf16_chars encode_utf8
 spelled_second = refl
 
 -- an open record of a body of 45 bytes
@@ -140,7 +144,7 @@ created_laid_out = record {
 
 -- the record of a document of one letter that a source made
 abbrev record_with : ℕ → ℕ → DocumentRecord
-record_with name letter = record { name = name ∷ []; units = letter ∷ []; revision = 1; floor = 0; sources = (record { source = 97 ∷ []; number = 1; revision = 1 }) ∷ [] }
+record_with name letter = record { name = name ∷ []; units = lettered letter empty ∷ []; revision = 1; floor = 0; sources = (record { source = 97 ∷ []; number = 1; revision = 1 }) ∷ [] }
 
 abbrev with_first : State
 with_first = record { limits = limits_of small; documents = record_with 100 122 ∷ [] }
@@ -148,16 +152,26 @@ with_first = record { limits = limits_of small; documents = record_with 100 122 
 is_batch : (document name letter : ℕ) → IsTaken (creation document name letter) → IsBatch (creation document name letter ∷ [])
 is_batch document name letter is = record { some = lit≤ tt; short = lit< tt; taken = All-cons IsTaken (creation document name letter) [] is (All-nil IsTaken) }
 
+spellable_first : IsSpellable (insert_text (122 ∷ []) empty ∷ [])
+unfolding is_utf8 chars utf16_chars encode_utf8
+spellable_first = record {
+  normal = refl;
+  bounded = record { base = lit≤ tt; out = lit≤ tt };
+  count = lit< tt;
+  each =
+      All-cons IsOperation (insert_text (122 ∷ []) empty) []
+      (record { back = refl; valid = refl; short = lit< tt }, record { count = lit< tt; each = All-nil (IsPair IsValue) })
+      (All-nil IsOperation);
+}
+
 taken_first : IsTaken (creation 0 100 122)
-unfolding is_utf8 encode_utf8 chars
-taken_first = record { document = lit< tt; source = refl; kind = refl; delta = refl }
+taken_first = record { document = lit< tt; source = refl; kind = refl; delta = spellable_first }
 
 grown_first : folded (empty_state small) (creation 0 100 122 ∷ []) ≡ with_first
-unfolding chars
 grown_first = refl
 
 first_grows : all_grow (empty_state small) (creation 0 100 122 ∷ []) ≡ true
-unfolding chars
+unfolding utf16_chars encode_utf8
 first_grows = refl
 
 pub created_found : Found created with_first
@@ -210,19 +224,29 @@ created_twice_laid_out = record {
 abbrev with_both : State
 with_both = record { limits = limits_of small; documents = record_with 100 122 ∷ record_with 101 120 ∷ [] }
 
+spellable_second : IsSpellable (insert_text (120 ∷ []) empty ∷ [])
+unfolding is_utf8 chars utf16_chars encode_utf8
+spellable_second = record {
+  normal = refl;
+  bounded = record { base = lit≤ tt; out = lit≤ tt };
+  count = lit< tt;
+  each =
+      All-cons IsOperation (insert_text (120 ∷ []) empty) []
+      (record { back = refl; valid = refl; short = lit< tt }, record { count = lit< tt; each = All-nil (IsPair IsValue) })
+      (All-nil IsOperation);
+}
+
 taken_second : IsTaken (creation 1 101 120)
-unfolding is_utf8 encode_utf8 chars
-taken_second = record { document = lit< tt; source = refl; kind = refl; delta = refl }
+taken_second = record { document = lit< tt; source = refl; kind = refl; delta = spellable_second }
 
 abbrev both : List Taken
 both = creation 0 100 122 ∷ creation 1 101 120 ∷ []
 
 both_grow : all_grow (empty_state small) both ≡ true
-unfolding chars
+unfolding utf16_chars encode_utf8
 both_grow = refl
 
 grown_both : folded (empty_state small) both ≡ with_both
-unfolding chars
 grown_both = refl
 
 pub created_twice_found : Found created_twice with_both

@@ -1,5 +1,5 @@
 -- What the ring knows of its slot, and what an append makes of it.
-use Rattle.std.specs.Prelude.{◌≡◌, ◌⊎◌, ℕ, ◌-◌, Option, Some, None, List, [], ◌∷◌, ◌++◌, length}
+use Rattle.std.specs.Prelude.{◌≡◌, ◌⊎◌, ℕ, Option, Some, None, List, [], ◌∷◌, ◌++◌, length}
 use Rattle.disk.specs.Device.{SameOutside}
 use Rattle.journal.specs.Area.{Place, entries}
 use Rattle.recovery.specs.declared.segments.Ring.{Ring}

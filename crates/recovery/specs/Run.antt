@@ -1,6 +1,5 @@
 -- Runs of steps, and what a crash within one leaves.
-use Rattle.std.specs.Prelude.{◌≡◌, ◌≤◌, ℕ, List, [], ◌∷◌, length, take, map, get_or}
-use Rattle.disk.specs.declared.device.Disk.{Ghosts}
+use Rattle.std.specs.Prelude.{◌≤◌, ℕ, List, [], ◌∷◌, length, take, map, get_or}
 use Rattle.revision.specs.Command.{Taken}
 use Rattle.revision.specs.State.{State, folded}
 use Rattle.recovery.specs.declared.run.StoreStep.{StoreStep}

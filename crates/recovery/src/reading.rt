@@ -19,9 +19,9 @@ use crate::superblock::{BODY_LEN, SUPERBLOCK_LEN, read_superblock};
 use disk::Disk;
 use first_slot::read_first_slot;
 use gates::{are_others_closed, is_open, read_at};
-use journal::State;
 use refusal::Refusal;
 use replay::replayed;
+use revision::State;
 use std::alloc::Global;
 
 /// What a device stands for, and where its next batch goes.

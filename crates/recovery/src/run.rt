@@ -9,12 +9,12 @@ ghost use Rattle.recovery.specs.Run.{CanCommit, IsAfterSome, state_after, batch_
 
 use crate::store::Store;
 use disk::Disk;
-use journal::Taken;
 use refusal::Refusal;
+use revision::Taken;
 use std::alloc::Global;
 
 /// A step of a run.
-#[derive(Debug, Drop)]
+#[derive(Drop)]
 pub enum StoreStep {
     /// Commit this batch.
     Commit(Vec<Taken>),

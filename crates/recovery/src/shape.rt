@@ -3,7 +3,7 @@ ghost use Rattle.std.specs.Prelude.{◌≡◌, ◌+◌, ◌*◌, ◌<◌, ◌≤
 ghost use Rattle.recovery.specs.Shape.{is_between, is_in_range, layout_length, cell_place, slot_place, superblock};
 ghost use Rattle.recovery.specs.Found.{limits_of};
 
-use journal::Limits;
+use revision::Limits;
 
 /// How large a store is: how many parts of which size its device has, and how much it may hold.
 #[derive(Clone, Copy, Debug, PartialEq, Eq)]

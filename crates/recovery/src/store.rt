@@ -5,8 +5,9 @@ use crate::reading::read_store;
 use crate::segments::Ring;
 use crate::shape::Shape;
 use disk::Disk;
-use journal::{State, Taken, encode_batch};
+use journal::encode_batch;
 use refusal::Refusal;
+use revision::{State, Taken};
 use std::alloc::Global;
 
 /// Why a device could not be opened. The device comes back.

@@ -1,9 +1,10 @@
 //! Stores on devices in memory. What they are to hold stands in docs/FORMATS.md, and is written out by hand here.
 use crate::{Shape, Store, format_device};
+use attributes::Attrs;
+use delta::{Builder, Delta, Op, OpRef};
 use disk::{Disk, MemDisk};
-use journal::{Command, Name, Plan, State};
-use plain::Delta;
 use refusal::Refusal;
+use revision::{Command, Name, Plan, State};
 use std::alloc::Global;
 use std::process::Abort;
 use std::test::Fail;
@@ -83,13 +84,24 @@ fn opened<D: Disk + Drop>(alloc: Global, disk: D) -> Result<Store<D>, Fail> {
     }
 }
 
+/// The text that a delta inserts.
+fn text_of(alloc: Global, delta: &Delta) -> Result<String, Fail> {
+    let mut all = String::new(alloc);
+    for op in delta.ops() {
+        if let OpRef::Text(text, _) = op.get() {
+            all.push_str(text)?;
+        }
+    }
+    Ok(all)
+}
+
 /// The documents of a state, each as a line of its name, its revision and its text.
 fn told(alloc: Global, state: &State) -> Result<String, Fail> {
     let mut lines = String::new(alloc);
     for record in state.documents() {
-        let delta = record.document().as_delta(alloc)?;
+        let text = text_of(alloc, &record.document().as_delta(alloc)?)?;
         let name = record.name().as_str();
-        let line = format!(in alloc; "{name} {} {}\n", record.revision(), delta.text())?;
+        let line = format!(in alloc; "{name} {} {text}\n", record.revision())?;
         lines.push_str(line.as_str())?;
     }
     Ok(lines)
@@ -147,12 +159,18 @@ fn holds(rt: &impl Abort, alloc: Global, state: &State, lines: &str) -> Result<(
     Ok(())
 }
 
+/// The delta that inserts a text.
+fn inserting(alloc: Global, text: &str) -> Result<Delta, Refusal> {
+    let mut builder = Builder::new(alloc);
+    builder.push(Op::text(String::from_str(alloc, text)?, Attrs::new(alloc)))?;
+    Ok(builder.finish())
+}
+
 /// The source's first command to a document: it makes it.
 fn creation(alloc: Global, source: &str, doc: &str, text: &str) -> Result<Command, Refusal> {
     let source = Name::source(alloc, source)?;
     let doc = Name::doc(alloc, doc)?;
-    let delta = Delta::inserting(String::from_str(alloc, text)?)?;
-    Command::create(doc, source, 1, delta)
+    Command::create(doc, source, 1, inserting(alloc, text)?)
 }
 
 // How a command is answered, and which revision it has made. It is committed where it is taken.

@@ -1,7 +1,8 @@
 //! Deltas by their spelling, byte for byte.
-use super::{delta_width, read_delta, write_delta};
+use super::{read_delta, write_delta};
 use attributes::{Attrs, Change, Key, Value};
 use delta::{Builder, Delta, Op};
+use revision::delta_width;
 use std::alloc::{AllocError, Global};
 use std::process::Abort;
 use std::test::Fail;

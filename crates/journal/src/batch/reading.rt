@@ -158,17 +158,6 @@ fn tag(wanted: u8, bytes: &[u8]) -> Result<&[u8], Unread>
 }
 
 #[tactic(auto, unfolding(crate::specs::Reading::fixed_at))]
-fn fixed32(wanted: u32, bytes: &[u8]) -> Result<&[u8], Unread>
-    ensures { Gives (λ rest. rest.now) result (fixed_at w32 wanted bytes.now) }
-{
-    let (number, rest) = number32(bytes)?;
-    if number != wanted {
-        return Err(Unread::Malformed);
-    }
-    Ok(rest)
-}
-
-#[tactic(auto, unfolding(crate::specs::Reading::fixed_at))]
 fn fixed64(wanted: u64, bytes: &[u8]) -> Result<&[u8], Unread>
     ensures { Gives (λ rest. rest.now) result (fixed_at w64 wanted bytes.now) }
 {

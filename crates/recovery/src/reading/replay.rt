@@ -8,8 +8,9 @@ ghost use Rattle.recovery.specs.Found.{StandFor};
 ghost use Rattle.recovery.specs.Reading.{Continues};
 
 use crate::shape::Shape;
-use journal::{State, decode_batch};
+use journal::decode_batch;
 use refusal::Refusal;
+use revision::State;
 use std::alloc::Global;
 
 /// The state that the bodies stand for. `Damaged` comes just where they stand for none.

@@ -1,13 +1,12 @@
-use Rattle.std.proofs.Common.{Bool, true, false, Err, ◌≡◌, ◌∙◌, ◌⊎◌, ⊎_elim, inl, inr, ◌≤◌, ◌<◌, ◌+◌, ◌-◌, ◌∷◌, [], List, ℕ, Option, Some, None, refl, sym, subst, ap, arith, rules, length}
+use Rattle.std.proofs.Common.{true, false, Err, ◌≡◌, ◌∙◌, ⊎_elim, inl, inr, List, ℕ, refl, sym, subst, ap, arith, length}
 use Rattle.std.proofs.lemmas.Result.{err_from_is_err_and}
-use Rattle.disk.specs.Crash.{Leaves, history_of}
+use Rattle.disk.specs.Crash.{history_of}
 use Rattle.disk.proofs.Moments.{begins, leaves_map, goes_on_run}
 use Rattle.journal.specs.Area.{Place}
-use Rattle.recovery.specs.Slot.{Segment, bodies_of}
-use Rattle.recovery.specs.Ring.{IsReady, HasKept}
+use Rattle.recovery.specs.Slot.{bodies_of}
+use Rattle.recovery.specs.Ring.{HasKept}
 use Rattle.recovery.specs.Room.{has_room_for}
-use Rattle.refusal.specs.declared.Refusal.{Refusal}
-use Rattle.refusal.specs.declared.Refusal.TheVariants.{Fault, JournalFull, NoMemory}
+use Rattle.refusal.specs.declared.Refusal.TheVariants.{JournalFull, NoMemory}
 use Rattle.journal.specs.declared.area.AppendError.{AppendError}
 use Rattle.journal.specs.declared.area.AppendError.TheVariants.{NoRoom}
 use Rattle.journal.specs.declared.area.AppendError.TheVariants as memory

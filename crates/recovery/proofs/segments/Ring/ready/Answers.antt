@@ -1,4 +1,4 @@
-use Rattle.std.proofs.Common.{◌≡◌, ◌∙◌, ◌≤◌, ◌+◌, ◌∷◌, [], List, ℕ, Option, Some, None, refl, sym, subst, ap, arith, rules}
+use Rattle.std.proofs.Common.{◌≡◌, ◌+◌, ◌∷◌, [], Option, sym, subst, ap, rules}
 use Rattle.disk.specs.Device.{overwritten}
 use Rattle.disk.specs.Crash.{Leaves, history_of}
 use Rattle.disk.proofs.Moments.{begins, leaves_map}

@@ -1,4 +1,4 @@
-use Rattle.std.proofs.Common.{◌≡◌, ◌∙◌, ◌⊎◌, ⊎_elim, inl, inr, List, ℕ, sym, subst}
+use Rattle.std.proofs.Common.{◌∙◌, ⊎_elim, sym}
 use Rattle.disk.proofs.Contents.{synced_leaves}
 use Rattle.recovery.proofs.FoundOnce.{found_same}
 use Rattle.recovery.proofs.Runs.{found_again}

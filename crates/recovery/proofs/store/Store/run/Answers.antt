@@ -1,4 +1,4 @@
-use Rattle.std.proofs.Common.{◌≡◌, ◌∙◌, ◌+◌, List, ℕ, length, take, drop, refl, sym, ap, subst, arith}
+use Rattle.std.proofs.Common.{◌≡◌, ◌∙◌, ◌+◌, List, ℕ, take, drop, refl, sym, ap, subst, arith}
 use Rattle.disk.specs.Crash.{history_of}
 use Rattle.disk.proofs.Contents.{synced_leaves}
 use Rattle.disk.proofs.Moments.{begins, leaves_map, goes_on_run}

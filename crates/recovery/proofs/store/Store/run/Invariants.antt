@@ -1,4 +1,4 @@
-use Rattle.std.proofs.Common.{◌≡◌, ◌↔◌, false, length, take, drop}
+use Rattle.std.proofs.Common.{◌≡◌, ◌↔◌, false, take, drop}
 use Rattle.disk.specs.Crash.{LeavesOnly}
 use Rattle.recovery.specs.Open.{IsOpen, device_of, state_of, has_failed}
 use Rattle.recovery.specs.Run.{IsAfterSome, state_after}
