@@ -1,0 +1,75 @@
+//! What comes of two deltas.
+ghost use Rattle.std.specs.Prelude.{◌≡◌};
+ghost use Rattle.optext.specs.Answer.{IsDue};
+ghost use Rattle.algebra.specs.Answer.{IsAnswer};
+ghost use Rattle.algebra.specs.Outcomes.{Composing, Transforming, Inverting, Applying, InvertingOn, ApplyingOn, document_of};
+
+use compose::{compose, invert};
+use delta::Delta;
+use document::Document;
+use refusal::Refusal;
+use std::alloc::Global;
+use xform::transform;
+
+/// The one delta for two in turn.
+pub(crate) fn composed(alloc: Global, first: &Delta, second: &Delta) -> Result<Delta, Refusal>
+    ensures { IsAnswer (Composing first.now second.now) result }
+{
+    compose(alloc, first, second)
+}
+
+/// The second delta as it is after the first.
+pub(crate) fn transformed(
+    alloc: Global,
+    first: &Delta,
+    second: &Delta,
+    priority: bool,
+) -> Result<Delta, Refusal>
+    ensures { IsAnswer (Transforming first.now second.now priority) result }
+{
+    transform(alloc, first, second, priority)
+}
+
+/// The delta that takes back another on the document that the base makes.
+pub(crate) fn inverted(alloc: Global, delta: &Delta, base: &Delta) -> Result<Delta, Refusal>
+    ensures { IsAnswer (Inverting delta.now base.now) result }
+{
+    let document = document_of(alloc, base)?;
+    inverted_on(alloc, delta, &document)
+}
+
+/// The delta that makes the document of the first after the second.
+pub(crate) fn applied(alloc: Global, document: &Delta, delta: &Delta) -> Result<Delta, Refusal>
+    ensures { IsAnswer (Applying document.now delta.now) result }
+{
+    let document = document_of(alloc, document)?;
+    applied_to(alloc, delta, document)
+}
+
+fn inverted_on(alloc: Global, delta: &Delta, document: &Document) -> Result<Delta, Refusal>
+    ensures { IsAnswer (InvertingOn delta.now document.now) result }
+{
+    invert(alloc, delta, document)
+}
+
+fn applied_to(alloc: Global, delta: &Delta, document: Document) -> Result<Delta, Refusal>
+    ensures { IsAnswer (ApplyingOn delta.now document) result }
+{
+    let mut document = document;
+    document.apply(alloc, delta)?;
+    let made = document.as_delta(alloc)?;
+    Ok(made)
+}
+
+// the document that a delta makes of the empty one
+fn document_of(alloc: Global, delta: &Delta) -> Result<Document, Refusal>
+    ensures { IsDue (document_of delta.now) result }
+{
+    delta::laws::units_counted();
+    delta::laws::length_of_effect();
+    // its operations keep the bound
+    let _ = delta.ops();
+    let mut document = Document::empty(alloc);
+    document.apply(alloc, delta)?;
+    Ok(document)
+}

@@ -1,0 +1,80 @@
+//! What the words of a command ask for, and its answer.
+ghost use Rattle.std.specs.Prelude.{◌≡◌, ◌⊎◌, List, IfOk, IfErr};
+ghost use Rattle.std.specs.String.{string_bytes};
+ghost use Rattle.delta.specs.Operation.{Operation};
+ghost use Rattle.algebra.specs.Answer.{IsAnswer};
+ghost use Rattle.algebra.specs.Tasks.{ComesTo};
+ghost use Rattle.algebra.specs.Text.{text_of};
+
+use crate::making::{applied, composed, inverted, transformed};
+use crate::reading::read_both;
+use crate::writing::write_delta;
+use delta::Delta;
+use refusal::Refusal;
+use std::alloc::Global;
+
+/// What the words of a command ask for. Each of them is a text `{"ops":[..]}`.
+#[derive(Clone, Copy, Debug, PartialEq, Eq)]
+pub enum Task<'a> {
+    /// The delta with the effect of the first, and then the second.
+    Compose {
+        first: &'a str,
+        second: &'a str,
+    },
+    /// The second delta as it is after the first. With priority the first goes first.
+    Transform {
+        first: &'a str,
+        second: &'a str,
+        priority: bool,
+    },
+    /// The delta that takes back another on the document that the base makes.
+    Invert {
+        delta: &'a str,
+        base: &'a str,
+    },
+    /// The delta that makes the document after another.
+    Apply {
+        document: &'a str,
+        delta: &'a str,
+    },
+}
+
+impl<'a> Task<'a> {
+    /// The text of what the command comes to, without a line end, or the refusal that it comes to; and NoMemory.
+    pub fn answer(self, alloc: Global) -> Result<String, Refusal>
+        ensures text { IfOk result (λ text. (made : List Operation) × ComesTo self.entry (Ok made) × (string_bytes text ≡ text_of made)) }
+        ensures refusal { IfErr result (λ refusal. ComesTo self.entry (Err refusal) ⊎ (refusal ≡ Refusal.NoMemory)) }
+    {
+        let made = self.made(alloc)?;
+        let text = write_delta(alloc, &made)?;
+        Ok(text)
+    }
+
+    // what the command comes to
+    fn made(self, alloc: Global) -> Result<Delta, Refusal>
+        ensures { IsAnswer (ComesTo self.entry) result }
+    {
+        match self {
+            Task::Compose { first, second } => {
+                let deltas = read_both(alloc, first, second)?;
+                composed(alloc, &deltas.0, &deltas.1)
+            }
+            Task::Transform {
+                first,
+                second,
+                priority,
+            } => {
+                let deltas = read_both(alloc, first, second)?;
+                transformed(alloc, &deltas.0, &deltas.1, priority)
+            }
+            Task::Invert { delta, base } => {
+                let deltas = read_both(alloc, delta, base)?;
+                inverted(alloc, &deltas.0, &deltas.1)
+            }
+            Task::Apply { document, delta } => {
+                let deltas = read_both(alloc, document, delta)?;
+                applied(alloc, &deltas.0, &deltas.1)
+            }
+        }
+    }
+}
