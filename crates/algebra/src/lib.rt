@@ -21,3 +21,4 @@ mod words;
 mod writing;
 
 pub use task::Task;
+pub use writing::write_delta;

@@ -10,7 +10,7 @@ use serde_json::json;
 use std::alloc::Global;
 
 /// The text `{"ops":[..]}` of a delta, without blanks. Refused only as NoMemory.
-pub(crate) fn write_delta(alloc: Global, delta: &Delta) -> Result<String, Refusal>
+pub fn write_delta(alloc: Global, delta: &Delta) -> Result<String, Refusal>
     ensures printed { IfOk result (λ text. string_bytes text ≡ text_of delta.now) }
     ensures only { IsOkUnless result Refusal.NoMemory }
 {

@@ -2,4 +2,5 @@ pub mod Sums
 pub mod Texts
 pub mod Lookups
 pub mod Creations
+pub mod Taking
 pub mod Agreeing

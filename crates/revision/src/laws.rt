@@ -1,6 +1,14 @@
 //! Laws of states, for the layers above. Each is a function that does nothing: its contract is the law.
-ghost use Rattle.revision.specs.State.{State};
+ghost use Rattle.std.specs.Prelude.{◌≡◌, true};
+ghost use Rattle.revision.specs.Command.{Command, Taken};
+ghost use Rattle.revision.specs.State.{State, grows};
+ghost use Rattle.revision.specs.Acceptance.{Takes, answer};
 ghost use Rattle.revision.specs.Agree.{Agree, AgreeingGrow};
+
+/// What the rule of acceptance takes continues the state.
+pub fn taken_grows()
+    ensures { (state : State) (command : Command) (taken : Taken) → answer state command ≡ Takes taken → grows state taken ≡ true }
+{}
 
 /// To agree is an equivalence of states.
 pub fn agree()

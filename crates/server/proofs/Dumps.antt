@@ -1,18 +1,16 @@
 -- Lines of documents.
-use Rattle.std.proofs.Common.{◌≡◌, ◌++◌, List, ℕ, [], ◌∷◌, false, refl, sym, ap, ◌∙◌, append_assoc, append-nil}
-use Rattle.serde_json.specs.Written.{has_float}
-use Rattle.plain.specs.Delta.{inserting}
+use Rattle.std.proofs.Common.{◌≡◌, ◌++◌, ◌+◌, ◌<◌, List, ℕ, [], ◌∷◌, length, take, get_or, sym, ap, ◌∙◌, append-nil}
+use Rattle.std.proofs.lemmas.Grind.{flat_map-append}
+use Rattle.std.proofs.lemmas.List.{take_more}
 use Rattle.revision.specs.State.{DocumentRecord}
-use Rattle.server.specs.Dump.{content, IsLineOf, IsDumpOf}
+use Rattle.server.specs.Dump.{document_line, dump_of}
 
--- the content of a text has no float
-pub has_float-content : (text : List ℕ) → has_float (content (inserting text)) ≡ false
-has_float-content [] = refl
-has_float-content (byte ∷ bytes) = refl
+dump_of-last : (documents : List DocumentRecord) (last : DocumentRecord) → dump_of (documents ++ last ∷ []) ≡ dump_of documents ++ document_line last
+dump_of-last documents last =
+    flat_map-append document_line documents (last ∷ []) ∙ ap (λ (line : List ℕ). dump_of documents ++ line) (append-nil (document_line last))
 
--- one more document
-pub dump-snoc : (documents : List DocumentRecord) (last : DocumentRecord) (text line : List ℕ) → IsDumpOf documents text → IsLineOf last line
-    → IsDumpOf (documents ++ last ∷ []) (text ++ line)
-dump-snoc [] last text line none is = (line, [], is, refl, ap (λ t. t ++ line) none ∙ sym (append-nil line))
-dump-snoc (first ∷ others) last text line dumped is =
-    (dumped.0, dumped.1 ++ line, dumped.2, dump-snoc others last dumped.1 line dumped.3 is, ap (λ t. t ++ line) dumped.4 ∙ append_assoc dumped.0 dumped.1 line)
+-- the lines of a first part of the documents and the next one
+pub dump_of-more : (documents : List DocumentRecord) (i : ℕ) (next : DocumentRecord) → i < length documents → next ≡ get_or documents i next
+    → dump_of (take (i + 1) documents) ≡ dump_of (take i documents) ++ document_line next
+dump_of-more documents i next within is =
+    ap dump_of (take_more documents i next within ∙ ap (λ (d : DocumentRecord). take i documents ++ d ∷ []) (sym is)) ∙ dump_of-last (take i documents) next

@@ -1,7 +1,6 @@
-mod Deltas
 mod Lines
-mod Planned
 mod Dumps
+mod Inserts
 mod Writes
 mod Replying
 mod Feeding

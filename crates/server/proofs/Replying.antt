@@ -10,7 +10,7 @@ use Rattle.server.specs.declared.session.line.Event.{Event}
 use Rattle.server.specs.declared.session.line.Event.TheVariants.{More, TooLong, Complete}
 use Rattle.server.specs.declared.session.request.Request.{Request}
 use Rattle.server.specs.declared.session.request.Request.TheVariants.{Greet, Ask}
-use Rattle.server.specs.Due.{IsDue}
+use Rattle.optext.specs.Answer.{IsDue}
 use Rattle.server.specs.Line.{Partial, with_byte}
 use Rattle.server.specs.Request.{request_of}
 use Rattle.server.specs.Reply.{greeting, line_of}

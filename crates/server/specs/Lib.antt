@@ -1,4 +1,3 @@
-pub mod Due
 pub mod Operations
 pub mod Message
 pub mod MessageView
@@ -9,5 +8,6 @@ pub mod Session
 pub mod Desk
 pub mod Replies
 pub mod Dump
+pub mod Deltas
 pub mod Serving
 pub mod Asked

@@ -2,7 +2,7 @@
 use Rattle.std.specs.Prelude.{ℕ, ◌^◌, ◌<◌, ◌≤◌, ◌==◌, ◌&&◌, nat_lt, if◌then◌else◌, List, codes, bytes_eq, Option, Some, None, option_and_then, option_map}
 use Rattle.serde_json.specs.Data.{Data, Items}
 use Rattle.serde_json.specs.Find.{get, as_str, as_number, as_u64, as_array}
-use Rattle.server.specs.Operations.{member_count}
+use Rattle.optext.specs.Described.{member_count}
 
 pub data Message : Type 0 where
   -- the source presents itself

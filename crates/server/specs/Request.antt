@@ -1,11 +1,11 @@
 -- What a session does upon a line, before anything is asked of the desk.
-use Rattle.std.specs.Prelude.{◌≡◌, true, ℕ, ◌^◌, nat_lt, if◌then◌else◌, List, length, Option, Some, None, Result, Ok, Err}
+use Rattle.std.specs.Prelude.{◌≡◌, true, ℕ, ◌^◌, ◌||◌, nat_lt, if◌then◌else◌, List, Option, Some, None, Result, Ok, Err}
 use Rattle.std.specs.Str.{is_utf8}
 use Rattle.serde_json.specs.Data.{Data}
 use Rattle.serde_json.specs.Read.{read}
 use Rattle.refusal.specs.declared.Refusal.{Refusal}
 use Rattle.refusal.specs.declared.Refusal.TheVariants.{BadLine, BadMessage, NoHello, BadName, BadOps}
-use Rattle.plain.specs.Delta.{Operation, inserted}
+use Rattle.delta.specs.Operation.{Operation, base_of, out_of}
 use Rattle.revision.specs.Name.{is_document_name, is_source_name}
 use Rattle.revision.specs.Command as command
 use Rattle.server.specs.Operations.{delta_of}
@@ -17,11 +17,11 @@ use Rattle.server.specs.declared.session.request.Request.TheVariants.{Greet, Ask
 abbrev pub value_of : List ℕ → Option Data
 value_of line = if is_utf8 line then read line else None
 
--- a command's delta has an output of at most 2^44 code units
+-- a command's delta stands on at most 2^44 code units, and its output has at most 2^44
 abbrev pub creation : List ℕ → List ℕ → ℕ → Result (List Operation) Refusal → Result Request Refusal
 creation source doc number (Err refusal) = Err refusal
 creation source doc number (Ok delta) =
-    if nat_lt (2 ^ 44) (length (inserted delta)) then Err BadOps
+    if nat_lt (2 ^ 44) (base_of delta) || nat_lt (2 ^ 44) (out_of delta) then Err BadOps
     else Ok (Ask (record { name = doc; source = source; number = number; action = command.Create delta }))
 
 -- the request that a message is, in a session whose source has or has not presented itself

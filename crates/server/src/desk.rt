@@ -1,9 +1,9 @@
 //! A desk that answers from a store.
 use crate::session::{Desk, Reply};
 use disk::Disk;
-use journal::{Command, Plan, Taken};
 use recovery::Store;
 use refusal::Refusal;
+use revision::{Command, Plan, Taken};
 use std::alloc::Global;
 
 /// Answers each command when what it changes is on the device.

@@ -1,25 +1,20 @@
 //! The documents of a store, as lines.
-ghost use Rattle.std.specs.Prelude.{◌≡◌, ◌⊎◌, List, ℕ, OnOk, IfOk, IfErr, IsOk};
+ghost use Rattle.std.specs.Prelude.{◌≡◌, ◌⊎◌, OnOk, IfOk, IfErr};
 ghost use Rattle.std.specs.String.{string_bytes};
 ghost use Rattle.std.specs.Io.KnownBytes.{Appends};
-ghost use Rattle.serde_json.specs.Written.{compact_text};
-ghost use Rattle.server.specs.Operations.{InsertsText};
 ghost use Rattle.server.specs.Dump as spec;
 
 use crate::failure::Failure;
-use crate::optext::write_ops;
-use journal::{DocState, State};
-use plain::Delta;
+use algebra::write_delta;
 use refusal::Refusal;
-use serde_json::json;
+use revision::{DocState, State};
 use std::alloc::{AllocError, Global};
 use std::io::Write;
 
 /// Writes one line for each document, in order of creation: name, revision, floor and operations. Ends where a write
 /// fails (`Stream`), or with `NoMemory`.
 pub fn dump<W: Write>(alloc: Global, state: &State, output: &mut W) -> Result<(), Failure>
-    ensures dumped { OnOk result ((text : List ℕ) × spec.IsDumpOf state.now.documents text
-        × Appends (W.contents output.old) (W.contents output.new) text) }
+    ensures dumped { OnOk result (Appends (W.contents output.old) (W.contents output.new) (spec.dump_of state.now.documents)) }
     ensures only { IfErr result (λ e. (e ≡ Failure.Stream) ⊎ (e ≡ Failure.Refused Refusal.NoMemory)) }
 {
     for document in state.documents() {
@@ -35,11 +30,11 @@ pub fn dump<W: Write>(alloc: Global, state: &State, output: &mut W) -> Result<()
 }
 
 fn line_of(alloc: Global, document: &DocState) -> Result<String, Refusal>
-    ensures ok { IfOk result (λ line. spec.IsLineOf document.now (string_bytes line)) }
+    ensures ok { IfOk result (λ line. string_bytes line ≡ spec.document_line document.now) }
     ensures only { IfErr result (λ e. e ≡ Refusal.NoMemory) }
 {
     let delta = document.document().as_delta(alloc)?;
-    let content = content_of(alloc, &delta)?;
+    let content = write_delta(alloc, &delta)?;
     let name = document.name().as_str();
     let line = joined(alloc, name, document.revision(), document.floor(), &content)?;
     Ok(line)
@@ -55,13 +50,4 @@ fn joined(
     ensures { IfOk result (λ line. string_bytes line ≡ spec.line_of name.now revision floor content.now) }
 {
     format!(in alloc; "{name} {revision} {floor} {content}\n")
-}
-
-fn content_of(alloc: Global, delta: &Delta) -> Result<String, AllocError>
-    ensures ok { IfOk result (λ text. string_bytes text ≡ compact_text (spec.content delta.now)) }
-    ensures text { IsOk result → InsertsText delta.now }
-{
-    let operations = write_ops(alloc, delta)?;
-    let value = json!(in alloc; {"ops": operations})?;
-    value.to_string(alloc)
 }

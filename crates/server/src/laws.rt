@@ -1,8 +1,9 @@
 //! Laws of what comes of a session's input. Each is a function that does nothing: its contract is the law.
 ghost use Rattle.std.specs.Prelude.{◌≡◌, ◌≤◌, ◌<◌, ◌++◌, ◌∷◌, ℕ, List, [], Some, length, codes};
 ghost use Rattle.refusal.specs.declared.Refusal.TheVariants.{LineTooLong, Exists};
-ghost use Rattle.plain.specs.Delta.{inserting};
-ghost use Rattle.serde_json.specs.Written.{compact_text};
+ghost use Rattle.attributes.specs.Map.{empty};
+ghost use Rattle.delta.specs.Operation.{insert_text};
+ghost use Rattle.algebra.specs.Text.{text_of};
 ghost use Rattle.server.specs.declared.session.reply.Reply.TheVariants.{Taken, Again};
 ghost use Rattle.server.specs.Dump as dump;
 ghost use Rattle.server.specs.Reply.{greeting, acknowledgement, line_of};
@@ -51,5 +52,5 @@ pub fn worked_lines()
     ensures taken { line_of (acknowledgement (codes "d") 1 (Taken 1)) ≡ codes "{\"doc\":\"d\",\"n\":1,\"ok\":\"taken\",\"rev\":1}\n" }
     ensures again { line_of (acknowledgement (codes "d") 1 (Again 1)) ≡ codes "{\"doc\":\"d\",\"n\":1,\"ok\":\"again\",\"rev\":1}\n" }
     ensures exists { refusal_line Exists ≡ codes "{\"code\":7,\"error\":\"Exists\"}\n" }
-    ensures printed { dump.line_of (codes "d") 1 0 (compact_text (dump.content (inserting (codes "z")))) ≡ codes "d 1 0 {\"ops\":[{\"insert\":\"z\"}]}\n" }
+    ensures printed { dump.line_of (codes "d") 1 0 (text_of (insert_text (codes "z") empty ∷ [])) ≡ codes "d 1 0 {\"ops\":[{\"insert\":\"z\"}]}\n" }
 {}

@@ -1,6 +1,7 @@
 //! The program over its words and its standard streams.
 ghost use Rattle.std.specs.Prelude.{◌≤◌};
 
+use crate::deltas::print_answer;
 use crate::desk::StoreDesk;
 use crate::dump::dump;
 use crate::failure::Failure;
@@ -58,6 +59,7 @@ fn invoke<R: Files<File = File> + AllocGlobal, I: Read, O: Write>(
             serve(rt.alloc(), &mut desk, input, output)
         }
         Invocation::Dump { path } => dump(rt.alloc(), open(rt, path)?.state(), output),
+        Invocation::Delta(task) => print_answer(rt.alloc(), task, output),
     }
 }
 

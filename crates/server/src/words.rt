@@ -1,4 +1,5 @@
 //! The words that the program is called with.
+use algebra::Task;
 use clap::{Arg, ArgMatches, Command, Error, value_parser};
 use recovery::Shape;
 use std::alloc::{AllocError, Global};
@@ -13,11 +14,22 @@ pub enum Invocation<'a> {
     Serve { path: &'a str },
     /// To print the documents of the store in this file.
     Dump { path: &'a str },
+    /// To print what comes of two deltas.
+    Delta(Task<'a>),
 }
 
 impl<'a> Invocation<'a> {
     /// What the words ask for, of which the first is the program's path. An `Err` has the text for the user.
     pub fn parse<S: AsStr>(alloc: Global, words: &'a [S]) -> Result<Invocation<'a>, Error> {
+        match words {
+            [_, first, ..] if first.as_str() == "delta" => {
+                Ok(Invocation::Delta(Task::parse(alloc, &words[1..])?))
+            }
+            _ => Invocation::of_store(alloc, words),
+        }
+    }
+
+    fn of_store<S: AsStr>(alloc: Global, words: &'a [S]) -> Result<Invocation<'a>, Error> {
         let matches = richd(alloc)?.try_get_matches_from(words)?;
         Ok(match matches.subcommand() {
             Some(("format", given)) => Invocation::Format {
@@ -87,12 +99,16 @@ fn richd<'a>(alloc: Global) -> Result<Command<'a>, AllocError> {
     let dump = Command::new(alloc, "dump")
         .about("Prints the documents, one a line")
         .arg(path(alloc))?;
+    let delta = Command::new(alloc, "delta").about(
+        "Composes, transforms, inverts or applies deltas: 'richd delta --help' tells more",
+    );
     Command::new(alloc, "richd")
         .about("A durable server for rich text")
         .subcommand_required(true)
         .subcommand(format)?
         .subcommand(serve)?
-        .subcommand(dump)
+        .subcommand(dump)?
+        .subcommand(delta)
 }
 
 fn path<'a>(alloc: Global) -> Arg<'a> {

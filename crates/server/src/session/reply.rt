@@ -5,8 +5,8 @@ ghost use Rattle.std.specs.String.{string_bytes};
 ghost use Rattle.server.specs.Reply as spec;
 ghost use Rattle.serde_json.specs.View.{view};
 
-use journal::Command;
 use refusal::Refusal;
+use revision::Command;
 use serde_json::{Value, json};
 use std::alloc::{AllocError, Global};
 

@@ -3,20 +3,20 @@ ghost use Rattle.std.specs.Prelude.{◌≡◌, ◌⊎◌, ◌≤◌, ◌<◌, �
 ghost use Rattle.std.specs.Option.{ForSome};
 ghost use Rattle.serde_json.specs.View.{view, items_view};
 ghost use Rattle.revision.specs.Name.{is_source_name};
-ghost use Rattle.server.specs.Due.{IsDue};
+ghost use Rattle.optext.specs.Answer.{IsDue};
 ghost use Rattle.server.specs.Message.{Create, IsNumbered};
 ghost use Rattle.server.specs.MessageView.{message_view};
 ghost use Rattle.server.specs.Request as spec;
 
 use super::message::Message;
-use crate::optext::read_ops;
-use journal::{Command, Name};
+use crate::operations::read_inserts;
 use refusal::Refusal;
+use revision::{Command, Name};
 use serde_json::Value;
 use std::alloc::Global;
 
 /// What a line asks of a session.
-#[derive(Debug, Drop)]
+#[derive(Drop)]
 pub enum Request {
     /// To greet the source of this name.
     Greet(Name),
@@ -74,7 +74,7 @@ impl Request {
         ensures asks { IfOk result spec.GreetsSource }
     {
         let name = Name::doc(alloc, doc)?;
-        let delta = read_ops(alloc, operations)?;
+        let delta = read_inserts(alloc, operations)?;
         let source = source.copy(alloc)?;
         Ok(Request::Ask(Command::create(name, source, number, delta)?))
     }

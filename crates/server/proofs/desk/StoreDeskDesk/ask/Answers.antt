@@ -1,7 +1,7 @@
 use Rattle.std.proofs.Common.{ap, inr, sym, ◌∙◌}
 use Rattle.revision.specs.Acceptance.{answer}
 use Rattle.recovery.specs.Open.{state_of}
-use Rattle.server.proofs.Planned.{planned_due, planned_grows}
+use Rattle.revision.proofs.Taking.{planned_due, planned_grows}
 use Rattle.server.proofs.desk.StoreDeskDesk.ask.Goals as goal
 
 pub commit-requires-clause-grows : goal.commit-requires-clause-grows

@@ -1,5 +1,5 @@
 use Rattle.std.proofs.Common.{IfSome, subst}
-use Rattle.server.specs.Due.{IsDue}
+use Rattle.optext.specs.Answer.{IsDue}
 use Rattle.server.specs.Request.{request_of}
 use Rattle.server.specs.Session.{Session}
 use Rattle.server.proofs.Replying.{line_due}

@@ -1,0 +1,12 @@
+-- Why a command on deltas ends without a line.
+use Rattle.std.specs.Prelude.{◌≡◌, ◌⊎◌, Err}
+use Rattle.refusal.specs.declared.Refusal.TheVariants.{NoMemory}
+use Rattle.algebra.specs.Tasks.{ComesTo}
+use Rattle.algebra.specs.declared.task.Task.{Task}
+use Rattle.server.specs.declared.failure.Failure.{Failure}
+use Rattle.server.specs.declared.failure.Failure.TheVariants.{Refused, Stream}
+
+-- by the refusal that the task comes to, for want of memory, or since the stream failed
+abbrev pub Ends : Task → Failure → Type 0
+Ends task (Refused refusal) = ComesTo task (Err refusal) ⊎ (refusal ≡ NoMemory)
+Ends task Stream = Unit {0}
