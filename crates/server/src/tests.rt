@@ -1,3 +1,4 @@
+mod deltas;
 mod many_runs;
 
 use crate::run;
