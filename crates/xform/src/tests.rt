@@ -9,6 +9,8 @@ use std::alloc::Global;
 use std::process::Abort;
 use std::test::Fail;
 
+mod plain;
+
 fn value_of(alloc: Global, word: &str) -> Result<(Key, Value), Fail> {
     match word.split_once("=") {
         Some((name, text)) => Ok((Key::new(alloc, name)?, Value::text(alloc, text)?)),
