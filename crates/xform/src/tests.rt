@@ -9,6 +9,7 @@ use std::alloc::Global;
 use std::process::Abort;
 use std::test::Fail;
 
+mod generated;
 mod plain;
 
 fn value_of(alloc: Global, word: &str) -> Result<(Key, Value), Fail> {

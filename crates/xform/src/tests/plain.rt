@@ -11,6 +11,7 @@ use std::alloc::Global;
 use std::marker::Model;
 
 mod applying;
+mod building;
 mod counting;
 mod following;
 mod placing;
@@ -55,6 +56,25 @@ impl Unit {
         let attrs = self.attrs.copy(alloc)?;
         Ok(Unit { item, attrs })
     }
+
+    fn is_same(&self, other: &Unit) -> bool {
+        let same = match (&self.item, &other.item) {
+            (Item::Code(code), Item::Code(other)) => code == other,
+            (Item::Embed(name, value), Item::Embed(key, other)) => name == key && value == other,
+            _ => false,
+        };
+        same && self.attrs == other.attrs
+    }
+}
+
+/// Whether two documents are the same, unit by unit.
+pub(crate) fn are_same(units: &[Unit], others: &[Unit]) -> bool {
+    for (unit, other) in units.iter().zip(others) {
+        if !unit.is_same(other) {
+            return false;
+        }
+    }
+    units.len() == others.len()
 }
 
 /// A unit's fate, None where it is deleted, and what is inserted after it.
