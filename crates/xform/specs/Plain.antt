@@ -1,4 +1,5 @@
--- Gap forms as the plain programs keep them: what is inserted first, and for each unit its fate and what is inserted after it.
+-- Gap forms as the plain programs of the tests keep them: what is inserted first, and for each unit its fate and what is inserted
+-- after it. The contracts of these programs are the definitions, so that what the definitions say can be run.
 use Rattle.std.specs.Prelude.{◌≡◌, ℕ, List, [], ◌∷◌, Option, Some, None, refl}
 use Rattle.std.specs.Coded.{Coded, code_by, coded⊎, coded×, coded_list, coded_option, coded_ℕ}
 use Rattle.std.proofs.Common.{◌⊎◌, inl, inr}

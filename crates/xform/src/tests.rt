@@ -1,6 +1,7 @@
 //! Each call with ample memory, on the cases that quill-delta publishes (its README, and its tests of `transform` and
-//! `transformPosition`). Deltas are written so: `ins TEXT`, `emb NAME`, `ret LENGTH`, `del LENGTH`, each with `{NAMES}` for
-//! attributes: `NAME` is true, `NAME=TEXT` is a text, and `-NAME` is one that a retain removes.
+//! `transformPosition`), and on generated ones against plain programs. Here deltas are written so: `ins TEXT`, `emb NAME`,
+//! `ret LENGTH`, `del LENGTH`, each with `{NAMES}` for attributes: `NAME` is true, `NAME=TEXT` is a text, and `-NAME` is one
+//! that a retain removes.
 use crate::{transform, transform_position};
 use attributes::{Attrs, Change, Key, Value};
 use delta::{Builder, Delta, MAX_LEN, Op};

@@ -10,8 +10,8 @@ use std::alloc::Global;
 use std::process::Abort;
 use std::test::Fail;
 
-/// A third of them have two code units.
-const CHARACTERS: [&str; 6] = ["a", "z", "é", "ß", "😀", "𝄞"];
+/// Characters of one code unit, and of two.
+const TEXTS: [&str; 8] = ["a", "zé", "ß", "😀", "a😀", "𝄞z", "éa𝄞", "😀😀"];
 
 const NAMES: [&str; 3] = ["bold", "color", "link"];
 
@@ -65,17 +65,17 @@ fn change_from(alloc: Global, numbers: &mut Numbers) -> Result<Change, Refusal> 
     Ok(change)
 }
 
-fn text_from(alloc: Global, numbers: &mut Numbers) -> Result<Op, Refusal> {
-    let mut text = String::new(alloc);
-    for _ in 0..1 + numbers.below(3) {
-        text.push_str(CHARACTERS[numbers.below(6) as usize])?;
-    }
+fn text_from(alloc: Global, numbers: &mut Numbers, text: &str) -> Result<Op, Refusal> {
+    let text = String::from_str(alloc, text)?;
     Ok(Op::text(text, attrs_from(alloc, numbers)?))
 }
 
 fn op_from(alloc: Global, numbers: &mut Numbers) -> Result<Op, Refusal> {
     match numbers.below(8) {
-        0 | 1 => text_from(alloc, numbers),
+        0 | 1 => {
+            let text = TEXTS[numbers.below(8) as usize];
+            text_from(alloc, numbers, text)
+        }
         2 => {
             let value = value_from(alloc, numbers)?;
             Op::embed(alloc, "image", value, attrs_from(alloc, numbers)?)
@@ -99,10 +99,10 @@ fn delta_from(alloc: Global, numbers: &mut Numbers) -> Result<Delta, Refusal> {
 fn document_from(alloc: Global, numbers: &mut Numbers, len: u64) -> Result<Vec<Unit>, Refusal> {
     let mut builder = Builder::new(alloc);
     for _ in 0..len {
-        let text = String::from_str(alloc, "d")?;
-        builder.push(Op::text(text, attrs_from(alloc, numbers)?))?;
+        builder.push(text_from(alloc, numbers, "d")?)?;
     }
-    Form::of(alloc, &builder.finish())?.applied(alloc, &[])
+    let form = Form::of(alloc, &builder.finish())?;
+    form.applied(alloc, &[])
 }
 
 // The second after the first, by the program and by the plain program.

@@ -49,12 +49,10 @@ impl Unit {
     fn copy(&self, alloc: Global) -> Result<Self, Refusal>
         ensures same { IfOk result (λ unit. unit ≡ self.now) }
     {
-        let item = match &self.item {
-            Item::Code(code) => Item::Code(*code),
-            Item::Embed(key, value) => Item::Embed(key.copy(alloc)?, value.copy(alloc)?),
-        };
-        let attrs = self.attrs.copy(alloc)?;
-        Ok(Unit { item, attrs })
+        Ok(Unit {
+            item: copied_item(alloc, &self.item)?,
+            attrs: self.attrs.copy(alloc)?,
+        })
     }
 
     fn is_same(&self, other: &Unit) -> bool {
@@ -64,6 +62,15 @@ impl Unit {
             _ => false,
         };
         same && self.attrs == other.attrs
+    }
+}
+
+fn copied_item(alloc: Global, item: &Item) -> Result<Item, Refusal>
+    ensures { IfOk result (λ copy. copy ≡ item.now) }
+{
+    match item {
+        Item::Code(code) => Ok(Item::Code(*code)),
+        Item::Embed(key, value) => Ok(Item::Embed(key.copy(alloc)?, value.copy(alloc)?)),
     }
 }
 

@@ -3,7 +3,7 @@ ghost use Rattle.std.specs.Prelude.{◌≡◌, ◌++◌, IfOk, OnOk};
 ghost use Rattle.delta.specs.Gaps.{fated, apply};
 ghost use Rattle.xform.specs.Plain.{gaps_of, fate_of};
 
-use super::{Form, Step, Unit, push_copies};
+use super::{Form, Step, Unit, copied_item, push_copies};
 use attributes::Change;
 use refusal::Refusal;
 use std::alloc::Global;
@@ -37,7 +37,7 @@ fn push_fated(
     let Some(change) = fate else {
         return Ok(());
     };
-    let Unit { item, attrs: _ } = unit.copy(alloc)?;
+    let item = copied_item(alloc, &unit.item)?;
     let attrs = attributes::apply(alloc, &unit.attrs, change)?;
     units.push(Unit { item, attrs })?;
     Ok(())

@@ -46,8 +46,11 @@ fn push_inserts(alloc: Global, builder: &mut Builder, units: &[Unit]) -> Result<
 
 // the character of a code unit, or of a pair; None for half of one
 fn character_of(high: Option<u16>, code: u16) -> Option<char> {
-    match high {
-        Some(high) => char::from_u32(0x1_0000 + high as u32 % 1024 * 1024 + code as u32 % 1024),
-        None => char::from_u32(code as u32),
-    }
+    let Some(high) = high else {
+        return char::from_u32(code as u32);
+    };
+    let pair = (high as u32 % 1024)
+        .wrapping_mul(1024)
+        .wrapping_add(code as u32 % 1024);
+    char::from_u32(pair.wrapping_add(0x1_0000))
 }
