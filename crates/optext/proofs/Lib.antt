@@ -2,3 +2,4 @@ pub mod Deltas
 pub mod Embeds
 pub mod Members
 pub mod ReadBack
+pub mod Spelled

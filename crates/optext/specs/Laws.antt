@@ -27,6 +27,19 @@ IsSpelled (insert_embed name value a) = IsKey name × IsExactScalar value × All
 IsSpelled (retain n c) = (n < 2 ^ 32) × All IsAttributeChange c.entries
 IsSpelled (delete n) = n < 2 ^ 32
 
+-- what every operation of the program keeps, whatever its length: a text, names of 1 to 64 bytes, and exact whole numbers
+abbrev pub IsKept : Operation → Type 0
+IsKept (insert_text units a) = IsText units × All IsAttribute a.entries
+IsKept (insert_embed name value a) = IsKey name × IsExactScalar value × All IsAttribute a.entries
+IsKept (retain n c) = All IsAttributeChange c.entries
+IsKept (delete n) = Unit {0}
+
+-- a length that a message can spell
+abbrev pub IsShort : Operation → Type 0
+IsShort (retain n c) = n < 2 ^ 32
+IsShort (delete n) = n < 2 ^ 32
+IsShort _ = Unit {0}
+
 -- such an operation, printed, describes itself
 abbrev pub OperationReadsBack : Type 0
 OperationReadsBack = (op : Operation) → IsSpelled op → operation_of (printed_operation op) ≡ Some op
@@ -34,3 +47,7 @@ OperationReadsBack = (op : Operation) → IsSpelled op → operation_of (printed
 -- and a delta of at most 1,024 of them
 abbrev pub DeltaReadsBack : Type 0
 DeltaReadsBack = (ops : List Operation) → IsNormal ops → IsBounded ops → length ops ≤ 1024 → All IsSpelled ops → delta_of (printed ops) ≡ Ok ops
+
+-- a delta that is read as itself, printed, where it has at most 1,024 operations and no length of 2^32 or more
+abbrev pub IsReadBack : List Operation → Type 0
+IsReadBack ops = length ops ≤ 1024 → All IsShort ops → delta_of (printed ops) ≡ Ok ops

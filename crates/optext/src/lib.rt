@@ -3,8 +3,8 @@
 //! A message or a command's word spells a delta as an array of operations: `{"insert":"Hi"}`, `{"retain":6}`,
 //! `{"delete":5}`, and `attributes` beside an insert or a retain. `read_ops` gives the delta that such an array
 //! describes, or says why it describes none, and `write_ops` gives the array that prints a delta. Which operation a
-//! value describes stands in specs/Described.antt, how one is printed in specs/Printed.antt, and that what is printed
-//! is read as what it was in `laws`.
+//! value describes stands in specs/Described.antt, and how one is printed in specs/Printed.antt. What is printed is read
+//! as what it was: `laws` says it of operations, and `write_ops` of each delta that a message can spell.
 //! It stands on `delta`, whose builder merges and bounds the operations, and on `serde_json`'s values.
 #![tactic(auto)]
 

@@ -31,15 +31,6 @@ fn row(rt: &impl Abort, alloc: Global, text: &str, printed: &str) -> Result<(), 
     Ok(())
 }
 
-// the array is printed as it stands
-fn same(rt: &impl Abort, alloc: Global, text: &str) -> Result<(), Fail> {
-    row(rt, alloc, text, text)
-}
-
-fn refused(rt: &impl Abort, alloc: Global, text: &str) -> Result<(), Fail> {
-    row(rt, alloc, text, "BadOps")
-}
-
 fn operations(alloc: Global, count: usize) -> Result<String, Fail> {
     let mut text = String::from_str(alloc, "[{\"delete\":1}")?;
     for _ in 1..count {
@@ -59,124 +50,123 @@ fn named(alloc: Global, bytes: usize) -> Result<String, Fail> {
     Ok(text)
 }
 
-#[test]
-fn reads_the_readme(rt: HostRuntime) -> Result<(), Fail> {
-    let alloc = rt.alloc();
-    row(
-        &rt,
-        alloc,
+/// Arrays, and how what they describe is printed.
+type Row = (&'static str, &'static str);
+
+const README: [Row; 7] = [
+    (
         "[{\"insert\":\"Gandalf\",\"attributes\":{\"bold\":true}},{\"insert\":\" the \"},{\"insert\":\"Grey\",\"attributes\":{\"color\":\"#cccccc\"}}]",
         "[{\"attributes\":{\"bold\":true},\"insert\":\"Gandalf\"},{\"insert\":\" the \"},{\"attributes\":{\"color\":\"#cccccc\"},\"insert\":\"Grey\"}]",
-    )?;
-    row(
-        &rt,
-        alloc,
+    ),
+    (
         "[{\"retain\":12},{\"insert\":\"White\",\"attributes\":{\"color\":\"#fff\"}},{\"delete\":4}]",
         "[{\"retain\":12},{\"attributes\":{\"color\":\"#fff\"},\"insert\":\"White\"},{\"delete\":4}]",
-    )?;
-    row(
-        &rt,
-        alloc,
+    ),
+    (
         "[{\"insert\":{\"video\":\"https://www.youtube.com/watch?v=dMH0bHeiRNg\"},\"attributes\":{\"width\":420,\"height\":315}}]",
         "[{\"attributes\":{\"height\":315,\"width\":420},\"insert\":{\"video\":\"https://www.youtube.com/watch?v=dMH0bHeiRNg\"}}]",
-    )?;
-    row(
-        &rt,
-        alloc,
+    ),
+    (
         "[{\"insert\":{\"image\":\"https://octodex.github.com/images/labtocat.png\"},\"attributes\":{\"alt\":\"Lab Octocat\"}}]",
         "[{\"attributes\":{\"alt\":\"Lab Octocat\"},\"insert\":{\"image\":\"https://octodex.github.com/images/labtocat.png\"}}]",
-    )?;
-    row(
-        &rt,
-        alloc,
+    ),
+    (
         "[{\"retain\":5,\"attributes\":{\"bold\":null}}]",
         "[{\"attributes\":{\"bold\":null},\"retain\":5}]",
-    )?;
-    same(&rt, alloc, "[{\"delete\":10}]")?;
-    row(&rt, alloc, "[{\"retain\":5}]", "[]")
+    ),
+    ("[{\"delete\":10}]", "[{\"delete\":10}]"),
+    ("[{\"retain\":5}]", "[]"),
+];
+
+#[test]
+fn reads_the_readme(rt: HostRuntime) -> Result<(), Fail> {
+    for (text, printed) in &README {
+        row(&rt, rt.alloc(), text, printed)?;
+    }
+    Ok(())
 }
+
+const PRINTED: [&str; 5] = [
+    "[]",
+    "[{\"insert\":\"a😀\\n\\\"\"}]",
+    "[{\"insert\":{\"n\":-9007199254740991}}]",
+    "[{\"attributes\":{\"a\":9007199254740991,\"b\":false},\"insert\":{\"n\":0}}]",
+    "[{\"retain\":4294967295},{\"delete\":4294967295}]",
+];
+
+const SPELLED: [Row; 2] = [
+    (
+        "[{\"insert\":\"a\",\"attributes\":{}}]",
+        "[{\"insert\":\"a\"}]",
+    ),
+    (
+        "[{\"delete\":2},{\"insert\":\"x\"},{\"retain\":0},{\"insert\":\"\"}]",
+        "[{\"insert\":\"x\"},{\"delete\":2}]",
+    ),
+];
 
 #[test]
 fn reads_each_spelling(rt: HostRuntime) -> Result<(), Fail> {
     let alloc = rt.alloc();
-    same(&rt, alloc, "[]")?;
-    same(&rt, alloc, "[{\"insert\":\"a😀\\n\\\"\"}]")?;
-    same(&rt, alloc, "[{\"insert\":{\"n\":-9007199254740991}}]")?;
-    same(
-        &rt,
-        alloc,
-        "[{\"attributes\":{\"a\":9007199254740991,\"b\":false},\"insert\":{\"n\":0}}]",
-    )?;
-    same(
-        &rt,
-        alloc,
-        "[{\"retain\":4294967295},{\"delete\":4294967295}]",
-    )?;
-    row(
-        &rt,
-        alloc,
-        "[{\"insert\":\"a\",\"attributes\":{}}]",
-        "[{\"insert\":\"a\"}]",
-    )?;
-    row(
-        &rt,
-        alloc,
-        "[{\"delete\":2},{\"insert\":\"x\"},{\"retain\":0},{\"insert\":\"\"}]",
-        "[{\"insert\":\"x\"},{\"delete\":2}]",
-    )?;
+    for text in &PRINTED {
+        row(&rt, alloc, text, text)?;
+    }
+    for (text, printed) in &SPELLED {
+        row(&rt, alloc, text, printed)?;
+    }
     let longest = named(alloc, 64)?;
-    same(&rt, alloc, longest.as_str())
+    row(&rt, alloc, longest.as_str(), longest.as_str())
 }
+
+const NO_OPERATIONS: [&str; 13] = [
+    "[null]",
+    "[[]]",
+    "[{}]",
+    "[{\"attributes\":{}}]",
+    "[{\"delete\":1,\"insert\":\"a\"}]",
+    "[{\"delete\":1,\"retain\":1}]",
+    "[{\"insert\":\"a\",\"retain\":1}]",
+    "[{\"insert\":\"a\",\"note\":1}]",
+    "[{\"attributes\":{},\"delete\":1}]",
+    "[{\"insert\":null}]",
+    "[{\"insert\":1}]",
+    "[{\"insert\":{}}]",
+    "[{\"insert\":{\"a\":1,\"b\":2}}]",
+];
 
 #[test]
 fn refuses_what_is_no_operation(rt: HostRuntime) -> Result<(), Fail> {
-    let alloc = rt.alloc();
-    refused(&rt, alloc, "[null]")?;
-    refused(&rt, alloc, "[[]]")?;
-    refused(&rt, alloc, "[{}]")?;
-    refused(&rt, alloc, "[{\"attributes\":{}}]")?;
-    refused(&rt, alloc, "[{\"delete\":1,\"insert\":\"a\"}]")?;
-    refused(&rt, alloc, "[{\"delete\":1,\"retain\":1}]")?;
-    refused(&rt, alloc, "[{\"insert\":\"a\",\"retain\":1}]")?;
-    refused(&rt, alloc, "[{\"insert\":\"a\",\"note\":1}]")?;
-    refused(&rt, alloc, "[{\"attributes\":{},\"delete\":1}]")?;
-    refused(&rt, alloc, "[{\"insert\":null}]")?;
-    refused(&rt, alloc, "[{\"insert\":1}]")?;
-    refused(&rt, alloc, "[{\"insert\":{}}]")?;
-    refused(&rt, alloc, "[{\"insert\":{\"a\":1,\"b\":2}}]")
+    for text in &NO_OPERATIONS {
+        row(&rt, rt.alloc(), text, "BadOps")?;
+    }
+    Ok(())
 }
+
+const NO_LENGTHS_AND_VALUES: [&str; 14] = [
+    "[{\"delete\":4294967296}]",
+    "[{\"retain\":-1}]",
+    "[{\"retain\":1.5}]",
+    "[{\"retain\":\"1\"}]",
+    "[{\"retain\":{\"n\":1}}]",
+    "[{\"insert\":{\"n\":null}}]",
+    "[{\"insert\":{\"\":1}}]",
+    "[{\"attributes\":{\"bold\":null},\"insert\":\"a\"}]",
+    "[{\"attributes\":null,\"retain\":1}]",
+    "[{\"attributes\":[],\"retain\":1}]",
+    "[{\"attributes\":{\"a\":9007199254740992},\"retain\":1}]",
+    "[{\"attributes\":{\"a\":-9007199254740992},\"retain\":1}]",
+    "[{\"attributes\":{\"a\":1.5},\"retain\":1}]",
+    "[{\"attributes\":{\"a\":{}},\"retain\":1}]",
+];
 
 #[test]
 fn refuses_lengths_and_values(rt: HostRuntime) -> Result<(), Fail> {
     let alloc = rt.alloc();
-    refused(&rt, alloc, "[{\"delete\":4294967296}]")?;
-    refused(&rt, alloc, "[{\"retain\":-1}]")?;
-    refused(&rt, alloc, "[{\"retain\":1.5}]")?;
-    refused(&rt, alloc, "[{\"retain\":\"1\"}]")?;
-    refused(&rt, alloc, "[{\"retain\":{\"n\":1}}]")?;
-    refused(&rt, alloc, "[{\"insert\":{\"n\":null}}]")?;
-    refused(&rt, alloc, "[{\"insert\":{\"\":1}}]")?;
-    refused(
-        &rt,
-        alloc,
-        "[{\"attributes\":{\"bold\":null},\"insert\":\"a\"}]",
-    )?;
-    refused(&rt, alloc, "[{\"attributes\":null,\"retain\":1}]")?;
-    refused(&rt, alloc, "[{\"attributes\":[],\"retain\":1}]")?;
-    refused(
-        &rt,
-        alloc,
-        "[{\"attributes\":{\"a\":9007199254740992},\"retain\":1}]",
-    )?;
-    refused(
-        &rt,
-        alloc,
-        "[{\"attributes\":{\"a\":-9007199254740992},\"retain\":1}]",
-    )?;
-    refused(&rt, alloc, "[{\"attributes\":{\"a\":1.5},\"retain\":1}]")?;
-    refused(&rt, alloc, "[{\"attributes\":{\"a\":{}},\"retain\":1}]")?;
+    for text in &NO_LENGTHS_AND_VALUES {
+        row(&rt, alloc, text, "BadOps")?;
+    }
     let too_long = named(alloc, 65)?;
-    refused(&rt, alloc, too_long.as_str())
+    row(&rt, alloc, too_long.as_str(), "BadOps")
 }
 
 #[test]

@@ -1,22 +1,29 @@
 //! The array of operations that prints a delta.
-ghost use Rattle.std.specs.Prelude.{◌≡◌, IfOk, IsOkUnless};
+ghost use Rattle.std.specs.Prelude.{◌≡◌, All, IfOk, IfSome, IsOkUnless, OnOk};
+ghost use Rattle.attributes.specs.Attributes.{IsKey};
+ghost use Rattle.attributes.specs.Scalar.{IsExactScalar};
 ghost use Rattle.serde_json.specs.Data.{array, string, object, member, no_members};
 ghost use Rattle.serde_json.specs.View.{view, members_view};
 ghost use Rattle.utf16.specs.Units.{units_of, utf8_of};
+ghost use Rattle.optext.specs.Laws.{IsText, IsAttribute, IsAttributeChange, IsKept, IsReadBack};
 ghost use Rattle.optext.specs.Printed.{printed, printed_operation, printed_insert, printed_retain, printed_entries, printed_scalar, printed_change, attributes_member};
 
+use crate::laws::delta_reads_back;
 use attributes::{Attrs, Change, Key, Value, ValueRef};
 use delta::{Delta, Op, OpRef};
 use refusal::Refusal;
 use serde_json::{Map, Value as Json, json, put};
 use std::alloc::Global;
-use utf16::laws;
+use utf16::laws::text_of_units;
 
-/// The array of a delta's operations, as they are printed. Refused only as NoMemory.
+/// The array of a delta's operations, as they are printed. Read again, it is the delta, where that has at most 1,024
+/// operations and no length of 2^32 or more. Refused only as NoMemory.
 pub fn write_ops(alloc: Global, delta: &Delta) -> Result<Json, Refusal>
     ensures printed { IfOk result (λ value. view value ≡ array (printed delta.now)) }
+    ensures reads_back { OnOk result (IsReadBack delta.now) }
     ensures only { IsOkUnless result Refusal.NoMemory }
 {
+    delta_reads_back();
     let ops = delta.ops();
     let mut items = Vec::with_capacity(alloc, ops.len())?;
     for op in ops {
@@ -28,6 +35,7 @@ pub fn write_ops(alloc: Global, delta: &Delta) -> Result<Json, Refusal>
 
 fn write_op(alloc: Global, op: &Op) -> Result<Json, Refusal>
     ensures printed { IfOk result (λ value. view value ≡ printed_operation op.now) }
+    ensures kept { OnOk result (IsKept op.now) }
     ensures only { IsOkUnless result Refusal.NoMemory }
 {
     match op.get() {
@@ -46,14 +54,16 @@ fn write_op(alloc: Global, op: &Op) -> Result<Json, Refusal>
 
 fn write_text(alloc: Global, text: &str) -> Result<Json, Refusal>
     ensures text { IfOk result (λ value. view value ≡ string (utf8_of (units_of text.now))) }
+    ensures kept { OnOk result (IsText (units_of text.now)) }
     ensures only { IsOkUnless result Refusal.NoMemory }
 {
-    laws::text_of_units();
+    text_of_units();
     Ok(Json::try_from_str(alloc, text)?)
 }
 
 fn write_embed(alloc: Global, name: &Key, value: &Value) -> Result<Json, Refusal>
     ensures embed { IfOk result (λ embed. view embed ≡ object (member name.now (printed_scalar value.now) no_members)) }
+    ensures kept { OnOk result (IsKey name.now × IsExactScalar value.now) }
     ensures only { IsOkUnless result Refusal.NoMemory }
 {
     let mut members = Map::new(alloc);
@@ -64,6 +74,7 @@ fn write_embed(alloc: Global, name: &Key, value: &Value) -> Result<Json, Refusal
 
 fn write_insert(alloc: Global, what: Json, attrs: &Attrs) -> Result<Json, Refusal>
     ensures printed { IfOk result (λ value. view value ≡ printed_insert attrs.now (view what)) }
+    ensures kept { OnOk result (All IsAttribute attrs.now.entries) }
     ensures only { IsOkUnless result Refusal.NoMemory }
 {
     let attributes = write_attributes(alloc, attrs)?;
@@ -74,6 +85,7 @@ fn write_insert(alloc: Global, what: Json, attrs: &Attrs) -> Result<Json, Refusa
 
 fn write_retain(alloc: Global, len: u64, change: &Change) -> Result<Json, Refusal>
     ensures printed { IfOk result (λ value. view value ≡ printed_retain change.now len) }
+    ensures kept { OnOk result (All IsAttributeChange change.now.entries) }
     ensures only { IsOkUnless result Refusal.NoMemory }
 {
     let attributes = write_change(alloc, change)?;
@@ -97,6 +109,7 @@ fn begin(alloc: Global, attributes: Map<String, Json>) -> Result<Map<String, Jso
 
 fn write_attributes(alloc: Global, attrs: &Attrs) -> Result<Map<String, Json>, Refusal>
     ensures printed { IfOk result (λ members. members_view members.entries ≡ printed_entries printed_scalar attrs.now.entries) }
+    ensures kept { OnOk result (All IsAttribute attrs.now.entries) }
     ensures only { IsOkUnless result Refusal.NoMemory }
 {
     let mut members = Map::new(alloc);
@@ -109,6 +122,7 @@ fn write_attributes(alloc: Global, attrs: &Attrs) -> Result<Map<String, Json>, R
 
 fn write_change(alloc: Global, change: &Change) -> Result<Map<String, Json>, Refusal>
     ensures printed { IfOk result (λ members. members_view members.entries ≡ printed_entries printed_change change.now.entries) }
+    ensures kept { OnOk result (All IsAttributeChange change.now.entries) }
     ensures only { IsOkUnless result Refusal.NoMemory }
 {
     let mut members = Map::new(alloc);
@@ -121,6 +135,7 @@ fn write_change(alloc: Global, change: &Change) -> Result<Map<String, Json>, Ref
 
 fn write_value(alloc: Global, value: &Value) -> Result<Json, Refusal>
     ensures printed { IfOk result (λ json. view json ≡ printed_scalar value.now) }
+    ensures kept { OnOk result (IsExactScalar value.now) }
     ensures only { IsOkUnless result Refusal.NoMemory }
 {
     match value.get() {
@@ -132,6 +147,7 @@ fn write_value(alloc: Global, value: &Value) -> Result<Json, Refusal>
 
 fn write_change_value(alloc: Global, value: &Option<Value>) -> Result<Json, Refusal>
     ensures printed { IfOk result (λ json. view json ≡ printed_change value.now) }
+    ensures kept { OnOk result (IfSome value.now IsExactScalar) }
     ensures only { IsOkUnless result Refusal.NoMemory }
 {
     match value {

@@ -6,3 +6,4 @@ pub mod Heads
 pub mod Trimming
 pub mod Cuts
 pub mod Merges
+pub mod Plain

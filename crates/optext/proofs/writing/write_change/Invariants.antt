@@ -1,8 +1,13 @@
 use Rattle.std.proofs.Common.{◌≡◌, take}
+use Rattle.std.specs.Prelude.{All}
 use Rattle.serde_json.specs.View.{members_view}
+use Rattle.optext.specs.Laws.{IsAttributeChange}
 use Rattle.optext.specs.Printed.{printed_entries, printed_change}
 use Rattle.optext.proofs.writing.write_change.Given as goal
 
--- the members so far print the entries so far
+-- the members so far print the entries so far, which have names and values that may stand there
 abbrev pub invariant-loop-name : goal.invariant-loop-name
-invariant-loop-name l = members_view l.members.entries ≡ printed_entries printed_change (take l.name-index l.change.entries)
+invariant-loop-name l = record {
+  printed : members_view l.members.entries ≡ printed_entries printed_change (take l.name-index l.change.entries);
+  kept : All IsAttributeChange (take l.name-index l.change.entries);
+}
