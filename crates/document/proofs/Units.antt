@@ -2,7 +2,7 @@
 use Rattle.std.proofs.Common.{◌≡◌, ℕ, zero, suc, ◌-◌, ◌<◌, ◌↔◌, Bool, true, false, not, IsTrue, List, [], ◌∷◌, ◌++◌, length, take, drop, get_or, refl, sym, ap, subst, ◌∙◌, inl, inr, arith, append-nil, append_assoc}
 use Rattle.std.proofs.lemmas.Bool.{false≢true}
 use Rattle.std.proofs.lemmas.List.{take-append-drop}
-use Rattle.std.proofs.lemmas.Str.{IsUtf8-past_char, chars_past_char, chars-nil}
+use Rattle.std.proofs.lemmas.Str.{chars_past_char, chars-nil}
 use Rattle.std.specs.Char.{encode_utf8}
 use Rattle.std.specs.Char.Escape.{encode_utf16}
 use Rattle.std.specs.Str.{IsUtf8}
@@ -11,10 +11,10 @@ use Rattle.attributes.specs.Attributes.{Attributes, Changes, same_attributes, sa
 use Rattle.attributes.specs.Map.{empty}
 use Rattle.attributes.specs.Scalar.{Scalar}
 use Rattle.delta.specs.Element.{Element, lettered, letters, embedded}
-use Rattle.delta.specs.Operation.{Operation, insert_text, insert_embed, retain, delete, op_base}
+use Rattle.delta.specs.Operation.{Operation, retain, delete, op_base}
 use Rattle.delta.specs.Gaps.{counted, apply}
 use Rattle.delta.specs.Normal.{IsNormal}
-use Rattle.delta.proofs.Parts.{effect_past_end, effect_of_text, effect_of_embed, effect_of_retain, effect_of_delete}
+use Rattle.delta.proofs.Parts.{effect_past_end, effect_of_retain, effect_of_delete}
 use Rattle.document.specs.Pairs.{IsPair, IsPairAt, IsWithinPair}
 use Rattle.document.specs.Passes.{PartsPair, IsDone, kept}
 use Rattle.document.specs.Places.{Cuts}
@@ -22,6 +22,7 @@ use Rattle.document.proofs.Parting.{parts_of_cut, cut_of_parts}
 use Rattle.document.proofs.Letters.{letters-append}
 use Rattle.document.proofs.Progress.{IsApplied, kept_same}
 
+-- a list without an element
 nothing : {X : Type 0} (xs : List X) → length xs ≡ 0 → xs ≡ []
 nothing [] e = refl
 nothing (x ∷ xs) e = absurd (omega (arith, e))
@@ -36,9 +37,6 @@ put_char made more all rest after codes c a valid begins is put so_far =
     ap (λ l. l ++ letters (units_of after) a) put
     ∙ (append_assoc made (letters codes a) (letters (units_of after) a)
     ∙ (ap (λ l. made ++ l) (sym (letters-append codes (units_of after) a) ∙ ap (λ us. letters us a) first) ∙ so_far))
-
-pub valid_after : (rest after : List ℕ) (c : ℕ) → IsUtf8 rest → rest ≡ encode_utf8 c ++ after → IsUtf8 after
-valid_after rest after c valid begins = IsUtf8-past_char rest after c valid begins
 
 pub put_whole : (made all : List Element) (rest : List ℕ) (a : Attributes) → length rest ≡ 0 → made ++ letters (units_of rest) a ≡ all → made ≡ all
 put_whole made all rest a none so_far =
@@ -73,25 +71,6 @@ letters_pair high low a b x y r first next is_high is_low same =
     ))
 
 -- what one operation makes of the units that it stands on
-pub puts_text : (d : List Element) (us : List ℕ) (a : Attributes) (op : Operation) (out made : List Element)
-    → insert_text us a ≡ op → length d ≡ op_base op → made ≡ out ++ letters us a → made ≡ out ++ apply d (counted (op ∷ []))
-puts_text d us a op out made is count put =
-    let none : d ≡ [] = nothing d (count ∙ sym (ap op_base is)) in
-    put
-    ∙ ap (λ l. out ++ l)
-    (sym (append-nil (letters us a))
-    ∙ (sym (effect_of_text [] us a [])
-    ∙ (ap (λ e. apply e (counted (insert_text us a ∷ []))) (sym none) ∙ ap (λ o. apply d (counted (o ∷ []))) is)))
-
-pub puts_embed : (d : List Element) (key : List ℕ) (value : Scalar) (a : Attributes) (op : Operation) (out made : List Element)
-    → insert_embed key value a ≡ op → length d ≡ op_base op → made ≡ out ++ embedded key value a ∷ [] → made ≡ out ++ apply d (counted (op ∷ []))
-puts_embed d key value a op out made is count put =
-    let none : d ≡ [] = nothing d (count ∙ sym (ap op_base is)) in
-    put
-    ∙ ap (λ l. out ++ l)
-    (sym (effect_of_embed [] key value a [])
-    ∙ (ap (λ e. apply e (counted (insert_embed key value a ∷ []))) (sym none) ∙ ap (λ o. apply d (counted (o ∷ []))) is))
-
 pub keeps_units : (d : List Element) (n : ℕ) (c : Changes) (op : Operation) (out made : List Element)
     → retain n c ≡ op → length d ≡ op_base op → made ≡ out ++ kept c d → made ≡ out ++ apply d (counted (op ∷ []))
 keeps_units d n c op out made is count put =
