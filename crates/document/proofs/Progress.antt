@@ -130,7 +130,7 @@ pub whole_at_end : (d : List Element) (n : ℕ) → length d ≡ n → ¬ (IsWit
 whole_at_end d zero e within = within
 whole_at_end d (suc i) e within = not_at_end d i e within
 
-kept_same : (d : List Element) → kept empty d ≡ d
+pub kept_same : (d : List Element) → kept empty d ≡ d
 unfolding changed_by
 kept_same [] = refl
 kept_same (x ∷ d) = ap (λ l. x ∷ l) (kept_same d)

@@ -1,5 +1,5 @@
 //! A walk over the units of runs, piece by piece.
-ghost use Rattle.std.specs.Prelude.{◌≡◌, ◌≤◌, ◌<◌, ◌++◌, length, IfOk, OnErr};
+ghost use Rattle.std.specs.Prelude.{◌≡◌, ◌≤◌, ◌<◌, ◌++◌, length, IfOk, OnErr, IsOkUnless};
 ghost use Rattle.document.specs.Pairs.{IsWithinPair};
 ghost use Rattle.document.specs.Pieces.{piece_units, begun_units, IsPiece, IsBegun};
 ghost use Rattle.document.specs.Runs.{units_of_runs, AreRuns};
@@ -52,6 +52,7 @@ impl<'a> Cursor<'a> {
         ensures piece { IfOk result (λ p. IsPiece p) }
         ensures most { IfOk result (λ p. length (piece_units p) ≤ most) }
         ensures parted { OnErr result (IsWithinPair self.old most) }
+        ensures only { IsOkUnless result Cut.InPair }
     {
         let (whole, rest) = first(self.begun, self.rest);
         let (piece, left) = cut(whole, most)?;
@@ -85,6 +86,7 @@ fn cut<'a>(piece: Piece<'a>, most: u64) -> Result<(Piece<'a>, Option<Piece<'a>>)
     ensures back { IfOk result (λ p. IsBegun p.1) }
     ensures most { IfOk result (λ p. length (piece_units p.0) ≤ most) }
     ensures parted { OnErr result (IsWithinPair (piece_units piece.entry) most) }
+    ensures only { IsOkUnless result Cut.InPair }
 {
     match piece {
         Piece::Text(text, units, attrs) => {

@@ -1,4 +1,7 @@
 //! Each call with ample memory: what quill-delta publishes of deltas on documents, and each refusal.
+mod generated;
+mod units;
+
 use crate::Document;
 use attributes::{Attrs, Change, Key, Value};
 use delta::{Builder, Delta, Op, OpRef};
@@ -118,119 +121,108 @@ fn refused(alloc: Global, start: &[Step], change: &[Step]) -> Result<Option<Refu
     Ok(if same { refusal } else { None })
 }
 
-// quill-delta, test/delta/compose.js, where the first delta is a document
-#[test]
-fn inserts_as_quill_delta(rt: HostRuntime) -> Result<(), Fail> {
-    let rows: [(&[Step], &[Step], &str); 5] = [
-        // insert + insert
-        (&[Step::Text("A", "")], &[Step::Text("B", "")], "BA|"),
-        // insert in middle of text
-        (
-            &[Step::Text("Hello", "")],
-            &[Step::Keep(3, "", ""), Step::Text("X", "")],
-            "HelXlo|",
-        ),
-        // insert and delete ordering, in both orders
-        (
-            &[Step::Text("Hello", "")],
-            &[Step::Keep(3, "", ""), Step::Text("X", ""), Step::Drop(1)],
-            "HelXo|",
-        ),
-        (
-            &[Step::Text("Hello", "")],
-            &[Step::Keep(3, "", ""), Step::Drop(1), Step::Text("X", "")],
-            "HelXo|",
-        ),
-        // an insert beside a text of other attributes keeps its own
-        (
-            &[Step::Text("A", "bold")],
-            &[Step::Keep(1, "", ""), Step::Text("B", "")],
-            "A<bold>|B|",
-        ),
-    ];
-    for (start, change, expected) in rows {
-        assert_eq!(rt; after(rt.alloc(), start, change)?.as_str(), expected);
-    }
-    Ok(())
-}
+/// A document, a delta, and what is shown of the document after it: quill-delta, test/delta/compose.js, by the names of
+/// its tests, where the first delta is a document.
+const COMPOSED: [(&[Step], &[Step], &str); 17] = [
+    // insert + insert
+    (&[Step::Text("A", "")], &[Step::Text("B", "")], "BA|"),
+    // insert in middle of text
+    (
+        &[Step::Text("Hello", "")],
+        &[Step::Keep(3, "", ""), Step::Text("X", "")],
+        "HelXlo|",
+    ),
+    // insert and delete ordering, in both orders
+    (
+        &[Step::Text("Hello", "")],
+        &[Step::Keep(3, "", ""), Step::Text("X", ""), Step::Drop(1)],
+        "HelXo|",
+    ),
+    (
+        &[Step::Text("Hello", "")],
+        &[Step::Keep(3, "", ""), Step::Drop(1), Step::Text("X", "")],
+        "HelXo|",
+    ),
+    // insert + retain
+    (
+        &[Step::Text("A", "")],
+        &[Step::Keep(1, "bold", "font")],
+        "A<bold>|",
+    ),
+    // insert + delete
+    (&[Step::Text("A", "")], &[Step::Drop(1)], ""),
+    // delete entire text
+    (&[Step::Text("Hello", "")], &[Step::Drop(5)], ""),
+    // retain more than length of text
+    (
+        &[Step::Text("Hello", "")],
+        &[Step::Keep(10, "", "")],
+        "Hello|",
+    ),
+    // remove all attributes
+    (
+        &[Step::Text("A", "bold")],
+        &[Step::Keep(1, "", "bold")],
+        "A|",
+    ),
+    // insert embed
+    (
+        &[Step::Image("u", "")],
+        &[Step::Keep(1, "bold", "")],
+        "@image<bold>|",
+    ),
+    // retain empty embed
+    (&[Step::Image("u", "")], &[Step::Keep(1, "", "")], "@image|"),
+    // remove all embed attributes
+    (
+        &[Step::Image("u", "bold")],
+        &[Step::Keep(1, "", "bold")],
+        "@image|",
+    ),
+    // immutability
+    (
+        &[Step::Text("Test", "bold")],
+        &[Step::Keep(1, "color", ""), Step::Drop(2)],
+        "T<bold><color>|t<bold>|",
+    ),
+    // By the same rules, in this project's own words.
+    // an insert beside a text of other attributes keeps its own
+    (
+        &[Step::Text("A", "bold")],
+        &[Step::Keep(1, "", ""), Step::Text("B", "")],
+        "A<bold>|B|",
+    ),
+    // a part of a text, and texts that become one
+    (
+        &[Step::Text("abc", "")],
+        &[Step::Keep(1, "", ""), Step::Keep(1, "bold", "")],
+        "a|b<bold>|c|",
+    ),
+    (
+        &[
+            Step::Text("a", ""),
+            Step::Text("b", "bold"),
+            Step::Text("c", ""),
+        ],
+        &[Step::Keep(1, "", ""), Step::Keep(1, "", "bold")],
+        "abc|",
+    ),
+    // an embed is one unit
+    (
+        &[
+            Step::Text("a", ""),
+            Step::Image("u", ""),
+            Step::Text("b", ""),
+        ],
+        &[Step::Keep(1, "", ""), Step::Drop(1), Step::Image("v", "")],
+        "a|@image|b|",
+    ),
+];
 
 #[test]
-fn keeps_and_deletes_as_quill_delta(rt: HostRuntime) -> Result<(), Fail> {
-    let rows: [(&[Step], &[Step], &str); 7] = [
-        // insert + retain
-        (
-            &[Step::Text("A", "")],
-            &[Step::Keep(1, "bold", "font")],
-            "A<bold>|",
-        ),
-        // insert + delete
-        (&[Step::Text("A", "")], &[Step::Drop(1)], ""),
-        // delete entire text
-        (&[Step::Text("Hello", "")], &[Step::Drop(5)], ""),
-        // retain more than length of text
-        (
-            &[Step::Text("Hello", "")],
-            &[Step::Keep(10, "", "")],
-            "Hello|",
-        ),
-        // remove all attributes
-        (
-            &[Step::Text("A", "bold")],
-            &[Step::Keep(1, "", "bold")],
-            "A|",
-        ),
-        // a part of a text, and texts that become one
-        (
-            &[Step::Text("abc", "")],
-            &[Step::Keep(1, "", ""), Step::Keep(1, "bold", "")],
-            "a|b<bold>|c|",
-        ),
-        (
-            &[
-                Step::Text("a", ""),
-                Step::Text("b", "bold"),
-                Step::Text("c", ""),
-            ],
-            &[Step::Keep(1, "", ""), Step::Keep(1, "", "bold")],
-            "abc|",
-        ),
-    ];
-    for (start, change, expected) in rows {
-        assert_eq!(rt; after(rt.alloc(), start, change)?.as_str(), expected);
-    }
-    Ok(())
-}
-
-#[test]
-fn embeds_as_quill_delta(rt: HostRuntime) -> Result<(), Fail> {
-    let rows: [(&[Step], &[Step], &str); 4] = [
-        // insert embed
-        (
-            &[Step::Image("u", "")],
-            &[Step::Keep(1, "bold", "")],
-            "@image<bold>|",
-        ),
-        // retain empty embed
-        (&[Step::Image("u", "")], &[Step::Keep(1, "", "")], "@image|"),
-        // remove all embed attributes
-        (
-            &[Step::Image("u", "bold")],
-            &[Step::Keep(1, "", "bold")],
-            "@image|",
-        ),
-        // an embed is one unit
-        (
-            &[
-                Step::Text("a", ""),
-                Step::Image("u", ""),
-                Step::Text("b", ""),
-            ],
-            &[Step::Keep(1, "", ""), Step::Drop(1), Step::Image("v", "")],
-            "a|@image|b|",
-        ),
-    ];
-    for (start, change, expected) in rows {
-        assert_eq!(rt; after(rt.alloc(), start, change)?.as_str(), expected);
+fn documents_as_quill_delta(rt: HostRuntime) -> Result<(), Fail> {
+    for (start, change, expected) in &COMPOSED {
+        assert_eq!(rt; after(rt.alloc(), start, change)?.as_str(), *expected);
     }
     Ok(())
 }

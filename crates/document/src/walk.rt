@@ -18,6 +18,7 @@ pub fn skip(cursor: &mut Cursor<'_>, len: u64) -> Result<(), Cut>
     requires { len ≤ length cursor.old }
     ensures passed { OnOk result (IsPassed cursor.old cursor.new len) }
     ensures parted { OnErr result (IsWithinPair cursor.old len) }
+    ensures only { IsOkUnless result Cut.InPair }
 {
     let mut left = len;
     while left > 0 {
