@@ -15,3 +15,4 @@ pub mod StepsBack
 pub mod WayBack
 pub mod DocumentCuts
 pub mod PlainForms
+pub mod PlainDeltas

@@ -1,19 +1,13 @@
 -- Gap forms place by place, as the plain programs of the tests make them: what each turn of their loops comes to.
-use Rattle.std.proofs.Common.{◌≡◌, ℕ, zero, suc, List, [], ◌∷◌, ◌++◌, Option, Some, None, length, ◌<◌, ◌+◌, drop, get_or, refl, sym, ap, ◌∙◌}
-use Rattle.std.proofs.lemmas.List.{append_assoc, append-nil, drop_more}
-use Rattle.std.proofs.Common.{◌⊎◌, inl, inr, subst}
-use Rattle.std.proofs.lemmas.Str.{IsUtf8-past_char, chars_past_char, chars-nil}
-use Rattle.std.specs.Char.{encode_utf8}
-use Rattle.std.specs.Char.Escape.{encode_utf16}
-use Rattle.std.specs.Str.{IsUtf8}
-use Rattle.utf16.specs.Units.{units_of, units_of_chars}
+use Rattle.std.proofs.Common.{◌≡◌, ℕ, suc, List, [], ◌∷◌, ◌++◌, Option, Some, None, length, ◌<◌, ◌+◌, drop, get_or, refl, sym, ap, ◌∙◌}
+use Rattle.std.proofs.lemmas.List.{append-nil, drop_more}
 use Rattle.attributes.specs.Attributes.{Attributes, Changes, reverted}
-use Rattle.delta.specs.Element.{Element, lettered, letters}
-use Rattle.delta.specs.Gaps.{Gaps, End, Gap, Fate, Del, Keep, front, run}
-use Rattle.delta.proofs.Joins.{front-nil, front-front}
+use Rattle.delta.specs.Element.{Element}
+use Rattle.delta.specs.Gaps.{Gaps, Gap, Del, Keep, front, run}
+use Rattle.delta.proofs.Joins.{front-nil}
 use Rattle.compose.specs.Places.{inserts, fate, tail}
 use Rattle.compose.specs.Composed.{laid, beyond, kept_then, composed}
-use Rattle.compose.specs.Inverse.{unit_back, inverse}
+use Rattle.compose.specs.Inverse.{unit_back}
 use Rattle.compose.specs.Plain.{Placed, fate_of, placed, form_of}
 
 -- one more place
@@ -94,24 +88,3 @@ pub passed_kept : (ps qs : List Placed) (xs ls ks is es : List Element) (p : Pla
     → placed qs (composed g t) ≡ placed ps (composed (Gap p.0 (fate_of p.1) g) b)
 passed_kept ps qs xs ls ks is es p c d o g b r t q_is k_is i_is l_is e_is r_is t_is d_is o_is x_is some =
     rw (q_is, k_is, i_is, l_is, e_is, t_is, r_is, ← x_is, some) (composed_kept ps xs c d g b (d_is ∙ ap (kept_then c) (o_is ∙ ap fate r_is)))
-
--- the code units of a text: the next of them, and those to come
-pub letters_more : (p q r s : List ℕ) (x : ℕ) → IsUtf8 r
-    → ((p ≡ x ∷ []) × (q ≡ []) × (s ≡ r)) ⊎ ((p ≡ []) × ((c : ℕ) × (r ≡ encode_utf8 c ++ s) × (encode_utf16 c ≡ x ∷ q)))
-    → IsUtf8 s × (p ++ units_of r ≡ x ∷ (q ++ units_of s))
-letters_more p q r s x valid (inl second) =
-    (subst IsUtf8 (sym second.2) valid, ap (λ l. l ++ units_of r) second.0 ∙ rw (second.1, second.2) refl)
-letters_more p q r s x valid (inr first) = (
-  IsUtf8-past_char r s first.1.0 valid first.1.1,
-  ap (λ l. l ++ units_of r) first.0 ∙ (ap units_of_chars (chars_past_char r s first.1.0 valid first.1.1) ∙ ap (λ l. l ++ units_of s) first.1.2),
-)
-
-pub letters_again : (us vs w : List Element) (p q r s : List ℕ) (x : ℕ) (a b : Attributes)
-    → vs ≡ us ++ lettered x b ∷ [] → b ≡ a → p ++ r ≡ x ∷ (q ++ s) → us ++ letters (p ++ r) a ≡ w → vs ++ letters (q ++ s) a ≡ w
-letters_again us vs w p q r s x a b v_is b_is step so_far =
-    rw (v_is, b_is) (append_assoc us (lettered x a ∷ []) (letters (q ++ s) a) ∙ (ap (λ l. us ++ letters l a) (sym step) ∙ so_far))
-
-pub letters_end : (us w : List Element) (p r : List ℕ) (a : Attributes) → p ≡ [] → length r ≡ 0 → us ++ letters (p ++ units_of r) a ≡ w → us ≡ w
-letters_end us w p [] a p_is none so_far =
-    sym (append-nil us) ∙ (ap (λ l. us ++ letters l a) (sym (ap (λ l. l ++ units_of []) p_is ∙ ap units_of_chars chars-nil)) ∙ so_far)
-letters_end us w p (x ∷ r) a p_is none so_far = cc

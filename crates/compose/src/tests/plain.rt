@@ -212,8 +212,8 @@ pub fn is_high(letter: u16) -> bool
     0xD800 <= letter && letter < 0xDC00
 }
 
-/// Whether a code unit is the second of a pair.
-pub fn is_low(letter: u16) -> bool
+// whether a code unit is the second of a pair
+fn is_low(letter: u16) -> bool
     ensures { result ≡ is_low_surrogate letter }
 {
     0xDC00 <= letter && letter < 0xE000

@@ -1,22 +1,30 @@
 //! Deltas counted out, and gap forms brought to deltas by delta's builder, unit by unit.
-ghost use Rattle.std.specs.Prelude.{◌≡◌, ◌++◌, ◌∷◌, List, IfOk, OnOk, IsOkUnless};
+ghost use Rattle.std.specs.Prelude.{◌≡◌, ◌≤◌, ◌++◌, [], ◌∷◌, List, length, string_bytes, IfOk, OnOk, IsOkUnless};
 ghost use Rattle.utf16.specs.Units.{units_of};
-ghost use Rattle.delta.specs.Element.{letters};
+ghost use Rattle.delta.specs.Element.{lettered, embedded, letters};
 ghost use Rattle.delta.specs.Operation.{Operation};
-ghost use Rattle.delta.specs.Gaps.{Gaps, counted, front, run};
+ghost use Rattle.delta.specs.Gaps.{Gaps, End, Gap, counted, front, joined, run};
+ghost use Rattle.delta.specs.Normal.{nf, settled};
 ghost use Rattle.delta.specs.Kind.{operation_of};
+ghost use Rattle.compose.specs.Composed.{composed};
+ghost use Rattle.compose.specs.Cuts.{Cuts};
+ghost use Rattle.compose.specs.Inverse.{inverse};
+ghost use Rattle.compose.specs.Many.{many};
 ghost use Rattle.compose.specs.Plain.{fate_of, placed, form_of};
 
 use super::forms::{Form, Place, Unit, copy_change};
-use super::plain::{composed, cuts, inverse, is_high, is_low, settle};
-use attributes::{Attrs, Change};
+use super::plain::{composed, cuts, inverse, is_high, settle};
+use attributes::{Attrs, Change, Key, Value};
 use delta::{Builder, Delta, Op, OpRef};
 use document::Document;
 use refusal::Refusal;
 use std::alloc::Global;
 
 /// The plain program of `compose`, as far as no length passes its bound.
-pub fn plain_compose(alloc: Global, first: &Delta, second: &Delta) -> Result<Delta, Refusal> {
+pub fn plain_compose(alloc: Global, first: &Delta, second: &Delta) -> Result<Delta, Refusal>
+    ensures one { IfOk result (λ one. one ≡ nf (composed (counted first.now) (counted second.now))) }
+    ensures whole { OnOk result (¬ (Cuts (counted first.now) (counted second.now))) }
+{
     let first = counted_out(alloc, first)?;
     let second = counted_out(alloc, second)?;
     if cuts(alloc, &first, &second)? {
@@ -26,7 +34,9 @@ pub fn plain_compose(alloc: Global, first: &Delta, second: &Delta) -> Result<Del
 }
 
 /// The plain program of `compose_many`.
-pub fn plain_compose_many(alloc: Global, deltas: &[Delta]) -> Result<Delta, Refusal> {
+pub fn plain_compose_many(alloc: Global, deltas: &[Delta]) -> Result<Delta, Refusal>
+    ensures one { IfOk result (λ one. one ≡ many deltas.now) }
+{
     let mut one = Builder::new(alloc).finish();
     for delta in deltas {
         one = plain_compose(alloc, &one, delta)?;
@@ -35,16 +45,30 @@ pub fn plain_compose_many(alloc: Global, deltas: &[Delta]) -> Result<Delta, Refu
 }
 
 /// The plain program of `invert`.
-pub fn plain_invert(alloc: Global, delta: &Delta, document: &Document) -> Result<Delta, Refusal> {
+pub fn plain_invert(alloc: Global, delta: &Delta, document: &Document) -> Result<Delta, Refusal>
+    ensures one { IfOk result (λ back. back ≡ nf (inverse (counted delta.now) document.now)) }
+    ensures whole { OnOk result (¬ (Cuts (End document.now) (counted delta.now))) }
+{
     let form = counted_out(alloc, delta)?;
-    let base = counted_out(alloc, &document.as_delta(alloc)?)?;
+    let base = form_of_document(alloc, document)?;
     if form.places.len() > base.end.len() {
         return Err(Refusal::PastEnd);
     }
     if cuts(alloc, &base, &form)? {
         return Err(Refusal::CutsPair);
     }
-    spelled(alloc, &inverse(alloc, &form, &base.end)?)
+    let back = spelled(alloc, &inverse(alloc, &form, &base.end)?)?;
+    Ok(back)
+}
+
+// the inserts that make a document
+fn form_of_document(alloc: Global, document: &Document) -> Result<Form, Refusal>
+    ensures form { IfOk result (λ form. form_of form.places.items form.end.items ≡ End document.now) }
+    ensures units { IfOk result (λ form. form.end.items ≡ document.now) }
+{
+    let delta = document.as_delta(alloc)?;
+    let form = counted_out(alloc, &delta)?;
+    Ok(form)
 }
 
 /// A delta, counted out.
@@ -136,49 +160,128 @@ fn run(
     Ok(())
 }
 
-/// The delta of a gap form, pushed unit by unit.
-pub fn spelled(alloc: Global, form: &Form) -> Result<Delta, Refusal> {
+/// The delta of a gap form, pushed unit by unit. Refused as CutsPair where a unit of a pair stands alone.
+pub fn spelled(alloc: Global, form: &Form) -> Result<Delta, Refusal>
+    ensures delta { IfOk result (λ delta. delta ≡ nf (form_of form.now.places.items form.now.end.items)) }
+{
     let mut builder = Builder::new(alloc);
     for place in &form.places {
         push_units(alloc, &mut builder, &place.before)?;
-        builder.push(match &place.change {
-            Some(change) => Op::retain(1, change.copy(alloc)?),
-            None => Op::delete(1),
-        })?;
+        push_unit(alloc, &mut builder, &place.change)?;
     }
     push_units(alloc, &mut builder, &form.end)?;
     Ok(builder.finish())
 }
 
-// each unit is pushed, but the two of a pair together
-fn push_units(alloc: Global, builder: &mut Builder, units: &[Unit]) -> Result<(), Refusal> {
-    let mut high = 0;
-    for unit in units {
-        let attrs = unit.attrs.copy(alloc)?;
-        match &unit.embed {
-            Some((name, value)) => {
-                builder.push(Op::embed(alloc, name.as_str(), value.copy(alloc)?, attrs)?)?;
-            }
-            None => {
-                if is_high(unit.letter) {
-                    high = unit.letter;
-                } else {
-                    let text = text_of(alloc, high, unit.letter)?;
-                    builder.push(Op::text(text, attrs))?;
-                }
-            }
+// one unit that is kept or deleted
+fn push_unit(alloc: Global, builder: &mut Builder, change: &Option<Change>) -> Result<(), Refusal>
+    ensures pushed { OnOk result ((g : Gaps) → settled (joined (counted builder.new) g) ≡ settled (joined (counted builder.old) (Gap [] (fate_of change.now) g))) }
+{
+    match change {
+        Some(change) => {
+            builder.push(Op::retain(1, change.copy(alloc)?))?;
+            Ok(())
         }
+        None => {
+            builder.push(Op::delete(1))?;
+            Ok(())
+        }
+    }
+}
+
+// inserted units, one after another, but the two of a pair together
+fn push_units(alloc: Global, builder: &mut Builder, units: &[Unit]) -> Result<(), Refusal>
+    ensures pushed { OnOk result ((g : Gaps) → settled (joined (counted builder.new) g) ≡ settled (joined (counted builder.old) (front units.now g))) }
+{
+    let mut left = units;
+    while let Some((unit, others)) = left.split_first() {
+        left = push_first(alloc, builder, unit, others)?;
     }
     Ok(())
 }
 
-// the text of a low unit after a high one, or of any other unit
-fn text_of(alloc: Global, high: u16, letter: u16) -> Result<String, Refusal> {
-    let mut code = u32::from(letter);
-    if is_low(letter) {
-        code = 0x1_0000 + (u32::from(high) & 0x3FF) * 0x400 + (code & 0x3FF);
+// the first unit, or the first two, and the units that are left
+fn push_first<'a>(
+    alloc: Global,
+    builder: &mut Builder,
+    unit: &Unit,
+    others: &'a [Unit],
+) -> Result<&'a [Unit], Refusal>
+    ensures pushed { IfOk result (λ left. (g : Gaps) → settled (joined (counted builder.new) (front left.now g)) ≡ settled (joined (counted builder.old) (front (unit.now ∷ others.now) g))) }
+    ensures shorter { IfOk result (λ left. length left.now ≤ length others.now) }
+{
+    match &unit.embed {
+        Some((name, value)) => {
+            push_embed(alloc, builder, name, value, &unit.attrs)?;
+            Ok(others)
+        }
+        None => {
+            let left = push_letter(alloc, builder, unit.letter, &unit.attrs, others)?;
+            Ok(left)
+        }
     }
-    let mut text = String::new(alloc);
-    text.push(char::from_u32(code).ok_or(Refusal::CutsPair)?)?;
-    Ok(text)
+}
+
+fn push_embed(
+    alloc: Global,
+    builder: &mut Builder,
+    name: &Key,
+    value: &Value,
+    attrs: &Attrs,
+) -> Result<(), Refusal>
+    ensures pushed { OnOk result ((g : Gaps) → settled (joined (counted builder.new) g) ≡ settled (joined (counted builder.old) (front (embedded name.now value.now attrs.now ∷ []) g))) }
+{
+    builder.push(Op::embed(alloc, name.as_str(), value.copy(alloc)?, attrs.copy(alloc)?)?)?;
+    Ok(())
+}
+
+// a code unit, with the next one where it is the first of a pair
+fn push_letter<'a>(
+    alloc: Global,
+    builder: &mut Builder,
+    letter: u16,
+    attrs: &Attrs,
+    others: &'a [Unit],
+) -> Result<&'a [Unit], Refusal>
+    ensures pushed { IfOk result (λ left. (g : Gaps) → settled (joined (counted builder.new) (front left.now g)) ≡ settled (joined (counted builder.old) (front (lettered letter attrs.now ∷ others.now) g))) }
+    ensures shorter { IfOk result (λ left. length left.now ≤ length others.now) }
+{
+    if is_high(letter) {
+        if let Some((next, after)) = others.split_first() {
+            if next.embed.is_none() && next.attrs == *attrs {
+                push_text(alloc, builder, &[letter, next.letter], attrs)?;
+                return Ok(after);
+            }
+        }
+    }
+    push_text(alloc, builder, &[letter], attrs)?;
+    Ok(others)
+}
+
+fn push_text(
+    alloc: Global,
+    builder: &mut Builder,
+    units: &[u16],
+    attrs: &Attrs,
+) -> Result<(), Refusal>
+    ensures pushed { OnOk result ((g : Gaps) → settled (joined (counted builder.new) g) ≡ settled (joined (counted builder.old) (front (letters units.now attrs.now) g))) }
+{
+    let text = text_of(alloc, units)?;
+    let op = Op::text(text, attrs.copy(alloc)?);
+    builder.push(op)?;
+    Ok(())
+}
+
+// the text of these code units; refused as CutsPair where a unit of a pair stands alone
+fn text_of(alloc: Global, units: &[u16]) -> Result<String, Refusal>
+    ensures units { IfOk result (λ text. units_of (string_bytes text) ≡ units.now) }
+{
+    let made = String::from_utf16(alloc, units)?;
+    match made {
+        Ok(text) => {
+            let _ = text.as_str();
+            Ok(text)
+        }
+        Err(_) => Err(Refusal::CutsPair),
+    }
 }

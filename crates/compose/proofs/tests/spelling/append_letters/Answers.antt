@@ -1,6 +1,6 @@
 use Rattle.std.specs.Str.Iter.{encode_utf16_rest, encode_utf16_pending}
 use Rattle.utf16.specs.Units.{units_of}
-use Rattle.compose.proofs.PlainForms.{letters_more, letters_again, letters_end}
+use Rattle.compose.proofs.PlainDeltas.{letters_more, letters_again, letters_end}
 use Rattle.compose.proofs.tests.spelling.append_letters.Goals as goal
 
 pub loop-letter-preserved : goal.loop-letter-preserved
