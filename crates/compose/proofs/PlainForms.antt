@@ -3,7 +3,7 @@ use Rattle.std.proofs.Common.{◌≡◌, ℕ, suc, List, [], ◌∷◌, ◌++◌
 use Rattle.std.proofs.lemmas.List.{append-nil, drop_more}
 use Rattle.attributes.specs.Attributes.{Attributes, Changes, reverted}
 use Rattle.delta.specs.Element.{Element}
-use Rattle.delta.specs.Gaps.{Gaps, Gap, Del, Keep, front, run}
+use Rattle.delta.specs.Gaps.{Gaps, Gap, Del, Keep, front, run, units_below}
 use Rattle.delta.proofs.Joins.{front-nil}
 use Rattle.compose.specs.Places.{inserts, fate, tail}
 use Rattle.compose.specs.Composed.{laid, beyond, kept_then, composed}
@@ -88,3 +88,8 @@ pub passed_kept : (ps qs : List Placed) (xs ls ks is es : List Element) (p : Pla
     → placed qs (composed g t) ≡ placed ps (composed (Gap p.0 (fate_of p.1) g) b)
 passed_kept ps qs xs ls ks is es p c d o g b r t q_is k_is i_is l_is e_is r_is t_is d_is o_is x_is some =
     rw (q_is, k_is, i_is, l_is, e_is, t_is, r_is, ← x_is, some) (composed_kept ps xs c d g b (d_is ∙ ap (kept_then c) (o_is ∙ ap fate r_is)))
+
+-- a gap form speaks of as many units as it has places
+pub units_below_form : (ps : List Placed) (xs : List Element) → units_below (form_of ps xs) ≡ length ps
+units_below_form [] xs = refl
+units_below_form (p ∷ ps) xs = ap suc (units_below_form ps xs)

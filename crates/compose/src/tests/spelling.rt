@@ -1,11 +1,12 @@
 //! Deltas counted out, and gap forms brought to deltas by delta's builder, unit by unit.
-ghost use Rattle.std.specs.Prelude.{◌≡◌, ◌≤◌, ◌++◌, [], ◌∷◌, List, length, string_bytes, IfOk, OnOk, IsOkUnless};
+ghost use Rattle.std.specs.Prelude.{◌≡◌, ◌≤◌, ◌++◌, [], ◌∷◌, List, length, string_bytes, IfOk, OnOk, IfErr, IsOkUnless, IsTrue, ◌⊎◌, ◌↔◌};
 ghost use Rattle.utf16.specs.Units.{units_of};
 ghost use Rattle.delta.specs.Element.{lettered, embedded, letters};
 ghost use Rattle.delta.specs.Operation.{Operation};
-ghost use Rattle.delta.specs.Gaps.{Gaps, End, Gap, counted, front, joined, run};
+ghost use Rattle.delta.specs.Gaps.{Gaps, End, Gap, counted, front, joined, run, units_below};
 ghost use Rattle.delta.specs.Normal.{nf, settled};
 ghost use Rattle.delta.specs.Kind.{operation_of};
+ghost use Rattle.document.specs.Places.{IsDefined};
 ghost use Rattle.compose.specs.Composed.{composed};
 ghost use Rattle.compose.specs.Cuts.{Cuts};
 ghost use Rattle.compose.specs.Inverse.{inverse};
@@ -48,10 +49,12 @@ pub fn plain_compose_many(alloc: Global, deltas: &[Delta]) -> Result<Delta, Refu
 pub fn plain_invert(alloc: Global, delta: &Delta, document: &Document) -> Result<Delta, Refusal>
     ensures one { IfOk result (λ back. back ≡ nf (inverse (counted delta.now) document.now)) }
     ensures whole { OnOk result (¬ (Cuts (End document.now) (counted delta.now))) }
+    ensures defined { OnOk result (IsDefined document.now (counted delta.now)) }
+    ensures past_end { result ≡ Err Refusal.PastEnd → ¬ (IsDefined document.now (counted delta.now)) }
 {
     let form = counted_out(alloc, delta)?;
     let base = form_of_document(alloc, document)?;
-    if form.places.len() > base.end.len() {
+    if reaches_past(&form, &base.end) {
         return Err(Refusal::PastEnd);
     }
     if cuts(alloc, &base, &form)? {
@@ -61,10 +64,19 @@ pub fn plain_invert(alloc: Global, delta: &Delta, document: &Document) -> Result
     Ok(back)
 }
 
+// whether a gap form speaks of more units than there are
+#[tactic(auto, using(crate::proofs::PlainForms::units_below_form))]
+fn reaches_past(form: &Form, units: &[Unit]) -> bool
+    ensures { IsTrue result ↔ ¬ (units_below (form_of form.now.places.items form.now.end.items) ≤ length units.now) }
+{
+    form.places.as_slice().len() > units.len()
+}
+
 // the inserts that make a document
 fn form_of_document(alloc: Global, document: &Document) -> Result<Form, Refusal>
     ensures form { IfOk result (λ form. form_of form.places.items form.end.items ≡ End document.now) }
     ensures units { IfOk result (λ form. form.end.items ≡ document.now) }
+    ensures only { IsOkUnless result Refusal.NoMemory }
 {
     let delta = document.as_delta(alloc)?;
     let form = counted_out(alloc, &delta)?;
@@ -163,6 +175,7 @@ fn run(
 /// The delta of a gap form, pushed unit by unit. Refused as CutsPair where a unit of a pair stands alone.
 pub fn spelled(alloc: Global, form: &Form) -> Result<Delta, Refusal>
     ensures delta { IfOk result (λ delta. delta ≡ nf (form_of form.now.places.items form.now.end.items)) }
+    ensures only { IfErr result (λ e. (e ≡ Refusal.CutsPair) ⊎ ((e ≡ Refusal.BadOps) ⊎ (e ≡ Refusal.NoMemory))) }
 {
     let mut builder = Builder::new(alloc);
     for place in &form.places {
@@ -176,6 +189,7 @@ pub fn spelled(alloc: Global, form: &Form) -> Result<Delta, Refusal>
 // one unit that is kept or deleted
 fn push_unit(alloc: Global, builder: &mut Builder, change: &Option<Change>) -> Result<(), Refusal>
     ensures pushed { OnOk result ((g : Gaps) → settled (joined (counted builder.new) g) ≡ settled (joined (counted builder.old) (Gap [] (fate_of change.now) g))) }
+    ensures only { IfErr result (λ e. (e ≡ Refusal.CutsPair) ⊎ ((e ≡ Refusal.BadOps) ⊎ (e ≡ Refusal.NoMemory))) }
 {
     match change {
         Some(change) => {
@@ -192,6 +206,7 @@ fn push_unit(alloc: Global, builder: &mut Builder, change: &Option<Change>) -> R
 // inserted units, one after another, but the two of a pair together
 fn push_units(alloc: Global, builder: &mut Builder, units: &[Unit]) -> Result<(), Refusal>
     ensures pushed { OnOk result ((g : Gaps) → settled (joined (counted builder.new) g) ≡ settled (joined (counted builder.old) (front units.now g))) }
+    ensures only { IfErr result (λ e. (e ≡ Refusal.CutsPair) ⊎ ((e ≡ Refusal.BadOps) ⊎ (e ≡ Refusal.NoMemory))) }
 {
     let mut left = units;
     while let Some((unit, others)) = left.split_first() {
@@ -209,6 +224,7 @@ fn push_first<'a>(
 ) -> Result<&'a [Unit], Refusal>
     ensures pushed { IfOk result (λ left. (g : Gaps) → settled (joined (counted builder.new) (front left.now g)) ≡ settled (joined (counted builder.old) (front (unit.now ∷ others.now) g))) }
     ensures shorter { IfOk result (λ left. length left.now ≤ length others.now) }
+    ensures only { IfErr result (λ e. (e ≡ Refusal.CutsPair) ⊎ ((e ≡ Refusal.BadOps) ⊎ (e ≡ Refusal.NoMemory))) }
 {
     match &unit.embed {
         Some((name, value)) => {
@@ -230,6 +246,7 @@ fn push_embed(
     attrs: &Attrs,
 ) -> Result<(), Refusal>
     ensures pushed { OnOk result ((g : Gaps) → settled (joined (counted builder.new) g) ≡ settled (joined (counted builder.old) (front (embedded name.now value.now attrs.now ∷ []) g))) }
+    ensures only { IfErr result (λ e. (e ≡ Refusal.CutsPair) ⊎ ((e ≡ Refusal.BadOps) ⊎ (e ≡ Refusal.NoMemory))) }
 {
     builder.push(Op::embed(alloc, name.as_str(), value.copy(alloc)?, attrs.copy(alloc)?)?)?;
     Ok(())
@@ -245,6 +262,7 @@ fn push_letter<'a>(
 ) -> Result<&'a [Unit], Refusal>
     ensures pushed { IfOk result (λ left. (g : Gaps) → settled (joined (counted builder.new) (front left.now g)) ≡ settled (joined (counted builder.old) (front (lettered letter attrs.now ∷ others.now) g))) }
     ensures shorter { IfOk result (λ left. length left.now ≤ length others.now) }
+    ensures only { IfErr result (λ e. (e ≡ Refusal.CutsPair) ⊎ ((e ≡ Refusal.BadOps) ⊎ (e ≡ Refusal.NoMemory))) }
 {
     if is_high(letter) {
         if let Some((next, after)) = others.split_first() {
@@ -265,6 +283,7 @@ fn push_text(
     attrs: &Attrs,
 ) -> Result<(), Refusal>
     ensures pushed { OnOk result ((g : Gaps) → settled (joined (counted builder.new) g) ≡ settled (joined (counted builder.old) (front (letters units.now attrs.now) g))) }
+    ensures only { IfErr result (λ e. (e ≡ Refusal.CutsPair) ⊎ ((e ≡ Refusal.BadOps) ⊎ (e ≡ Refusal.NoMemory))) }
 {
     let text = text_of(alloc, units)?;
     let op = Op::text(text, attrs.copy(alloc)?);
@@ -275,6 +294,7 @@ fn push_text(
 // the text of these code units; refused as CutsPair where a unit of a pair stands alone
 fn text_of(alloc: Global, units: &[u16]) -> Result<String, Refusal>
     ensures units { IfOk result (λ text. units_of (string_bytes text) ≡ units.now) }
+    ensures only { IfErr result (λ e. (e ≡ Refusal.CutsPair) ⊎ ((e ≡ Refusal.BadOps) ⊎ (e ≡ Refusal.NoMemory))) }
 {
     let made = String::from_utf16(alloc, units)?;
     match made {
