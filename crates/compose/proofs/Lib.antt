@@ -14,3 +14,5 @@ pub mod ManyDeltas
 pub mod StepsBack
 pub mod WayBack
 pub mod DocumentCuts
+pub mod PlainForms
+pub mod PlainDeltas

@@ -9,4 +9,5 @@ pub mod Held
 pub mod Many
 pub mod Undoing
 pub mod Laws
+pub mod Plain
 mod Examples

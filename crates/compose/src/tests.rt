@@ -1,6 +1,11 @@
 //! Composing and inverting with ample memory, on the cases that quill-delta publishes (its README, and the tests of `compose` and `invert`). Rows are
 //! written so: `ins TEXT`, `emb NAME`, `ret LENGTH`, `del LENGTH`, each with `{NAMES}` for attributes that are true, where
 //! `-NAME` is one that a retain removes.
+mod forms;
+mod generated;
+mod plain;
+mod spelling;
+
 use crate::{compose, compose_many, invert};
 use attributes::{Attrs, Change, Key, Value};
 use delta::{Builder, Delta, MAX_LEN, Op, OpRef};
