@@ -52,10 +52,9 @@ fn inverted_on(alloc: Global, delta: &Delta, document: &Document) -> Result<Delt
     invert(alloc, delta, document)
 }
 
-fn applied_to(alloc: Global, delta: &Delta, document: Document) -> Result<Delta, Refusal>
+fn applied_to(alloc: Global, delta: &Delta, mut document: Document) -> Result<Delta, Refusal>
     ensures { IsAnswer (ApplyingOn delta.now document) result }
 {
-    let mut document = document;
     document.apply(alloc, delta)?;
     let made = document.as_delta(alloc)?;
     Ok(made)
@@ -69,7 +68,7 @@ fn document_of(alloc: Global, delta: &Delta) -> Result<Document, Refusal>
     delta::laws::length_of_effect();
     // its operations keep the bound
     let _ = delta.ops();
-    let mut document = Document::empty(alloc);
-    document.apply(alloc, delta)?;
-    Ok(document)
+    let mut made = Document::empty(alloc);
+    made.apply(alloc, delta)?;
+    Ok(made)
 }

@@ -284,8 +284,9 @@ fn at_most_1024_operations_are_read(rt: HostRuntime) -> Result<(), Fail> {
     )?;
     let many = deletes(alloc, 1025)?;
     let many = many.as_str();
+    let empty = "{\"ops\":[]}";
     let none = "{\"ops\":[null]}";
-    comes_to(&rt, alloc, &["compose", many, most], "error 4 TooManyOps")?;
+    comes_to(&rt, alloc, &["compose", many, empty], "error 4 TooManyOps")?;
     comes_to(&rt, alloc, &["compose", none, many], "error 4 TooManyOps")?;
     comes_to(&rt, alloc, &["compose", many, "[]"], "error 2 BadMessage")
 }
