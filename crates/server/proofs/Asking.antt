@@ -1,9 +1,9 @@
 -- Commands asked of a desk over a store, one after another.
-use Rattle.std.proofs.Common.{◌≡◌, inl, inr, ⊎_elim, Bool, true, false, List, ℕ, [], ◌∷◌, Result, Ok, Err, refl, sym, ◌∙◌, ap, subst}
+use Rattle.std.proofs.Common.{◌≡◌, inl, inr, ⊎_elim, Bool, true, false, List, ℕ, [], ◌∷◌, ◌++◌, Result, Ok, Err, refl, sym, ◌∙◌, ap, subst}
 use Rattle.disk.specs.declared.device.Disk.{Ghosts}
 use Rattle.disk.specs.Crash.{LeavesOnly, MayLeaveNow, history_of}
 use Rattle.disk.proofs.Contents.{synced_leaves}
-use Rattle.disk.proofs.Moments.{begins, leaves_map, goes_on_run}
+use Rattle.disk.proofs.Moments.{begins, begins_anywhere, leaves_map, goes_on_run}
 use Rattle.refusal.specs.declared.Refusal.{Refusal}
 use Rattle.refusal.specs.declared.Refusal.TheVariants.{NoMemory, StoreFailed}
 use Rattle.revision.specs.Command.{Command}
@@ -17,7 +17,7 @@ use Rattle.server.specs.declared.session.reply.Reply.TheVariants as reply
 use Rattle.server.specs.declared.desk.StoreDesk.{StoreDesk}
 use Rattle.server.specs.Desk.{IsToldAtOnce, Commits, AnswersFromStore, store_of, has_failed}
 use Rattle.server.specs.Replies.{Exchange, Asks}
-use Rattle.server.specs.Asked.{added_by, with_command, state_with, state_after, MayHold, Holds, KeepsAll}
+use Rattle.server.specs.Asked.{added_by, with_command, state_with, state_after, MayHold, Holds, HoldsFrom, KeepsAll}
 
 not_true : (b : Bool) → ¬ (b ≡ true) → b ≡ false
 not_true true refuted = absurd (refuted refl)
@@ -49,13 +49,60 @@ failed_rests disk old new ((command, result) ∷ others) failed (next, inr (work
     let both : true ≡ false = sym failed ∙ works in
     absurd cc
 
+-- what was asked, parted in two
+asks-parted : {D : Type 0} (gives : D → Command → Result Reply Refusal → D → Type 0) (answered others : List Exchange) (old new : D) → Asks gives old (answered ++ others) new
+    → (mid : D) × Asks gives old answered mid × Asks gives mid others new
+asks-parted gives [] others old new asks = (old, refl, asks)
+asks-parted gives (exchange ∷ answered) others old new (next, gave, rest) =
+    let parted = asks-parted gives answered others next new rest in
+    (parted.0, (next, gave, parted.1), parted.2)
+
+-- a desk that works, over a store that is open
+record Works {D : Type 0} {disk : Ghosts D} (desk : StoreDesk D disk) : Type 0 where
+  works : has_failed desk ≡ false
+  store_works : store_has_failed (store_of desk) ≡ false
+  is_open : IsOpen (store_of desk)
+
+-- a desk that hasn't failed at the end hadn't before
+not_failed_before : {D : Type 0} (disk : Ghosts D) (old new : StoreDesk D disk) (asked : List Exchange) → Asks AnswersFromStore old asked new → has_failed new ≡ false → has_failed old ≡ false
+not_failed_before disk old new asked asks works = not_true (has_failed old) (λ failed.
+    let both : true ≡ false = sym failed ∙ sym (ap has_failed (failed_rests disk old new asked failed asks).same) ∙ works in
+    absurd cc)
+
+-- it works on after an answer that didn't fail it
+works_next : {D : Type 0} {disk : Ghosts D} (old next : StoreDesk D disk) (command : Command) (result : Result Reply Refusal) → Works old → AnswersFromStore old command result next → has_failed next ≡ false → Works next
+works_next old next command result before (inl (failed, told, same)) goes_on =
+    let both : true ≡ false = sym failed ∙ before.works in
+    absurd cc
+works_next old next command result before (inr (still, inl stays)) goes_on = subst Works (sym stays.same) before
+works_next old next command (Ok (reply.Taken revision)) before (inr (still, inr commits)) goes_on =
+    record { works = goes_on; store_works = commits.works; is_open = commits.done before.is_open }
+works_next old next command (Ok (reply.Again revision)) before (inr (still, inr commits)) goes_on = absurd commits.told
+works_next old next command (Err refusal) before (inr (still, inr commits)) goes_on =
+    ⊎_elim (λ (memory : refusal ≡ NoMemory).
+    record { works = goes_on; store_works = commits.store_works goes_on before.store_works; is_open = commits.kept (ap Err memory) before.is_open })
+    (λ (failed : refusal ≡ StoreFailed). let both : true ≡ false = sym (commits.fails.1 (ap Err failed)) ∙ goes_on in absurd cc)
+    commits.told
+
+-- and after all the answers, where none did
+works_after : {D : Type 0} (disk : Ghosts D) (old new : StoreDesk D disk) (asked : List Exchange) → Works old → Asks AnswersFromStore old asked new → has_failed new ≡ false → Works new
+works_after disk old new [] before asks works = subst Works (sym asks) before
+works_after disk old new ((command, result) ∷ others) before (next, gave, asks) works =
+    works_after disk next new others (works_next old next command result before gave (not_failed_before disk next new others asks works)) asks works
+
+-- what is kept over the whole run, and at its end
+record Keeps {D : Type 0} (disk : Ghosts D) (old new : StoreDesk D disk) (asked : List Exchange) : Type 0 where
+  state : state_of (store_of new) ≡ state_after (state_of (store_of old)) asked
+  any_moment : LeavesOnly disk (MayHold (state_of (store_of old)) asked) (device_of (store_of old)) (device_of (store_of new))
+  after : (content : List ℕ) → MayLeaveNow disk (device_of (store_of new)) content → Holds (state_of (store_of old)) asked content
+
 module _ {D : Type 0} (disk : Ghosts D) (old next new : StoreDesk D disk) (command : Command) (others : List Exchange)
-    (store_works : store_has_failed (store_of old) ≡ false) (is_open : IsOpen (store_of old)) where
+    (before : Works old) where
   abbrev state : State
   state = state_of (store_of old)
 
   -- the desk answered at once, and goes on as it was
-  after_told : (result : Result Reply Refusal) → state_with state command result ≡ state → KeepsAll disk old new others → KeepsAll disk old new ((command, result) ∷ others)
+  after_told : (result : Result Reply Refusal) → state_with state command result ≡ state → Keeps disk old new others → Keeps disk old new ((command, result) ∷ others)
   after_told result stays rest = record {
     state = rest.state ∙ ap (λ (s : State). state_after s others) (sym stays);
     any_moment = leaves_map (λ content left. inr (inr (subst (λ (s : State). MayHold s others content) (sym stays) left))) rest.any_moment;
@@ -70,10 +117,10 @@ module _ {D : Type 0} (disk : Ghosts D) (old next new : StoreDesk D disk) (comma
     within : LeavesOnly disk (MayHold state ((command, result) ∷ others)) (device_of (store_of old)) (device_of (store_of next))
     within =
         leaves_map (λ content left. ⊎_elim (λ without. inl without) (λ with_it. inr (inl (subst (FoundAs content) (sym added) with_it))) left)
-        (commits.any_moment store_works is_open)
+        (commits.any_moment before.store_works before.is_open)
 
     -- the desk goes on with the state that the commit left
-    after_commit : state_of (store_of next) ≡ state_with state command result → KeepsAll disk next new others → KeepsAll disk old new ((command, result) ∷ others)
+    after_commit : state_of (store_of next) ≡ state_with state command result → Keeps disk next new others → Keeps disk old new ((command, result) ∷ others)
     after_commit holds rest = record {
       state = rest.state ∙ ap (λ (s : State). state_after s others) holds;
       any_moment = goes_on_run within (leaves_map (λ content left. inr (inr (subst (λ (s : State). MayHold s others content) holds left))) rest.any_moment);
@@ -81,7 +128,7 @@ module _ {D : Type 0} (disk : Ghosts D) (old next new : StoreDesk D disk) (comma
     }
 
     -- the commit failed the desk
-    after_failure : result ≡ Err StoreFailed → state_of (store_of next) ≡ state → state_with state command result ≡ state → Rests next new others → KeepsAll disk old new ((command, result) ∷ others)
+    after_failure : result ≡ Err StoreFailed → state_of (store_of next) ≡ state → state_with state command result ≡ state → Rests next new others → Keeps disk old new ((command, result) ∷ others)
     after_failure failed same stays rests = record {
       state =
           ap (λ (d : StoreDesk D disk). state_of (store_of d)) rests.same ∙ same ∙ sym (rests.after state)
@@ -90,13 +137,13 @@ module _ {D : Type 0} (disk : Ghosts D) (old next new : StoreDesk D disk) (comma
       after = λ content left.
           ⊎_elim (λ without. inl (subst (λ (s : State). Holds s others content) (sym stays) (rests.holds state content without)))
           (λ with_it. inr (failed, subst (FoundAs content) (sym added) with_it, ap (λ (s : State). state_after s others) stays ∙ rests.after state))
-          ((commits.any_moment store_works is_open).last content (subst (λ (d : StoreDesk D disk). MayLeaveNow disk (device_of (store_of d)) content) rests.same left));
+          ((commits.any_moment before.store_works before.is_open).last content (subst (λ (d : StoreDesk D disk). MayLeaveNow disk (device_of (store_of d)) content) rests.same left));
     }
 
--- whatever is asked, nothing acknowledged is lost
-pub keeps_all : {D : Type 0} (disk : Ghosts D) (old new : StoreDesk D disk) (asked : List Exchange)
-    → has_failed old ≡ false → store_has_failed (store_of old) ≡ false → IsOpen (store_of old) → Asks AnswersFromStore old asked new → KeepsAll disk old new asked
-keeps_all {D} disk old new [] works store_works is_open asks =
+-- whatever is asked
+keeps : {D : Type 0} (disk : Ghosts D) (old new : StoreDesk D disk) (asked : List Exchange) → Works old → Asks AnswersFromStore old asked new → Keeps disk old new asked
+keeps {D} disk old new [] before asks =
+    let is_open = before.is_open in
     let found = found_as _ _ (found_open (store_of old) is_open) in
     record {
       state = ap (λ (d : StoreDesk D disk). state_of (store_of d)) asks;
@@ -107,25 +154,53 @@ keeps_all {D} disk old new [] works store_works is_open asks =
           let same : content ≡ disk.seen (device_of (store_of old)) = synced_leaves _ content is_open.synced (subst (λ (d : StoreDesk D disk). MayLeaveNow disk (device_of (store_of d)) content) asks left) in
           subst (λ (l : List ℕ). FoundAs l (state_of (store_of old))) (sym same) found;
     }
-keeps_all disk old new ((command, result) ∷ others) works store_works is_open (next, inl (failed, told, same), asks) =
-    let both : true ≡ false = sym failed ∙ works in
+keeps disk old new ((command, result) ∷ others) before (next, inl (failed, told, same), asks) =
+    let both : true ≡ false = sym failed ∙ before.works in
     absurd cc
-keeps_all {D} disk old new ((command, result) ∷ others) works store_works is_open (next, inr (still, inl stays), asks) =
-    after_told disk old next new command others store_works is_open result (told_same _ result stays.told (state_of (store_of old)) command)
-    (keeps_all disk old new others works store_works is_open (subst (λ (d : StoreDesk D disk). Asks AnswersFromStore d others new) stays.same asks))
-keeps_all disk old new ((command, Ok (reply.Taken revision)) ∷ others) works store_works is_open (next, inr (still, inr commits), asks) =
+keeps {D} disk old new ((command, result) ∷ others) before (next, inr (still, inl stays), asks) =
+    after_told disk old next new command others before result (told_same _ result stays.told (state_of (store_of old)) command)
+    (keeps disk old new others before (subst (λ (d : StoreDesk D disk). Asks AnswersFromStore d others new) stays.same asks))
+keeps disk old new ((command, Ok (reply.Taken revision)) ∷ others) before (next, inr (still, inr commits), asks) =
     let answered : Result Reply Refusal = Ok (reply.Taken revision) in
     let goes_on : has_failed next ≡ false = not_true (has_failed next) (λ fails. let no_error = commits.fails.0 fails in absurd cc) in
-    after_commit disk old next new command others store_works is_open answered commits
-    (commits.state ∙ sym (added disk old next new command others store_works is_open answered commits))
-    (keeps_all disk next new others goes_on commits.works (commits.done is_open) asks)
-keeps_all disk old new ((command, Ok (reply.Again revision)) ∷ others) works store_works is_open (next, inr (still, inr commits), asks) = absurd commits.told
-keeps_all disk old new ((command, Err refusal) ∷ others) works store_works is_open (next, inr (still, inr commits), asks) =
+    after_commit disk old next new command others before answered commits
+    (commits.state ∙ sym (added disk old next new command others before answered commits))
+    (keeps disk next new others (works_next old next command answered before (inr (still, inr commits)) goes_on) asks)
+keeps disk old new ((command, Ok (reply.Again revision)) ∷ others) before (next, inr (still, inr commits), asks) = absurd commits.told
+keeps disk old new ((command, Err refusal) ∷ others) before (next, inr (still, inr commits), asks) =
     ⊎_elim (λ (memory : refusal ≡ NoMemory).
     let goes_on : has_failed next ≡ false = not_true (has_failed next) (λ fails. let is = commits.fails.0 fails in absurd cc) in
-    after_commit disk old next new command others store_works is_open (Err refusal) commits commits.same_state
-    (keeps_all disk next new others goes_on (commits.store_works goes_on store_works) (commits.kept (ap Err memory) is_open) asks))
+    after_commit disk old next new command others before (Err refusal) commits commits.same_state
+    (keeps disk next new others (works_next old next command (Err refusal) before (inr (still, inr commits)) goes_on) asks))
     (λ (failed : refusal ≡ StoreFailed).
-    after_failure disk old next new command others store_works is_open (Err refusal) commits (ap Err failed) commits.same_state refl
+    after_failure disk old next new command others before (Err refusal) commits (ap Err failed) commits.same_state refl
     (failed_rests disk next new others (commits.fails.1 (ap Err failed)) asks))
     commits.told
+
+module _ {D : Type 0} (disk : Ghosts D) (old mid new : StoreDesk D disk) (answered others : List Exchange) (before : Works old)
+    (first : Asks AnswersFromStore old answered mid) (second : Asks AnswersFromStore mid others new) where
+  -- what a crash leaves since the first of the commands were answered, by whether the desk had failed then
+  from_answer : (failed : Bool) → has_failed mid ≡ failed
+      → LeavesOnly disk (HoldsFrom failed (state_of (store_of old)) answered others) (device_of (store_of mid)) (device_of (store_of new))
+  from_answer false works =
+      subst (λ (s : State). LeavesOnly disk (MayHold s others) (device_of (store_of mid)) (device_of (store_of new)))
+      (keeps disk old mid answered before first).state
+      (keeps disk mid new others (works_after disk old mid answered before first works) second).any_moment
+  from_answer true failed =
+      subst (λ (d : StoreDesk D disk). LeavesOnly disk (Holds (state_of (store_of old)) answered) (device_of (store_of mid)) (device_of (store_of d)))
+      (sym (failed_rests disk mid new others failed second).same)
+      (begins_anywhere (history_of disk (device_of (store_of mid))) (keeps disk old mid answered before first).after)
+
+-- whatever is asked, nothing acknowledged is lost
+pub keeps_all : {D : Type 0} (disk : Ghosts D) (old new : StoreDesk D disk) (asked : List Exchange)
+    → has_failed old ≡ false → store_has_failed (store_of old) ≡ false → IsOpen (store_of old) → Asks AnswersFromStore old asked new → KeepsAll disk old new asked
+keeps_all {D} disk old new asked works store_works is_open asks =
+    let before : Works old = record { works = works; store_works = store_works; is_open = is_open } in
+    let all = keeps disk old new asked before asks in
+    record {
+      state = all.state;
+      any_moment = all.any_moment;
+      after = all.after;
+      each_answer = λ answered others parts. asks-parted AnswersFromStore answered others old new (subst (λ (l : List Exchange). Asks AnswersFromStore old l new) parts asks);
+      from_each_answer = λ answered others mid parts first second. from_answer disk old mid new answered others before first second (has_failed mid) refl;
+    }

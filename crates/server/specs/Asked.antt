@@ -1,5 +1,5 @@
 -- What a store holds once commands were asked of its desk, one after another, and what a crash among them leaves of it.
-use Rattle.std.specs.Prelude.{◌≡◌, ◌⊎◌, ℕ, List, [], ◌∷◌, false, Result, Ok, Err}
+use Rattle.std.specs.Prelude.{◌≡◌, ◌⊎◌, ℕ, List, [], ◌∷◌, ◌++◌, Bool, true, false, Result, Ok, Err}
 use Rattle.disk.specs.declared.device.Disk.{Ghosts}
 use Rattle.disk.specs.Crash.{LeavesOnly, MayLeaveNow}
 use Rattle.refusal.specs.declared.Refusal.{Refusal}
@@ -53,12 +53,30 @@ Holds state (exchange ∷ others) content =
     ⊎ ((exchange.1 ≡ Err StoreFailed) × FoundAs content (with_command state exchange.0)
     × (state_after (state_with state exchange.0 exchange.1) others ≡ state))
 
+-- What a crash may leave from the moment on at which the first of the commands were answered, up to the end of the
+-- others, by whether the desk had failed at that moment. If not, the others began with the state after the first ones,
+-- and it is what a crash among them may leave. If so, the others change nothing, and it is what a crash right after the
+-- first ones may leave.
+abbrev pub HoldsFrom : Bool → State → List Exchange → List Exchange → List ℕ → Type 0
+HoldsFrom false state answered others content = MayHold (state_after state answered) others content
+HoldsFrom true state answered others content = Holds state answered content
+
 -- A desk over a store that is open was asked these commands, one after another: the store then holds all that was
--- answered as taken, and so does what a crash afterwards leaves.
+-- answered as taken, and what a crash at any moment leaves holds all that was answered as taken before that moment.
 pub record KeepsAll {D : Type 0} (disk : Ghosts D) (old new : StoreDesk D disk) (asked : List Exchange) : Type 0 where
   pub state : state_of (store_of new) ≡ state_after (state_of (store_of old)) asked
   pub any_moment : LeavesOnly disk (MayHold (state_of (store_of old)) asked) (device_of (store_of old)) (device_of (store_of new))
   pub after : (content : List ℕ) → MayLeaveNow disk (device_of (store_of new)) content → Holds (state_of (store_of old)) asked content
+  -- Wherever the commands are parted, a desk stood between: it had answered the first of them, and the others were asked
+  -- of it.
+  pub each_answer : (answered others : List Exchange) → asked ≡ answered ++ others
+      → (mid : StoreDesk D disk) × Asks AnswersFromStore old answered mid × Asks AnswersFromStore mid others new
+  -- And whichever desk stood there, a crash at any moment from there on, up to the end, leaves all that was answered as
+  -- taken by then.
+  pub from_each_answer : (answered others : List Exchange) (mid : StoreDesk D disk) → asked ≡ answered ++ others
+      → Asks AnswersFromStore old answered mid → Asks AnswersFromStore mid others new
+      → LeavesOnly disk (HoldsFrom (has_failed mid) (state_of (store_of old)) answered others)
+      (device_of (store_of mid)) (device_of (store_of new))
 
 -- whatever was asked of it
 abbrev pub AskedKeepsAll : {D : Type 0} → Ghosts D → Type 0

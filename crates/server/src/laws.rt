@@ -40,8 +40,9 @@ pub fn long_line()
 {}
 
 /// Whatever is asked of a desk over a store that is open, one command after another: the store holds all that was
-/// answered as taken, a crash at any moment leaves the state after a first part of the commands, with or without the
-/// next one, and a crash after all of them leaves all that was answered as taken.
+/// answered as taken. A crash at any moment leaves the state after a first part of the commands, with or without the
+/// next one, and in that part is each command that was answered as taken before that moment. A crash after all of them
+/// leaves all that was answered as taken, and at most the one command besides that was answered `StoreFailed`.
 pub fn asked_keeps_all<D: Disk>()
     ensures { AskedKeepsAll ⟦<D as Disk>⟧ }
 {}

@@ -28,8 +28,8 @@ pub fn serve<D: Disk, I: Read, O: Write>(
 ) -> Result<(), Failure>
     // What is written is what comes of all the input, with the answers of the desk.
     ensures served { OnOk result (IsServed AnswersFromStore desk.old desk.new (I.remaining input.old) (I.remaining input.new) (O.contents output.old) (O.contents output.new)) }
-    // Whatever ends it: the desk was asked commands one after another, and a crash afterwards leaves all that was
-    // acknowledged.
+    // Whatever ends it: the desk was asked commands one after another, and a crash at any moment, or afterwards, leaves
+    // all that was acknowledged before it.
     ensures keeps { has_failed desk.old ≡ false → store_has_failed (store_of desk.old) ≡ false → IsOpen (store_of desk.old)
         → (asked : List Exchange) × Asks AnswersFromStore desk.old asked desk.new × KeepsAll ⟦<D as Disk>⟧ desk.old desk.new asked }
     ensures works { OnOk result (has_failed desk.new ≡ false) }
