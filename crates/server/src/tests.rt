@@ -81,6 +81,22 @@ fn call<I: Read>(rt: &HostRuntime, words: &[&str], input: &mut I) -> Result<Outc
     })
 }
 
+/// A run ends with this status, and writes this to standard output and to standard error.
+fn ends<I: Read>(
+    rt: &HostRuntime,
+    words: &[&str],
+    input: &mut I,
+    wanted: (u8, &str, &str),
+) -> Result<(), Fail> {
+    let ended = call(rt, words, input)?;
+    assert_eq!(rt;
+        (ended.status, ended.output.as_str(), ended.errors.as_str()),
+        wanted,
+        "at {words:?}"
+    );
+    Ok(())
+}
+
 /// A path of its own for a test.
 fn path(rt: &HostRuntime, name: &str) -> io::Result<String> {
     let folder = env::temp_dir(rt)?;
@@ -88,11 +104,11 @@ fn path(rt: &HostRuntime, name: &str) -> io::Result<String> {
     Ok(format!(in rt.alloc(); "{}/richd-server-{number}-{name}", folder.as_str())?)
 }
 
-fn format_small(rt: &HostRuntime, path: &str) -> Result<Outcome, Fail> {
+fn format_small(rt: &HostRuntime, path: &str) -> Result<(), Fail> {
     let mut words = Vec::new(rt.alloc());
     words.extend_from_slice(&["richd", "format", path])?;
     words.extend_from_slice(&SMALL)?;
-    call(rt, &words, &mut io::empty())
+    ends(rt, &words, &mut io::empty(), (0, "", ""))
 }
 
 /// A session over a new store, whose input is read in pieces of one size.
@@ -105,6 +121,7 @@ fn served(rt: &HostRuntime, input: &[u8], size: usize) -> Result<Outcome, Fail> 
         &["richd", "serve", path],
         &mut Pieces { rest: input, size },
     )?;
+    assert_eq!(rt; (served.status, served.errors.as_str()), (0, ""));
     fs::remove_file(rt, path)?;
     Ok(served)
 }
@@ -144,18 +161,11 @@ fn operations(rt: &HostRuntime, count: usize) -> Result<Vec<u8>, Fail> {
 fn a_document_is_made_and_printed(rt: HostRuntime) -> Result<(), Fail> {
     let path = path(&rt, "first")?;
     let path = path.as_str();
-    let made = format_small(&rt, path)?;
-    assert_eq!(rt;
-        (made.status, made.output.as_str(), made.errors.as_str()),
-        (0, "", "")
-    );
+    format_small(&rt, path)?;
     let input = format!(in rt.alloc(); "{HELLO}{CREATE}")?;
-    let first = call(&rt, &["richd", "serve", path], &mut input.as_bytes())?;
-    assert_eq!(rt;
-        first.output.as_str(),
-        "{\"ok\":\"hello\"}\n{\"doc\":\"d\",\"n\":1,\"ok\":\"taken\",\"rev\":1}\n"
-    );
-    assert_eq!(rt; first.status, 0);
+    let serve = ["richd", "serve", path];
+    let taken = "{\"ok\":\"hello\"}\n{\"doc\":\"d\",\"n\":1,\"ok\":\"taken\",\"rev\":1}\n";
+    ends(&rt, &serve, &mut input.as_bytes(), (0, taken, ""))?;
 
     // The open gate and the number of slot 0, then the record: its gate, its length, the batch, the next gate.
     let bytes = fs::read(&rt, path)?;
@@ -164,17 +174,15 @@ fn a_document_is_made_and_printed(rt: HostRuntime) -> Result<(), Fail> {
         b"\xa5\x01\0\0\0\0\0\0\0\xa5\x2d\0\0\0\x01\0\0\0\x01\0\0\0\0\x01\0\0\0\0\0\0\0\x01\0a\x01\0\0\0\0\0\0\0\x01\0d\x01\0\0\0\x01\x01\0\0\0z\0\0\0\0\0";
     assert_eq!(rt; &bytes[1088..1148], slot.as_slice());
 
-    let again = call(&rt, &["richd", "serve", path], &mut input.as_bytes())?;
-    assert_eq!(rt;
-        again.output.as_str(),
-        "{\"ok\":\"hello\"}\n{\"doc\":\"d\",\"n\":1,\"ok\":\"again\",\"rev\":1}\n"
-    );
-    let dumped = call(&rt, &["richd", "dump", path], &mut io::empty())?;
-    assert_eq!(rt;
-        dumped.output.as_str(),
-        "d 1 0 {\"ops\":[{\"insert\":\"z\"}]}\n"
-    );
-    assert_eq!(rt; (dumped.status, dumped.errors.as_str()), (0, ""));
+    let again = "{\"ok\":\"hello\"}\n{\"doc\":\"d\",\"n\":1,\"ok\":\"again\",\"rev\":1}\n";
+    ends(&rt, &serve, &mut input.as_bytes(), (0, again, ""))?;
+    let line = "d 1 0 {\"ops\":[{\"insert\":\"z\"}]}\n";
+    ends(
+        &rt,
+        &["richd", "dump", path],
+        &mut io::empty(),
+        (0, line, ""),
+    )?;
     fs::remove_file(&rt, path)?;
     Ok(())
 }
@@ -217,7 +225,6 @@ fn each_line_has_its_reply(rt: HostRuntime) -> Result<(), Fail> {
         for size in [1, 7, 100_000] {
             let served = served(&rt, input, size)?;
             assert_eq!(rt; served.output.as_str(), *wanted, "in pieces of {size}");
-            assert_eq!(rt; (served.status, served.errors.as_str()), (0, ""));
         }
     }
     Ok(())
@@ -331,10 +338,13 @@ fn limits_hold_over_several_runs(rt: HostRuntime) -> Result<(), Fail> {
         (third.as_str(), "\"code\":20,\"error\":\"TooManyDocuments\""),
     ];
     for (input, reply) in runs {
-        let served = call(&rt, &["richd", "serve", path], &mut input.as_bytes())?;
         let wanted = format!(in rt.alloc(); "{{\"ok\":\"hello\"}}\n{{{reply}}}\n")?;
-        assert_eq!(rt; served.output.as_str(), wanted.as_str());
-        assert_eq!(rt; served.status, 0);
+        ends(
+            &rt,
+            &["richd", "serve", path],
+            &mut input.as_bytes(),
+            (0, wanted.as_str(), ""),
+        )?;
     }
     fs::remove_file(&rt, path)?;
     Ok(())
@@ -354,18 +364,19 @@ fn a_full_journal_fails_the_store(rt: HostRuntime) -> Result<(), Fail> {
         {{\"do\":\"create\",\"doc\":\"{doc}2\",\"n\":1,\"ops\":[{{\"insert\":\"abc\"}}]}}\n\
         {{\"do\":\"create\",\"doc\":\"{doc}1\",\"n\":1,\"ops\":[]}}\n"
     )?;
-    let served = call(&rt, &["richd", "serve", path], &mut input.as_bytes())?;
     let wanted = format!(in rt.alloc();
         "{{\"ok\":\"hello\"}}\n\
         {{\"doc\":\"{doc}1\",\"n\":1,\"ok\":\"taken\",\"rev\":1}}\n\
         {{\"code\":21,\"error\":\"StoreFailed\"}}\n\
         {{\"code\":21,\"error\":\"StoreFailed\"}}\n"
     )?;
-    assert_eq!(rt; served.output.as_str(), wanted.as_str());
-    assert_eq!(rt;
-        (served.status, served.errors.as_str()),
-        (1, "error 21 StoreFailed\n")
-    );
+    let failed = (1, wanted.as_str(), "error 21 StoreFailed\n");
+    ends(
+        &rt,
+        &["richd", "serve", path],
+        &mut input.as_bytes(),
+        failed,
+    )?;
     fs::remove_file(&rt, path)?;
     Ok(())
 }
@@ -375,58 +386,35 @@ fn faults_have_their_statuses(rt: HostRuntime) -> Result<(), Fail> {
     let path = path(&rt, "faults")?;
     let path = path.as_str();
     let missing = format!(in rt.alloc(); "{path}/none")?;
-    let missing = missing.as_str();
-    let ended = call(
-        &rt,
-        &["richd", "format", path, "--docs", "0"],
-        &mut io::empty(),
-    )?;
-    assert_eq!(rt;
-        (ended.status, ended.output.as_str(), ended.errors.as_str()),
-        (1, "", "error 33 BadShape\n")
-    );
-    let ended = call(&rt, &["richd", "serve", path], &mut io::empty())?;
-    assert_eq!(rt;
-        (ended.status, ended.output.as_str(), ended.errors.as_str()),
-        (1, "", "error 34 Fault\n")
-    );
-    let ended = call(&rt, &["richd", "dump", path], &mut io::empty())?;
-    assert_eq!(rt;
-        (ended.status, ended.output.as_str(), ended.errors.as_str()),
-        (1, "", "error 34 Fault\n")
-    );
-    let ended = call(&rt, &["richd", "format", missing], &mut io::empty())?;
-    assert_eq!(rt;
-        (ended.status, ended.output.as_str(), ended.errors.as_str()),
-        (1, "", "error 34 Fault\n")
-    );
-    let ended = call(&rt, &["richd", "format", path], &mut io::empty())?;
-    assert_eq!(rt;
-        (ended.status, ended.output.as_str(), ended.errors.as_str()),
-        (0, "", "")
-    );
-    let ended = call(&rt, &["richd", "format", path], &mut io::empty())?;
-    assert_eq!(rt;
-        (ended.status, ended.output.as_str(), ended.errors.as_str()),
-        (1, "", "error 31 AlreadyFormatted\n")
-    );
-    let ended = call(&rt, &["richd", "serve", path], &mut io::empty())?;
-    assert_eq!(rt;
-        (ended.status, ended.output.as_str(), ended.errors.as_str()),
-        (0, "", "")
-    );
-    let ended = call(&rt, &["richd", "dump", path], &mut io::empty())?;
-    assert_eq!(rt;
-        (ended.status, ended.output.as_str(), ended.errors.as_str()),
-        (0, "", "")
-    );
+    let fault = (1, "", "error 34 Fault\n");
+    let steps: [(&[&str], (u8, &str, &str)); 8] = [
+        (
+            &["richd", "format", path, "--docs", "0"],
+            (1, "", "error 33 BadShape\n"),
+        ),
+        (&["richd", "serve", path], fault),
+        (&["richd", "dump", path], fault),
+        (&["richd", "format", missing.as_str()], fault),
+        (&["richd", "format", path], (0, "", "")),
+        (
+            &["richd", "format", path],
+            (1, "", "error 31 AlreadyFormatted\n"),
+        ),
+        (&["richd", "serve", path], (0, "", "")),
+        (&["richd", "dump", path], (0, "", "")),
+    ];
+    for (words, wanted) in steps {
+        ends(&rt, words, &mut io::empty(), wanted)?;
+    }
     assert_eq!(rt; fs::metadata(&rt, path)?.len(), 35_651_648);
     fs::write(&rt, path, [0; 64].as_slice())?;
-    let ended = call(&rt, &["richd", "serve", path], &mut io::empty())?;
-    assert_eq!(rt;
-        (ended.status, ended.errors.as_str()),
-        (1, "error 30 NotFormatted\n")
-    );
+    let unformatted = (1, "", "error 30 NotFormatted\n");
+    ends(
+        &rt,
+        &["richd", "serve", path],
+        &mut io::empty(),
+        unformatted,
+    )?;
     fs::remove_file(&rt, path)?;
     Ok(())
 }

@@ -1,4 +1,4 @@
-use super::call;
+use super::{call, ends};
 use std::io;
 use std::test::Fail;
 
@@ -76,12 +76,7 @@ fn deltas_are_composed_transformed_inverted_and_applied(rt: HostRuntime) -> Resu
         let mut words = Vec::new(rt.alloc());
         words.extend_from_slice(&["richd", "delta"])?;
         words.extend_from_slice(behind)?;
-        let ended = call(&rt, &words, &mut io::empty())?;
-        assert_eq!(rt;
-            (ended.status, ended.output.as_str(), ended.errors.as_str()),
-            (*status, *output, *errors),
-            "at {behind:?}"
-        );
+        ends(&rt, &words, &mut io::empty(), (*status, *output, *errors))?;
     }
     Ok(())
 }
