@@ -4,8 +4,8 @@
 //! one on a document, or to apply one. `Task::answer` gives the text `{"ops":[..]}` of the result, without a line end, or
 //! the refusal. It promises both exactly: what a command comes to stands in specs/Tasks.antt, over the deltas that words
 //! describe (specs/Words.antt) and what comes of two deltas (specs/Outcomes.antt); how a delta is printed stands in
-//! specs/Text.antt; and that a command comes to one thing only is in `laws`. The calling program prints the text or the
-//! refusal, and gives the status.
+//! specs/Text.antt; and that a command comes to one thing only, and what the results do to documents, is in `laws`. The
+//! calling program prints the text or the refusal, and gives the status.
 //!
 //! It stands on `compose`, `xform` and `document` for the results, on `optext` for operations as JSON, and on `clap` for
 //! the words.

@@ -2,7 +2,7 @@
 ghost use Rattle.std.specs.Prelude.{◌≡◌, ◌⊎◌, IfOk, IfErr, option_map, Some, None};
 ghost use Rattle.serde_json.specs.Read.{read};
 ghost use Rattle.serde_json.specs.View.{view, items_view};
-ghost use Rattle.optext.specs.Answer.{IsDue, IsRead};
+ghost use Rattle.optext.specs.Answer.{IsDue};
 ghost use Rattle.optext.specs.Described as described;
 ghost use Rattle.algebra.specs.Words as spec;
 
