@@ -13,7 +13,7 @@ use Rattle.delta.specs.Element.{letters}
 use Rattle.delta.specs.Operation.{Operation, insert_text, retain, delete}
 use Rattle.compose.specs.Cuts as pairs
 use Rattle.delta.specs.Gaps.{counted}
-use Rattle.algebra.specs.Words.{delta_in, deltas_in, of_array, both}
+use Rattle.algebra.specs.Words.{delta_in, deltas_in, of_array}
 use Rattle.algebra.specs.Outcomes.{one_for, second_after, document_of}
 use Rattle.algebra.specs.Text.{text_of}
 
@@ -62,17 +62,14 @@ nulls (suc n) = item null (nulls n)
 too_many : of_array (Some (nulls 1025)) ≡ Err TooManyOps
 too_many = refl
 
--- of two faults the one that is told first
-no_object_beside_no_json : deltas_in (codes "{}") (codes "x") ≡ Err BadLine
+-- the first word's fault is told
+no_object_before_no_json : deltas_in (codes "{}") (codes "x") ≡ Err BadMessage
 unfolding serde_json_on_literals
-no_object_beside_no_json = refl
+no_object_before_no_json = refl
 
-no_object_twice : deltas_in (codes "{}") (codes "{}") ≡ Err BadMessage
+no_json_after_a_delta : deltas_in (codes "{\"ops\":[]}") (codes "x") ≡ Err BadLine
 unfolding serde_json_on_literals
-no_object_twice = refl
-
-too_many_beside_none : both {X = ℕ} (Err BadOps) (Err TooManyOps) ≡ Err TooManyOps
-too_many_beside_none = refl
+no_json_after_a_delta = refl
 
 -- [ins "abc"], then [ret 1, del 1], is [ins "ac"]
 deleted_within : one_for (ins (codes "abc") ∷ []) (ret 1 ∷ delete 1 ∷ []) ≡ ins (codes "ac") ∷ []

@@ -1,10 +1,10 @@
 -- The deltas that the words of a command describe: each word is a text `{"ops":[..]}`.
-use Rattle.std.specs.Prelude.{ℕ, ◌==◌, nat_lt, if◌then◌else◌, List, codes, Option, Some, None, option_and_then, Result, Ok, Err}
+use Rattle.std.specs.Prelude.{ℕ, ◌==◌, if◌then◌else◌, List, codes, Option, Some, None, option_and_then, Result, Ok, Err}
 use Rattle.serde_json.specs.Data.{Data, Items}
 use Rattle.serde_json.specs.Find.{get, as_array}
 use Rattle.serde_json.specs.Read.{read}
 use Rattle.refusal.specs.declared.Refusal.{Refusal}
-use Rattle.refusal.specs.declared.Refusal.TheVariants.{BadLine, BadMessage, TooManyOps, NoMemory}
+use Rattle.refusal.specs.declared.Refusal.TheVariants.{BadLine, BadMessage}
 use Rattle.delta.specs.Operation.{Operation}
 use Rattle.optext.specs.Described.{member_count, delta_of}
 
@@ -25,25 +25,12 @@ of_value (Some value) = of_array (array_in value)
 abbrev pub delta_in : List ℕ → Result (List Operation) Refusal
 delta_in word = of_value (read word)
 
--- the faults of words in the order in which they are told, after want of memory
-abbrev pub turn : Refusal → ℕ
-turn NoMemory = 0
-turn BadLine = 1
-turn BadMessage = 2
-turn TooManyOps = 3
-turn _ = 4
-
--- the one of two faults that is told
-abbrev pub told : Refusal → Refusal → Refusal
-told one other = if nat_lt (turn other) (turn one) then other else one
-
--- both, where both are there; else the fault, and of two faults the one that is told
+-- both, where both are there; else the fault of the first that has one
 abbrev pub both : {X : Type 0} → Result X Refusal → Result X Refusal → Result (X × X) Refusal
 both (Ok x) (Ok y) = Ok (x, y)
 both (Ok x) (Err other) = Err other
-both (Err one) (Ok y) = Err one
-both (Err one) (Err other) = Err (told one other)
+both (Err one) _ = Err one
 
--- the deltas that two words describe
+-- the deltas that two words describe: they are read from left to right, each to its end
 abbrev pub deltas_in : List ℕ → List ℕ → Result (List Operation × List Operation) Refusal
 deltas_in first second = both (delta_in first) (delta_in second)

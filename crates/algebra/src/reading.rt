@@ -12,38 +12,13 @@ use refusal::Refusal;
 use serde_json::Value as Json;
 use std::alloc::Global;
 
-/// The deltas that two words describe. Both words are read, and of two faults the one is told that comes first in the
-/// order BadLine, BadMessage, TooManyOps, BadOps; NoMemory comes before them.
+/// The deltas that two words describe, which are read from left to right, each to its end.
 pub(crate) fn read_both(alloc: Global, first: &str, second: &str) -> Result<(Delta, Delta), Refusal>
     ensures { IsDue (spec.deltas_in first.now second.now) result }
 {
-    let first = read_word(alloc, first);
-    let second = read_word(alloc, second);
-    match (first, second) {
-        (Ok(first), Ok(second)) => Ok((first, second)),
-        (Ok(_), Err(other)) => Err(other),
-        (Err(one), Ok(_)) => Err(one),
-        (Err(one), Err(other)) => Err(told(one, other)),
-    }
-}
-
-fn told(one: Refusal, other: Refusal) -> Refusal
-    ensures { result ≡ spec.told one other }
-{
-    if turn(other) < turn(one) { other } else { one }
-}
-
-// the place of a fault in the order in which they are told
-fn turn(fault: Refusal) -> u8
-    ensures { result ≡ spec.turn fault }
-{
-    match fault {
-        Refusal::NoMemory => 0,
-        Refusal::BadLine => 1,
-        Refusal::BadMessage => 2,
-        Refusal::TooManyOps => 3,
-        _ => 4,
-    }
+    let first = read_word(alloc, first)?;
+    let second = read_word(alloc, second)?;
+    Ok((first, second))
 }
 
 // the delta that a word describes

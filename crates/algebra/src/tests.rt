@@ -173,7 +173,7 @@ const ROWS: [Row; 31] = [
     },
     Row {
         words: &["compose", "{}", "x"],
-        outcome: "error 1 BadLine",
+        outcome: "error 2 BadMessage",
     },
     Row {
         words: &["compose", "", "{\"ops\":[]}"],
@@ -201,7 +201,7 @@ const ROWS: [Row; 31] = [
     },
     Row {
         words: &["compose", "{\"ops\":[{\"insert\":null}]}", "{}"],
-        outcome: "error 2 BadMessage",
+        outcome: "error 3 BadOps",
     },
     Row {
         words: &["compose", "{\"ops\":[{\"insert\":null}]}", "{\"ops\":[]}"],
@@ -287,8 +287,8 @@ fn at_most_1024_operations_are_read(rt: HostRuntime) -> Result<(), Fail> {
     let empty = "{\"ops\":[]}";
     let none = "{\"ops\":[null]}";
     comes_to(&rt, alloc, &["compose", many, empty], "error 4 TooManyOps")?;
-    comes_to(&rt, alloc, &["compose", none, many], "error 4 TooManyOps")?;
-    comes_to(&rt, alloc, &["compose", many, "[]"], "error 2 BadMessage")
+    comes_to(&rt, alloc, &["compose", none, many], "error 3 BadOps")?;
+    comes_to(&rt, alloc, &["compose", many, "[]"], "error 4 TooManyOps")
 }
 
 // what is told of words that are no command
