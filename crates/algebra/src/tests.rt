@@ -1,14 +1,12 @@
-//! The commands by their words, with ample memory: what is printed, each refusal, and what is no command.
+//! The commands, with ample memory: what is printed, and each refusal.
 use crate::Task;
-use clap::error::ErrorKind;
-use refusal::Refusal;
 use std::alloc::Global;
 use std::process::Abort;
 use std::test::Fail;
 
-/// The words after `richd delta`, and the text that is printed or the refusal.
+/// A command, and the text that is printed or the refusal.
 struct Row {
-    words: &'static [&'static str],
+    task: Task<'static>,
     outcome: &'static str,
 }
 
@@ -16,247 +14,254 @@ struct Row {
 const ROWS: [Row; 31] = [
     // one delta for two in turn
     Row {
-        words: &[
-            "compose",
-            "{\"ops\":[{\"insert\":\"abc\"}]}",
-            "{\"ops\":[{\"retain\":1},{\"delete\":1}]}",
-        ],
+        task: Task::Compose {
+            first: "{\"ops\":[{\"insert\":\"abc\"}]}",
+            second: "{\"ops\":[{\"retain\":1},{\"delete\":1}]}",
+        },
         outcome: "{\"ops\":[{\"insert\":\"ac\"}]}",
     },
     Row {
-        words: &[
-            "compose",
-            "{\"ops\":[{\"insert\":\"😀\"}]}",
-            "{\"ops\":[{\"retain\":1},{\"delete\":1}]}",
-        ],
+        task: Task::Compose {
+            first: "{\"ops\":[{\"insert\":\"😀\"}]}",
+            second: "{\"ops\":[{\"retain\":1},{\"delete\":1}]}",
+        },
         outcome: "error 15 CutsPair",
     },
     // the second after the first
     Row {
-        words: &[
-            "transform",
-            "{\"ops\":[{\"insert\":\"a\"}]}",
-            "{\"ops\":[{\"insert\":\"b\"},{\"retain\":5},{\"insert\":\"c\"}]}",
-            "--first",
-        ],
+        task: Task::Transform {
+            first: "{\"ops\":[{\"insert\":\"a\"}]}",
+            second: "{\"ops\":[{\"insert\":\"b\"},{\"retain\":5},{\"insert\":\"c\"}]}",
+            priority: true,
+        },
         outcome: "{\"ops\":[{\"retain\":1},{\"insert\":\"b\"},{\"retain\":5},{\"insert\":\"c\"}]}",
     },
     Row {
-        words: &[
-            "transform",
-            "--first",
-            "{\"ops\":[{\"insert\":\"a\"}]}",
-            "{\"ops\":[{\"insert\":\"b\"},{\"retain\":5},{\"insert\":\"c\"}]}",
-        ],
+        task: Task::Transform {
+            first: "{\"ops\":[{\"insert\":\"a\"}]}",
+            second: "{\"ops\":[{\"insert\":\"b\"},{\"retain\":5},{\"insert\":\"c\"}]}",
+            priority: true,
+        },
         outcome: "{\"ops\":[{\"retain\":1},{\"insert\":\"b\"},{\"retain\":5},{\"insert\":\"c\"}]}",
     },
     Row {
-        words: &[
-            "transform",
-            "{\"ops\":[{\"insert\":\"a\"}]}",
-            "{\"ops\":[{\"insert\":\"b\"},{\"retain\":5},{\"insert\":\"c\"}]}",
-        ],
+        task: Task::Transform {
+            first: "{\"ops\":[{\"insert\":\"a\"}]}",
+            second: "{\"ops\":[{\"insert\":\"b\"},{\"retain\":5},{\"insert\":\"c\"}]}",
+            priority: false,
+        },
         outcome: "{\"ops\":[{\"insert\":\"b\"},{\"retain\":6},{\"insert\":\"c\"}]}",
     },
     Row {
-        words: &[
-            "transform",
-            "{\"ops\":[{\"delete\":3}]}",
-            "{\"ops\":[{\"retain\":1},{\"insert\":\"x\"},{\"delete\":4}]}",
-            "--first",
-        ],
+        task: Task::Transform {
+            first: "{\"ops\":[{\"delete\":3}]}",
+            second: "{\"ops\":[{\"retain\":1},{\"insert\":\"x\"},{\"delete\":4}]}",
+            priority: true,
+        },
         outcome: "{\"ops\":[{\"insert\":\"x\"},{\"delete\":2}]}",
     },
     Row {
-        words: &[
-            "transform",
-            "{\"ops\":[{\"retain\":1},{\"insert\":\"x\"},{\"delete\":4}]}",
-            "{\"ops\":[{\"delete\":3}]}",
-        ],
+        task: Task::Transform {
+            first: "{\"ops\":[{\"retain\":1},{\"insert\":\"x\"},{\"delete\":4}]}",
+            second: "{\"ops\":[{\"delete\":3}]}",
+            priority: false,
+        },
         outcome: "{\"ops\":[{\"delete\":1}]}",
     },
     Row {
-        words: &[
-            "transform",
-            "{\"ops\":[{\"retain\":1,\"attributes\":{\"color\":\"blue\"}}]}",
-            "{\"ops\":[{\"retain\":1,\"attributes\":{\"bold\":true,\"color\":\"red\"}}]}",
-            "--first",
-        ],
+        task: Task::Transform {
+            first: "{\"ops\":[{\"retain\":1,\"attributes\":{\"color\":\"blue\"}}]}",
+            second: "{\"ops\":[{\"retain\":1,\"attributes\":{\"bold\":true,\"color\":\"red\"}}]}",
+            priority: true,
+        },
         outcome: "{\"ops\":[{\"attributes\":{\"bold\":true},\"retain\":1}]}",
     },
     Row {
-        words: &[
-            "transform",
-            "{\"ops\":[{\"retain\":1,\"attributes\":{\"color\":\"blue\"}}]}",
-            "{\"ops\":[{\"retain\":1,\"attributes\":{\"bold\":true,\"color\":\"red\"}}]}",
-        ],
+        task: Task::Transform {
+            first: "{\"ops\":[{\"retain\":1,\"attributes\":{\"color\":\"blue\"}}]}",
+            second: "{\"ops\":[{\"retain\":1,\"attributes\":{\"bold\":true,\"color\":\"red\"}}]}",
+            priority: false,
+        },
         outcome: "{\"ops\":[{\"attributes\":{\"bold\":true,\"color\":\"red\"},\"retain\":1}]}",
     },
     // the way back on a document
     Row {
-        words: &[
-            "invert",
-            "{\"ops\":[{\"retain\":1,\"attributes\":{\"bold\":null}}]}",
-            "{\"ops\":[{\"insert\":\"ab\"}]}",
-        ],
+        task: Task::Invert {
+            delta: "{\"ops\":[{\"retain\":1,\"attributes\":{\"bold\":null}}]}",
+            base: "{\"ops\":[{\"insert\":\"ab\"}]}",
+        },
         outcome: "{\"ops\":[]}",
     },
     Row {
-        words: &[
-            "invert",
-            "{\"ops\":[{\"retain\":6,\"attributes\":{\"bold\":true}},{\"insert\":\"!\"},{\"delete\":5}]}",
-            "{\"ops\":[{\"insert\":\"Hello\\nWorld\"}]}",
-        ],
+        task: Task::Invert {
+            delta: "{\"ops\":[{\"retain\":6,\"attributes\":{\"bold\":true}},{\"insert\":\"!\"},{\"delete\":5}]}",
+            base: "{\"ops\":[{\"insert\":\"Hello\\nWorld\"}]}",
+        },
         outcome: "{\"ops\":[{\"attributes\":{\"bold\":null},\"retain\":6},{\"insert\":\"World\"},{\"delete\":1}]}",
     },
     Row {
-        words: &[
-            "invert",
-            "{\"ops\":[{\"retain\":3},{\"delete\":1}]}",
-            "{\"ops\":[{\"insert\":\"abc\"}]}",
-        ],
+        task: Task::Invert {
+            delta: "{\"ops\":[{\"retain\":3},{\"delete\":1}]}",
+            base: "{\"ops\":[{\"insert\":\"abc\"}]}",
+        },
         outcome: "error 14 PastEnd",
     },
     Row {
-        words: &[
-            "invert",
-            "{\"ops\":[{\"delete\":1}]}",
-            "{\"ops\":[{\"insert\":\"😀\"}]}",
-        ],
+        task: Task::Invert {
+            delta: "{\"ops\":[{\"delete\":1}]}",
+            base: "{\"ops\":[{\"insert\":\"😀\"}]}",
+        },
         outcome: "error 15 CutsPair",
     },
     Row {
-        words: &[
-            "invert",
-            "{\"ops\":[]}",
-            "{\"ops\":[{\"retain\":1,\"attributes\":{\"bold\":true}}]}",
-        ],
+        task: Task::Invert {
+            delta: "{\"ops\":[]}",
+            base: "{\"ops\":[{\"retain\":1,\"attributes\":{\"bold\":true}}]}",
+        },
         outcome: "error 14 PastEnd",
     },
     // a document after a delta
     Row {
-        words: &[
-            "apply",
-            "{\"ops\":[{\"insert\":\"Gandalf\",\"attributes\":{\"bold\":true}},{\"insert\":\" the \"},{\"insert\":\"Grey\",\"attributes\":{\"color\":\"#ccc\"}}]}",
-            "{\"ops\":[{\"retain\":12},{\"insert\":\"White\",\"attributes\":{\"color\":\"#fff\"}},{\"delete\":4}]}",
-        ],
+        task: Task::Apply {
+            document: "{\"ops\":[{\"insert\":\"Gandalf\",\"attributes\":{\"bold\":true}},{\"insert\":\" the \"},{\"insert\":\"Grey\",\"attributes\":{\"color\":\"#ccc\"}}]}",
+            delta: "{\"ops\":[{\"retain\":12},{\"insert\":\"White\",\"attributes\":{\"color\":\"#fff\"}},{\"delete\":4}]}",
+        },
         outcome: "{\"ops\":[{\"attributes\":{\"bold\":true},\"insert\":\"Gandalf\"},{\"insert\":\" the \"},{\"attributes\":{\"color\":\"#fff\"},\"insert\":\"White\"}]}",
     },
     Row {
-        words: &[
-            "apply",
-            "{\"ops\":[{\"retain\":1,\"attributes\":{\"bold\":true}}]}",
-            "{\"ops\":[]}",
-        ],
+        task: Task::Apply {
+            document: "{\"ops\":[{\"retain\":1,\"attributes\":{\"bold\":true}}]}",
+            delta: "{\"ops\":[]}",
+        },
         outcome: "error 14 PastEnd",
     },
     Row {
-        words: &[
-            "apply",
-            "{\"ops\":[{\"insert\":\"abc\"}]}",
-            "{\"ops\":[{\"retain\":3},{\"delete\":1}]}",
-        ],
+        task: Task::Apply {
+            document: "{\"ops\":[{\"insert\":\"abc\"}]}",
+            delta: "{\"ops\":[{\"retain\":3},{\"delete\":1}]}",
+        },
         outcome: "error 14 PastEnd",
     },
     Row {
-        words: &[
-            "apply",
-            "{\"ops\":[{\"insert\":\"😀\"}]}",
-            "{\"ops\":[{\"delete\":1}]}",
-        ],
+        task: Task::Apply {
+            document: "{\"ops\":[{\"insert\":\"😀\"}]}",
+            delta: "{\"ops\":[{\"delete\":1}]}",
+        },
         outcome: "error 15 CutsPair",
     },
     // faults of words
     Row {
-        words: &["compose", "x", "y"],
+        task: Task::Compose {
+            first: "x",
+            second: "y",
+        },
         outcome: "error 1 BadLine",
     },
     Row {
-        words: &["compose", "{}", "x"],
+        task: Task::Compose {
+            first: "{}",
+            second: "x",
+        },
         outcome: "error 2 BadMessage",
     },
     Row {
-        words: &["compose", "", "{\"ops\":[]}"],
+        task: Task::Compose {
+            first: "",
+            second: "{\"ops\":[]}",
+        },
         outcome: "error 1 BadLine",
     },
     Row {
-        words: &["compose", "{\"ops\":[]}", "{\"ops\":[]} {}"],
+        task: Task::Compose {
+            first: "{\"ops\":[]}",
+            second: "{\"ops\":[]} {}",
+        },
         outcome: "error 1 BadLine",
     },
     Row {
-        words: &["compose", "{}", "{}"],
+        task: Task::Compose {
+            first: "{}",
+            second: "{}",
+        },
         outcome: "error 2 BadMessage",
     },
     Row {
-        words: &["compose", "{\"ops\":[],\"more\":1}", "{\"ops\":[]}"],
+        task: Task::Compose {
+            first: "{\"ops\":[],\"more\":1}",
+            second: "{\"ops\":[]}",
+        },
         outcome: "error 2 BadMessage",
     },
     Row {
-        words: &["compose", "{\"ops\":[]}", "{\"ops\":{}}"],
+        task: Task::Compose {
+            first: "{\"ops\":[]}",
+            second: "{\"ops\":{}}",
+        },
         outcome: "error 2 BadMessage",
     },
     Row {
-        words: &["compose", "{\"ops\":[]}", "[]"],
+        task: Task::Compose {
+            first: "{\"ops\":[]}",
+            second: "[]",
+        },
         outcome: "error 2 BadMessage",
     },
     Row {
-        words: &["compose", "{\"ops\":[{\"insert\":null}]}", "{}"],
+        task: Task::Compose {
+            first: "{\"ops\":[{\"insert\":null}]}",
+            second: "{}",
+        },
         outcome: "error 3 BadOps",
     },
     Row {
-        words: &["compose", "{\"ops\":[{\"insert\":null}]}", "{\"ops\":[]}"],
+        task: Task::Compose {
+            first: "{\"ops\":[{\"insert\":null}]}",
+            second: "{\"ops\":[]}",
+        },
         outcome: "error 3 BadOps",
     },
     Row {
-        words: &["transform", "{\"ops\":[]}", "{\"ops\":[{\"insert\":null}]}"],
+        task: Task::Transform {
+            first: "{\"ops\":[]}",
+            second: "{\"ops\":[{\"insert\":null}]}",
+            priority: false,
+        },
         outcome: "error 3 BadOps",
     },
     Row {
-        words: &[
-            "invert",
-            "{\"ops\":[{\"insert\":null}]}",
-            "{\"ops\":[{\"retain\":1,\"attributes\":{\"bold\":true}}]}",
-        ],
+        task: Task::Invert {
+            delta: "{\"ops\":[{\"insert\":null}]}",
+            base: "{\"ops\":[{\"retain\":1,\"attributes\":{\"bold\":true}}]}",
+        },
         outcome: "error 3 BadOps",
     },
     Row {
-        words: &[
-            "apply",
-            "{\"ops\":[{\"retain\":1,\"attributes\":{\"bold\":true}}]}",
-            "{\"ops\":[{\"insert\":null}]}",
-        ],
+        task: Task::Apply {
+            document: "{\"ops\":[{\"retain\":1,\"attributes\":{\"bold\":true}}]}",
+            delta: "{\"ops\":[{\"insert\":null}]}",
+        },
         outcome: "error 3 BadOps",
     },
 ];
 
-// the words with the one that stands for the program
-fn called<'a>(alloc: Global, words: &[&'a str]) -> Result<Vec<&'a str>, Fail> {
-    let mut all = Vec::new(alloc);
-    all.push("delta")?;
-    all.extend_from_slice(words)?;
-    Ok(all)
-}
-
 // the text that is printed, or the refusal as it is told
-fn outcome(alloc: Global, words: &[&str]) -> Result<String, Fail> {
-    let words = called(alloc, words)?;
-    let task = Task::parse(alloc, words.as_slice())?;
+fn outcome(alloc: Global, task: Task<'_>) -> Result<String, Fail> {
     match task.answer(alloc) {
         Ok(text) => Ok(text),
         Err(refusal) => Ok(refusal.to_string(alloc)?),
     }
 }
 
-fn comes_to(rt: &impl Abort, alloc: Global, words: &[&str], expected: &str) -> Result<(), Fail> {
-    let outcome = outcome(alloc, words)?;
-    assert_eq!(rt; outcome.as_str(), expected, "{words:?}");
+fn comes_to(rt: &impl Abort, alloc: Global, task: Task<'_>, expected: &str) -> Result<(), Fail> {
+    let outcome = outcome(alloc, task)?;
+    assert_eq!(rt; outcome.as_str(), expected, "{task:?}");
     Ok(())
 }
 
 #[test]
 fn commands_come_to_their_rows(rt: HostRuntime) -> Result<(), Fail> {
     for row in &ROWS {
-        comes_to(&rt, rt.alloc(), row.words, row.outcome)?;
+        comes_to(&rt, rt.alloc(), row.task, row.outcome)?;
     }
     Ok(())
 }
@@ -279,59 +284,41 @@ fn at_most_1024_operations_are_read(rt: HostRuntime) -> Result<(), Fail> {
     comes_to(
         &rt,
         alloc,
-        &["compose", most, most],
+        Task::Compose {
+            first: most,
+            second: most,
+        },
         "{\"ops\":[{\"delete\":2048}]}",
     )?;
     let many = deletes(alloc, 1025)?;
     let many = many.as_str();
     let empty = "{\"ops\":[]}";
     let none = "{\"ops\":[null]}";
-    comes_to(&rt, alloc, &["compose", many, empty], "error 4 TooManyOps")?;
-    comes_to(&rt, alloc, &["compose", none, many], "error 3 BadOps")?;
-    comes_to(&rt, alloc, &["compose", many, "[]"], "error 4 TooManyOps")
-}
-
-// what is told of words that are no command
-fn fault_of(alloc: Global, words: &[&str]) -> Result<(ErrorKind, bool, String), Fail> {
-    let words = called(alloc, words)?;
-    match Task::parse(alloc, words.as_slice()) {
-        Ok(_) => Err("a command")?,
-        Err(fault) => Ok((fault.kind(), fault.use_stderr(), fault.to_string(alloc)?)),
-    }
-}
-
-#[test]
-fn what_is_no_command_is_told_the_usage(rt: HostRuntime) -> Result<(), Fail> {
-    let cases: [(&[&str], ErrorKind); 6] = [
-        (&[], ErrorKind::MissingSubcommand),
-        (&["merge", "x", "y"], ErrorKind::InvalidSubcommand),
-        (&["compose", "x"], ErrorKind::MissingRequiredArgument),
-        (&["apply", "x", "y", "z"], ErrorKind::UnknownArgument),
-        (&["invert", "x", "y", "--first"], ErrorKind::UnknownArgument),
-        (
-            &["transform", "x", "y", "--last"],
-            ErrorKind::UnknownArgument,
-        ),
-    ];
-    for (words, kind) in cases {
-        let fault = fault_of(rt.alloc(), words)?;
-        assert_eq!(rt; (fault.0, fault.1), (kind, true), "{words:?}");
-        assert!(rt; fault.2.as_str().contains("Usage: richd delta"));
-    }
-    Ok(())
-}
-
-#[test]
-fn help_is_shown_where_it_is_asked_for(rt: HostRuntime) -> Result<(), Fail> {
-    let whole = fault_of(rt.alloc(), &["--help"])?;
-    assert_eq!(rt; (whole.0, whole.1), (ErrorKind::DisplayHelp, false));
-    assert!(rt; whole.2.as_str().contains("Usage: richd delta <COMMAND>"));
-    let one = fault_of(rt.alloc(), &["transform", "--help"])?;
-    assert_eq!(rt; (one.0, one.1), (ErrorKind::DisplayHelp, false));
-    assert!(rt;
-        one.2
-            .as_str()
-            .contains("Usage: richd delta transform [OPTIONS] <A> <B>")
-    );
-    Ok(())
+    comes_to(
+        &rt,
+        alloc,
+        Task::Compose {
+            first: many,
+            second: empty,
+        },
+        "error 4 TooManyOps",
+    )?;
+    comes_to(
+        &rt,
+        alloc,
+        Task::Compose {
+            first: none,
+            second: many,
+        },
+        "error 3 BadOps",
+    )?;
+    comes_to(
+        &rt,
+        alloc,
+        Task::Compose {
+            first: many,
+            second: "[]",
+        },
+        "error 4 TooManyOps",
+    )
 }

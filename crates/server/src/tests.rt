@@ -3,6 +3,7 @@ mod many_runs;
 
 use crate::run;
 use std::io::{self, ErrorKind, Read, Write};
+use std::process::Abort;
 use std::test::Fail;
 use std::{env, fs, process};
 
@@ -81,20 +82,12 @@ fn call<I: Read>(rt: &HostRuntime, words: &[&str], input: &mut I) -> Result<Outc
     })
 }
 
-/// A run ends with this status, and writes this to standard output and to standard error.
-fn ends<I: Read>(
-    rt: &HostRuntime,
-    words: &[&str],
-    input: &mut I,
-    wanted: (u8, &str, &str),
-) -> Result<(), Fail> {
-    let ended = call(rt, words, input)?;
+/// A run has ended with this status, and has written this to standard output and to standard error.
+fn ends(rt: &impl Abort, ended: &Outcome, wanted: (u8, &str, &str)) {
     assert_eq!(rt;
         (ended.status, ended.output.as_str(), ended.errors.as_str()),
-        wanted,
-        "at {words:?}"
+        wanted
     );
-    Ok(())
 }
 
 /// A path of its own for a test.
@@ -104,11 +97,11 @@ fn path(rt: &HostRuntime, name: &str) -> io::Result<String> {
     Ok(format!(in rt.alloc(); "{}/richd-server-{number}-{name}", folder.as_str())?)
 }
 
-fn format_small(rt: &HostRuntime, path: &str) -> Result<(), Fail> {
+fn format_small(rt: &HostRuntime, path: &str) -> Result<Outcome, Fail> {
     let mut words = Vec::new(rt.alloc());
     words.extend_from_slice(&["richd", "format", path])?;
     words.extend_from_slice(&SMALL)?;
-    ends(rt, &words, &mut io::empty(), (0, "", ""))
+    call(rt, &words, &mut io::empty())
 }
 
 /// A session over a new store, whose input is read in pieces of one size.
@@ -121,7 +114,6 @@ fn served(rt: &HostRuntime, input: &[u8], size: usize) -> Result<Outcome, Fail> 
         &["richd", "serve", path],
         &mut Pieces { rest: input, size },
     )?;
-    assert_eq!(rt; (served.status, served.errors.as_str()), (0, ""));
     fs::remove_file(rt, path)?;
     Ok(served)
 }
@@ -165,7 +157,8 @@ fn a_document_is_made_and_printed(rt: HostRuntime) -> Result<(), Fail> {
     let input = format!(in rt.alloc(); "{HELLO}{CREATE}")?;
     let serve = ["richd", "serve", path];
     let taken = "{\"ok\":\"hello\"}\n{\"doc\":\"d\",\"n\":1,\"ok\":\"taken\",\"rev\":1}\n";
-    ends(&rt, &serve, &mut input.as_bytes(), (0, taken, ""))?;
+    let ended = call(&rt, &serve, &mut input.as_bytes())?;
+    ends(&rt, &ended, (0, taken, ""));
 
     // The open gate and the number of slot 0, then the record: its gate, its length, the batch, the next gate.
     let bytes = fs::read(&rt, path)?;
@@ -175,14 +168,11 @@ fn a_document_is_made_and_printed(rt: HostRuntime) -> Result<(), Fail> {
     assert_eq!(rt; &bytes[1088..1148], slot.as_slice());
 
     let again = "{\"ok\":\"hello\"}\n{\"doc\":\"d\",\"n\":1,\"ok\":\"again\",\"rev\":1}\n";
-    ends(&rt, &serve, &mut input.as_bytes(), (0, again, ""))?;
+    let ended = call(&rt, &serve, &mut input.as_bytes())?;
+    ends(&rt, &ended, (0, again, ""));
     let line = "d 1 0 {\"ops\":[{\"insert\":\"z\"}]}\n";
-    ends(
-        &rt,
-        &["richd", "dump", path],
-        &mut io::empty(),
-        (0, line, ""),
-    )?;
+    let ended = call(&rt, &["richd", "dump", path], &mut io::empty())?;
+    ends(&rt, &ended, (0, line, ""));
     fs::remove_file(&rt, path)?;
     Ok(())
 }
@@ -224,7 +214,7 @@ fn each_line_has_its_reply(rt: HostRuntime) -> Result<(), Fail> {
     for (input, wanted) in &cases {
         for size in [1, 7, 100_000] {
             let served = served(&rt, input, size)?;
-            assert_eq!(rt; served.output.as_str(), *wanted, "in pieces of {size}");
+            ends(&rt, &served, (0, *wanted, ""));
         }
     }
     Ok(())
@@ -339,12 +329,8 @@ fn limits_hold_over_several_runs(rt: HostRuntime) -> Result<(), Fail> {
     ];
     for (input, reply) in runs {
         let wanted = format!(in rt.alloc(); "{{\"ok\":\"hello\"}}\n{{{reply}}}\n")?;
-        ends(
-            &rt,
-            &["richd", "serve", path],
-            &mut input.as_bytes(),
-            (0, wanted.as_str(), ""),
-        )?;
+        let ended = call(&rt, &["richd", "serve", path], &mut input.as_bytes())?;
+        ends(&rt, &ended, (0, wanted.as_str(), ""));
     }
     fs::remove_file(&rt, path)?;
     Ok(())
@@ -371,12 +357,8 @@ fn a_full_journal_fails_the_store(rt: HostRuntime) -> Result<(), Fail> {
         {{\"code\":21,\"error\":\"StoreFailed\"}}\n"
     )?;
     let failed = (1, wanted.as_str(), "error 21 StoreFailed\n");
-    ends(
-        &rt,
-        &["richd", "serve", path],
-        &mut input.as_bytes(),
-        failed,
-    )?;
+    let ended = call(&rt, &["richd", "serve", path], &mut input.as_bytes())?;
+    ends(&rt, &ended, failed);
     fs::remove_file(&rt, path)?;
     Ok(())
 }
@@ -387,34 +369,36 @@ fn faults_have_their_statuses(rt: HostRuntime) -> Result<(), Fail> {
     let path = path.as_str();
     let missing = format!(in rt.alloc(); "{path}/none")?;
     let fault = (1, "", "error 34 Fault\n");
-    let steps: [(&[&str], (u8, &str, &str)); 8] = [
-        (
-            &["richd", "format", path, "--docs", "0"],
-            (1, "", "error 33 BadShape\n"),
-        ),
-        (&["richd", "serve", path], fault),
-        (&["richd", "dump", path], fault),
-        (&["richd", "format", missing.as_str()], fault),
-        (&["richd", "format", path], (0, "", "")),
-        (
-            &["richd", "format", path],
-            (1, "", "error 31 AlreadyFormatted\n"),
-        ),
-        (&["richd", "serve", path], (0, "", "")),
-        (&["richd", "dump", path], (0, "", "")),
-    ];
-    for (words, wanted) in steps {
-        ends(&rt, words, &mut io::empty(), wanted)?;
-    }
+    let fine = (0, "", "");
+    let ended = call(
+        &rt,
+        &["richd", "format", path, "--docs", "0"],
+        &mut io::empty(),
+    )?;
+    ends(&rt, &ended, (1, "", "error 33 BadShape\n"));
+    let ended = call(&rt, &["richd", "serve", path], &mut io::empty())?;
+    ends(&rt, &ended, fault);
+    let ended = call(&rt, &["richd", "dump", path], &mut io::empty())?;
+    ends(&rt, &ended, fault);
+    let ended = call(
+        &rt,
+        &["richd", "format", missing.as_str()],
+        &mut io::empty(),
+    )?;
+    ends(&rt, &ended, fault);
+    let ended = call(&rt, &["richd", "format", path], &mut io::empty())?;
+    ends(&rt, &ended, fine);
+    let ended = call(&rt, &["richd", "format", path], &mut io::empty())?;
+    ends(&rt, &ended, (1, "", "error 31 AlreadyFormatted\n"));
+    let ended = call(&rt, &["richd", "serve", path], &mut io::empty())?;
+    ends(&rt, &ended, fine);
+    let ended = call(&rt, &["richd", "dump", path], &mut io::empty())?;
+    ends(&rt, &ended, fine);
     assert_eq!(rt; fs::metadata(&rt, path)?.len(), 35_651_648);
     fs::write(&rt, path, [0; 64].as_slice())?;
     let unformatted = (1, "", "error 30 NotFormatted\n");
-    ends(
-        &rt,
-        &["richd", "serve", path],
-        &mut io::empty(),
-        unformatted,
-    )?;
+    let ended = call(&rt, &["richd", "serve", path], &mut io::empty())?;
+    ends(&rt, &ended, unformatted);
     fs::remove_file(&rt, path)?;
     Ok(())
 }

@@ -1,9 +1,12 @@
 //! The words that the program is called with.
+mod task;
+
 use algebra::Task;
 use clap::{Arg, ArgMatches, Command, Error, value_parser};
 use recovery::Shape;
 use std::alloc::{AllocError, Global};
 use std::convert::AsStr;
+use task::task_in;
 
 /// What the words ask for.
 #[derive(Clone, Copy, Debug, PartialEq, Eq)]
@@ -23,7 +26,7 @@ impl<'a> Invocation<'a> {
     pub fn parse<S: AsStr>(alloc: Global, words: &'a [S]) -> Result<Invocation<'a>, Error> {
         match words {
             [_, first, ..] if first.as_str() == "delta" => {
-                Ok(Invocation::Delta(Task::parse(alloc, &words[1..])?))
+                Ok(Invocation::Delta(task_in(alloc, &words[1..])?))
             }
             _ => Invocation::of_store(alloc, words),
         }

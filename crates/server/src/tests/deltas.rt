@@ -5,7 +5,7 @@ use std::test::Fail;
 /// Words behind `richd delta`, the status, and what is written to standard output and to standard error.
 type Row = (&'static [&'static str], u8, &'static str, &'static str);
 
-const ROWS: [Row; 7] = [
+const ROWS: [Row; 8] = [
     (
         &[
             "compose",
@@ -32,6 +32,17 @@ const ROWS: [Row; 7] = [
             "{\"ops\":[{\"insert\":\"a\"}]}",
             "{\"ops\":[{\"insert\":\"b\"}]}",
             "--first",
+        ],
+        0,
+        "{\"ops\":[{\"retain\":1},{\"insert\":\"b\"}]}\n",
+        "",
+    ),
+    (
+        &[
+            "transform",
+            "--first",
+            "{\"ops\":[{\"insert\":\"a\"}]}",
+            "{\"ops\":[{\"insert\":\"b\"}]}",
         ],
         0,
         "{\"ops\":[{\"retain\":1},{\"insert\":\"b\"}]}\n",
@@ -76,17 +87,21 @@ fn deltas_are_composed_transformed_inverted_and_applied(rt: HostRuntime) -> Resu
         let mut words = Vec::new(rt.alloc());
         words.extend_from_slice(&["richd", "delta"])?;
         words.extend_from_slice(behind)?;
-        ends(&rt, &words, &mut io::empty(), (*status, *output, *errors))?;
+        let ended = call(&rt, &words, &mut io::empty())?;
+        ends(&rt, &ended, (*status, *output, *errors));
     }
     Ok(())
 }
 
 #[test]
 fn usage_of_the_commands_on_deltas(rt: HostRuntime) -> Result<(), Fail> {
-    let cases: [&[&str]; 3] = [
+    let cases: [&[&str]; 6] = [
         &["richd", "delta"],
-        &["richd", "delta", "compose", "{}"],
-        &["richd", "delta", "join", "{}", "{}"],
+        &["richd", "delta", "merge", "x", "y"],
+        &["richd", "delta", "compose", "x"],
+        &["richd", "delta", "apply", "x", "y", "z"],
+        &["richd", "delta", "invert", "x", "y", "--first"],
+        &["richd", "delta", "transform", "x", "y", "--last"],
     ];
     for words in cases {
         let ended = call(&rt, words, &mut io::empty())?;
@@ -95,10 +110,27 @@ fn usage_of_the_commands_on_deltas(rt: HostRuntime) -> Result<(), Fail> {
             (2, ""),
             "at {words:?}"
         );
-        assert!(rt; ended.errors.as_str().contains("richd delta"));
+        assert!(rt; ended.errors.as_str().contains("Usage: richd delta"));
     }
-    let shown = call(&rt, &["richd", "delta", "--help"], &mut io::empty())?;
-    assert_eq!(rt; (shown.status, shown.errors.as_str()), (0, ""));
-    assert!(rt; shown.output.as_str().contains("compose"));
+    Ok(())
+}
+
+#[test]
+fn help_on_the_commands_on_deltas(rt: HostRuntime) -> Result<(), Fail> {
+    let cases: [(&[&str], &str); 2] = [
+        (
+            &["richd", "delta", "--help"],
+            "Usage: richd delta <COMMAND>",
+        ),
+        (
+            &["richd", "delta", "transform", "--help"],
+            "Usage: richd delta transform [OPTIONS] <A> <B>",
+        ),
+    ];
+    for (words, usage) in cases {
+        let shown = call(&rt, words, &mut io::empty())?;
+        assert_eq!(rt; (shown.status, shown.errors.as_str()), (0, ""));
+        assert!(rt; shown.output.as_str().contains(usage));
+    }
     Ok(())
 }

@@ -1,38 +1,36 @@
-//! The words of a command.
-use crate::task::Task;
+//! The words of a command on deltas.
+use algebra::Task;
 use clap::{Arg, ArgAction, ArgMatches, Command, Error};
 use std::alloc::{AllocError, Global};
 use std::convert::AsStr;
 
-impl<'a> Task<'a> {
-    /// What the words ask for, of which the first stands for the program. An `Err` has the text for the user, which names
-    /// the program `richd delta`.
-    pub fn parse<S: AsStr>(alloc: Global, words: &'a [S]) -> Result<Task<'a>, Error> {
-        let matches = richd_delta(alloc)?.try_get_matches_from(words)?;
-        Ok(match matches.subcommand() {
-            Some(("compose", given)) => Task::Compose {
-                first: word_in(given, "A"),
-                second: word_in(given, "B"),
-            },
-            Some(("transform", given)) => Task::Transform {
-                first: word_in(given, "A"),
-                second: word_in(given, "B"),
-                priority: given.get_flag("first"),
-            },
-            Some(("invert", given)) => Task::Invert {
-                delta: word_in(given, "DELTA"),
-                base: word_in(given, "BASE"),
-            },
-            Some((_, given)) => Task::Apply {
-                document: word_in(given, "DOC"),
-                delta: word_in(given, "DELTA"),
-            },
-            None => Task::Apply {
-                document: "",
-                delta: "",
-            },
-        })
-    }
+/// What the words ask for, of which the first stands for the program. An `Err` has the text for the user, which names
+/// the program `richd delta`.
+pub(super) fn task_in<'a, S: AsStr>(alloc: Global, words: &'a [S]) -> Result<Task<'a>, Error> {
+    let matches = richd_delta(alloc)?.try_get_matches_from(words)?;
+    Ok(match matches.subcommand() {
+        Some(("compose", given)) => Task::Compose {
+            first: word_in(given, "A"),
+            second: word_in(given, "B"),
+        },
+        Some(("transform", given)) => Task::Transform {
+            first: word_in(given, "A"),
+            second: word_in(given, "B"),
+            priority: given.get_flag("first"),
+        },
+        Some(("invert", given)) => Task::Invert {
+            delta: word_in(given, "DELTA"),
+            base: word_in(given, "BASE"),
+        },
+        Some((_, given)) => Task::Apply {
+            document: word_in(given, "DOC"),
+            delta: word_in(given, "DELTA"),
+        },
+        None => Task::Apply {
+            document: "",
+            delta: "",
+        },
+    })
 }
 
 fn word_in<'a>(given: &ArgMatches<'a>, name: &str) -> &'a str {
