@@ -304,19 +304,54 @@ fn holds(rt: &impl Abort, alloc: Global, state: &State, wanted: &str) -> Result<
     Ok(())
 }
 
-// what isn't the next document, has a name that is there, or passes a limit
+// a state that holds the document of a name, or none
+fn holding(alloc: Global, doc: &str) -> Result<State, Refusal> {
+    let mut state = small(alloc);
+    if !doc.is_empty() {
+        let first = taken(alloc, &state, doc, &[Step::Plain("z")])?;
+        state.absorb(alloc, &first)?;
+    }
+    Ok(state)
+}
+
+/// What a state holds, what the one holds that took another creation, the created name, and what the first holds then.
+const STRANGERS: [(&str, &str, &str, &str); 3] = [
+    // The second document comes before the first, and the first one after it.
+    ("", "d", "e", ""),
+    ("d", "", "e", "d 1 0\n"),
+    // The name is there.
+    ("d", "e", "d", "d 1 0\n"),
+];
+
 #[test]
 fn strangers_are_not_added(rt: HostRuntime) -> Result<(), Fail> {
-    let alloc = rt.alloc();
-    let mut state = small(alloc);
-    let first = taken(alloc, &state, "d", &[Step::Plain("abcde")])?;
-    for (weight, width) in [(123, 237), (128, 44)] {
-        is_stranger(&rt, alloc, empty(alloc, weight, width), &first, "")?;
+    for (here, there, doc, lines) in &STRANGERS {
+        let stranger = taken(rt.alloc(), &holding(rt.alloc(), there)?, doc, &[])?;
+        is_stranger(
+            &rt,
+            rt.alloc(),
+            holding(rt.alloc(), here)?,
+            &stranger,
+            lines,
+        )?;
     }
-    state.absorb(alloc, &first)?;
-    let second = taken(alloc, &state, "e", &[Step::Plain("z")])?;
-    is_stranger(&rt, alloc, small(alloc), &second, "")?;
-    is_stranger(&rt, alloc, state, &first, "d 1 0\n")
+    Ok(())
+}
+
+// The creation that weighs 124 and is 45 bytes wide.
+#[test]
+fn what_passes_a_limit_is_a_stranger(rt: HostRuntime) -> Result<(), Fail> {
+    for (weight, width) in [(123, 237), (128, 44)] {
+        let stranger = taken(rt.alloc(), &small(rt.alloc()), "d", &[Step::Plain("abcde")])?;
+        is_stranger(
+            &rt,
+            rt.alloc(),
+            empty(rt.alloc(), weight, width),
+            &stranger,
+            "",
+        )?;
+    }
+    Ok(())
 }
 
 fn is_stranger(
