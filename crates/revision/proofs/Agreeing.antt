@@ -57,8 +57,8 @@ through s t u first second = record {
   documents = through_documents s.documents t.documents u.documents first.documents second.documents;
 }
 
--- ours many documents
-same_count : (ours theirs : List DocumentRecord) → SameDocuments ours theirs → length ours ≡ length theirs
+-- as many documents
+pub same_count : (ours theirs : List DocumentRecord) → SameDocuments ours theirs → length ours ≡ length theirs
 same_count [] [] same = refl
 same_count [] (b ∷ theirs) same = absurd same
 same_count (a ∷ ours) [] same = absurd same

@@ -4,3 +4,4 @@ pub mod Lookups
 pub mod Creations
 pub mod Taking
 pub mod Agreeing
+pub mod Answering

@@ -13,7 +13,8 @@ use std::marker::Model;
 /// The longest base and output of a command's delta: 2^44 UTF-16 code units.
 const MAX_LEN: u64 = 1 << 44;
 
-/// What is to be done to a document.
+/// What is to be done to a document. In a command the delta's base and its output are each at most 2^44 UTF-16 code units
+/// long.
 #[derive(Drop)]
 pub enum Action {
     /// Make it, by a delta on the empty document.
@@ -45,8 +46,10 @@ impl Model for Command {
 }
 
 impl Command {
-    /// Makes the document of this name. Refused with `BadOps` where the delta stands on more than 2^44 code
-    /// units, or its output has more.
+    /// Asks that the document of this name be made by a delta on the empty document. The source's name has 1 to 32
+    /// characters, and its number for the command is 1 to 2^53 - 1. Refused with `BadOps` where the delta stands on more
+    /// than 2^44 UTF-16 code units, or its output has more; the names and the delta are then gone. It takes no memory.
+    /// Whether the command is taken, `State::plan` says.
     pub fn create(name: Name, source: Name, number: u64, delta: Delta) -> Result<Command, Refusal>
         requires source { is_source_name source ≡ true }
         requires first { 1 ≤ number }
@@ -66,14 +69,14 @@ impl Command {
         })
     }
 
-    /// The document's name.
+    /// The document's name, of 1 to 64 characters.
     pub fn name(&self) -> &Name
         ensures { result.now ≡ self.now.name }
     {
         &self.name
     }
 
-    /// The source's name.
+    /// The source's name, of 1 to 32 characters.
     pub fn source(&self) -> &Name
         ensures source { result.now ≡ self.now.source }
         ensures valid { is_source_name self.now.source ≡ true }

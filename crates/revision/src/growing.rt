@@ -14,7 +14,9 @@ use std::alloc::Global;
 
 impl State {
     /// Adds a command that was taken. Refused with `Stranger` just where it doesn't continue the state, unless memory
-    /// runs out first (`NoMemory`). A refusal leaves the state unchanged.
+    /// runs out first (`NoMemory`). A creation continues the state where it has the next document's number and a new name,
+    /// its delta stands on the empty document, and all limits are kept; so does what `plan` takes
+    /// (`laws::taken_grows`). A refusal leaves the state unchanged.
     pub fn absorb(&mut self, alloc: Global, taken: &Taken) -> Result<(), Refusal>
         ensures ok { OnOk result (self.new ≡ grown self.old taken.now) }
         ensures grow { OnOk result (grows self.old taken.now ≡ true) }

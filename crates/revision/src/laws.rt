@@ -17,6 +17,11 @@ pub fn agree()
     ensures through { (s t u : State) → Agree s t → Agree t u → Agree s u }
 {}
 
+/// States that agree answer each command alike.
+pub fn agreeing_answer()
+    ensures { (s t : State) (command : Command) → Agree s t → answer s command ≡ answer t command }
+{}
+
 /// States that agree are continued by the same commands, and agree after them.
 pub fn agreeing_grow()
     ensures { AgreeingGrow }

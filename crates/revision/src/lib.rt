@@ -16,6 +16,8 @@ mod name;
 mod planning;
 mod state;
 mod taken;
+#[cfg(test)]
+mod tests;
 mod widths;
 
 pub use command::{Action, Command};

@@ -17,13 +17,17 @@ use std::alloc::Global;
 pub enum Plan {
     /// It is taken: this is to be added.
     Taken(Taken),
-    /// It was taken before, and made this revision.
+    /// It was taken before, and made this revision, 1 for a creation.
     Again { rev: u64 },
 }
 
 impl State {
-    /// The answer to a command, which leaves the state as it is. Want of memory (`NoMemory`) may come in place of
-    /// any other answer.
+    /// The answer to a command, which leaves the state as it is. Of a document that is there, the source's last number is
+    /// answered with `Again`, whatever the delta, and any other number is refused with `Exists`. Else the first that holds
+    /// decides: `Gap` for a number above 1, `TooManyDocuments` where there are `docs` documents, `PastEnd` where the delta
+    /// keeps or deletes a unit, which the empty document doesn't have, `TooHeavy` and `TooWide` where the document's weight
+    /// or the entry's bytes would be above the limit; else it is taken. Want of memory (`NoMemory`) may come in place of any
+    /// other answer. specs/Acceptance.antt states it as `answer`.
     pub fn plan(&self, alloc: Global, command: &Command) -> Result<Plan, Refusal>
         ensures { Gives result (answer self.now command.now) }
     {

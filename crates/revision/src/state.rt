@@ -9,14 +9,14 @@ use refusal::Refusal;
 use std::alloc::Global;
 use std::marker::Model;
 
-/// How much a store may hold.
+/// How much a store may hold, each limit included.
 #[derive(Clone, Copy, Debug, PartialEq, Eq)]
 pub struct Limits {
     /// Documents, at most 65,536.
     pub docs: u32,
     /// Sources of a document, at most 4,096.
     pub sources: u32,
-    /// The weight of a document.
+    /// The weight of a document: that of its units (`Document::weight`), and 64 for each source.
     pub weight: u32,
     /// The bytes of a command's entry in the journal.
     pub width: u32,
@@ -154,7 +154,7 @@ impl Model for State {
 }
 
 impl State {
-    /// No documents, under these limits. It takes no memory.
+    /// No documents, under these limits, of at most 65,536 documents. It takes no memory.
     pub fn new(alloc: Global, limits: Limits) -> State
         requires { limits.docs ≤ 65536 }
         ensures { result ≡ record { limits = limits; documents = [] } }

@@ -33,7 +33,10 @@ impl Model for Taken {
 }
 
 impl Taken {
-    /// The creation of a document: its number in order of creation, its name, the source, and its first delta.
+    /// The creation of a document: its number in order of creation, from 0 and below 2^32, its name, the source, whose name
+    /// has 1 to 32 characters, and its first delta, which the journal can spell (specs/Spellable.antt). It makes revision 1,
+    /// and is the source's command number 1. It is never refused and takes no memory; whether it continues a state,
+    /// `State::absorb` says.
     pub fn creation(document: u32, name: Name, source: Name, delta: Delta) -> Taken
         requires { IsTaken (record { document = document; name = Some name; revision = 1; source = source; number = 1; delta = delta }) }
         ensures { result ≡ record { document = document; name = Some name; revision = 1; source = source; number = 1; delta = delta } }
@@ -62,21 +65,21 @@ impl Taken {
         self.name.as_ref()
     }
 
-    /// The revision that comes of it.
+    /// The revision that comes of it, 1 for a creation.
     pub fn revision(&self) -> u64
         ensures { result ≡ self.now.revision }
     {
         self.revision
     }
 
-    /// The source's name.
+    /// The source's name, of 1 to 32 characters.
     pub fn source(&self) -> &Name
         ensures { result.now ≡ self.now.source }
     {
         &self.source
     }
 
-    /// The source's number for it.
+    /// The source's number for it, 1 for a creation.
     pub fn number(&self) -> u64
         ensures { result ≡ self.now.number }
     {
@@ -91,7 +94,7 @@ impl Taken {
         &self.delta
     }
 
-    /// How many bytes it takes in the journal; 2^64 - 1 where it would be more.
+    /// How many bytes its entry has in the journal; 2^64 - 1 where it would have more. It takes no memory.
     pub fn width(&self) -> u64
         ensures width { result ≡ min (width_of self.now) (2 ^ 64 - 1) }
     {
