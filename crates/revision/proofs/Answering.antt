@@ -1,5 +1,5 @@
 -- States that agree answer each command alike.
-use Rattle.std.proofs.Common.{◌≡◌, ℕ, Bool, true, false, ◌&&◌, ◌==◌, nat_lt, bytes_eq, if◌then◌else◌, Option, Some, None, List, [], ◌∷◌, length, refl, ap, ◌∙◌}
+use Rattle.std.proofs.Common.{◌≡◌, ℕ, Bool, true, false, ◌&&◌, ◌==◌, nat_lt, bytes_eq, if◌then◌else◌, Option, Some, None, List, [], ◌∷◌, refl, ap}
 use Rattle.refusal.specs.declared.Refusal.TheVariants.{Exists}
 use Rattle.delta.specs.Operation.{Operation}
 use Rattle.revision.specs.Command.{Action, Create, Command}
