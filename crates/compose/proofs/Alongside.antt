@@ -2,7 +2,7 @@
 use Rattle.std.proofs.Common.{◌≡◌, ℕ, zero, suc, List, [], ◌∷◌, ◌++◌, length, refl, sym, ap, ◌∙◌}
 use Rattle.std.proofs.lemmas.List.{append_assoc, append-nil}
 use Rattle.attributes.specs.Map.{empty, insert_all}
-use Rattle.attributes.specs.Attributes.{Attributes, Changes, changed}
+use Rattle.attributes.specs.Attributes.{Attributes, Changes, changed, composed as change_composed}
 use Rattle.delta.specs.Element.{Element, letters, embedded}
 use Rattle.delta.specs.Gaps.{Gaps, End, Gap, Fate, Del, Keep, front, run, fated}
 use Rattle.delta.specs.Normal.{past, settled}
@@ -21,6 +21,10 @@ laid-nothing (x ∷ xs) =
 beyond-nothing : (xs : List Element) → beyond xs (End []) ≡ End []
 beyond-nothing [] = refl
 beyond-nothing (x ∷ xs) = beyond-nothing xs
+
+pub composed-empty : (c : Changes) → change_composed c empty ≡ c
+unfolding insert_all
+composed-empty c = refl
 
 kept-nothing : (c : Changes) → kept_then c (Keep empty) ≡ Keep c
 unfolding insert_all

@@ -20,6 +20,16 @@ left_after-within n op ops within = ap (λ t. cond t (last_units n op ∷ ops) o
 pub left_after-whole : (op : Operation) (ops : List Operation) → left_after (op_len op) op ops ≡ ops
 left_after-whole op ops = ap (λ t. cond t (last_units (op_len op) op ∷ ops) ops) (le-ltb (op_len op) (op_len op) (omega arith))
 
+pub left_after-beyond : (n : ℕ) (op : Operation) (ops : List Operation) → op_len op ≤ n → left_after n op ops ≡ ops
+left_after-beyond n op ops whole = ap (λ t. cond t (last_units n op ∷ ops) ops) (le-ltb n (op_len op) whole)
+
+pub left_after-append : (n : ℕ) (op : Operation) (ops more : List Operation) → left_after n op ops ++ more ≡ left_after n op (ops ++ more)
+left_after-append n op ops more =
+    elim (nat_lt n (op_len op)) as (λ t. cond t (last_units n op ∷ ops) ops ++ more ≡ cond t (last_units n op ∷ (ops ++ more)) (ops ++ more)) [
+      | true ↦ refl
+      | false ↦ refl
+    ]
+
 -- the parts of being in normal form
 pub normal-parts : (op : Operation) (ops : List Operation) → IsNormal (op ∷ ops) → IsTrue (is_built (op ∷ ops)) × IsTrue (not (ends_plain (op ∷ ops)))
 normal-parts op ops normal = and_parts (is_built (op ∷ ops)) _ normal
@@ -44,7 +54,7 @@ ends-last n (retain m c) [] = refl
 ends-last n (delete m) [] = refl
 ends-last n op (next ∷ ops) = refl
 
-len-last : (n : ℕ) (op : Operation) → n < op_len op → 0 < op_len (last_units n op)
+pub len-last : (n : ℕ) (op : Operation) → n < op_len op → 0 < op_len (last_units n op)
 len-last n (insert_text us a) within = omega (arith, length-drop n us)
 len-last n (insert_embed key value a) within = omega arith
 len-last n (retain m c) within = omega arith

@@ -10,6 +10,7 @@ pub mod Trimmings
 pub mod HeldBack
 pub mod Outcomes
 pub mod Whole
+pub mod LaidOver
 pub mod ManyDeltas
 pub mod StepsBack
 pub mod WayBack

@@ -1,25 +1,27 @@
 -- Two operations on the same units, the second after the first: what they make, and what is left.
-use Rattle.std.proofs.Common.{◌≡◌, ℕ, suc, ◌+◌, ◌-◌, ◌<◌, ◌≤◌, min, Bool, true, false, List, [], ◌∷◌, length, take, drop, refl, sym, ap, subst, ◌∙◌, ⊎_elim, arith}
-use Rattle.std.specs.Prelude.{◌&&◌, ◌||◌, slice_index}
+use Rattle.std.proofs.Common.{◌≡◌, ℕ, suc, ◌+◌, ◌-◌, ◌<◌, ◌≤◌, min, Bool, true, false, List, [], ◌∷◌, ◌++◌, length, take, drop, refl, sym, ap, subst, ◌∙◌, ⊎_elim, arith}
+use Rattle.std.specs.Prelude.{◌&&◌, ◌||◌, slice_index, Option, Some, None, is_some, MatchOption}
 use Rattle.std.specs.Char.Utf16.{is_high_surrogate, is_low_surrogate}
 use Rattle.std.proofs.lemmas.List.{append-nil}
 use Rattle.std.proofs.lemmas.Bool.{cases_lt}
 use Rattle.std.proofs.Math.Seq.{take-length}
+use Rattle.attributes.specs.Map.{empty}
 use Rattle.attributes.specs.Attributes.{Attributes, changed}
 use Rattle.delta.specs.Element.{Element, letters, embedded}
-use Rattle.delta.specs.Operation.{Operation, insert_text, insert_embed, retain, delete, op_len, op_base, base_of, is_insert, is_delete}
+use Rattle.delta.specs.Operation.{Operation, insert_text, insert_embed, retain, delete, op_len, op_base, base_of, is_insert, is_delete, is_plain}
 use Rattle.delta.specs.Gaps.{Gaps, End, Gap, Fate, Keep, Del, front, run, counted, joined}
 use Rattle.delta.specs.Normal.{IsNormal, settled}
+use Rattle.delta.proofs.Effects.{changed-empty}
 use Rattle.delta.proofs.Joins.{front-nil, joined-run}
 use Rattle.delta.proofs.Neighbours.{may_lead-text, built-parts}
 use Rattle.compose.specs.Places.{inserts}
 use Rattle.compose.specs.Composed.{composed, kept_then}
 use Rattle.compose.specs.Cuts.{parts, cuts, Cuts}
 use Rattle.compose.specs.Pieces.{first_units, left_after, met, CutsText}
-use Rattle.compose.specs.Steps.{IsStep, AllSome}
-use Rattle.compose.proofs.Alongside.{composed-front, composed-kept, composed-letters_kept, composed-letters_deleted}
+use Rattle.compose.specs.Steps.{IsStep, IsStepBefore, IsShorter, AllSome}
+use Rattle.compose.proofs.Alongside.{composed-empty, composed-front, composed-kept, composed-letters_kept, composed-letters_deleted}
 use Rattle.compose.proofs.Pairs.{border, cuts-border, cuts-kept}
-use Rattle.compose.proofs.CutPieces.{left_after-within, left_after-whole, normal-parts, normal-left, length-left, length-whole, counted-cut, len-first, base-cut}
+use Rattle.compose.proofs.CutPieces.{left_after-within, left_after-whole, left_after-beyond, left_after-append, normal-parts, normal-left, len-last, length-left, length-whole, counted-cut, len-first, base-cut}
 use Rattle.compose.proofs.Borders.{inserts-front, fate_of, parts-next, border-apart, border-embed, border-within}
 
 -- the first operation inserts or keeps, the second keeps or deletes
@@ -66,6 +68,18 @@ composed-met (retain m c) (retain k d) ops rest h same =
 composed-met (retain m c) (delete k) ops rest h same =
     ap (λ n. composed (run m (Keep c) (counted ops)) (run n Del (counted rest))) same
     ∙ (composed-kept m c Del (counted ops) (counted rest) ∙ sym (run-joined m Del (composed (counted ops) (counted rest))))
+
+-- a retain without attributes leaves the other as it is
+met-plain : (op : Operation) (n : ℕ) → is_delete op ≡ false → met op (retain n empty) ≡ op ∷ []
+met-plain (insert_text us a) n stays = ap (λ b. insert_text us b ∷ []) (changed-empty a)
+met-plain (insert_embed key value a) n stays = ap (λ b. insert_embed key value b ∷ []) (changed-empty a)
+met-plain (retain m c) n stays = ap (λ f. retain m f ∷ []) (composed-empty c)
+met-plain (delete m) n stays = absurd (cc)
+
+pub met_plain : (len : Option ℕ) (op next : Operation) → is_some len ≡ true → MatchOption len (is_plain next ≡ false) (λ n. next ≡ retain n empty) → is_delete op ≡ false
+    → op ∷ [] ≡ met op next
+met_plain (Some n) op next there is stays = sym (ap (met op) is ∙ met-plain op n stays)
+met_plain None op next there is stays = absurd (cc)
 
 -- where they end
 abbrev pub border_of : Operation → List Element → Fate → Gaps → Bool
@@ -196,10 +210,10 @@ some-met (delete m) (delete n) some = tt
 pub some-first : (op : Operation) (ops : List Operation) → IsNormal (op ∷ ops) → 0 < op_len op
 some-first op ops normal = (built-parts op ops (normal-parts op ops normal).0).0
 
-pub some-min : (op next : Operation) (ops rest : List Operation) (n : ℕ) → IsNormal (op ∷ ops) → IsNormal (next ∷ rest) → n ≡ min (op_len op) (op_len next) → 0 < n
-some-min op next ops rest n first second is_min = omega (arith, some-first op ops first, some-first next rest second)
+pub some-min : (op next : Operation) (rest : List Operation) (n : ℕ) → 0 < op_len op → IsNormal (next ∷ rest) → n ≡ min (op_len op) (op_len next) → 0 < n
+some-min op next rest n first second is_min = omega (arith, first, some-first next rest second)
 
-shorter-met : (op next : Operation) (ops rest : List Operation) (n : ℕ) → n ≡ min (op_len op) (op_len next)
+pub shorter-met : (op next : Operation) (ops rest : List Operation) (n : ℕ) → n ≡ min (op_len op) (op_len next)
     → length (left_after n op ops) + length (left_after n next rest) < suc (length ops) + suc (length rest)
 shorter-met op next ops rest n is_min =
     ⊎_elim
@@ -215,7 +229,7 @@ pub IsStep-met : (op next : Operation) (ops rest : List Operation) (n : ℕ) →
     → n ≡ min (op_len op) (op_len next) → ¬ (CutsText n op)
     → IsStep (op ∷ ops) (next ∷ rest) (met (first_units n op) (first_units n next)) (left_after n op ops) (left_after n next rest)
 IsStep-met op next ops rest n meet first second is_min whole =
-    let some : 0 < n = some-min op next ops rest n first second is_min in
+    let some : 0 < n = some-min op next rest n (some-first op ops first) second is_min in
     let in_op : n ≤ op_len op = omega arith in
     let in_next : n ≤ op_len next = omega arith in
     let part : Operation = first_units n op in
@@ -228,29 +242,61 @@ IsStep-met op next ops rest n meet first second is_min whole =
           (ap (λ g. composed g (counted (next ∷ rest))) cut_op
           ∙ (ap (composed (counted (part ∷ left_after n op ops))) cut_next
           ∙ composed-met part then (left_after n op ops) (left_after n next rest) (stays-first n op next meet) same));
-      some = some-met part then (omega (arith, len-first n op some in_op));
       cut = ap (λ g. cuts g (counted (next ∷ rest))) cut_op
           ∙ (ap (cuts (counted (part ∷ left_after n op ops))) cut_next
           ∙ (cuts-met part then (left_after n op ops) (left_after n next rest) (stays-first n op next meet) same
           ∙ ap (λ t. t || cuts (counted (left_after n op ops)) (counted (left_after n next rest)))
           (border-none n op ops (fate_of then) (counted (left_after n next rest)) first some in_op whole)));
-      base = omega (arith, base-met part then, base-cut n op ops in_op, base-cut n next rest in_next);
-      shorter = shorter-met op next ops rest n is_min;
-      first_normal = normal-left n op ops in_op first;
-      second_normal = normal-left n next rest in_next second;
+      normal = normal-left n op ops in_op first;
     }
 
--- the same by equal operations
+-- what is left of operations of which none is empty
+some-left : (n : ℕ) (op : Operation) (ops : List Operation) → AllSome (op ∷ ops) → AllSome (left_after n op ops)
+some-left n op ops some =
+    ⊎_elim
+    (λ (less : n < op_len op). subst AllSome (sym (left_after-within n op ops less)) (len-last n op less, some.1))
+    (λ (whole : op_len op ≤ n). subst AllSome (sym (left_after-beyond n op ops whole)) some.1)
+    (cases_lt n (op_len op))
+
+IsShorter-met : (op next : Operation) (ops rest : List Operation) (n : ℕ) → AllSome (op ∷ ops) → IsNormal (next ∷ rest) → n ≡ min (op_len op) (op_len next)
+    → IsShorter (op ∷ ops) (next ∷ rest) (met (first_units n op) (first_units n next)) (left_after n op ops) (left_after n next rest)
+IsShorter-met op next ops rest n some second is_min =
+    let some_n : 0 < n = some-min op next rest n some.0 second is_min in
+    let in_op : n ≤ op_len op = omega arith in
+    let in_next : n ≤ op_len next = omega arith in
+    let part : Operation = first_units n op in
+    let then : Operation = first_units n next in
+    record {
+      made_some = some-met part then (omega (arith, len-first n op some_n in_op));
+      first_some = some-left n op ops some;
+      second_normal = normal-left n next rest in_next second;
+      base = omega (arith, base-met part then, base-cut n op ops in_op, base-cut n next rest in_next);
+      shorter = shorter-met op next ops rest n is_min;
+    }
+
+-- the same by equal operations, whatever follows the first list
 pub met_made : (op next part then : Operation) (ops rest made left_first left_second : List Operation) (n : ℕ) → is_delete op ≡ false → is_insert next ≡ false
-    → IsNormal (op ∷ ops) → IsNormal (next ∷ rest) → n ≡ min (op_len op) (op_len next) → ¬ (CutsText n op)
+    → IsNormal (next ∷ rest) → n ≡ min (op_len op) (op_len next) → ¬ (CutsText n op)
     → part ≡ first_units n op → then ≡ first_units n next → made ≡ met part then → left_first ≡ left_after n op ops → left_second ≡ left_after n next rest
-    → IsStep (op ∷ ops) (next ∷ rest) made left_first left_second
-met_made op next part then ops rest made left_first left_second n stays stands first second is_min whole part_is then_is made_is first_is second_is =
+    → IsStepBefore (op ∷ ops) (next ∷ rest) made left_first left_second
+met_made op next part then ops rest made left_first left_second n stays stands second is_min whole part_is then_is made_is first_is second_is more first =
     let all : made ≡ met (first_units n op) (first_units n next) = made_is ∙ (ap (λ o. met o then) part_is ∙ ap (met (first_units n op)) then_is) in
-    subst (λ m. IsStep (op ∷ ops) (next ∷ rest) m left_first left_second) (sym all)
-    (subst (λ l. IsStep (op ∷ ops) (next ∷ rest) (met (first_units n op) (first_units n next)) l left_second) (sym first_is)
-    (subst (λ l. IsStep (op ∷ ops) (next ∷ rest) (met (first_units n op) (first_units n next)) (left_after n op ops) l) (sym second_is)
-    (IsStep-met op next ops rest n (record { stays = stays; stands = stands }) first second is_min whole)))
+    let left_is : left_first ++ more ≡ left_after n op (ops ++ more) = ap (λ l. l ++ more) first_is ∙ left_after-append n op ops more in
+    subst (λ m. IsStep (op ∷ (ops ++ more)) (next ∷ rest) m (left_first ++ more) left_second) (sym all)
+    (subst (λ l. IsStep (op ∷ (ops ++ more)) (next ∷ rest) (met (first_units n op) (first_units n next)) l left_second) (sym left_is)
+    (subst (λ l. IsStep (op ∷ (ops ++ more)) (next ∷ rest) (met (first_units n op) (first_units n next)) (left_after n op (ops ++ more)) l) (sym second_is)
+    (IsStep-met op next (ops ++ more) rest n (record { stays = stays; stands = stands }) first second is_min whole)))
+
+pub met_shorter : (op next part then : Operation) (ops rest made left_first left_second : List Operation) (n : ℕ) → AllSome (op ∷ ops) → IsNormal (next ∷ rest)
+    → n ≡ min (op_len op) (op_len next)
+    → part ≡ first_units n op → then ≡ first_units n next → made ≡ met part then → left_first ≡ left_after n op ops → left_second ≡ left_after n next rest
+    → IsShorter (op ∷ ops) (next ∷ rest) made left_first left_second
+met_shorter op next part then ops rest made left_first left_second n some second is_min part_is then_is made_is first_is second_is =
+    let all : made ≡ met (first_units n op) (first_units n next) = made_is ∙ (ap (λ o. met o then) part_is ∙ ap (met (first_units n op)) then_is) in
+    subst (λ m. IsShorter (op ∷ ops) (next ∷ rest) m left_first left_second) (sym all)
+    (subst (λ l. IsShorter (op ∷ ops) (next ∷ rest) (met (first_units n op) (first_units n next)) l left_second) (sym first_is)
+    (subst (λ l. IsShorter (op ∷ ops) (next ∷ rest) (met (first_units n op) (first_units n next)) (left_after n op ops) l) (sym second_is)
+    (IsShorter-met op next ops rest n some second is_min)))
 
 -- a pair is cut where the first operation is cut within one
 fate_of-first : (n : ℕ) (op : Operation) → fate_of (first_units n op) ≡ fate_of op
@@ -266,7 +312,7 @@ or-first false t e = absurd (cc)
 pub pair_cut : (op next : Operation) (ops rest : List Operation) (n : ℕ) → is_delete op ≡ false → is_insert next ≡ false → IsNormal (op ∷ ops) → IsNormal (next ∷ rest)
     → n ≡ min (op_len op) (op_len next) → CutsText n op → Cuts (counted (op ∷ ops)) (counted (next ∷ rest))
 pair_cut op next ops rest n stays stands first second is_min cut =
-    let some : 0 < n = some-min op next ops rest n first second is_min in
+    let some : 0 < n = some-min op next rest n (some-first op ops first) second is_min in
     let within : n < op_len op = cut.0 in
     let whole : n ≡ op_len next = omega arith in
     let part : Operation = first_units n op in

@@ -1,5 +1,5 @@
 -- What one step along two lists of operations makes and leaves.
-use Rattle.std.proofs.Common.{◌≡◌, ◌⊎◌, inl, inr, true, List, [], ◌∷◌, sym, ap, subst, ◌∙◌, arith}
+use Rattle.std.proofs.Common.{◌≡◌, ◌⊎◌, inl, inr, true, List, [], ◌∷◌, ◌++◌, sym, ap, subst, ◌∙◌, arith}
 use Rattle.std.proofs.lemmas.List.{append-nil}
 use Rattle.delta.specs.Element.{letters, embedded}
 use Rattle.delta.specs.Operation.{Operation, insert_text, insert_embed, retain, delete, is_insert, is_delete}
@@ -9,7 +9,7 @@ use Rattle.delta.proofs.Joins.{front-nil, joined-run, counted-append}
 use Rattle.delta.proofs.Neighbours.{built-parts}
 use Rattle.compose.specs.Composed.{composed}
 use Rattle.compose.specs.Cuts.{cuts}
-use Rattle.compose.specs.Steps.{IsStep}
+use Rattle.compose.specs.Steps.{IsStep, IsStepBefore, IsShorter, AllSome}
 use Rattle.compose.proofs.Alongside.{composed-nothing, composed-insert, composed-deleted}
 use Rattle.compose.proofs.Pairs.{cuts-nothing, cuts-insert, cuts-deleted}
 use Rattle.compose.proofs.CutPieces.{normal-parts, normal-rest}
@@ -38,16 +38,12 @@ alone-cuts (insert_text us a) ops second (inr deletes) = absurd (cc)
 alone-cuts (insert_embed key value a) ops second (inr deletes) = absurd (cc)
 alone-cuts (retain n c) ops second (inr deletes) = absurd (cc)
 
-pub IsStep-first : (op : Operation) (ops second : List Operation) → IsNormal (op ∷ ops) → IsNormal second → (second ≡ []) ⊎ (is_delete op ≡ true)
+pub IsStep-first : (op : Operation) (ops second : List Operation) → IsNormal (op ∷ ops) → (second ≡ []) ⊎ (is_delete op ≡ true)
     → IsStep (op ∷ ops) second (op ∷ []) ops second
-IsStep-first op ops second normal normal_second alone = record {
+IsStep-first op ops second normal alone = record {
   effect = ap settled (alone-effect op ops second alone);
-  some = ((built-parts op ops (normal-parts op ops normal).0).0, tt);
   cut = alone-cuts op ops second alone;
-  base = omega arith;
-  shorter = omega arith;
-  first_normal = normal-rest op ops normal;
-  second_normal = normal_second;
+  normal = normal-rest op ops normal;
 }
 
 -- the first operation of the second list, where the first has ended or the operation inserts
@@ -73,27 +69,44 @@ inserted-cuts first (insert_embed key value a) ops (inr inserts) = cuts-insert (
 inserted-cuts first (retain n c) ops (inr inserts) = absurd (cc)
 inserted-cuts first (delete n) ops (inr inserts) = absurd (cc)
 
-pub IsStep-second : (first : List Operation) (op : Operation) (ops : List Operation) → IsNormal first → IsNormal (op ∷ ops) → (first ≡ []) ⊎ (is_insert op ≡ true)
+pub IsStep-second : (first : List Operation) (op : Operation) (ops : List Operation) → IsNormal first → (first ≡ []) ⊎ (is_insert op ≡ true)
     → IsStep first (op ∷ ops) (op ∷ []) first ops
-IsStep-second first op ops normal_first normal alone = record {
+IsStep-second first op ops normal alone = record {
   effect = inserted-effect first op ops alone;
-  some = ((built-parts op ops (normal-parts op ops normal).0).0, tt);
   cut = inserted-cuts first op ops alone;
-  base = omega arith;
-  shorter = omega arith;
-  first_normal = normal_first;
-  second_normal = normal-rest op ops normal;
+  normal = normal;
 }
 
--- the same by equal operations
-pub first_made : (op made : Operation) (ops second rest : List Operation) → made ≡ op → rest ≡ ops → IsNormal (op ∷ ops) → IsNormal second → (second ≡ []) ⊎ (is_delete op ≡ true)
-    → IsStep (op ∷ ops) second (made ∷ []) rest second
-first_made op made ops second rest made_is rest_is normal normal_second alone =
-    subst (λ m. IsStep (op ∷ ops) second (m ∷ []) rest second) (sym made_is)
-    (subst (λ r. IsStep (op ∷ ops) second (op ∷ []) r second) (sym rest_is) (IsStep-first op ops second normal normal_second alone))
+-- the same by equal operations, whatever follows the first list
+pub first_made : (op made : Operation) (ops second rest : List Operation) → made ≡ op → rest ≡ ops → (second ≡ []) ⊎ (is_delete op ≡ true)
+    → IsStepBefore (op ∷ ops) second (made ∷ []) rest second
+first_made op made ops second rest made_is rest_is alone more normal =
+    subst (λ m. IsStep (op ∷ (ops ++ more)) second (m ∷ []) (rest ++ more) second) (sym made_is)
+    (subst (λ r. IsStep (op ∷ (ops ++ more)) second (op ∷ []) (r ++ more) second) (sym rest_is) (IsStep-first op (ops ++ more) second normal alone))
 
-pub second_made : (first : List Operation) (op made : Operation) (ops rest : List Operation) → made ≡ op → rest ≡ ops → IsNormal first → IsNormal (op ∷ ops) → (first ≡ []) ⊎ (is_insert op ≡ true)
-    → IsStep first (op ∷ ops) (made ∷ []) first rest
-second_made first op made ops rest made_is rest_is normal_first normal alone =
+pub second_made : (first : List Operation) (op made : Operation) (ops rest : List Operation) → made ≡ op → rest ≡ ops → (first ≡ []) ⊎ (is_insert op ≡ true)
+    → IsNormal first → IsStep first (op ∷ ops) (made ∷ []) first rest
+second_made first op made ops rest made_is rest_is alone normal =
     subst (λ m. IsStep first (op ∷ ops) (m ∷ []) first rest) (sym made_is)
-    (subst (λ r. IsStep first (op ∷ ops) (op ∷ []) first r) (sym rest_is) (IsStep-second first op ops normal_first normal alone))
+    (subst (λ r. IsStep first (op ∷ ops) (op ∷ []) first r) (sym rest_is) (IsStep-second first op ops normal alone))
+
+-- and what is left is shorter
+pub first_shorter : (op made : Operation) (ops second rest : List Operation) → made ≡ op → rest ≡ ops → AllSome (op ∷ ops) → IsNormal second
+    → IsShorter (op ∷ ops) second (made ∷ []) rest second
+first_shorter op made ops second rest made_is rest_is some normal =
+    subst (λ m. IsShorter (op ∷ ops) second (m ∷ []) rest second) (sym made_is)
+    (subst (λ r. IsShorter (op ∷ ops) second (op ∷ []) r second) (sym rest_is)
+    (record { made_some = (some.0, tt); first_some = some.1; second_normal = normal; base = omega arith; shorter = omega arith }))
+
+pub second_shorter : (first : List Operation) (op made : Operation) (ops rest : List Operation) → made ≡ op → rest ≡ ops → AllSome first → IsNormal (op ∷ ops)
+    → IsShorter first (op ∷ ops) (made ∷ []) first rest
+second_shorter first op made ops rest made_is rest_is some normal =
+    subst (λ m. IsShorter first (op ∷ ops) (m ∷ []) first rest) (sym made_is)
+    (subst (λ r. IsShorter first (op ∷ ops) (op ∷ []) first r) (sym rest_is)
+    (record {
+      made_some = ((built-parts op ops (normal-parts op ops normal).0).0, tt);
+      first_some = some;
+      second_normal = normal-rest op ops normal;
+      base = omega arith;
+      shorter = omega arith;
+    }))

@@ -13,10 +13,10 @@ use Rattle.compose.specs.Inverse.{inverse, unit_back}
 use Rattle.compose.specs.Pieces.{first_units, last_units, left_after, CutsText}
 use Rattle.compose.specs.Steps.{AllSome}
 use Rattle.compose.specs.Undoing.{AllInsert, units_inserted, turned_back, IsStepBack}
-use Rattle.compose.proofs.CutPieces.{counted-cut, len-first, base-cut, left_after-within, left_after-whole, first-whole}
+use Rattle.compose.proofs.CutPieces.{normal-rest, normal-left, counted-cut, len-first, base-cut, left_after-within, left_after-whole, first-whole}
 use Rattle.compose.proofs.Borders.{inserts-front}
 use Rattle.compose.proofs.Progress.{IsStep-second}
-use Rattle.compose.proofs.Meetings.{run-joined, IsStep-met, some-first, some-min}
+use Rattle.compose.proofs.Meetings.{run-joined, IsStep-met, some-first, some-min, shorter-met}
 
 -- inserted units are deleted first
 run-append : (xs ys : List Element) (g : Gaps) → run (length (xs ++ ys)) Del g ≡ run (length xs) Del (run (length ys) Del g)
@@ -63,7 +63,7 @@ out-len (delete n) is = absurd (cc)
 IsStepBack-out : (base : List Operation) (next : Operation) (ops : List Operation) → IsNormal base → IsNormal (next ∷ ops) → AllInsert base → base_of (next ∷ ops) ≤ out_of base → is_insert next ≡ true
     → IsStepBack base (next ∷ ops) (delete (op_len next) ∷ []) base ops
 IsStepBack-out base next ops normal_base normal inserted defined is =
-    let step = IsStep-second base next ops normal_base normal (inr is) in
+    let step = IsStep-second base next ops normal_base (inr is) in
     let lens = out-len next is in
     record {
       effect = ap settled (out-effect next ops (units_inserted base) is);
@@ -72,7 +72,7 @@ IsStepBack-out base next ops normal_base normal inserted defined is =
       room = omega (arith, lens);
       shorter = omega arith;
       base_normal = normal_base;
-      ops_normal = step.second_normal;
+      ops_normal = normal-rest next ops normal;
       inserted = inserted;
       defined = omega (arith, lens, defined);
     }
@@ -189,7 +189,7 @@ IsStepBack-met : (op next : Operation) (ops rest : List Operation) (n : ℕ) →
     → IsStepBack (op ∷ ops) (next ∷ rest) (turned_back (first_units n op) (first_units n next)) (left_after n op ops) (left_after n next rest)
 IsStepBack-met op next ops rest n first second inserted defined stands is_min whole =
     let step = IsStep-met op next ops rest n (record { stays = stays op inserted.0; stands = stands }) first second is_min whole in
-    let some : 0 < n = some-min op next ops rest n first second is_min in
+    let some : 0 < n = some-min op next rest n (some-first op ops first) second is_min in
     let in_op : n ≤ op_len op = omega arith in
     let in_next : n ≤ op_len next = omega arith in
     let part : Operation = first_units n op in
@@ -208,9 +208,9 @@ IsStepBack-met op next ops rest n first second inserted defined stands is_min wh
       some = some-back part then (omega (arith, len_part, some)) (len_then ∙ sym len_part);
       cut = step.cut;
       room = omega (arith, base-back part then, out-cut n next rest some in_next);
-      shorter = step.shorter;
-      base_normal = step.first_normal;
-      ops_normal = step.second_normal;
+      shorter = shorter-met op next ops rest n is_min;
+      base_normal = step.normal;
+      ops_normal = normal-left n next rest in_next second;
       inserted = inserts-left n op ops in_op inserted;
       defined = omega (arith, base-cut n next rest in_next, out-cut n op ops some in_op, out_part, base_then, len_part, len_then, defined);
     }

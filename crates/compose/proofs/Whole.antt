@@ -1,5 +1,5 @@
 -- How far two lists of operations have been composed.
-use Rattle.std.proofs.Common.{◌≡◌, ℕ, ◌+◌, ◌≤◌, ◌^◌, ◌⊎◌, Bool, true, false, List, [], ◌++◌, refl, sym, ap, subst, ◌∙◌, ⊎_elim, arith}
+use Rattle.std.proofs.Common.{◌≡◌, ℕ, ◌+◌, ◌≤◌, ◌⊎◌, Bool, true, false, List, [], ◌++◌, refl, sym, ap, subst, ◌∙◌, ⊎_elim, arith}
 use Rattle.delta.specs.Operation.{Operation, base_of, IsBounded}
 use Rattle.delta.specs.Gaps.{Gaps, End, counted, joined}
 use Rattle.delta.specs.Normal.{IsNormal, settled, trimmed, spelled, nf}
@@ -10,15 +10,7 @@ use Rattle.compose.specs.Composed.{composed}
 use Rattle.compose.specs.Cuts.{cuts, Cuts}
 use Rattle.compose.specs.Held.{held}
 use Rattle.compose.specs.Steps.{IsStep}
-
--- what was made, and what the rest makes, stand for both lists; unless the bound has been passed
-pub record IsSoFar (first second made : List Operation) (plain : ℕ) (over : Bool) (before after : List Operation) : Type 0 where
-  pub kept : over ≡ false → settled (joined (counted (held made plain)) (composed (counted before) (counted after))) ≡ settled (composed (counted first) (counted second))
-  pub past : over ≡ true → ¬ (IsBounded (nf (composed (counted first) (counted second))))
-  pub room : plain + (base_of before + base_of after) ≤ 2 ^ 49
-  pub cut : cuts (counted first) (counted second) ≡ cuts (counted before) (counted after)
-  pub before_normal : IsNormal before
-  pub after_normal : IsNormal after
+use Rattle.compose.specs.SoFar.{IsSoFar}
 
 at_start : (first second : List Operation) → IsNormal first → IsNormal second → IsBounded first → IsBounded second → IsSoFar first second [] 0 false first second
 at_start first second normal_first normal_second bounded_first bounded_second = record {
@@ -68,11 +60,12 @@ past-step total false now made before after before_left after_left past kept eff
 
 pub so_far-step : (first second now made next before after before_left after_left : List Operation) (plain plain_left : ℕ) (over over_left : Bool)
     → IsSoFar first second now plain over before after → IsStep before after made before_left after_left
+    → base_of made + (base_of before_left + base_of after_left) ≤ base_of before + base_of after → IsNormal after_left
     → (over_left ≡ false → settled (counted (held next plain_left)) ≡ settled (counted (held now plain ++ made)))
     → (over_left ≡ false → over ≡ false)
     → (over_left ≡ true → (over ≡ true) ⊎ ((more : List Operation) → ¬ (IsBounded (nf (counted (held now plain ++ (made ++ more)))))))
     → plain_left ≤ plain + base_of made → IsSoFar first second next plain_left over_left before_left after_left
-so_far-step first second now made next before after before_left after_left plain plain_left over over_left so step kept still past room =
+so_far-step first second now made next before after before_left after_left plain plain_left over over_left so step base normal kept still past room =
     let total : Gaps = composed (counted first) (counted second) in
     let rest : Gaps = composed (counted before_left) (counted after_left) in
     record {
@@ -86,10 +79,10 @@ so_far-step first second now made next before after before_left after_left plain
           so.past
           (λ over_now. past-step total over (held now plain) made before after before_left after_left so.past so.kept step.effect over_now)
           (past e);
-      room = omega (arith, so.room, step.base, room);
+      room = omega (arith, so.room, base, room);
       cut = so.cut ∙ step.cut;
-      before_normal = step.first_normal;
-      after_normal = step.second_normal;
+      before_normal = step.normal;
+      after_normal = normal;
     }
 
 -- where both have ended, all is made

@@ -6,6 +6,7 @@ pub mod Cuts
 pub mod Pieces
 pub mod Steps
 pub mod Held
+pub mod SoFar
 pub mod Many
 pub mod Undoing
 pub mod Laws

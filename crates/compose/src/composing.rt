@@ -8,9 +8,9 @@ ghost use Rattle.compose.specs.Composed.{composed};
 ghost use Rattle.compose.specs.Cuts.{Cuts};
 ghost use Rattle.compose.specs.Many.{many, ComposesAll, AreTaken, OneCuts, OnePasses};
 
+use crate::laying::{end, lay, lay_over};
 use crate::output::Output;
 use crate::pieces::all;
-use crate::stepping::next_step;
 use delta::{Builder, Delta};
 use refusal::Refusal;
 use std::alloc::Global;
@@ -27,26 +27,16 @@ pub fn compose(alloc: Global, first: &Delta, second: &Delta) -> Result<Delta, Re
     ensures bad { result ≡ Err Refusal.BadOps → (¬ (Cuts (counted first.now) (counted second.now))) × (¬ (IsBounded (nf (composed (counted first.now) (counted second.now))))) }
     ensures only { IfErr result (λ e. (e ≡ Refusal.CutsPair) ⊎ ((e ≡ Refusal.BadOps) ⊎ (e ≡ Refusal.NoMemory))) }
 {
-    let mut before = all(first.ops());
-    let mut after = all(second.ops());
     let mut out = Output::new(alloc);
-    loop {
-        match next_step(alloc, before, after)? {
-            None => return out.finish(),
-            Some(step) => {
-                out.add(alloc, step.made)?;
-                before = step.first;
-                after = step.second;
-            }
-        }
-    }
+    let rest = lay(alloc, all(first.ops()), all(second.ops()), &mut out)?;
+    end(alloc, rest, out)
 }
 
 /// The delta with the effect of all in turn, from the left; of none, the empty delta. Refused as `compose` refuses the
-/// first delta that can't be composed with those before it. Each step makes a delta of its own out of copies: a text that
-/// the first of k deltas inserts, and that the others leave, is copied k times. So the time is linear in the operations and
-/// the text of all deltas and of all that is there after each step, for k deltas of one length some k^2 times that length;
-/// of what the steps make no more than two deltas are there at a time.
+/// first delta that can't be composed with those before it. Each step takes the operations that are there apart and moves
+/// those that the next delta leaves whole, with their texts: text is copied where a delta inserts it, and then only in a step
+/// that parts it, or that merges it with a text before it. A step's time is linear in the operations that are there, those of
+/// the next delta, and the text that the step copies.
 pub fn compose_many(alloc: Global, deltas: &[Delta]) -> Result<Delta, Refusal>
     ensures one { IfOk result (λ one. one ≡ many deltas.now) }
     ensures composes { IfOk result (λ one. ComposesAll one deltas.now) }
@@ -57,7 +47,24 @@ pub fn compose_many(alloc: Global, deltas: &[Delta]) -> Result<Delta, Refusal>
 {
     let mut one = Builder::new(alloc).finish();
     for delta in deltas {
-        one = compose(alloc, &one, delta)?;
+        one = compose_onto(alloc, one, delta)?;
     }
     Ok(one)
+}
+
+// the same as `compose` of both, where the first is used up: what the second leaves whole of it is moved
+fn compose_onto(alloc: Global, first: Delta, second: &Delta) -> Result<Delta, Refusal>
+    ensures one { IfOk result (λ one. one ≡ nf (composed (counted first) (counted second.now))) }
+    ensures whole { OnOk result (¬ (Cuts (counted first) (counted second.now))) }
+    ensures bounded { OnOk result (IsBounded (nf (composed (counted first) (counted second.now)))) }
+    ensures cut { result ≡ Err Refusal.CutsPair → Cuts (counted first) (counted second.now) }
+    ensures bad { result ≡ Err Refusal.BadOps → (¬ (Cuts (counted first) (counted second.now))) × (¬ (IsBounded (nf (composed (counted first) (counted second.now))))) }
+    ensures only { IfErr result (λ e. (e ≡ Refusal.CutsPair) ⊎ ((e ≡ Refusal.BadOps) ⊎ (e ≡ Refusal.NoMemory))) }
+{
+    let mut out = Output::new(alloc);
+    let mut rest = all(second.ops());
+    for op in first.into_ops() {
+        rest = lay_over(alloc, op, rest, &mut out)?;
+    }
+    end(alloc, rest, out)
 }

@@ -12,6 +12,7 @@
 mod composing;
 mod inverting;
 pub mod laws;
+mod laying;
 mod output;
 mod pieces;
 mod stepping;

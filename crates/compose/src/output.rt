@@ -1,14 +1,14 @@
 //! What two deltas have made so far.
-ghost use Rattle.std.specs.Prelude.{◌≡◌, ◌+◌, ◌<◌, ◌≤◌, ◌^◌, ◌⊎◌, ◌++◌, [], ◌∷◌, List, false, true, IfOk, OnOk, IfErr, IsOkUnless, MatchOption, MatchBool};
-ghost use Rattle.attributes.specs.Map.{empty};
-ghost use Rattle.delta.specs.Operation.{Operation, retain, op_len, op_base, base_of, is_plain, IsBounded};
+ghost use Rattle.std.specs.Prelude.{◌≡◌, ◌+◌, ◌<◌, ◌≤◌, ◌^◌, ◌⊎◌, ◌++◌, [], ◌∷◌, List, false, true, IfOk, OnOk, IfErr, IsOkUnless};
+ghost use Rattle.delta.specs.Operation.{Operation, retain, op_len, op_base, base_of, IsBounded};
 ghost use Rattle.delta.specs.Gaps.{counted};
-ghost use Rattle.delta.specs.Normal.{nf, settled, built};
+ghost use Rattle.delta.specs.Normal.{nf, settled};
 ghost use Rattle.compose.specs.Held.{held};
 ghost use Rattle.compose.specs.Steps.{listed, AllSome};
 
+use crate::pieces::plain_len;
 use attributes::Change;
-use delta::{Builder, Delta, Op, OpRef};
+use delta::{Builder, Delta, Op};
 use refusal::Refusal;
 use std::alloc::Global;
 
@@ -73,7 +73,7 @@ impl Output {
         ensures over { self.new.over ≡ self.old.over }
         ensures only { IfErr result (λ e. (e ≡ Refusal.BadOps) ⊎ (e ≡ Refusal.NoMemory)) }
     {
-        match plain_len(&op) {
+        match plain_len(op.get()) {
             Some(len) => {
                 self.plain += len;
                 Ok(())
@@ -105,15 +105,5 @@ impl Output {
         let delta = builder.finish();
         let _ = delta.ops();
         Ok(delta)
-    }
-}
-
-// the length of a retain without attributes
-fn plain_len(op: &Op) -> Option<u64>
-    ensures { MatchOption result (is_plain op.now ≡ false) (λ len. op.now ≡ retain len empty) }
-{
-    match op.get() {
-        OpRef::Retain(len, change) => { if change.is_empty() { Some(len) } else { None } }
-        _ => None,
     }
 }

@@ -1,6 +1,7 @@
 //! Operations cut at a code unit, and what is left of a list of them.
-ghost use Rattle.std.specs.Prelude.{◌≡◌, ◌-◌, ◌<◌, ◌≤◌, IfOk, IsOkUnless, MatchOption, IfSome};
-ghost use Rattle.delta.specs.Operation.{op_len, is_insert, is_delete};
+ghost use Rattle.std.specs.Prelude.{◌≡◌, ◌-◌, ◌<◌, ◌≤◌, false, IfOk, IsOkUnless, MatchOption, IfSome};
+ghost use Rattle.attributes.specs.Map.{empty};
+ghost use Rattle.delta.specs.Operation.{op_len, retain, is_insert, is_delete, is_plain};
 ghost use Rattle.delta.specs.Kind.{operation_of};
 ghost use Rattle.compose.specs.Pieces.{first_units, last_units, left_after, left, PartsText, CutsText};
 
@@ -78,6 +79,16 @@ pub fn is_delete(op: OpRef<'_>) -> bool
     match op {
         OpRef::Delete(_) => true,
         OpRef::Text(_, _) | OpRef::Embed(_, _, _) | OpRef::Retain(_, _) => false,
+    }
+}
+
+/// The length of a retain without attributes.
+pub fn plain_len(op: OpRef<'_>) -> Option<u64>
+    ensures { MatchOption result (is_plain (operation_of op.entry) ≡ false) (λ len. operation_of op.entry ≡ retain len empty) }
+{
+    match op {
+        OpRef::Retain(len, change) => { if change.is_empty() { Some(len) } else { None } }
+        OpRef::Text(_, _) | OpRef::Embed(_, _, _) | OpRef::Delete(_) => None,
     }
 }
 

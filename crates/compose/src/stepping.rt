@@ -1,12 +1,12 @@
 //! One step along the operations of two deltas.
-ghost use Rattle.std.specs.Prelude.{◌≡◌, ◌⊎◌, [], ◌∷◌, true, false, IfOk, IfErr, IsOkUnless, MatchOption};
-ghost use Rattle.delta.specs.Operation.{op_len, is_insert, is_delete};
+ghost use Rattle.std.specs.Prelude.{◌≡◌, ◌⊎◌, ◌++◌, [], ◌∷◌, List, true, false, IfOk, IfErr, IsOkUnless};
+ghost use Rattle.delta.specs.Operation.{Operation, is_insert, is_delete};
 ghost use Rattle.delta.specs.Gaps.{counted};
 ghost use Rattle.delta.specs.Normal.{IsNormal};
 ghost use Rattle.delta.specs.Kind.{operation_of};
 ghost use Rattle.compose.specs.Cuts.{Cuts};
 ghost use Rattle.compose.specs.Pieces.{left, met};
-ghost use Rattle.compose.specs.Steps.{IsStep, listed};
+ghost use Rattle.compose.specs.Steps.{IsStepBefore, IsShorter, AllSome, listed};
 
 use crate::pieces::{Rest, all, copy_of, cut, is_delete, is_insert, len_of};
 use delta::{Op, OpRef};
@@ -15,51 +15,53 @@ use std::alloc::Global;
 
 /// What a step makes of the first operations of two lists, and what it leaves of both.
 #[derive(Drop)]
-pub struct Step<'a> {
+pub struct Step<'a, 'b> {
     pub made: Option<Op>,
     pub first: Rest<'a>,
-    pub second: Rest<'a>,
+    pub second: Rest<'b>,
 }
 
-/// One step along two lists, the second over what the first leaves; None where both have ended.
-pub fn next_step<'a>(
+/// One step along two lists, the second over what the first leaves. The first list is given by its first operation and the
+/// others; it may be the beginning of a longer one.
+pub fn next_step<'a, 'b>(
     alloc: Global,
-    first: Rest<'a>,
-    second: Rest<'a>,
-) -> Result<Option<Step<'a>>, Refusal>
-    requires first { IsNormal (left first) }
+    op: OpRef<'a>,
+    tail: &'a [Op],
+    second: Rest<'b>,
+) -> Result<Step<'a, 'b>, Refusal>
+    requires first { AllSome (operation_of op ∷ tail.now) }
     requires second { IsNormal (left second) }
-    ensures made { IfOk result (λ step. MatchOption step ((left first.entry ≡ []) × (left second.entry ≡ [])) (λ s. IsStep (left first.entry) (left second.entry) (listed s.made) (left s.first) (left s.second))) }
-    ensures cut { result ≡ Err Refusal.CutsPair → Cuts (counted (left first.entry)) (counted (left second.entry)) }
+    ensures made { IfOk result (λ s. IsStepBefore (operation_of op.entry ∷ tail.entry.now) (left second.entry) (listed s.made) (left s.first) (left s.second)) }
+    ensures shorter { IfOk result (λ s. IsShorter (operation_of op.entry ∷ tail.entry.now) (left second.entry) (listed s.made) (left s.first) (left s.second)) }
+    ensures cut { result ≡ Err Refusal.CutsPair → (more : List Operation) → IsNormal (operation_of op.entry ∷ tail.entry.now ++ more) → Cuts (counted (operation_of op.entry ∷ tail.entry.now ++ more)) (counted (left second.entry)) }
     ensures only { IfErr result (λ e. (e ≡ Refusal.CutsPair) ⊎ (e ≡ Refusal.NoMemory)) }
 {
-    match (first.head, second.head) {
-        (None, None) => Ok(None),
-        (Some(op), None) => Ok(Some(pass_first(alloc, op, first.tail, second)?)),
-        (None, Some(op)) => Ok(Some(pass_second(alloc, first, op, second.tail)?)),
-        (Some(op), Some(next)) => {
+    match second.head {
+        None => pass_first(alloc, op, tail, second),
+        Some(next) => {
             if is_delete(op) {
-                Ok(Some(pass_first(alloc, op, first.tail, second)?))
+                pass_first(alloc, op, tail, second)
             } else if is_insert(next) {
-                Ok(Some(pass_second(alloc, first, next, second.tail)?))
+                pass_second(alloc, op, tail, next, second.tail)
             } else {
-                Ok(Some(meet(alloc, op, first.tail, next, second.tail)?))
+                meet(alloc, op, tail, next, second.tail)
             }
         }
     }
 }
 
 // the first list's operation as it is
-fn pass_first<'a>(
+fn pass_first<'a, 'b>(
     alloc: Global,
     op: OpRef<'a>,
     tail: &'a [Op],
-    second: Rest<'a>,
-) -> Result<Step<'a>, Refusal>
-    requires first { IsNormal (operation_of op ∷ tail.now) }
+    second: Rest<'b>,
+) -> Result<Step<'a, 'b>, Refusal>
+    requires first { AllSome (operation_of op ∷ tail.now) }
     requires second { IsNormal (left second) }
     requires alone { (left second ≡ []) ⊎ (is_delete (operation_of op) ≡ true) }
-    ensures made { IfOk result (λ s. IsStep (operation_of op.entry ∷ tail.entry.now) (left second.entry) (listed s.made) (left s.first) (left s.second)) }
+    ensures made { IfOk result (λ s. IsStepBefore (operation_of op.entry ∷ tail.entry.now) (left second.entry) (listed s.made) (left s.first) (left s.second)) }
+    ensures shorter { IfOk result (λ s. IsShorter (operation_of op.entry ∷ tail.entry.now) (left second.entry) (listed s.made) (left s.first) (left s.second)) }
     ensures only { IsOkUnless result Refusal.NoMemory }
 {
     Ok(Step {
@@ -69,40 +71,46 @@ fn pass_first<'a>(
     })
 }
 
-// the second list's operation as it is
-fn pass_second<'a>(
+// the second list's operation, an insert, as it is
+fn pass_second<'a, 'b>(
     alloc: Global,
-    first: Rest<'a>,
     op: OpRef<'a>,
     tail: &'a [Op],
-) -> Result<Step<'a>, Refusal>
-    requires first { IsNormal (left first) }
-    requires second { IsNormal (operation_of op ∷ tail.now) }
-    requires alone { (left first ≡ []) ⊎ (is_insert (operation_of op) ≡ true) }
-    ensures made { IfOk result (λ s. IsStep (left first.entry) (operation_of op.entry ∷ tail.entry.now) (listed s.made) (left s.first) (left s.second)) }
+    next: OpRef<'b>,
+    rest: &'b [Op],
+) -> Result<Step<'a, 'b>, Refusal>
+    requires first { AllSome (operation_of op ∷ tail.now) }
+    requires second { IsNormal (operation_of next ∷ rest.now) }
+    requires inserts { is_insert (operation_of next) ≡ true }
+    ensures made { IfOk result (λ s. IsStepBefore (operation_of op.entry ∷ tail.entry.now) (operation_of next.entry ∷ rest.entry.now) (listed s.made) (left s.first) (left s.second)) }
+    ensures shorter { IfOk result (λ s. IsShorter (operation_of op.entry ∷ tail.entry.now) (operation_of next.entry ∷ rest.entry.now) (listed s.made) (left s.first) (left s.second)) }
     ensures only { IsOkUnless result Refusal.NoMemory }
 {
     Ok(Step {
-        made: Some(copy_of(alloc, op)?),
-        first,
-        second: all(tail),
+        made: Some(copy_of(alloc, next)?),
+        first: Rest {
+            head: Some(op),
+            tail,
+        },
+        second: all(rest),
     })
 }
 
 // what inserts or keeps some units, and what keeps or deletes them then, as far as both go
-fn meet<'a>(
+fn meet<'a, 'b>(
     alloc: Global,
     op: OpRef<'a>,
     tail: &'a [Op],
-    next: OpRef<'a>,
-    rest: &'a [Op],
-) -> Result<Step<'a>, Refusal>
-    requires first { IsNormal (operation_of op ∷ tail.now) }
+    next: OpRef<'b>,
+    rest: &'b [Op],
+) -> Result<Step<'a, 'b>, Refusal>
+    requires first { AllSome (operation_of op ∷ tail.now) }
     requires second { IsNormal (operation_of next ∷ rest.now) }
     requires stays { is_delete (operation_of op) ≡ false }
     requires stands { is_insert (operation_of next) ≡ false }
-    ensures made { IfOk result (λ s. IsStep (operation_of op.entry ∷ tail.entry.now) (operation_of next.entry ∷ rest.entry.now) (listed s.made) (left s.first) (left s.second)) }
-    ensures cut { result ≡ Err Refusal.CutsPair → Cuts (counted (operation_of op.entry ∷ tail.entry.now)) (counted (operation_of next.entry ∷ rest.entry.now)) }
+    ensures made { IfOk result (λ s. IsStepBefore (operation_of op.entry ∷ tail.entry.now) (operation_of next.entry ∷ rest.entry.now) (listed s.made) (left s.first) (left s.second)) }
+    ensures shorter { IfOk result (λ s. IsShorter (operation_of op.entry ∷ tail.entry.now) (operation_of next.entry ∷ rest.entry.now) (listed s.made) (left s.first) (left s.second)) }
+    ensures cut { result ≡ Err Refusal.CutsPair → (more : List Operation) → IsNormal (operation_of op.entry ∷ tail.entry.now ++ more) → Cuts (counted (operation_of op.entry ∷ tail.entry.now ++ more)) (counted (operation_of next.entry ∷ rest.entry.now)) }
     ensures only { IfErr result (λ e. (e ≡ Refusal.CutsPair) ⊎ (e ≡ Refusal.NoMemory)) }
 {
     let len = len_of(op).min(len_of(next));

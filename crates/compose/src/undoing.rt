@@ -47,7 +47,7 @@ fn next_step_back<'a>(
     alloc: Global,
     base: Rest<'a>,
     ops: Rest<'a>,
-) -> Result<Option<Step<'a>>, Refusal>
+) -> Result<Option<Step<'a, 'a>>, Refusal>
     requires base { IsNormal (left base) }
     requires ops { IsNormal (left ops) }
     requires inserted { AllInsert (left base) }
@@ -71,7 +71,7 @@ fn next_step_back<'a>(
 }
 
 // what was inserted is deleted
-fn take_out<'a>(base: Rest<'a>, next: OpRef<'a>, tail: &'a [Op]) -> Step<'a>
+fn take_out<'a>(base: Rest<'a>, next: OpRef<'a>, tail: &'a [Op]) -> Step<'a, 'a>
     requires base { IsNormal (left base) }
     requires ops { IsNormal (operation_of next ∷ tail.now) }
     requires inserted { AllInsert (left base) }
@@ -93,7 +93,7 @@ fn turn<'a>(
     tail: &'a [Op],
     next: OpRef<'a>,
     rest: &'a [Op],
-) -> Result<Step<'a>, Refusal>
+) -> Result<Step<'a, 'a>, Refusal>
     requires base { IsNormal (operation_of op ∷ tail.now) }
     requires ops { IsNormal (operation_of next ∷ rest.now) }
     requires inserted { AllInsert (operation_of op ∷ tail.now) }

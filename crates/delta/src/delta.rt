@@ -50,6 +50,20 @@ impl Delta {
         self.ops.as_slice()
     }
 
+    /// The operations, by value. Nothing is copied.
+    pub fn into_ops(self) -> Vec<Op>
+        ensures ops { result.items ≡ self }
+        ensures normal { IsNormal self }
+        ensures bounded { IsBounded self }
+    {
+        let Delta {
+            ops,
+            base: _,
+            out: _,
+        } = self;
+        ops
+    }
+
     /// The base length: how many code units are retained and deleted. Constant time.
     pub fn base_len(&self) -> u64
         ensures { result ≡ base_of self.now }

@@ -20,11 +20,16 @@ pub struct Op {
     kind: Kind,
 }
 
+/// An operation taken apart.
 #[derive(Drop)]
-enum Kind {
+pub enum Kind {
+    /// Insert a text with attributes.
     Text(String, Attrs),
+    /// Insert an embed, by its name and value, with attributes.
     Embed(Key, Value, Attrs),
+    /// Keep so many code units, with a change of their attributes.
     Retain(u64, Change),
+    /// Delete so many code units.
     Delete(u64),
 }
 
@@ -54,7 +59,7 @@ impl Model for Op {
 }
 
 impl Op {
-    ghost use Rattle.delta.specs.Kind.{operation_of};
+    ghost use Rattle.delta.specs.Kind.{operation_of, operation_of_kind};
 
     /// Inserts a text.
     pub fn text(text: String, attrs: Attrs) -> Self
@@ -108,6 +113,21 @@ impl Op {
             Kind::Retain(len, change) => OpRef::Retain(*len, change),
             Kind::Delete(len) => OpRef::Delete(*len),
         }
+    }
+
+    /// The operation of these parts.
+    pub fn from_kind(kind: Kind) -> Self
+        ensures { result ≡ operation_of_kind kind }
+    {
+        Op { kind }
+    }
+
+    /// The operation, taken apart. Nothing is copied.
+    pub fn into_kind(self) -> Kind
+        ensures { operation_of_kind result ≡ self }
+    {
+        let Op { kind } = self;
+        kind
     }
 
     /// How many code units of the document before it the operation stands on: what it retains or deletes.

@@ -217,6 +217,18 @@ fn tells_apart(rt: HostRuntime) -> Result<(), Fail> {
 }
 
 #[test]
+fn comes_apart(rt: HostRuntime) -> Result<(), Fail> {
+    let delta = built(rt.alloc(), "ins a {bold}, emb image, ret 1 {-bold}, del 1")?;
+    let same = delta.copy(rt.alloc())?;
+    let mut builder = Builder::new(rt.alloc());
+    for op in delta.into_ops() {
+        builder.push(Op::from_kind(op.into_kind()))?;
+    }
+    assert!(rt; builder.finish() == same);
+    Ok(())
+}
+
+#[test]
 fn counts_code_units(rt: HostRuntime) -> Result<(), Fail> {
     let delta = built(rt.alloc(), "ins a😀b, emb image, ret 3 {bold}, del 7")?;
     assert_eq!(rt; delta.base_len(), 10);

@@ -1,5 +1,5 @@
 //! Gap forms, place by place: the values of the plain programs.
-ghost use Rattle.std.specs.Prelude.{◌≡◌, ◌++◌, [], ◌∷◌, IfOk, OnOk, IsOkUnless};
+ghost use Rattle.std.specs.Prelude.{◌≡◌, ◌++◌, [], IfOk, OnOk, IsOkUnless};
 ghost use Rattle.delta.specs.Gaps.{fated};
 ghost use Rattle.compose.specs.Places.{inserts, fate, tail};
 ghost use Rattle.compose.specs.Plain.{fate_of, form_of};

@@ -1,11 +1,10 @@
 //! The plain programs: each goes along gap forms unit by unit, as its definition does.
-ghost use Rattle.std.specs.Prelude.{◌≡◌, ℕ, ◌++◌, [], ◌∷◌, List, length, IfOk, OnOk, IsOkUnless};
+ghost use Rattle.std.specs.Prelude.{◌≡◌, ◌++◌, [], ◌∷◌, length, IfOk, OnOk, IsOkUnless};
 ghost use Rattle.std.specs.Char.Utf16.{is_high_surrogate, is_low_surrogate};
-ghost use Rattle.delta.specs.Element.{Element};
 ghost use Rattle.delta.specs.Gaps.{Gaps, Gap, Del, front, run};
 ghost use Rattle.compose.specs.Places.{fate, tail};
 ghost use Rattle.compose.specs.Composed.{laid, beyond, kept_then, composed};
-ghost use Rattle.compose.specs.Cuts.{are_high_and_low, is_pair, is_nothing, same_fate, parts, is_parted, cuts_units, cuts};
+ghost use Rattle.compose.specs.Cuts.{are_high_and_low, is_pair, parts, is_parted, cuts_units, cuts};
 ghost use Rattle.compose.specs.Inverse.{unit_back, inverse};
 ghost use Rattle.compose.specs.Plain.{fate_of, placed, form_of};
 

@@ -1,43 +1,69 @@
-use Rattle.std.proofs.Common.{◌∙◌, sym, subst}
-use Rattle.delta.specs.Operation.{IsBounded}
+use Rattle.std.proofs.Common.{◌≡◌, ◌∙◌, [], sym, subst, arith}
+use Rattle.std.specs.Prelude.{Result, Err}
+use Rattle.std.proofs.lemmas.Result.{err_from_is_err_and}
+use Rattle.refusal.specs.declared.Refusal.{Refusal}
+use Rattle.refusal.specs.declared.Refusal.TheVariants.{CutsPair}
 use Rattle.compose.specs.Composes.{Composes}
 use Rattle.compose.specs.Pieces.{left}
-use Rattle.compose.specs.Steps.{listed}
+use Rattle.compose.specs.declared.pieces.Rest.{Rest}
 use Rattle.compose.proofs.Compositions.{composes_by_normal}
-use Rattle.compose.proofs.Outcomes.{if_ok, on_both}
-use Rattle.compose.proofs.Whole.{so_far-step, so_far-end}
+use Rattle.compose.proofs.LaidOver.{laid-none, laid-all, some-same}
+use Rattle.compose.proofs.Outcomes.{map_ok}
 use Rattle.compose.proofs.composing.compose.Goals as goal
 
-pub returns-in-None-clause-one : goal.returns-in-None-clause-one
-returns-in-None-clause-one c =
-    let ended = rw c.in-None.is at c.in_ok-next_step.ensures.made in
-    if_ok c.finish.result
-    (λ one over_is one_is. one_is ∙ so_far-end c.args.first.now c.args.second.now c.loop-out.out.builder (left c.loop-out.before) (left c.loop-out.after) c.loop-out.out.plain c.loop-out.out.over c.loop-out.invariant ended.0 ended.1 over_is)
-    c.finish.ensures.still c.finish.ensures.ok
+pub lay-requires-clause-first : goal.lay-requires-clause-first
+lay-requires-clause-first c = some-same c.args.first.now (left c.all.result) (c.all.ensures ∙ c.ops.ensures.ops) c.ops.ensures.normal
 
-pub returns-in-None-clause-composes : goal.returns-in-None-clause-composes
-returns-in-None-clause-composes c =
-    let ended = rw c.in-None.is at c.in_ok-next_step.ensures.made in
-    if_ok c.finish.result
-    (λ one over_is one_is.
-    subst (λ l. Composes l c.args.first.now c.args.second.now)
-    (sym (one_is ∙ so_far-end c.args.first.now c.args.second.now c.loop-out.out.builder (left c.loop-out.before) (left c.loop-out.after) c.loop-out.out.plain c.loop-out.out.over c.loop-out.invariant ended.0 ended.1 over_is))
-    (composes_by_normal c.args.first.now c.args.second.now))
-    c.finish.ensures.still c.finish.ensures.ok
+pub returns-in_err-rest-clause-cut : goal.returns-in_err-rest-clause-cut
+returns-in_err-rest-clause-cut c =
+    λ e.
+    let p = err_from_is_err_and c.from_residual.result c.from_residual.ensures.1 in
+    let from : p.0 ≡ c.in_err-rest.field-0.0 = p.2 in
+    let cut : ◌≡◌ {A = Result Rest Refusal} (Err c.in_err-rest.field-0.0) (Err CutsPair) = cc in
+    c.in_err-rest.ensures.cut cut c.args.first.now c.args.second.now []
+    (laid-none c.new-out.result c.args.first.now c.args.second.now (left c.all.result) (left c.all-2.result) c.new-out.ensures.builder c.new-out.ensures.plain c.new-out.ensures.over
+    (c.all.ensures ∙ c.ops.ensures.ops) (c.all-2.ensures ∙ c.ops-2.ensures.ops) c.ops.ensures.normal c.ops-2.ensures.normal c.ops.ensures.bounded c.ops-2.ensures.bounded)
 
-pub returns-in-None-clause-bounded : goal.returns-in-None-clause-bounded
-returns-in-None-clause-bounded c =
-    let ended = rw c.in-None.is at c.in_ok-next_step.ensures.made in
-    on_both c.finish.result
-    (λ one over_is one_is bounded.
-    subst IsBounded
-    (one_is ∙ so_far-end c.args.first.now c.args.second.now c.loop-out.out.builder (left c.loop-out.before) (left c.loop-out.after) c.loop-out.out.plain c.loop-out.out.over c.loop-out.invariant ended.0 ended.1 over_is)
-    bounded)
-    c.finish.ensures.still c.finish.ensures.ok c.finish.ensures.bounded
+pub end-requires-clause-second : goal.end-requires-clause-second
+end-requires-clause-second c =
+    let so = laid-all c.new-out.result c.lay.new.out c.args.first.now c.args.second.now (left c.all.result) (left c.all-2.result) (left c.in_ok-rest.rest) c.new-out.ensures.builder c.new-out.ensures.plain c.new-out.ensures.over
+    (c.all.ensures ∙ c.ops.ensures.ops) (c.all-2.ensures ∙ c.ops-2.ensures.ops) c.ops.ensures.normal c.ops-2.ensures.normal c.ops.ensures.bounded c.ops-2.ensures.bounded c.in_ok-rest.ensures.on in
+    so.after_normal
 
-pub loop-out-preserved : goal.loop-out-preserved
-loop-out-preserved c =
-    let step = rw c.in-Some.is at c.in_ok-next_step.ensures.made in
-    so_far-step c.args.first.now c.args.second.now c.loop-out.out.builder (listed c.in-Some.step.made) c.add.new.self.builder (left c.loop-out.before) (left c.loop-out.after) (left c.in-Some.step.first) (left c.in-Some.step.second)
-    c.loop-out.out.plain c.add.new.self.plain c.loop-out.out.over c.add.new.self.over c.loop-out.invariant step
-    c.in_ok-add-in-Some.ensures.kept c.in_ok-add-in-Some.ensures.still c.in_ok-add-in-Some.ensures.over c.add.ensures.room
+pub end-requires-clause-room : goal.end-requires-clause-room
+end-requires-clause-room c =
+    let so = laid-all c.new-out.result c.lay.new.out c.args.first.now c.args.second.now (left c.all.result) (left c.all-2.result) (left c.in_ok-rest.rest) c.new-out.ensures.builder c.new-out.ensures.plain c.new-out.ensures.over
+    (c.all.ensures ∙ c.ops.ensures.ops) (c.all-2.ensures ∙ c.ops-2.ensures.ops) c.ops.ensures.normal c.ops-2.ensures.normal c.ops.ensures.bounded c.ops-2.ensures.bounded c.in_ok-rest.ensures.on in
+    omega (arith, so.room)
+
+pub returns-clause-one : goal.returns-clause-one
+returns-clause-one c =
+    let so = laid-all c.new-out.result c.lay.new.out c.args.first.now c.args.second.now (left c.all.result) (left c.all-2.result) (left c.in_ok-rest.rest) c.new-out.ensures.builder c.new-out.ensures.plain c.new-out.ensures.over
+    (c.all.ensures ∙ c.ops.ensures.ops) (c.all-2.ensures ∙ c.ops-2.ensures.ops) c.ops.ensures.normal c.ops-2.ensures.normal c.ops.ensures.bounded c.ops-2.ensures.bounded c.in_ok-rest.ensures.on in
+    (c.end.ensures.outcome c.args.first.now c.args.second.now so).one
+
+pub returns-clause-composes : goal.returns-clause-composes
+returns-clause-composes c =
+    let so = laid-all c.new-out.result c.lay.new.out c.args.first.now c.args.second.now (left c.all.result) (left c.all-2.result) (left c.in_ok-rest.rest) c.new-out.ensures.builder c.new-out.ensures.plain c.new-out.ensures.over
+    (c.all.ensures ∙ c.ops.ensures.ops) (c.all-2.ensures ∙ c.ops-2.ensures.ops) c.ops.ensures.normal c.ops-2.ensures.normal c.ops.ensures.bounded c.ops-2.ensures.bounded c.in_ok-rest.ensures.on in
+    map_ok c.end.result
+    (λ one is. subst (λ l. Composes l c.args.first.now c.args.second.now) (sym is) (composes_by_normal c.args.first.now c.args.second.now))
+    (c.end.ensures.outcome c.args.first.now c.args.second.now so).one
+
+pub returns-clause-whole : goal.returns-clause-whole
+returns-clause-whole c =
+    let so = laid-all c.new-out.result c.lay.new.out c.args.first.now c.args.second.now (left c.all.result) (left c.all-2.result) (left c.in_ok-rest.rest) c.new-out.ensures.builder c.new-out.ensures.plain c.new-out.ensures.over
+    (c.all.ensures ∙ c.ops.ensures.ops) (c.all-2.ensures ∙ c.ops-2.ensures.ops) c.ops.ensures.normal c.ops-2.ensures.normal c.ops.ensures.bounded c.ops-2.ensures.bounded c.in_ok-rest.ensures.on in
+    (c.end.ensures.outcome c.args.first.now c.args.second.now so).whole
+
+pub returns-clause-bounded : goal.returns-clause-bounded
+returns-clause-bounded c =
+    let so = laid-all c.new-out.result c.lay.new.out c.args.first.now c.args.second.now (left c.all.result) (left c.all-2.result) (left c.in_ok-rest.rest) c.new-out.ensures.builder c.new-out.ensures.plain c.new-out.ensures.over
+    (c.all.ensures ∙ c.ops.ensures.ops) (c.all-2.ensures ∙ c.ops-2.ensures.ops) c.ops.ensures.normal c.ops-2.ensures.normal c.ops.ensures.bounded c.ops-2.ensures.bounded c.in_ok-rest.ensures.on in
+    (c.end.ensures.outcome c.args.first.now c.args.second.now so).bounded
+
+pub returns-clause-bad : goal.returns-clause-bad
+returns-clause-bad c =
+    let so = laid-all c.new-out.result c.lay.new.out c.args.first.now c.args.second.now (left c.all.result) (left c.all-2.result) (left c.in_ok-rest.rest) c.new-out.ensures.builder c.new-out.ensures.plain c.new-out.ensures.over
+    (c.all.ensures ∙ c.ops.ensures.ops) (c.all-2.ensures ∙ c.ops-2.ensures.ops) c.ops.ensures.normal c.ops-2.ensures.normal c.ops.ensures.bounded c.ops-2.ensures.bounded c.in_ok-rest.ensures.on in
+    (c.end.ensures.outcome c.args.first.now c.args.second.now so).bad

@@ -3,13 +3,13 @@ use Rattle.delta.specs.Operation.{op_len}
 use Rattle.delta.specs.Kind.{operation_of}
 use Rattle.compose.specs.Pieces.{left}
 use Rattle.compose.specs.Steps.{listed}
-use Rattle.compose.proofs.Meetings.{some-min, pair_cut}
+use Rattle.compose.proofs.Meetings.{some-min, some-first, pair_cut}
 use Rattle.compose.proofs.StepsBack.{stays, turned}
 use Rattle.compose.proofs.undoing.turn.Goals as goal
 
 pub cut-requires-in-Some-clause-some : goal.cut-requires-in-Some-clause-some
 cut-requires-in-Some-clause-some c =
-    some-min (operation_of c.args.op) (operation_of c.args.next) c.args.tail.now c.args.rest.now c.min-len.result c.requires.base c.requires.ops
+    some-min (operation_of c.args.op) (operation_of c.args.next) c.args.rest.now c.min-len.result (some-first (operation_of c.args.op) c.args.tail.now c.requires.base) c.requires.ops
     (c.min-len.ensures ∙ (ap (λ k. min k c.len_of-2.result) c.len_of.ensures ∙ ap (min (op_len (operation_of c.args.op))) c.len_of-2.ensures))
 
 pub returns-in-None-clause-cut : goal.returns-in-None-clause-cut
