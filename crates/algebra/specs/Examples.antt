@@ -1,6 +1,6 @@
 -- Words and what becomes of them, computed.
 use Rattle.std.specs.Prelude.{◌≡◌, ℕ, zero, suc, true, false, List, [], ◌∷◌, Some, Ok, Err, codes, refl}
-use Rattle.std.specs.Str.{chars}
+use Rattle.std.specs.Str.{chars, is_utf8}
 use Rattle.std.specs.Char.{encode_utf8}
 use Rattle.std.specs.Char.Utf16.{utf16_chars}
 use Rattle.serde_json.specs.Data.{null, Items, no_items, item}
@@ -28,31 +28,31 @@ bolden = insert empty (codes "bold") (Some (flag_scalar true))
 
 -- what words describe
 read_text : delta_in (codes "{\"ops\":[{\"insert\":\"abc\"}]}") ≡ Ok (ins (codes "abc") ∷ [])
-unfolding serde_json_on_literals chars
+unfolding serde_json_on_literals is_utf8 chars
 read_text = refl
 
 read_lengths : delta_in (codes "{\"ops\":[{\"retain\":1},{\"delete\":1}]}") ≡ Ok (ret 1 ∷ delete 1 ∷ [])
-unfolding serde_json_on_literals
+unfolding serde_json_on_literals is_utf8 chars
 read_lengths = refl
 
 read_nothing : delta_in (codes "{\"ops\":[]}") ≡ Ok []
-unfolding serde_json_on_literals
+unfolding serde_json_on_literals is_utf8 chars
 read_nothing = refl
 
 no_json : delta_in (codes "x") ≡ Err BadLine
-unfolding serde_json_on_literals
+unfolding serde_json_on_literals is_utf8 chars
 no_json = refl
 
 another_member : delta_in (codes "{\"more\":1,\"ops\":[]}") ≡ Err BadMessage
-unfolding serde_json_on_literals
+unfolding serde_json_on_literals is_utf8 chars
 another_member = refl
 
 no_array : delta_in (codes "{\"ops\":{}}") ≡ Err BadMessage
-unfolding serde_json_on_literals
+unfolding serde_json_on_literals is_utf8 chars
 no_array = refl
 
 no_operation : delta_in (codes "{\"ops\":[{\"insert\":null}]}") ≡ Err BadOps
-unfolding serde_json_on_literals
+unfolding serde_json_on_literals is_utf8 chars
 no_operation = refl
 
 abbrev nulls : ℕ → Items
@@ -64,11 +64,11 @@ too_many = refl
 
 -- the first word's fault is told
 no_object_before_no_json : deltas_in (codes "{}") (codes "x") ≡ Err BadMessage
-unfolding serde_json_on_literals
+unfolding serde_json_on_literals is_utf8 chars
 no_object_before_no_json = refl
 
 no_json_after_a_delta : deltas_in (codes "{\"ops\":[]}") (codes "x") ≡ Err BadLine
-unfolding serde_json_on_literals
+unfolding serde_json_on_literals is_utf8 chars
 no_json_after_a_delta = refl
 
 -- [ins "abc"], then [ret 1, del 1], is [ins "ac"]
@@ -110,7 +110,7 @@ not_made = refl
 
 -- {"ops":[]}, {"ops":[{"insert":"ac"}]} and {"ops":[{"attributes":{"bold":true},"insert":"ac"}]}
 nothing_printed : text_of [] ≡ codes "{\"ops\":[]}"
-unfolding serde_json_on_literals
+unfolding serde_json_on_literals is_utf8 chars
 nothing_printed = refl
 
 text_printed : text_of (ins (codes "ac") ∷ []) ≡ codes "{\"ops\":[{\"insert\":\"ac\"}]}"

@@ -2,11 +2,11 @@
 use Rattle.std.specs.Prelude.{ℕ, ◌==◌, if◌then◌else◌, List, codes, Option, Some, None, option_and_then, Result, Ok, Err}
 use Rattle.serde_json.specs.Data.{Data, Items}
 use Rattle.serde_json.specs.Find.{get, as_array}
-use Rattle.serde_json.specs.Read.{read}
 use Rattle.refusal.specs.declared.Refusal.{Refusal}
 use Rattle.refusal.specs.declared.Refusal.TheVariants.{BadLine, BadMessage}
 use Rattle.delta.specs.Operation.{Operation}
 use Rattle.optext.specs.Described.{member_count, delta_of}
+use Rattle.optext.specs.Json.{value_of}
 
 -- the array `ops` of an object that has no other member
 abbrev pub array_in : Data → Option Items
@@ -23,7 +23,7 @@ of_value (Some value) = of_array (array_in value)
 
 -- the delta that a word describes, where the word is one JSON text
 abbrev pub delta_in : List ℕ → Result (List Operation) Refusal
-delta_in word = of_value (read word)
+delta_in word = of_value (value_of word)
 
 -- both, where both are there; else the fault of the first that has one
 abbrev pub both : {X : Type 0} → Result X Refusal → Result X Refusal → Result (X × X) Refusal

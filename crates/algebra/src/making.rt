@@ -1,8 +1,6 @@
 //! What comes of two deltas.
-ghost use Rattle.std.specs.Prelude.{◌≡◌};
-ghost use Rattle.optext.specs.Answer.{IsDue};
 ghost use Rattle.algebra.specs.Answer.{IsAnswer};
-ghost use Rattle.algebra.specs.Outcomes.{Composing, Transforming, Inverting, Applying, InvertingOn, ApplyingOn, document_of};
+ghost use Rattle.algebra.specs.Outcomes.{Composing, Transforming, Inverting, Applying, InvertingOn, ApplyingOn};
 
 use compose::{compose, invert};
 use delta::Delta;
@@ -34,7 +32,7 @@ pub(crate) fn transformed(
 pub(crate) fn inverted(alloc: Global, delta: &Delta, base: &Delta) -> Result<Delta, Refusal>
     ensures { IsAnswer (Inverting delta.now base.now) result }
 {
-    let document = document_of(alloc, base)?;
+    let document = Document::from_delta(alloc, base)?;
     inverted_on(alloc, delta, &document)
 }
 
@@ -42,7 +40,7 @@ pub(crate) fn inverted(alloc: Global, delta: &Delta, base: &Delta) -> Result<Del
 pub(crate) fn applied(alloc: Global, document: &Delta, delta: &Delta) -> Result<Delta, Refusal>
     ensures { IsAnswer (Applying document.now delta.now) result }
 {
-    let document = document_of(alloc, document)?;
+    let document = Document::from_delta(alloc, document)?;
     applied_to(alloc, delta, document)
 }
 
@@ -57,18 +55,5 @@ fn applied_to(alloc: Global, delta: &Delta, mut document: Document) -> Result<De
 {
     document.apply(alloc, delta)?;
     let made = document.as_delta(alloc)?;
-    Ok(made)
-}
-
-// the document that a delta makes of the empty one
-fn document_of(alloc: Global, delta: &Delta) -> Result<Document, Refusal>
-    ensures { IsDue (document_of delta.now) result }
-{
-    delta::laws::units_counted();
-    delta::laws::length_of_effect();
-    // its operations keep the bound
-    let _ = delta.ops();
-    let mut made = Document::empty(alloc);
-    made.apply(alloc, delta)?;
     Ok(made)
 }

@@ -1,13 +1,11 @@
 //! The deltas that words describe.
-ghost use Rattle.std.specs.Prelude.{◌≡◌, ◌⊎◌, IfOk, IfErr, option_map, Some, None};
-ghost use Rattle.serde_json.specs.Read.{read};
+ghost use Rattle.std.specs.Prelude.{◌≡◌, option_map};
 ghost use Rattle.serde_json.specs.View.{view, items_view};
 ghost use Rattle.optext.specs.Answer.{IsDue};
-ghost use Rattle.optext.specs.Described as described;
 ghost use Rattle.algebra.specs.Words as spec;
 
 use delta::Delta;
-use optext::read_ops;
+use optext::{member_count, read_json, read_ops};
 use refusal::Refusal;
 use serde_json::Value as Json;
 use std::alloc::Global;
@@ -25,24 +23,10 @@ pub(crate) fn read_both(alloc: Global, first: &str, second: &str) -> Result<(Del
 fn read_word(alloc: Global, word: &str) -> Result<Delta, Refusal>
     ensures { IsDue (spec.delta_in word.now) result }
 {
-    let value = read_value(alloc, word)?;
+    let value = read_json(alloc, word.as_bytes())?;
     match array_in(&value) {
         Some(operations) => read_ops(alloc, operations),
         None => Err(Refusal::BadMessage),
-    }
-}
-
-fn read_value(alloc: Global, word: &str) -> Result<Json, Refusal>
-    ensures ok { IfOk result (λ value. read word.now ≡ Some (view value)) }
-    ensures err { IfErr result (λ e. (e ≡ Refusal.NoMemory) ⊎ ((e ≡ Refusal.BadLine) × (read word.now ≡ None))) }
-{
-    match Json::from_str(alloc, word) {
-        Ok(value) => Ok(value),
-        Err(fault) => Err(if fault.is_memory() {
-            Refusal::NoMemory
-        } else {
-            Refusal::BadLine
-        }),
     }
 }
 
@@ -55,13 +39,4 @@ fn array_in(value: &Json) -> Option<&[Json]>
     }
     let operations = value.get("ops")?.as_array()?;
     Some(operations.as_slice())
-}
-
-fn member_count(value: &Json) -> usize
-    ensures { result ≡ described.member_count (view value.now) }
-{
-    match value.as_object() {
-        Some(members) => members.len(),
-        None => 0,
-    }
 }

@@ -6,7 +6,7 @@ use Rattle.attributes.specs.Scalar.{Scalar, scalar_code}
 use Rattle.attributes.specs.Attributes.{Attributes, Changes}
 use Rattle.delta.specs.Element.{Element, Item, code_unit, embed}
 use Rattle.delta.specs.Gaps.{Gaps, End, Gap, Fate, Del, Keep}
-use Rattle.document.specs.Elements.{element_code}
+use Rattle.delta.specs.ElementCode.{element_code}
 
 -- an embed, or a code unit where there is none
 abbrev pub item_of : ℕ → Option (List ℕ × Scalar) → Item

@@ -1,4 +1,5 @@
 pub mod Element
+pub mod ElementCode
 pub mod Operation
 pub mod Kind
 pub mod Gaps

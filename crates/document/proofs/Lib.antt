@@ -12,3 +12,4 @@ pub mod Deciding
 pub mod Weighing
 pub mod Inserting
 pub mod Units
+pub mod Making

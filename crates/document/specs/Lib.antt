@@ -1,7 +1,6 @@
 pub mod Pairs
 pub mod Places
 pub mod Weight
-pub mod Elements
 pub mod Runs
 pub mod Pieces
 pub mod Passes

@@ -19,7 +19,7 @@ impl<'a> Model for Cursor<'a> {
     ghost use Rattle.std.specs.Prelude.{◌++◌, List};
     ghost use Rattle.std.specs.Coded.{coded_list};
     ghost use Rattle.delta.specs.Element.{Element};
-    ghost use Rattle.document.specs.Elements.{element_code};
+    ghost use Rattle.delta.specs.ElementCode.{element_code};
     ghost use Rattle.document.specs.Pieces.{begun_units, IsBegun};
     ghost use Rattle.document.specs.Runs.{units_of_runs, AreRuns};
 

@@ -1,5 +1,5 @@
 //! Documents.
-ghost use Rattle.std.specs.Prelude.{◌≡◌, ◌+◌, ◌≤◌, ◌<◌, ◌^◌, ◌↔◌, ◌-◌, min, [], ◌∷◌, length, IfOk, IfErr, OnOk, OnErr, IsOkUnless};
+ghost use Rattle.std.specs.Prelude.{◌≡◌, ◌⊎◌, ◌+◌, ◌≤◌, ◌<◌, ◌^◌, ◌↔◌, ◌-◌, min, [], ◌∷◌, length, IfOk, IfErr, OnOk, OnErr, IsOkUnless};
 ghost use Rattle.document.specs.Pairs.{IsWellFormed};
 ghost use Rattle.delta.specs.Gaps.{counted, apply, End};
 ghost use Rattle.delta.specs.Normal.{nf};
@@ -27,7 +27,7 @@ impl Model for Document {
     ghost use Rattle.std.specs.Prelude.{◌≤◌, ◌^◌, List, length};
     ghost use Rattle.std.specs.Coded.{coded_list};
     ghost use Rattle.delta.specs.Element.{Element};
-    ghost use Rattle.document.specs.Elements.{element_code};
+    ghost use Rattle.delta.specs.ElementCode.{element_code};
     ghost use Rattle.document.specs.Runs.{units_of_runs, AreRuns};
 
     ghost Value = { List Element };
@@ -46,6 +46,22 @@ impl Document {
     {
         Document {
             runs: Vec::new(alloc),
+        }
+    }
+
+    /// The document that a delta makes of the empty one. Refused as PastEnd just where the delta retains or deletes a unit,
+    /// since the empty document has none, and as NoMemory. It takes the memory that `apply` takes.
+    pub fn from_delta(alloc: Global, delta: &Delta) -> Result<Self, Refusal>
+        ensures made { IfOk result (λ document. document ≡ apply [] (counted delta.now)) }
+        ensures past_end { (result ≡ Err Refusal.PastEnd) ↔ (0 < base_of delta.now) }
+        ensures only { IfErr result (λ e. (e ≡ Refusal.PastEnd) ⊎ (e ≡ Refusal.NoMemory)) }
+    {
+        // its operations keep the bound
+        let _ = delta.ops();
+        let mut document = Document::empty(alloc);
+        match document.apply(alloc, delta) {
+            Ok(()) => Ok(document),
+            Err(refusal) => Err(refusal),
         }
     }
 

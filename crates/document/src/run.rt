@@ -76,7 +76,7 @@ impl Model for Run {
     ghost use Rattle.std.specs.Prelude.{◌≡◌, ◌<◌, List, length};
     ghost use Rattle.std.specs.Coded.{coded_list};
     ghost use Rattle.delta.specs.Element.{Element};
-    ghost use Rattle.document.specs.Elements.{element_code};
+    ghost use Rattle.delta.specs.ElementCode.{element_code};
 
     ghost Value = { List Element };
 

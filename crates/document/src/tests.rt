@@ -65,9 +65,7 @@ fn delta_of(alloc: Global, steps: &[Step]) -> Result<Delta, Refusal> {
 }
 
 fn document_of(alloc: Global, steps: &[Step]) -> Result<Document, Refusal> {
-    let mut document = Document::empty(alloc);
-    document.apply(alloc, &delta_of(alloc, steps)?)?;
-    Ok(document)
+    Document::from_delta(alloc, &delta_of(alloc, steps)?)
 }
 
 fn show_names(out: &mut String, attrs: &Attrs) -> Result<(), Refusal> {

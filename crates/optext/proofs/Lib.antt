@@ -3,3 +3,4 @@ pub mod Embeds
 pub mod Members
 pub mod ReadBack
 pub mod Spelled
+mod Values

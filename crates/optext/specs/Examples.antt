@@ -1,15 +1,17 @@
 -- What values describe, and how operations are printed, computed.
 use Rattle.std.specs.Prelude.{◌≡◌, ℕ, zero, suc, pos, negsuc, true, List, [], ◌∷◌, replicate, codes, Some, None, Ok, Err, refl}
-use Rattle.std.specs.Str.{chars}
+use Rattle.std.specs.Str.{chars, is_utf8}
 use Rattle.std.specs.Char.{encode_utf8}
 use Rattle.std.specs.Char.Utf16.{utf16_chars}
+use Rattle.serde_json.proofs.OnLiterals.{serde_json_on_literals}
 use Rattle.serde_json.specs.Data.{Data, null, boolean, number, string, array, object, unsigned, negative, Items, no_items, item, no_members, member}
 use Rattle.refusal.specs.declared.Refusal.TheVariants.{BadOps, TooManyOps}
 use Rattle.attributes.specs.Scalar.{text_scalar, whole_scalar, flag_scalar}
 use Rattle.attributes.specs.Map.{empty, insert}
 use Rattle.attributes.specs.Attributes.{Attributes, Changes}
 use Rattle.delta.specs.Operation.{insert_text, insert_embed, retain, delete}
-use Rattle.optext.specs.Described.{operation_of, scalar_of, delta_of}
+use Rattle.optext.specs.Described.{member_count, operation_of, scalar_of, delta_of}
+use Rattle.optext.specs.Json.{value_of}
 use Rattle.optext.specs.Printed.{printed_operation}
 
 abbrev bare : Attributes
@@ -27,6 +29,34 @@ two name value other more = object (member name value (member other more no_memb
 
 abbrev whole : ℕ → Data
 whole n = number (unsigned n)
+
+-- the values of texts, and bytes that are none: a word, no UTF-8, nothing
+text_of_one : value_of (codes "{\"delete\":5}") ≡ Some (one (codes "delete") (whole 5))
+unfolding serde_json_on_literals is_utf8 chars
+text_of_one = refl
+
+text_of_none : value_of (codes "[]") ≡ Some (array no_items)
+unfolding serde_json_on_literals is_utf8 chars
+text_of_none = refl
+
+no_json : value_of (codes "x") ≡ None
+unfolding serde_json_on_literals is_utf8 chars
+no_json = refl
+
+no_utf8 : value_of (34 ∷ 255 ∷ 34 ∷ []) ≡ None
+unfolding serde_json_on_literals is_utf8 chars
+no_utf8 = refl
+
+no_text : value_of [] ≡ None
+unfolding serde_json_on_literals is_utf8 chars
+no_text = refl
+
+-- an object's members, and those of an array of two
+two_members : member_count (two (codes "a") null (codes "b") null) ≡ 2
+two_members = refl
+
+no_members_counted : member_count (array (item null (item null no_items))) ≡ 0
+no_members_counted = refl
 
 -- {"insert":"ab"}
 text : operation_of (one (codes "insert") (string (codes "ab"))) ≡ Some (insert_text (codes "ab") bare)

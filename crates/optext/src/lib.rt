@@ -5,14 +5,18 @@
 //! describes, or says why it describes none, and `write_ops` gives the array that prints a delta. Which operation a
 //! value describes stands in specs/Described.antt, and how one is printed in specs/Printed.antt. What is printed is read
 //! as what it was: `laws` says it of operations, and `write_ops` of each delta that a message can spell.
+//! `read_json` and `member_count` are there for all who read messages and words: the value of a text (specs/Json.antt), and
+//! how many members it has.
 //! It stands on `delta`, whose builder merges and bounds the operations, and on `serde_json`'s values.
 #![tactic(auto)]
 
 pub mod laws;
 mod reading;
+mod text;
 mod writing;
 
 pub use reading::{MAX_OPERATIONS, read_ops};
+pub use text::{member_count, read_json};
 pub use writing::write_ops;
 
 #[cfg(test)]

@@ -1,17 +1,14 @@
 //! Arrays of operations, with ample memory: those of quill-delta's README, the other spellings of its operations, and what
 //! is no operation.
-use crate::{read_ops, write_ops};
+use crate::{member_count, read_json, read_ops, write_ops};
 use delta::Delta;
 use refusal::Refusal;
-use serde_json::Value as Json;
 use std::alloc::Global;
 use std::process::Abort;
 use std::test::Fail;
 
 fn delta_of(alloc: Global, text: &str) -> Result<Delta, Refusal> {
-    let Ok(value) = Json::from_str(alloc, text) else {
-        return Err(Refusal::BadLine);
-    };
+    let value = read_json(alloc, text.as_bytes())?;
     match value.as_array() {
         Some(operations) => read_ops(alloc, operations.as_slice()),
         None => Err(Refusal::BadMessage),
@@ -116,6 +113,33 @@ fn reads_each_spelling(rt: HostRuntime) -> Result<(), Fail> {
     }
     let longest = named(alloc, 64)?;
     row(&rt, alloc, longest.as_str(), longest.as_str())
+}
+
+/// The first example of RFC 8259, section 13, without blanks.
+const IMAGE: &str =
+    "{\"Image\":{\"Width\":800,\"Height\":600,\"Title\":\"View from 15th Floor\",\"Thumbnail\":{\"Url\":\"http://www.example.com/image/481989943\",\"Height\":125,\"Width\":100},\"Animated\":false,\"IDs\":[116,943,234,38793]}}";
+
+#[test]
+fn reads_a_text(rt: HostRuntime) -> Result<(), Fail> {
+    let alloc = rt.alloc();
+    let value = read_json(alloc, IMAGE.as_bytes())?;
+    assert_eq!(rt; member_count(&value), 1);
+    for (place, count) in [
+        ("/Image", 6),
+        ("/Image/Thumbnail", 3),
+        ("/Image/Width", 0),
+        ("/Image/IDs", 0),
+    ] {
+        assert_eq!(rt;
+            value.pointer(place).map(member_count),
+            Some(count),
+            "{place}"
+        );
+    }
+    for text in [&b"{"[..], &b"\"\xff\""[..]] {
+        assert_eq!(rt; read_json(alloc, text).err(), Some(Refusal::BadLine));
+    }
+    Ok(())
 }
 
 const NO_OPERATIONS: [&str; 13] = [

@@ -4,7 +4,7 @@ use Rattle.refusal.specs.declared.Refusal.TheVariants.{Exists}
 use Rattle.delta.specs.Operation.{Operation}
 use Rattle.revision.specs.Command.{Action, Create, Command}
 use Rattle.revision.specs.State.{DocumentRecord, State, record_of}
-use Rattle.revision.specs.Acceptance.{Answer, Repeats, Refuses, create_existing, create_new, create_answer, answer_to, answer}
+use Rattle.revision.specs.Acceptance.{Repeats, Refuses, create_existing, create_new, create_answer, answer_to, answer}
 use Rattle.revision.specs.Agree.{SameDocument, SameDocuments, Agree}
 use Rattle.revision.proofs.Agreeing.{same_count}
 

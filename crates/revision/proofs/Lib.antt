@@ -1,7 +1,6 @@
 pub mod Sums
 pub mod Texts
 pub mod Lookups
-pub mod Creations
 pub mod Taking
 pub mod Agreeing
 pub mod Answering

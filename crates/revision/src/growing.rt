@@ -4,10 +4,11 @@ ghost use Rattle.revision.specs.Command.{width_of};
 ghost use Rattle.revision.specs.State as spec;
 ghost use Rattle.revision.specs.State.{creates, grows, grown, folded, all_grow, record_of};
 
-use crate::made::{made_by, weight_with};
 use crate::name::Name;
 use crate::state::{DocState, State};
 use crate::taken::Taken;
+use crate::weight::weight_with;
+use delta::laws::units_counted;
 use document::Document;
 use refusal::Refusal;
 use std::alloc::Global;
@@ -69,7 +70,8 @@ fn next_document(
     if !is_next(state, taken, name) {
         return Err(Refusal::Stranger);
     }
-    let document = match made_by(alloc, taken.delta()) {
+    units_counted();
+    let document = match Document::from_delta(alloc, taken.delta()) {
         Ok(document) => document,
         Err(Refusal::NoMemory) => return Err(Refusal::NoMemory),
         Err(_) => return Err(Refusal::Stranger),

@@ -11,13 +11,13 @@
 mod command;
 mod growing;
 pub mod laws;
-mod made;
 mod name;
 mod planning;
 mod state;
 mod taken;
 #[cfg(test)]
 mod tests;
+mod weight;
 mod widths;
 
 pub use command::{Action, Command};

@@ -1,14 +1,15 @@
 //! Which commands are taken.
 ghost use Rattle.std.specs.Prelude.{◌≡◌, ◌⊎◌, ◌<◌, ◌≤◌, ◌^◌, ◌+◌, true, length, Some};
-ghost use Rattle.delta.specs.Operation.{IsBounded};
 ghost use Rattle.revision.specs.Acceptance.{answer, create_existing, create_new, creation};
 ghost use Rattle.revision.specs.Planned.{Gives};
 
 use crate::command::{Action, Command};
-use crate::made::{made_by, weight_with};
 use crate::state::{DocState, State};
 use crate::taken::{Taken, creation_width};
+use crate::weight::weight_with;
 use delta::Delta;
+use delta::laws::units_counted;
+use document::Document;
 use refusal::Refusal;
 use std::alloc::Global;
 
@@ -57,7 +58,6 @@ fn plan_creation(
     command: &Command,
     delta: &Delta,
 ) -> Result<Plan, Refusal>
-    requires { IsBounded delta.now }
     ensures { Gives result (create_new state.now command.now delta.now) }
 {
     let limits = state.limits();
@@ -68,7 +68,8 @@ fn plan_creation(
     if count as u64 >= u64::from(limits.docs) {
         return Err(Refusal::TooManyDocuments);
     }
-    let document = made_by(alloc, delta)?;
+    units_counted();
+    let document = Document::from_delta(alloc, delta)?;
     if weight_with(&document, 1) > u64::from(limits.weight) {
         return Err(Refusal::TooHeavy);
     }

@@ -1,4 +1,3 @@
-mod Lines
 mod Dumps
 mod Inserts
 mod Writes

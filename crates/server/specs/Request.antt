@@ -1,21 +1,16 @@
 -- What a session does upon a line, before anything is asked of the desk.
 use Rattle.std.specs.Prelude.{◌≡◌, true, ℕ, ◌^◌, ◌||◌, nat_lt, if◌then◌else◌, List, Option, Some, None, Result, Ok, Err}
-use Rattle.std.specs.Str.{is_utf8}
 use Rattle.serde_json.specs.Data.{Data}
-use Rattle.serde_json.specs.Read.{read}
 use Rattle.refusal.specs.declared.Refusal.{Refusal}
 use Rattle.refusal.specs.declared.Refusal.TheVariants.{BadLine, BadMessage, NoHello, BadName, BadOps}
 use Rattle.delta.specs.Operation.{Operation, base_of, out_of}
+use Rattle.optext.specs.Json.{value_of}
 use Rattle.revision.specs.Name.{is_document_name, is_source_name}
 use Rattle.revision.specs.Command as command
 use Rattle.server.specs.Operations.{delta_of}
 use Rattle.server.specs.Message as message
 use Rattle.server.specs.declared.session.request.Request.{Request}
 use Rattle.server.specs.declared.session.request.Request.TheVariants.{Greet, Ask}
-
--- the one JSON text that a line is: it is UTF-8, and nests at most 127 levels deep
-abbrev pub value_of : List ℕ → Option Data
-value_of line = if is_utf8 line then read line else None
 
 -- a command's delta stands on at most 2^44 code units, and its output has at most 2^44
 abbrev pub creation : List ℕ → List ℕ → ℕ → Result (List Operation) Refusal → Result Request Refusal

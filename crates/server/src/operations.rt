@@ -3,11 +3,10 @@ ghost use Rattle.std.specs.Prelude.{◌≡◌, is_some, option_and_then, codes};
 ghost use Rattle.serde_json.specs.Find.{get, as_str};
 ghost use Rattle.serde_json.specs.View.{view, items_view};
 ghost use Rattle.optext.specs.Answer.{IsDue};
-ghost use Rattle.optext.specs.Described.{member_count};
 ghost use Rattle.server.specs.Operations as spec;
 
 use delta::Delta;
-use optext::{MAX_OPERATIONS, read_ops};
+use optext::{MAX_OPERATIONS, member_count, read_ops};
 use refusal::Refusal;
 use serde_json::Value;
 use std::alloc::Global;
@@ -40,7 +39,7 @@ fn all_insert_text(operations: &[Value]) -> bool
 fn inserts_text(operation: &Value) -> bool
     ensures { result ≡ spec.inserts_text (view operation.now) }
 {
-    count_members(operation) == 1 && has_text(operation)
+    member_count(operation) == 1 && has_text(operation)
 }
 
 fn has_text(operation: &Value) -> bool
@@ -49,15 +48,5 @@ fn has_text(operation: &Value) -> bool
     match operation.get("insert") {
         Some(inserted) => inserted.as_str().is_some(),
         None => false,
-    }
-}
-
-/// How many members an object has, 0 for any other value.
-pub fn count_members(value: &Value) -> usize
-    ensures { result ≡ member_count (view value.now) }
-{
-    match value.as_object() {
-        Some(members) => members.len(),
-        None => 0,
     }
 }

@@ -1,12 +1,12 @@
 -- Gap forms as the plain programs of the tests keep them: what is inserted first, and for each unit its fate and what is inserted
 -- after it. The contracts of these programs are the definitions, so that what the definitions say can be run.
-use Rattle.std.specs.Prelude.{◌≡◌, ℕ, List, [], ◌∷◌, Option, Some, None, refl}
-use Rattle.std.specs.Coded.{Coded, code_by, coded⊎, coded×, coded_list, coded_option, coded_ℕ}
-use Rattle.std.proofs.Common.{◌⊎◌, inl, inr}
-use Rattle.attributes.specs.Attributes.{Attributes, Changes}
+use Rattle.std.specs.Prelude.{◌≡◌, List, [], ◌∷◌, Option, Some, None, refl}
+use Rattle.std.specs.Coded.{Coded, code_by, coded×, coded_list, coded_option}
+use Rattle.attributes.specs.Attributes.{Changes}
 use Rattle.attributes.specs.Map.{map_code}
-use Rattle.attributes.specs.Scalar.{Scalar, scalar_code}
-use Rattle.delta.specs.Element.{Element, Item, code_unit, embed}
+use Rattle.attributes.specs.Scalar.{scalar_code}
+use Rattle.delta.specs.Element.{Element}
+use Rattle.delta.specs.ElementCode.{element_code}
 use Rattle.delta.specs.Gaps.{Gaps, End, Gap, Fate, Del, Keep}
 
 -- a unit's fate, None where it is deleted, and what is inserted after it
@@ -39,26 +39,7 @@ pub gaps_of-parts_of : (g : Gaps) → gaps_of (parts_of g).0 (parts_of g).1 ≡ 
 gaps_of-parts_of (End xs) = refl
 gaps_of-parts_of (Gap xs f g) = λ i. Gap xs (fate_of-change_of f i) (gaps_of-parts_of g i)
 
--- how a unit of a document, a step and a gap form are told from every other
-abbrev item_parts : Item → ℕ ⊎ (List ℕ × Scalar)
-item_parts (code_unit u) = inl u
-item_parts (embed key value) = inr (key, value)
-
-abbrev item_of_parts : ℕ ⊎ (List ℕ × Scalar) → Item
-item_of_parts (inl u) = code_unit u
-item_of_parts (inr p) = embed p.0 p.1
-
-pub item_of_parts-item_parts : (i : Item) → item_of_parts (item_parts i) ≡ i
-item_of_parts-item_parts (code_unit u) = refl
-item_of_parts-item_parts (embed key value) = refl
-
-abbrev pub item_code : Coded Item
-item_code = code_by (ℕ ⊎ (List ℕ × Scalar)) (coded⊎ coded_ℕ (coded× (coded_list coded_ℕ) scalar_code)) item_parts item_of_parts item_of_parts-item_parts
-
-abbrev pub element_code : Coded Element
-element_code =
-    code_by (Item × Attributes) (coded× item_code (map_code scalar_code)) (λ x. (x.item, x.attributes)) (λ p. record { item = p.0; attributes = p.1 }) (λ _. refl)
-
+-- how a step and a gap form are told from every other
 abbrev pub step_code : Coded Step
 step_code = coded× (coded_option (map_code (coded_option scalar_code))) (coded_list element_code)
 

@@ -19,7 +19,7 @@ pub struct Unit {
 
 impl Model for Unit {
     ghost use Rattle.delta.specs.Element.{Element};
-    ghost use Rattle.document.specs.Elements.{element_code};
+    ghost use Rattle.delta.specs.ElementCode.{element_code};
     ghost use Rattle.compose.specs.Plain.{unit_of};
 
     ghost Value = { Element };

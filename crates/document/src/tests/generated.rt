@@ -120,8 +120,7 @@ fn same_on_both(
     delta: &Delta,
     case: u64,
 ) -> Result<Option<Refusal>, Fail> {
-    let mut document = Document::empty(alloc);
-    document.apply(alloc, start)?;
+    let mut document = Document::from_delta(alloc, start)?;
     let refusal = document.apply(alloc, delta).err();
     let before = units::apply(alloc, &[], start)?;
     let (after, expected) = match units::apply(alloc, &before, delta) {

@@ -31,7 +31,7 @@ enum Item {
 
 impl Model for Unit {
     ghost use Rattle.delta.specs.Element.{Element, code_unit, embed};
-    ghost use Rattle.document.specs.Elements.{element_code};
+    ghost use Rattle.delta.specs.ElementCode.{element_code};
     ghost use Rattle.document.specs.declared.tests.units.Item.TheVariants.{Letter, Embed};
 
     ghost Value = { Element };

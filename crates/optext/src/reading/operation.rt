@@ -2,10 +2,11 @@
 ghost use Rattle.std.specs.Prelude.{◌≡◌, option_map};
 ghost use Rattle.serde_json.specs.View.{view, members_view};
 ghost use Rattle.optext.specs.Answer.{IsRead};
-ghost use Rattle.optext.specs.Described.{operation_of, operation_by, insert_of, inserted, embed_of, retain_of, delete_of, length_of, member_count};
+ghost use Rattle.optext.specs.Described.{operation_of, operation_by, insert_of, inserted, embed_of, retain_of, delete_of, length_of};
 
 use crate::reading::maps::{read_attributes, read_changes};
 use crate::reading::values::read_value;
+use crate::text::member_count;
 use attributes::Attrs;
 use delta::Op;
 use refusal::Refusal;
@@ -28,15 +29,6 @@ pub(crate) fn read_op(alloc: Global, operation: &Json) -> Result<Op, Refusal>
     let retain = operation.get("retain");
     let delete = operation.get("delete");
     read_one_of(alloc, insert, retain, delete, attributes)
-}
-
-fn member_count(value: &Json) -> usize
-    ensures { result ≡ member_count (view value.now) }
-{
-    match value.as_object() {
-        Some(members) => members.len(),
-        None => 0,
-    }
 }
 
 // exactly one of the first three, and attributes or not on the first two

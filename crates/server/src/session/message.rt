@@ -4,7 +4,7 @@ ghost use Rattle.serde_json.specs.View.{view, items_view};
 ghost use Rattle.server.specs.Message.{message_of, hello_of, create_of, text_at, number_at, array_at, IsNumbered};
 ghost use Rattle.server.specs.MessageView.{message_view};
 
-use crate::operations::count_members;
+use optext::member_count;
 use serde_json::Value;
 
 /// The last number of a command: 2^53 - 1.
@@ -42,7 +42,7 @@ impl<'a> Message<'a> {
         ensures message { option_map message_view result ≡ hello_of (view value.now) }
         ensures numbered { IfSome result (λ message. IsNumbered (message_view message)) }
     {
-        if count_members(value) != 2 {
+        if member_count(value) != 2 {
             return None;
         }
         let source = text_in(value, "source")?;
@@ -53,7 +53,7 @@ impl<'a> Message<'a> {
         ensures message { option_map message_view result ≡ create_of (view value.now) }
         ensures numbered { IfSome result (λ message. IsNumbered (message_view message)) }
     {
-        if count_members(value) != 4 {
+        if member_count(value) != 4 {
             return None;
         }
         let doc = text_in(value, "doc")?;

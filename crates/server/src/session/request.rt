@@ -1,7 +1,7 @@
 //! What a session does upon a line.
-ghost use Rattle.std.specs.Prelude.{◌≡◌, ◌⊎◌, ◌≤◌, ◌<◌, ◌^◌, IfOk, IfErr, Some, None, true, option_copied};
+ghost use Rattle.std.specs.Prelude.{◌≡◌, ◌≤◌, ◌<◌, ◌^◌, IfOk, Some, true, option_copied};
 ghost use Rattle.std.specs.Option.{ForSome};
-ghost use Rattle.serde_json.specs.View.{view, items_view};
+ghost use Rattle.serde_json.specs.View.{items_view};
 ghost use Rattle.revision.specs.Name.{is_source_name};
 ghost use Rattle.optext.specs.Answer.{IsDue};
 ghost use Rattle.server.specs.Message.{Create, IsNumbered};
@@ -10,6 +10,7 @@ ghost use Rattle.server.specs.Request as spec;
 
 use super::message::Message;
 use crate::operations::read_inserts;
+use optext::read_json;
 use refusal::Refusal;
 use revision::{Command, Name};
 use serde_json::Value;
@@ -32,7 +33,7 @@ impl Request {
         ensures due { IsDue (spec.request_of (option_copied source.entry) line.now) result }
         ensures greets { IfOk result spec.GreetsSource }
     {
-        let value = read_value(alloc, line)?;
+        let value = read_json(alloc, line)?;
         match Message::read(&value) {
             Some(message) => Request::of(alloc, source, message),
             None => Err(Refusal::BadMessage),
@@ -77,20 +78,5 @@ impl Request {
         let delta = read_inserts(alloc, operations)?;
         let source = source.copy(alloc)?;
         Ok(Request::Ask(Command::create(name, source, number, delta)?))
-    }
-}
-
-fn read_value(alloc: Global, line: &[u8]) -> Result<Value, Refusal>
-    ensures ok { IfOk result (λ value. spec.value_of line.now ≡ Some (view value)) }
-    ensures err { IfErr result
-        (λ e. (e ≡ Refusal.NoMemory) ⊎ ((e ≡ Refusal.BadLine) × (spec.value_of line.now ≡ None))) }
-{
-    match Value::from_slice(alloc, line) {
-        Ok(value) => Ok(value),
-        Err(fault) => Err(if fault.is_memory() {
-            Refusal::NoMemory
-        } else {
-            Refusal::BadLine
-        }),
     }
 }

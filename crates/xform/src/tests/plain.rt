@@ -31,7 +31,7 @@ enum Item {
 
 impl Model for Unit {
     ghost use Rattle.delta.specs.Element.{Element, code_unit, embed};
-    ghost use Rattle.xform.specs.Plain.{element_code};
+    ghost use Rattle.delta.specs.ElementCode.{element_code};
 
     ghost Value = { Element };
 

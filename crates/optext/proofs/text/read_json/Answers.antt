@@ -1,7 +1,7 @@
 use Rattle.std.proofs.Common.{inl, inr, sym, ◌∙◌, true≢false}
-use Rattle.server.proofs.Lines.{value_of-utf8, value_of-none}
-use Rattle.server.proofs.session.request.read_value.Goals as goal
-use Rattle.server.proofs.session.request.read_value.Goals.{then-is_memory, else-is_memory}
+use Rattle.optext.proofs.Values.{value_of-utf8, value_of-none}
+use Rattle.optext.proofs.text.read_json.Goals as goal
+use Rattle.optext.proofs.text.read_json.Goals.{then-is_memory, else-is_memory}
 
 pub returns-in-Ok-clause-ok : goal.returns-in-Ok-clause-ok
 returns-in-Ok-clause-ok c = value_of-utf8 _ c.in-Ok.ensures.ok.0 ∙ c.in-Ok.ensures.ok.1
