@@ -1,10 +1,10 @@
 -- The lengths of spelled commands and batches.
-use Rattle.std.proofs.Common.{◌≡◌, ℕ, ◌+◌, Option, Some, None, List, [], ◌∷◌, length, sum_by, refl, arith}
+use Rattle.std.proofs.Common.{◌≡◌, ℕ, Option, Some, None, List, [], ◌∷◌, length, sum_by, refl, arith}
 use Rattle.std.specs.List.{flat_map}
 use Rattle.std.proofs.lemmas.List.{length-append}
 use Rattle.std.proofs.lemmas.List.Sums.{sum_by-cons}
 use Rattle.revision.specs.Command.{Taken, name_width, width_of}
-use Rattle.std.specs.Int.{w32, w64}
+use Rattle.std.specs.Int.{w32}
 use Rattle.journal.specs.Spelling.{number}
 use Rattle.journal.specs.BatchSpelling.{created_name, entry, batch, batch_width}
 use Rattle.journal.proofs.Widths.{length-number32, length-number64, length-text16}

@@ -1,5 +1,5 @@
 -- Normal form, operation by operation.
-use Rattle.std.proofs.Common.{◌≡◌, ℕ, zero, suc, ◌+◌, ◌<◌, ◌≤◌, max, Bool, true, false, ◌&&◌, not, ltb, List, [], ◌∷◌, ◌++◌, length, drop, refl, sym, ap, ◌∙◌, add-one, arith, append_assoc, subst, append-nil, leb}
+use Rattle.std.proofs.Common.{◌≡◌, ℕ, zero, suc, ◌+◌, ◌<◌, ◌≤◌, max, Bool, true, false, ◌&&◌, not, ltb, List, [], ◌∷◌, ◌++◌, length, drop, refl, sym, ap, ◌∙◌, add-one, arith, append_assoc, subst, leb}
 use Rattle.std.specs.Prelude.{◌^◌, Option, Some, None, cond}
 use Rattle.std.proofs.lemmas.Bool.{and_parts, and_from, both_ways as both_kinds, false_from_ne_true, true_from_ne_false, leb-true, le-leb}
 use Rattle.delta.specs.Operation.{Operation, insert_text, insert_embed, retain, delete, op_len, op_base, op_out, is_plain, base_of, out_of, IsBounded}

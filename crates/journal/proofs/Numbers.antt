@@ -1,12 +1,12 @@
 -- Reading from the front of bytes: what is read is spelled so, and what is spelled so is read again. Numbers.
-use Rattle.std.proofs.Common.{◌≡◌, ℕ, suc, ◌+◌, ◌^◌, ◌<◌, leb, eqb, Some, None, List, [], ◌∷◌, ◌++◌, length, get_or, take, drop, refl, sym, ap, subst, ◌∙◌, append_assoc, arith, inl, inr, cond, true}
+use Rattle.std.proofs.Common.{◌≡◌, ℕ, ◌+◌, ◌^◌, ◌<◌, ◌&&◌, nat_le, nat_lt, leb, eqb, Some, None, List, ◌++◌, length, get_or, take, drop, refl, sym, ap, subst, ◌∙◌, append_assoc, arith, inl, inr, cond, true}
 use Rattle.std.specs.Int.{Width, w16, w32, w64, byte_len, from_le_bytes}
-use Rattle.std.proofs.lemmas.Bool.{cases_lt, leb-true, le-leb, eqb-true, eq-eqb}
+use Rattle.std.proofs.lemmas.Bool.{and_parts, cases_lt, leb-true, le-leb, eqb-true, eq-eqb}
 use Rattle.std.proofs.lemmas.Option.{cond_some, option_and_then_some, same_Some}
 use Rattle.std.proofs.lemmas.List.{take_at, drop_at, take-append-drop, length-append, length-take, get_or-drop, get_or-take, get_or_past}
 use Rattle.std.proofs.lemmas.Nat.{le_bytes_2, le_bytes_4, le_bytes_8, from_le_bytes-to_le_bytes_2, from_le_bytes-to_le_bytes_4, from_le_bytes-to_le_bytes_8}
 use Rattle.journal.specs.Spelling.{number}
-use Rattle.journal.specs.Reading.{part_at, number_at, fixed_at, tag_at}
+use Rattle.journal.specs.Reading.{part_at, number_at, fixed_at, within_at}
 
 abbrev pub IsBytes : List ℕ → Type 0
 IsBytes bytes = (i : ℕ) → get_or bytes i 0 < 256
@@ -109,15 +109,18 @@ module _ (width : Width) (limit : ℕ) (is : IsNumber width limit) where
   unfolding fixed_at
   fixed_again n rest lt = rw (number_again n rest lt, eq-eqb n n refl) refl
 
--- ---- tags
+-- ---- numbers within bounds
 
-pub tag_takes : (tag : ℕ) (bytes rest : List ℕ) → IsBytes bytes → tag_at tag bytes ≡ Some rest → Takes bytes (tag ∷ []) rest
-unfolding tag_at
-tag_takes tag [] rest fit e = absurd cc
-tag_takes tag (b ∷ bytes) rest fit e =
-    let g = cond_some (eqb b tag) bytes rest e in
-    subst (λ (r : List ℕ). Takes (b ∷ bytes) (tag ∷ []) r) g.1 (record { parts = ap (λ (first : ℕ). first ∷ bytes) (eqb-true _ _ g.0); rest_fits = λ i. fit (suc i) })
+pub within_takes : (low high : ℕ) (bytes : List ℕ) (x : ℕ × List ℕ) → IsBytes bytes → within_at w64 low high bytes ≡ Some x
+    → Takes bytes (number w64 x.0) x.1 × ((nat_le low x.0 ≡ true) × (nat_lt x.0 high ≡ true))
+unfolding within_at
+within_takes low high bytes x fit e =
+    option_and_then_some (λ (n : ℕ × List ℕ). cond (nat_le low n.0 && nat_lt n.0 high) (Some n) None) (number_at w64 bytes) x e (λ n found made.
+    let t = number_takes w64 (2 ^ 64) number64 bytes n fit found in
+    let g = cond_some (nat_le low n.0 && nat_lt n.0 high) n x made in
+    subst (λ (y : ℕ × List ℕ). Takes bytes (number w64 y.0) y.1 × ((nat_le low y.0 ≡ true) × (nat_lt y.0 high ≡ true))) g.1
+    (t.0, and_parts (nat_le low n.0) (nat_lt n.0 high) g.0))
 
-pub tag_again : (tag : ℕ) (rest : List ℕ) → tag_at tag (tag ∷ rest) ≡ Some rest
-unfolding tag_at
-tag_again tag rest = rw (eq-eqb tag tag refl) refl
+pub within_again : (low high n : ℕ) (rest : List ℕ) → n < 2 ^ 64 → nat_le low n ≡ true → nat_lt n high ≡ true → within_at w64 low high (number w64 n ++ rest) ≡ Some (n, rest)
+unfolding within_at
+within_again low high n rest lt above below = rw (number_again w64 (2 ^ 64) number64 n rest lt, above, below) refl

@@ -1,7 +1,6 @@
 -- Reading from the front of bytes: operations.
-use Rattle.std.proofs.Common.{◌≡◌, ℕ, zero, suc, ◌^◌, ◌<◌, Bool, true, inl, inr, eqb, Option, Some, None, List, [], ◌∷◌, ◌++◌, length, refl, sym, ap, subst, ◌∙◌, append_assoc, append-nil, arith}
+use Rattle.std.proofs.Common.{◌≡◌, ℕ, zero, suc, ◌^◌, inl, inr, eqb, Some, None, List, [], ◌∷◌, ◌++◌, length, refl, sym, ap, subst, ◌∙◌, append_assoc, append-nil}
 use Rattle.std.specs.Int.{w32, w64}
-use Rattle.std.specs.Str.{is_utf8}
 use Rattle.std.specs.List.{flat_map, AllByRecursion}
 use Rattle.std.proofs.lemmas.Bool.{eqb-true}
 use Rattle.std.proofs.lemmas.Option.{option_and_then_some, same_Some}
@@ -9,13 +8,12 @@ use Rattle.std.proofs.lemmas.Str.{IsUtf8-from_is_utf8}
 use Rattle.utf16.specs.Units.{units_of, utf8_of}
 use Rattle.utf16.proofs.CodeUnits.{utf8_of-units_of}
 use Rattle.attributes.specs.Attributes.{Attributes, Changes}
-use Rattle.attributes.specs.Scalar.{Scalar}
 use Rattle.delta.specs.Operation.{Operation, insert_text, insert_embed, retain, delete}
 use Rattle.journal.specs.Spelling.{number, text16, text32}
 use Rattle.journal.specs.DeltaSpelling.{value, new_value, pairs, operation}
-use Rattle.revision.specs.Spellable.{IsText, IsValue, IsNewValue, IsPairs, IsOperation}
-use Rattle.journal.specs.Reading.{number_at, text_at}
-use Rattle.journal.specs.DeltaReading.{byte_at, key_at, value_at, attributes_at, change_at, text_insert_at, embed_insert_at, retain_at, delete_at, operation_behind, operation_at, operations_at}
+use Rattle.revision.specs.Spellable.{IsOperation}
+use Rattle.journal.specs.Reading.{number_at, text_at, byte_at}
+use Rattle.journal.specs.DeltaReading.{key_at, value_at, attributes_at, change_at, text_insert_at, embed_insert_at, retain_at, delete_at, operation_behind, operation_at, operations_at}
 use Rattle.revision.proofs.Texts.{IsText-units_of}
 use Rattle.journal.proofs.Numbers.{IsBytes, Takes, Takes-then, number32, number64, number_takes, number_again}
 use Rattle.journal.proofs.Texts.{text_takes, text_again}

@@ -1,6 +1,6 @@
 -- Reading from the front of bytes: values.
-use Rattle.std.proofs.Common.{◌≡◌, ℕ, zero, suc, ◌-◌, ◌^◌, ◌<◌, Bool, true, false, ◌⊎◌, inl, inr, cond, eqb, Option, Some, None, List, [], ◌∷◌, ◌++◌, length, refl, sym, ap, subst, ◌∙◌, arith, T, ℤ, pos, negsuc, SFits}
-use Rattle.std.specs.Prelude.{int_lt, FitsSigned}
+use Rattle.std.proofs.Common.{◌≡◌, ℕ, zero, suc, ◌-◌, ◌^◌, ◌<◌, Bool, true, false, ◌⊎◌, inl, inr, cond, eqb, Option, Some, None, List, [], ◌∷◌, ◌++◌, length, refl, sym, ap, subst, arith, T, ℤ, pos, negsuc, SFits}
+use Rattle.std.specs.Prelude.{int_lt}
 use Rattle.std.specs.Int.{w32, w64, cast_unsigned, cast_signed}
 use Rattle.std.specs.Int.Signed.{lt_z_yes}
 use Rattle.std.proofs.lemmas.Bool.{and_parts, and_from, eqb-true}
@@ -10,8 +10,8 @@ use Rattle.attributes.specs.Scalar.{Scalar, text_scalar, whole_scalar, flag_scal
 use Rattle.journal.specs.Spelling.{number, text32}
 use Rattle.journal.specs.DeltaSpelling.{value, new_value}
 use Rattle.revision.specs.Spellable.{IsValue, IsNewValue}
-use Rattle.journal.specs.Reading.{number_at, text_at}
-use Rattle.journal.specs.DeltaReading.{byte_at, is_exact, whole_at, text_value_at, value_behind, value_at, new_value_behind, new_value_at}
+use Rattle.journal.specs.Reading.{number_at, text_at, byte_at}
+use Rattle.journal.specs.DeltaReading.{is_exact, whole_at, text_value_at, value_behind, value_at, new_value_behind, new_value_at}
 use Rattle.journal.proofs.Numbers.{IsBytes, Takes, Takes-then, number32, number64, number_takes, number_again}
 use Rattle.journal.proofs.Texts.{text_takes, text_again}
 

@@ -1,17 +1,16 @@
 -- Reading from the front of bytes: texts and names.
-use Rattle.std.proofs.Common.{◌≡◌, ℕ, zero, suc, ◌^◌, ◌<◌, ◌≤◌, Bool, true, ltb, Some, List, [], ◌∷◌, ◌++◌, length, get_or, refl, ap, subst, ◌∙◌, append_assoc, arith}
-use Rattle.std.specs.Int.{Width, w16, w32}
-use Rattle.std.specs.List.{flat_map, list_all}
+use Rattle.std.proofs.Common.{◌≡◌, ℕ, zero, suc, ◌^◌, ◌<◌, ◌≤◌, Bool, true, Some, List, [], ◌∷◌, ◌++◌, length, get_or, refl, subst, append_assoc, arith}
+use Rattle.std.specs.Int.{Width, w16}
+use Rattle.std.specs.List.{list_all}
 use Rattle.std.specs.Str.{is_utf8}
-use Rattle.std.proofs.lemmas.Bool.{and_parts, ltb-true, leb-true, lt-ltb}
+use Rattle.std.proofs.lemmas.Bool.{and_parts, leb-true}
 use Rattle.std.proofs.lemmas.Bool.Decides.{nat_tests}
-use Rattle.std.proofs.lemmas.List.{append-nil}
 use Rattle.std.proofs.lemmas.Option.{cond_some, option_and_then_some, same_Some}
 use Rattle.std.proofs.lemmas.Str.{IsUtf8-from_ascii, is_utf8-from_IsUtf8}
 use Rattle.revision.specs.Name.{is_name_byte, is_name}
 use Rattle.journal.specs.Spelling.{number, text16}
-use Rattle.journal.specs.Reading.{part_at, number_at, fixed_at, tag_at, utf8_at, text_at, name_at}
-use Rattle.journal.proofs.Numbers.{IsBytes, Takes, Takes-then, IsNumber, number16, number32, part_takes, part_again, number_takes, number_again, fixed_takes, fixed_again, tag_takes, tag_again}
+use Rattle.journal.specs.Reading.{part_at, number_at, utf8_at, text_at, name_at}
+use Rattle.journal.proofs.Numbers.{IsBytes, Takes, Takes-then, IsNumber, number16, part_takes, part_again, number_takes, number_again}
 
 -- ---- texts
 

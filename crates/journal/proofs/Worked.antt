@@ -1,11 +1,11 @@
--- A batch spelled out, 45 bytes: the source "a" creates the document "d" with the text "z".
-use Rattle.std.proofs.Common.{◌≡◌, Some, [], ◌∷◌, refl}
+-- Batches spelled out. The first has 45 bytes: the source "a" creates the document "d" with the text "z".
+use Rattle.std.proofs.Common.{◌≡◌, Some, None, [], ◌∷◌, refl}
 use Rattle.attributes.specs.Map.{empty}
-use Rattle.delta.specs.Operation.{insert_text}
+use Rattle.delta.specs.Operation.{insert_text, retain}
 use Rattle.revision.specs.Command.{Taken}
 use Rattle.journal.specs.Spelling.{number, text16, text32}
 use Rattle.journal.specs.BatchSpelling.{created_name, entry, batch}
-use Rattle.journal.specs.DeltaSpelling.{value, pairs, operation, delta}
+use Rattle.journal.specs.DeltaSpelling.{value, new_value, pairs, operation, delta}
 use Rattle.std.specs.Char.{encode_utf8}
 use Rattle.std.specs.Char.Utf16.{utf16_chars}
 
@@ -28,3 +28,25 @@ pub batch-of_creation : batch (creation ∷ []) ≡
     ∷ 1 ∷ 0 ∷ 0 ∷ 0 ∷ 1 ∷ 1 ∷ 0 ∷ 0 ∷ 0 ∷ 122 ∷ 0 ∷ 0 ∷ 0 ∷ 0 ∷ []
 unfolding number text16 text32 value pairs operation delta created_name entry batch utf16_chars encode_utf8
 batch-of_creation = refl
+
+-- the second has 55 bytes: the source's number 2 inserts "x" behind it, and makes revision 2
+abbrev edit : Taken
+edit = record {
+  document = 0;
+  name = None;
+  revision = 2;
+  source = 97 ∷ [];
+  number = 2;
+  delta = retain 1 empty ∷ insert_text (120 ∷ []) empty ∷ [];
+}
+
+-- the count; the tag, the document, the revision; the source, its number; the delta's count, its retain, its insert
+pub batch-of_edit : batch (edit ∷ []) ≡
+    1 ∷ 0 ∷ 0 ∷ 0
+    ∷ 2 ∷ 0 ∷ 0 ∷ 0 ∷ 0 ∷ 2 ∷ 0 ∷ 0 ∷ 0 ∷ 0 ∷ 0 ∷ 0 ∷ 0
+    ∷ 1 ∷ 0 ∷ 97 ∷ 2 ∷ 0 ∷ 0 ∷ 0 ∷ 0 ∷ 0 ∷ 0 ∷ 0
+    ∷ 2 ∷ 0 ∷ 0 ∷ 0
+    ∷ 3 ∷ 1 ∷ 0 ∷ 0 ∷ 0 ∷ 0 ∷ 0 ∷ 0 ∷ 0 ∷ 0 ∷ 0 ∷ 0 ∷ 0
+    ∷ 1 ∷ 1 ∷ 0 ∷ 0 ∷ 0 ∷ 120 ∷ 0 ∷ 0 ∷ 0 ∷ 0 ∷ []
+unfolding number text16 text32 value new_value pairs operation delta created_name entry batch utf16_chars encode_utf8
+batch-of_edit = refl

@@ -1,9 +1,9 @@
 -- Deltas spelled out.
-use Rattle.std.specs.Prelude.{◌≡◌, ℤ, negsuc, true, Some, None, List, ℕ, [], ◌∷◌, refl, codes}
+use Rattle.std.specs.Prelude.{◌≡◌, negsuc, true, None, [], ◌∷◌, refl, codes}
 use Rattle.std.specs.Char.{encode_utf8}
 use Rattle.std.specs.Char.Utf16.{utf16_chars}
 use Rattle.attributes.specs.Map.{empty, insert}
-use Rattle.attributes.specs.Attributes.{Attributes, Changes}
+use Rattle.attributes.specs.Attributes.{Attributes}
 use Rattle.attributes.specs.Scalar.{text_scalar, whole_scalar, flag_scalar}
 use Rattle.delta.specs.Operation.{insert_text, insert_embed, retain, delete}
 use Rattle.journal.specs.Spelling.{number, text16, text32}

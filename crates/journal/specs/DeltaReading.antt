@@ -1,6 +1,6 @@
 -- Reading of the spelling of deltas on lists: a value with the bytes behind it, or none. Private to the reader's proof.
 use Rattle.std.specs.Prelude.{ℕ, zero, suc, ◌-◌, ◌^◌, pos, negsuc, ℤ, ◌==◌, nat_le, nat_lt, ◌&&◌, not, if◌then◌else◌, int_lt, Bool, true, false, Option, Some, None, List, [], ◌∷◌, ◌++◌, length}
-use Rattle.std.specs.Int.{w16, w32, w64, cast_signed}
+use Rattle.std.specs.Int.{w32, w64, cast_signed}
 use Rattle.std.specs.Ordering.{is_lt}
 use Rattle.utf16.specs.Units.{units_of}
 use Rattle.attributes.specs.Map.{Map, empty, insert, by_bytes}
@@ -8,12 +8,7 @@ use Rattle.attributes.specs.Attributes.{Attributes, Changes}
 use Rattle.attributes.specs.Scalar.{Scalar, text_scalar, whole_scalar, flag_scalar}
 use Rattle.delta.specs.Operation.{Operation, insert_text, insert_embed, retain, delete, base_of, out_of, op_len, is_plain}
 use Rattle.delta.specs.Normal.{is_built, ends_plain, may_precede}
-use Rattle.journal.specs.Reading.{◌>>=◌, number_at, text_at, name_at}
-
--- the first byte
-unfoldable pub byte_at : List ℕ → Option (ℕ × List ℕ)
-byte_at [] = None
-byte_at (first ∷ rest) = Some (first, rest)
+use Rattle.journal.specs.Reading.{◌>>=◌, number_at, text_at, name_at, byte_at}
 
 -- a whole number of magnitude below 2^53
 abbrev pub is_exact : ℤ → Bool

@@ -1,13 +1,10 @@
 -- How the journal spells a delta. Numbers are little-endian, and a text is given by its bytes of UTF-8.
-use Rattle.std.specs.Prelude.{◌≡◌, ℕ, ◌<◌, ◌^◌, true, false, Option, Some, None, List, [], ◌∷◌, ◌++◌, length, All}
+use Rattle.std.specs.Prelude.{ℕ, true, false, Option, Some, None, List, [], ◌∷◌, ◌++◌, length}
 use Rattle.std.specs.List.{flat_map}
 use Rattle.std.specs.Int.{w32, w64, cast_unsigned}
-use Rattle.std.specs.Str.{is_utf8}
-use Rattle.utf16.specs.Units.{units_of, utf8_of}
-use Rattle.attributes.specs.Scalar.{Scalar, text_scalar, whole_scalar, flag_scalar, IsExact}
-use Rattle.attributes.specs.Attributes.{IsKey}
-use Rattle.delta.specs.Operation.{Operation, insert_text, insert_embed, retain, delete, IsBounded}
-use Rattle.delta.specs.Normal.{IsNormal}
+use Rattle.utf16.specs.Units.{utf8_of}
+use Rattle.attributes.specs.Scalar.{Scalar, text_scalar, whole_scalar, flag_scalar}
+use Rattle.delta.specs.Operation.{Operation, insert_text, insert_embed, retain, delete}
 use Rattle.journal.specs.Spelling.{number, text16, text32}
 
 -- a value behind its tag: 1 for false, 2 for true, 3 for a whole number in two's complement, 4 for a text

@@ -1,8 +1,8 @@
 -- Reading of numbers and texts on lists: a value with the bytes behind it, or none. Private to the reader's proof.
-use Rattle.std.specs.Prelude.{◌≡◌, ℕ, zero, suc, ◌==◌, nat_le, nat_lt, if◌then◌else◌, Bool, Option, Some, None, Result, Ok, Err, List, [], ◌∷◌, length, take, drop}
+use Rattle.std.specs.Prelude.{◌≡◌, ℕ, ◌==◌, ◌&&◌, nat_le, nat_lt, if◌then◌else◌, Bool, Option, Some, None, Result, Ok, Err, List, [], ◌∷◌, length, take, drop}
 use Rattle.std.specs.Option.{option_and_then}
 use Rattle.std.specs.Str.{is_utf8}
-use Rattle.std.specs.Int.{Width, w16, w32, w64, byte_len, from_le_bytes}
+use Rattle.std.specs.Int.{Width, w16, byte_len, from_le_bytes}
 use Rattle.journal.specs.declared.batch.unread.Unread.{Unread}
 use Rattle.journal.specs.declared.batch.unread.Unread.TheVariants.{Malformed, NoMemory}
 
@@ -35,10 +35,16 @@ fixed_at width wanted bytes = do
   n ← number_at width bytes
   if n.0 == wanted then Some n.1 else None
 
--- this byte and no other
-unfoldable pub tag_at : ℕ → List ℕ → Option (List ℕ)
-tag_at wanted [] = None
-tag_at wanted (tag ∷ rest) = if tag == wanted then Some rest else None
+-- a number of at least the first bound, and below the second
+unfoldable pub within_at : Width → ℕ → ℕ → List ℕ → Option (ℕ × List ℕ)
+within_at width low high bytes = do
+  n ← number_at width bytes
+  if nat_le low n.0 && nat_lt n.0 high then Some n else None
+
+-- the first byte
+unfoldable pub byte_at : List ℕ → Option (ℕ × List ℕ)
+byte_at [] = None
+byte_at (first ∷ rest) = Some (first, rest)
 
 -- these bytes, where they are UTF-8
 unfoldable pub utf8_at : List ℕ → Option (List ℕ)

@@ -1,5 +1,5 @@
 -- What a source asks for, and what is taken of it.
-use Rattle.std.specs.Prelude.{ℕ, ◌≡◌, ◌<◌, ◌≤◌, ◌^◌, ◌+◌, ◌==◌, ◌&&◌, Bool, true, false, Option, Some, None, List, length}
+use Rattle.std.specs.Prelude.{ℕ, ◌≡◌, ◌<◌, ◌≤◌, ◌^◌, ◌+◌, ◌==◌, ◌&&◌, nat_le, nat_lt, Bool, true, false, Option, Some, None, List, length}
 use Rattle.delta.specs.Operation.{Operation, base_of, out_of}
 use Rattle.revision.specs.Name.{is_document_name, is_source_name}
 use Rattle.revision.specs.Spellable.{IsSpellable}
@@ -31,9 +31,10 @@ pub record Taken : Type 0 where
   pub number : ℕ
   pub delta : List Operation
 
--- a creation is of revision 1, and has number 1; so far nothing else is taken
+-- A creation is of revision 1, and has number 1; an edit or undo of a document that is there is of revision 2 or above. Revisions
+-- and numbers are below 2^53.
 abbrev pub is_kind : Option (List ℕ) → ℕ → ℕ → Bool
-is_kind None revision number = false
+is_kind None revision number = nat_le 2 revision && nat_lt revision (2 ^ 53) && nat_lt number (2 ^ 53)
 is_kind (Some name) revision number = is_document_name name && (revision == 1) && (number == 1)
 
 -- what every command that was taken is

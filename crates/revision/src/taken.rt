@@ -1,5 +1,5 @@
 //! A command that was taken.
-ghost use Rattle.std.specs.Prelude.{◌≡◌, ◌<◌, ◌^◌, ◌+◌, ◌-◌, min, true, Some, length, option_map};
+ghost use Rattle.std.specs.Prelude.{◌≡◌, ◌<◌, ◌^◌, ◌+◌, ◌-◌, min, Some, None, length, option_map};
 ghost use Rattle.revision.specs.Spellable.{IsSpellable};
 ghost use Rattle.revision.specs.Width as wide;
 ghost use Rattle.revision.specs.Command.{IsTaken, width_of};
@@ -51,6 +51,24 @@ impl Taken {
         }
     }
 
+    /// An edit or an undo of a document that is there: the document's number in order of creation, from 0 and
+    /// below 2^32, the revision that comes of it, from 2 and below 2^53, the source, whose name has 1 to 32 characters, with
+    /// its number for it, below 2^53, and the delta from the revision before, which the journal can spell
+    /// (specs/Spellable.antt). It is never refused and takes no memory; whether it continues a state, `State::absorb` says.
+    pub fn edit(document: u32, revision: u64, source: Name, number: u64, delta: Delta) -> Taken
+        requires { IsTaken (record { document = document; name = None; revision = revision; source = source; number = number; delta = delta }) }
+        ensures { result ≡ record { document = document; name = None; revision = revision; source = source; number = number; delta = delta } }
+    {
+        Taken {
+            document,
+            name: None,
+            revision,
+            source,
+            number,
+            delta,
+        }
+    }
+
     /// The document's number in order of creation, from 0.
     pub fn document(&self) -> u32
         ensures { result ≡ self.now.document }
@@ -65,7 +83,7 @@ impl Taken {
         self.name.as_ref()
     }
 
-    /// The revision that comes of it, 1 for a creation.
+    /// The revision that comes of it, 1 for a creation, else from 2 and below 2^53.
     pub fn revision(&self) -> u64
         ensures { result ≡ self.now.revision }
     {
@@ -79,7 +97,7 @@ impl Taken {
         &self.source
     }
 
-    /// The source's number for it, 1 for a creation.
+    /// The source's number for it, 1 for a creation, and below 2^53.
     pub fn number(&self) -> u64
         ensures { result ≡ self.now.number }
     {

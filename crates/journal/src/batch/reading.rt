@@ -1,11 +1,11 @@
 //! Reading: each part of the spelling has one function, which answers what it read and the bytes behind it.
-ghost use Rattle.std.specs.Prelude.{◌≡◌, ◌<◌, ◌^◌, List, true, length, IfOk, IfErr, IfSome, IfNone};
+ghost use Rattle.std.specs.Prelude.{◌≡◌, ◌<◌, ◌≤◌, ◌^◌, List, true, length, IfOk, IfErr, IfSome, IfNone};
 ghost use Rattle.std.specs.Int.{w16, w32, w64};
 ghost use Rattle.revision.specs.Name.{is_source_name, is_document_name};
 ghost use Rattle.revision.specs.Command as command;
 ghost use Rattle.journal.specs.BatchSpelling as spelling;
-ghost use Rattle.journal.specs.Reading.{Gives, part_at, number_at, fixed_at, tag_at, utf8_at, text_at, name_at};
-ghost use Rattle.journal.specs.BatchReading.{entry_at, entries_at, batch_at, whole_at};
+ghost use Rattle.journal.specs.Reading.{Gives, part_at, number_at, fixed_at, within_at, byte_at, utf8_at, text_at, name_at};
+ghost use Rattle.journal.specs.BatchReading.{creation_at, edit_at, entry_behind, entry_at, entries_at, batch_at, whole_at};
 ghost use Rattle.journal.specs.DeltaReading.{delta_at};
 
 mod deltas;
@@ -27,6 +27,9 @@ const FIRST_REVISION: u64 = 1;
 
 /// The number that a source gives to a creation.
 const FIRST_NUMBER: u64 = 1;
+
+/// 2^53: revisions and numbers are below it.
+const END_OF_NUMBERS: u64 = 1 << 53;
 
 /// The batch that the bytes spell, all of them, or none.
 pub fn decode_batch(alloc: Global, bytes: &[u8]) -> Result<Option<Vec<Taken>>, AllocError>
@@ -81,14 +84,44 @@ fn entries(alloc: Global, count: u32, bytes: &[u8]) -> Result<(Vec<Taken>, &[u8]
 fn entry(alloc: Global, bytes: &[u8]) -> Result<(Taken, &[u8]), Unread>
     ensures { Gives (λ x. (x.0, x.1.now)) result (entry_at bytes.now) }
 {
-    let rest = tag(1, bytes)?;
-    let (document, rest) = number32(rest)?;
+    let (tag, rest) = byte(bytes)?;
+    entry_of_tag(alloc, tag, rest)
+}
+
+#[tactic(auto, unfolding(crate::specs::BatchReading::entry_behind))]
+fn entry_of_tag(alloc: Global, tag: u8, bytes: &[u8]) -> Result<(Taken, &[u8]), Unread>
+    ensures { Gives (λ x. (x.0, x.1.now)) result (entry_behind tag bytes.now) }
+{
+    match tag {
+        1 => creation(alloc, bytes),
+        2 => edit(alloc, bytes),
+        _ => Err(Unread::Malformed),
+    }
+}
+
+#[tactic(auto, unfolding(crate::specs::BatchReading::creation_at))]
+fn creation(alloc: Global, bytes: &[u8]) -> Result<(Taken, &[u8]), Unread>
+    ensures { Gives (λ x. (x.0, x.1.now)) result (creation_at bytes.now) }
+{
+    let (document, rest) = number32(bytes)?;
     let rest = fixed64(FIRST_REVISION, rest)?;
     let (source, rest) = source_name(alloc, rest)?;
     let rest = fixed64(FIRST_NUMBER, rest)?;
     let (name, rest) = document_name(alloc, rest)?;
     let (delta, rest) = delta(alloc, rest)?;
     Ok((Taken::creation(document, name, source, delta), rest))
+}
+
+#[tactic(auto, unfolding(crate::specs::BatchReading::edit_at))]
+fn edit(alloc: Global, bytes: &[u8]) -> Result<(Taken, &[u8]), Unread>
+    ensures { Gives (λ x. (x.0, x.1.now)) result (edit_at bytes.now) }
+{
+    let (document, rest) = number32(bytes)?;
+    let (revision, rest) = number_within(FIRST_REVISION + 1, rest)?;
+    let (source, rest) = source_name(alloc, rest)?;
+    let (number, rest) = number_within(0, rest)?;
+    let (delta, rest) = delta(alloc, rest)?;
+    Ok((Taken::edit(document, revision, source, number, delta), rest))
 }
 
 #[tactic(auto, unfolding(crate::specs::Reading::name_at))]
@@ -147,16 +180,6 @@ fn utf8(bytes: &[u8]) -> Result<&str, Unread>
     }
 }
 
-#[tactic(auto, unfolding(crate::specs::Reading::tag_at))]
-fn tag(wanted: u8, bytes: &[u8]) -> Result<&[u8], Unread>
-    ensures { Gives (λ rest. rest.now) result (tag_at wanted bytes.now) }
-{
-    match bytes {
-        [tag, rest @ ..] if *tag == wanted => Ok(rest),
-        _ => Err(Unread::Malformed),
-    }
-}
-
 #[tactic(auto, unfolding(crate::specs::Reading::fixed_at))]
 fn fixed64(wanted: u64, bytes: &[u8]) -> Result<&[u8], Unread>
     ensures { Gives (λ rest. rest.now) result (fixed_at w64 wanted bytes.now) }
@@ -166,6 +189,19 @@ fn fixed64(wanted: u64, bytes: &[u8]) -> Result<&[u8], Unread>
         return Err(Unread::Malformed);
     }
     Ok(rest)
+}
+
+// a revision or a number, of at least so much
+#[tactic(auto, unfolding(crate::specs::Reading::within_at))]
+fn number_within(low: u64, bytes: &[u8]) -> Result<(u64, &[u8]), Unread>
+    ensures read { Gives (λ x. (x.0, x.1.now)) result (within_at w64 low (2 ^ 53) bytes.now) }
+    ensures within { IfOk result (λ x. (low ≤ x.0) × (x.0 < 2 ^ 53)) }
+{
+    let (number, rest) = number64(bytes)?;
+    if number < low || number >= END_OF_NUMBERS {
+        return Err(Unread::Malformed);
+    }
+    Ok((number, rest))
 }
 
 #[tactic(auto, unfolding(crate::specs::Reading::number_at))]
@@ -194,6 +230,16 @@ fn number64(bytes: &[u8]) -> Result<(u64, &[u8]), Unread>
         front[0], front[1], front[2], front[3], front[4], front[5], front[6], front[7],
     ]);
     Ok((number, rest))
+}
+
+#[tactic(auto, unfolding(crate::specs::Reading::byte_at))]
+fn byte(bytes: &[u8]) -> Result<(u8, &[u8]), Unread>
+    ensures { Gives (λ x. (x.0, x.1.now)) result (byte_at bytes.now) }
+{
+    match bytes {
+        [first, rest @ ..] => Ok((*first, rest)),
+        [] => Err(Unread::Malformed),
+    }
 }
 
 #[tactic(auto, unfolding(crate::specs::Reading::part_at))]

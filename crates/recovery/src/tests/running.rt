@@ -184,3 +184,32 @@ fn a_run_stops_at_the_first_refusal(rt: HostRuntime) -> Result<(), Fail> {
     stops(&rt, rt.alloc(), 4, Refusal::Stranger)?;
     stops(&rt, rt.alloc(), 5, Refusal::JournalFull)
 }
+
+// An edit, of document 0 to revision 2, by the number 2 of the source a: it inserts "x" behind one unit.
+const EDIT: [u8; 55] = [
+    1, 0, 0, 0, //
+    2, 0, 0, 0, 0, 2, 0, 0, 0, 0, 0, 0, 0, //
+    1, 0, b'a', 2, 0, 0, 0, 0, 0, 0, 0, //
+    2, 0, 0, 0, //
+    3, 1, 0, 0, 0, 0, 0, 0, 0, 0, 0, 0, 0, //
+    1, 1, 0, 0, 0, b'x', 0, 0, 0, 0,
+];
+
+// An edit is a batch, just from revision 2 on. No edit continues a state yet.
+#[test]
+fn an_edit_is_read(rt: HostRuntime) -> Result<(), Fail> {
+    let alloc = rt.alloc();
+    let mut store = opened(alloc, formatted(alloc)?)?;
+    let stop = store.run(alloc, &[step(alloc, &EDIT)?]);
+    assert_eq!(rt;
+        stop,
+        Err(Stop {
+            at: 0,
+            refusal: Refusal::Stranger
+        })
+    );
+    let mut first = EDIT;
+    first[9] = 1;
+    assert!(rt; decode_batch(alloc, &first)?.is_none());
+    Ok(())
+}

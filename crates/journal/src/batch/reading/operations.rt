@@ -4,8 +4,8 @@ ghost use Rattle.journal.specs.Reading.{Gives};
 ghost use Rattle.journal.specs.DeltaReading.{text_insert_at, embed_insert_at, retain_at, delete_at, operation_behind, operation_at, operations_at};
 
 use super::pairs::{attributes, change, name};
-use super::values::{byte, value};
-use super::{number64, text32};
+use super::values::value;
+use super::{byte, number64, text32};
 use crate::batch::unread::Unread;
 use delta::Op;
 use refusal::Refusal;

@@ -1,23 +1,12 @@
 //! Reading of values, and of what a change makes of a name.
 ghost use Rattle.std.specs.Prelude.{◌≡◌};
 ghost use Rattle.journal.specs.Reading.{Gives};
-ghost use Rattle.journal.specs.DeltaReading.{byte_at, whole_at, text_value_at, value_behind, value_at, new_value_behind, new_value_at};
+ghost use Rattle.journal.specs.DeltaReading.{whole_at, text_value_at, value_behind, value_at, new_value_behind, new_value_at};
 
-use super::{number64, text32};
+use super::{byte, number64, text32};
 use crate::batch::unread::Unread;
 use attributes::Value;
 use std::alloc::Global;
-
-/// The first byte.
-#[tactic(auto, unfolding(crate::specs::DeltaReading::byte_at))]
-pub(super) fn byte(bytes: &[u8]) -> Result<(u8, &[u8]), Unread>
-    ensures { Gives (λ x. (x.0, x.1.now)) result (byte_at bytes.now) }
-{
-    match bytes {
-        [first, rest @ ..] => Ok((*first, rest)),
-        [] => Err(Unread::Malformed),
-    }
-}
 
 /// A value.
 #[tactic(auto, unfolding(crate::specs::DeltaReading::value_at))]
