@@ -1,9 +1,13 @@
 -- Lists of operations in normal form, cut at a code unit.
 use Rattle.std.proofs.Common.{◌≡◌, ℕ, zero, suc, ◌+◌, ◌-◌, ◌<◌, ◌≤◌, true, false, cond, List, [], ◌∷◌, ◌++◌, length, take, drop, refl, sym, ap, subst, ◌∙◌, ⊎_elim, arith, length-drop}
-use Rattle.std.specs.Prelude.{IsTrue, not, nat_lt}
-use Rattle.std.proofs.lemmas.Bool.{and_parts, and_from, lt-ltb, le-ltb, cases_lt}
+use Rattle.std.specs.Prelude.{IsTrue, not, nat_lt, ◌==◌}
+use Rattle.std.specs.Str.{IsUtf8}
+use Rattle.std.proofs.lemmas.Str.{IsUtf8-nil, chars-nil}
+use Rattle.std.proofs.lemmas.Bool.{and_parts, and_from, lt-ltb, le-ltb, ne_eqb, cases_lt}
 use Rattle.std.proofs.lemmas.List.{take-append-drop, length-take-le}
 use Rattle.std.proofs.Math.Seq.{take-length}
+use Rattle.utf16.specs.Units.{units_of, units_of_chars}
+use Rattle.utf16.specs.Laws.{SameUnits}
 use Rattle.attributes.specs.Attributes.{Attributes}
 use Rattle.delta.specs.Element.{letters, lettered}
 use Rattle.delta.specs.Operation.{Operation, insert_text, insert_embed, retain, delete, op_len, op_base, base_of}
@@ -29,6 +33,20 @@ left_after-append n op ops more =
       | true ↦ refl
       | false ↦ refl
     ]
+
+-- a text that isn't empty has a code unit
+units_none : units_of [] ≡ []
+units_none = ap units_of_chars chars-nil
+
+units_there : (text us : List ℕ) (b : ℕ) (more : List ℕ) → text ≡ b ∷ more → IsUtf8 text → SameUnits → units_of text ≡ us → true ≡ nat_lt 0 (length us)
+units_there text [] b more text_is valid same none =
+    let empty : text ≡ [] = same text [] valid IsUtf8-nil (none ∙ sym units_none) in
+    absurd (cc)
+units_there text (u ∷ us) b more text_is valid same some = sym (lt-ltb 0 (length (u ∷ us)) (omega arith))
+
+pub units_some : (text : List ℕ) → IsUtf8 text → SameUnits → not (length text == 0) ≡ nat_lt 0 (length (units_of text))
+units_some [] valid same = ap (λ us. nat_lt 0 (length us)) (sym units_none)
+units_some (b ∷ more) valid same = ap not (ne_eqb (length (b ∷ more)) 0 (λ e. omega (arith, e))) ∙ units_there (b ∷ more) (units_of (b ∷ more)) b more refl valid same refl
 
 -- the parts of being in normal form
 pub normal-parts : (op : Operation) (ops : List Operation) → IsNormal (op ∷ ops) → IsTrue (is_built (op ∷ ops)) × IsTrue (not (ends_plain (op ∷ ops)))

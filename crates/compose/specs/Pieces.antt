@@ -42,6 +42,11 @@ met (retain m c) (retain n d) = retain m (change_composed c d) ∷ []
 met (retain m c) (delete n) = delete m ∷ []
 met _ _ = []
 
+-- none or one
+abbrev pub shown : Option OpRef → List Operation
+shown None = []
+shown (Some op) = operation_of op ∷ []
+
 abbrev head_of : Option OpRef → List Operation → List Operation
 head_of None ops = []
 head_of (Some op) ops = operation_of op ∷ ops

@@ -1,14 +1,16 @@
 //! Operations cut at a code unit, and what is left of a list of them.
-ghost use Rattle.std.specs.Prelude.{◌≡◌, ◌-◌, ◌<◌, ◌≤◌, false, IfOk, IsOkUnless, MatchOption, IfSome};
+ghost use Rattle.std.specs.Prelude.{◌≡◌, ◌-◌, ◌<◌, ◌≤◌, ◌++◌, false, min, nat_lt, length, IfOk, IsOkUnless, MatchOption, IfSome};
+ghost use Rattle.utf16.specs.Units.{units_of};
 ghost use Rattle.attributes.specs.Map.{empty};
 ghost use Rattle.delta.specs.Operation.{op_len, retain, is_insert, is_delete, is_plain};
 ghost use Rattle.delta.specs.Kind.{operation_of};
-ghost use Rattle.compose.specs.Pieces.{first_units, last_units, left_after, left, PartsText, CutsText};
+ghost use Rattle.compose.specs.Pieces.{first_units, left_after, left, shown, CutsText};
 
 use delta::{Op, OpRef};
 use refusal::Refusal;
 use std::alloc::Global;
-use utf16::{len16, split_at16};
+use utf16::laws::same_units;
+use utf16::{Cut, len16, split_at16};
 
 /// What is left of a list of operations: the first of them, perhaps the end of a longer one, and those after it.
 #[derive(Clone, Copy)]
@@ -92,27 +94,24 @@ pub fn plain_len(op: OpRef<'_>) -> Option<u64>
     }
 }
 
-/// What an operation does to its first units, and what to the others; None where they part a pair.
-pub fn split(op: OpRef<'_>, at: u64) -> Option<(OpRef<'_>, OpRef<'_>)>
-    requires within { at < op_len (operation_of op) }
-    ensures cut { MatchOption result (PartsText at (operation_of op.entry)) (λ parts. ¬ (PartsText at (operation_of op.entry))) }
-    ensures first { IfSome result (λ parts. operation_of parts.0 ≡ first_units at (operation_of op.entry)) }
-    ensures rest { IfSome result (λ parts. operation_of parts.1 ≡ last_units at (operation_of op.entry)) }
+/// As many code units as both operations have. Of a text, no more are counted than the other operation has.
+pub fn common_len(op: OpRef<'_>, next: OpRef<'_>) -> u64
+    ensures { result ≡ min (op_len (operation_of op.entry)) (op_len (operation_of next.entry)) }
 {
+    let most = len_of(next);
     match op {
-        OpRef::Text(text, attrs) => match split_at16(text, at) {
-            Ok((front, back)) => Some((OpRef::Text(front, attrs), OpRef::Text(back, attrs))),
-            Err(_) => None,
+        OpRef::Text(text, _) => match split_at16(text, most) {
+            Err(Cut::PastEnd) => len16(text),
+            Ok(_) | Err(Cut::InPair) => most,
         },
-        OpRef::Embed(_, _, _) => Some((op, op)),
-        OpRef::Retain(len, change) => {
-            Some((OpRef::Retain(at, change), OpRef::Retain(len - at, change)))
-        }
-        OpRef::Delete(len) => Some((OpRef::Delete(at), OpRef::Delete(len - at))),
+        OpRef::Embed(_, _, _) => most.min(1),
+        OpRef::Retain(len, _) => len.min(most),
+        OpRef::Delete(len) => len.min(most),
     }
 }
 
-/// What operations do to their first units, and what is left of them; None where they part a pair.
+/// What operations do to their first units, and what is left of them; None where they part a pair. Of a text, no more is
+/// walked over than those units.
 pub fn cut<'a>(op: OpRef<'a>, tail: &'a [Op], n: u64) -> Option<(OpRef<'a>, Rest<'a>)>
     requires some { 0 < n }
     requires within { n ≤ op_len (operation_of op) }
@@ -120,17 +119,55 @@ pub fn cut<'a>(op: OpRef<'a>, tail: &'a [Op], n: u64) -> Option<(OpRef<'a>, Rest
     ensures first { IfSome result (λ parts. operation_of parts.0 ≡ first_units n (operation_of op.entry)) }
     ensures rest { IfSome result (λ parts. left parts.1 ≡ left_after n (operation_of op.entry) tail.entry.now) }
 {
-    if n == len_of(op) {
-        return Some((op, all(tail)));
+    match op {
+        OpRef::Text(text, attrs) => match split_at16(text, n) {
+            Ok((front, back)) => {
+                let rest = if has_units(back) {
+                    Some(OpRef::Text(back, attrs))
+                } else {
+                    None
+                };
+                Some((OpRef::Text(front, attrs), before(rest, tail)))
+            }
+            Err(_) => None,
+        },
+        OpRef::Embed(_, _, _) => Some((op, all(tail))),
+        OpRef::Retain(len, change) => {
+            let rest = if n < len {
+                Some(OpRef::Retain(len - n, change))
+            } else {
+                None
+            };
+            Some((OpRef::Retain(n, change), before(rest, tail)))
+        }
+        OpRef::Delete(len) => {
+            let rest = if n < len {
+                Some(OpRef::Delete(len - n))
+            } else {
+                None
+            };
+            Some((OpRef::Delete(n), before(rest, tail)))
+        }
     }
-    match split(op, n) {
-        Some((front, back)) => Some((
-            front,
-            Rest {
-                head: Some(back),
-                tail,
-            },
-        )),
-        None => None,
+}
+
+// what is left of an operation, if anything is, and the operations after it
+fn before<'a>(rest: Option<OpRef<'a>>, tail: &'a [Op]) -> Rest<'a>
+    ensures { left result ≡ shown rest.entry ++ tail.entry.now }
+{
+    match rest {
+        Some(op) => Rest {
+            head: Some(op),
+            tail,
+        },
+        None => all(tail),
     }
+}
+
+// whether a text has a code unit
+fn has_units(text: &str) -> bool
+    ensures { result ≡ nat_lt 0 (length (units_of text.now)) }
+{
+    same_units();
+    !text.is_empty()
 }

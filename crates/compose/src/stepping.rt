@@ -8,7 +8,7 @@ ghost use Rattle.compose.specs.Cuts.{Cuts};
 ghost use Rattle.compose.specs.Pieces.{left, met};
 ghost use Rattle.compose.specs.Steps.{IsStepBefore, IsShorter, AllSome, listed};
 
-use crate::pieces::{Rest, all, copy_of, cut, is_delete, is_insert, len_of};
+use crate::pieces::{Rest, all, common_len, copy_of, cut, is_delete, is_insert};
 use delta::{Op, OpRef};
 use refusal::Refusal;
 use std::alloc::Global;
@@ -113,7 +113,7 @@ fn meet<'a, 'b>(
     ensures cut { result ≡ Err Refusal.CutsPair → (more : List Operation) → IsNormal (operation_of op.entry ∷ tail.entry.now ++ more) → Cuts (counted (operation_of op.entry ∷ tail.entry.now ++ more)) (counted (operation_of next.entry ∷ rest.entry.now)) }
     ensures only { IfErr result (λ e. (e ≡ Refusal.CutsPair) ⊎ (e ≡ Refusal.NoMemory)) }
 {
-    let len = len_of(op).min(len_of(next));
+    let len = common_len(op, next);
     match cut(op, tail, len) {
         None => Err(Refusal::CutsPair),
         Some((part, first)) => match cut(next, rest, len) {

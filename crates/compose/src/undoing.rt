@@ -11,7 +11,7 @@ ghost use Rattle.compose.specs.Steps.{listed};
 ghost use Rattle.compose.specs.Undoing.{AllInsert, units_inserted, turned_back, IsStepBack};
 
 use crate::output::Output;
-use crate::pieces::{Rest, all, copy_of, cut, is_insert, len_of};
+use crate::pieces::{Rest, all, common_len, copy_of, cut, is_insert, len_of};
 use crate::stepping::Step;
 use delta::{Delta, Op, OpRef};
 use refusal::Refusal;
@@ -103,7 +103,7 @@ fn turn<'a>(
     ensures cut { result ≡ Err Refusal.CutsPair → Cuts (counted (operation_of op.entry ∷ tail.entry.now)) (counted (operation_of next.entry ∷ rest.entry.now)) }
     ensures only { IfErr result (λ e. (e ≡ Refusal.CutsPair) ⊎ (e ≡ Refusal.NoMemory)) }
 {
-    let len = len_of(op).min(len_of(next));
+    let len = common_len(op, next);
     match cut(op, tail, len) {
         None => Err(Refusal::CutsPair),
         Some((part, first)) => match cut(next, rest, len) {

@@ -1,5 +1,4 @@
-use Rattle.std.proofs.Common.{ap, min, ◌∙◌, ◌++◌}
-use Rattle.delta.specs.Operation.{op_len}
+use Rattle.std.proofs.Common.{◌++◌}
 use Rattle.delta.specs.Kind.{operation_of}
 use Rattle.compose.specs.Pieces.{left}
 use Rattle.compose.specs.Steps.{listed}
@@ -8,25 +7,25 @@ use Rattle.compose.proofs.stepping.meet.Goals as goal
 
 pub cut-requires-in-Some-clause-some : goal.cut-requires-in-Some-clause-some
 cut-requires-in-Some-clause-some c =
-    some-min (operation_of c.args.op) (operation_of c.args.next) c.args.rest.now c.min-len.result c.requires.first.0 c.requires.second
-    (c.min-len.ensures ∙ (ap (λ k. min k c.len_of-2.result) c.len_of.ensures ∙ ap (min (op_len (operation_of c.args.op))) c.len_of-2.ensures))
+    some-min (operation_of c.args.op) (operation_of c.args.next) c.args.rest.now c.common_len-len.result c.requires.first.0 c.requires.second
+    c.common_len-len.ensures
 
 pub returns-in-None-clause-cut : goal.returns-in-None-clause-cut
 returns-in-None-clause-cut c =
-    λ _ more normal. pair_cut (operation_of c.args.op) (operation_of c.args.next) (c.args.tail.now ++ more) c.args.rest.now c.min-len.result c.requires.stays c.requires.stands normal c.requires.second
-    (c.min-len.ensures ∙ (ap (λ k. min k c.len_of-2.result) c.len_of.ensures ∙ ap (min (op_len (operation_of c.args.op))) c.len_of-2.ensures))
+    λ _ more normal. pair_cut (operation_of c.args.op) (operation_of c.args.next) (c.args.tail.now ++ more) c.args.rest.now c.common_len-len.result c.requires.stays c.requires.stands normal c.requires.second
+    c.common_len-len.ensures
     c.in-None.ensures.cut
 
 pub returns-in_ok-both-in-Some-cut-clause-made : goal.returns-in_ok-both-in-Some-cut-clause-made
 returns-in_ok-both-in-Some-cut-clause-made c =
-    met_made (operation_of c.args.op) (operation_of c.args.next) (operation_of c.in-Some.part) (operation_of c.in-Some-cut.then) c.args.tail.now c.args.rest.now (listed c.in_ok-both-in-Some-cut.field-0) (left c.in-Some.first) (left c.in-Some-cut.second) c.min-len.result
+    met_made (operation_of c.args.op) (operation_of c.args.next) (operation_of c.in-Some.part) (operation_of c.in-Some-cut.then) c.args.tail.now c.args.rest.now (listed c.in_ok-both-in-Some-cut.field-0) (left c.in-Some.first) (left c.in-Some-cut.second) c.common_len-len.result
     c.requires.stays c.requires.stands c.requires.second
-    (c.min-len.ensures ∙ (ap (λ k. min k c.len_of-2.result) c.len_of.ensures ∙ ap (min (op_len (operation_of c.args.op))) c.len_of-2.ensures))
+    c.common_len-len.ensures
     c.in-Some.ensures.cut c.in-Some.ensures.first c.in-Some-cut.ensures.first c.in_ok-both-in-Some-cut.ensures.made c.in-Some.ensures.rest c.in-Some-cut.ensures.rest
 
 pub returns-in_ok-both-in-Some-cut-clause-shorter : goal.returns-in_ok-both-in-Some-cut-clause-shorter
 returns-in_ok-both-in-Some-cut-clause-shorter c =
-    met_shorter (operation_of c.args.op) (operation_of c.args.next) (operation_of c.in-Some.part) (operation_of c.in-Some-cut.then) c.args.tail.now c.args.rest.now (listed c.in_ok-both-in-Some-cut.field-0) (left c.in-Some.first) (left c.in-Some-cut.second) c.min-len.result
+    met_shorter (operation_of c.args.op) (operation_of c.args.next) (operation_of c.in-Some.part) (operation_of c.in-Some-cut.then) c.args.tail.now c.args.rest.now (listed c.in_ok-both-in-Some-cut.field-0) (left c.in-Some.first) (left c.in-Some-cut.second) c.common_len-len.result
     c.requires.first c.requires.second
-    (c.min-len.ensures ∙ (ap (λ k. min k c.len_of-2.result) c.len_of.ensures ∙ ap (min (op_len (operation_of c.args.op))) c.len_of-2.ensures))
+    c.common_len-len.ensures
     c.in-Some.ensures.first c.in-Some-cut.ensures.first c.in_ok-both-in-Some-cut.ensures.made c.in-Some.ensures.rest c.in-Some-cut.ensures.rest
