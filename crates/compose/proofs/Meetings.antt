@@ -1,14 +1,14 @@
 -- Two operations on the same units, the second after the first: what they make, and what is left.
 use Rattle.std.proofs.Common.{◌≡◌, ℕ, suc, ◌+◌, ◌-◌, ◌<◌, ◌≤◌, min, Bool, true, false, List, [], ◌∷◌, ◌++◌, length, take, drop, refl, sym, ap, subst, ◌∙◌, ⊎_elim, arith}
-use Rattle.std.specs.Prelude.{◌&&◌, ◌||◌, slice_index, Option, Some, None, is_some, MatchOption}
+use Rattle.std.specs.Prelude.{◌&&◌, ◌||◌, slice_index}
 use Rattle.std.specs.Char.Utf16.{is_high_surrogate, is_low_surrogate}
 use Rattle.std.proofs.lemmas.List.{append-nil}
 use Rattle.std.proofs.lemmas.Bool.{cases_lt}
 use Rattle.std.proofs.Math.Seq.{take-length}
 use Rattle.attributes.specs.Map.{empty}
-use Rattle.attributes.specs.Attributes.{Attributes, changed}
+use Rattle.attributes.specs.Attributes.{Attributes, Changes, changed}
 use Rattle.delta.specs.Element.{Element, letters, embedded}
-use Rattle.delta.specs.Operation.{Operation, insert_text, insert_embed, retain, delete, op_len, op_base, base_of, is_insert, is_delete, is_plain}
+use Rattle.delta.specs.Operation.{Operation, insert_text, insert_embed, retain, delete, op_len, op_base, base_of, is_insert, is_delete, then_changed}
 use Rattle.delta.specs.Gaps.{Gaps, End, Gap, Fate, Keep, Del, front, run, counted, joined}
 use Rattle.delta.specs.Normal.{IsNormal, settled}
 use Rattle.delta.proofs.Effects.{changed-empty}
@@ -76,10 +76,18 @@ met-plain (insert_embed key value a) n stays = ap (λ b. insert_embed key value 
 met-plain (retain m c) n stays = ap (λ f. retain m f ∷ []) (composed-empty c)
 met-plain (delete m) n stays = absurd (cc)
 
-pub met_plain : (len : Option ℕ) (op next : Operation) → is_some len ≡ true → MatchOption len (is_plain next ≡ false) (λ n. next ≡ retain n empty) → is_delete op ≡ false
-    → op ∷ [] ≡ met op next
-met_plain (Some n) op next there is stays = sym (ap (met op) is ∙ met-plain op n stays)
-met_plain None op next there is stays = absurd (cc)
+pub met_plain : (op next : Operation) (n : ℕ) (d : Changes) → next ≡ retain n d → d ≡ empty → is_delete op ≡ false → op ∷ [] ≡ met op next
+met_plain op next n d is none stays = sym (ap (met op) is ∙ (ap (λ c. met op (retain n c)) none ∙ met-plain op n stays))
+
+-- and one with a change changes it
+met-then : (op : Operation) (n : ℕ) (d : Changes) → is_delete op ≡ false → then_changed op d ∷ [] ≡ met op (retain n d)
+met-then (insert_text us a) n d stays = refl
+met-then (insert_embed key value a) n d stays = refl
+met-then (retain m c) n d stays = refl
+met-then (delete m) n d stays = absurd (cc)
+
+pub met_then : (op next made : Operation) (n : ℕ) (d : Changes) → next ≡ retain n d → made ≡ then_changed op d → is_delete op ≡ false → made ∷ [] ≡ met op next
+met_then op next made n d is made_is stays = ap (λ o. o ∷ []) made_is ∙ (met-then op n d stays ∙ ap (met op) (sym is))
 
 -- where they end
 abbrev pub border_of : Operation → List Element → Fate → Gaps → Bool

@@ -34,9 +34,9 @@ pub fn compose(alloc: Global, first: &Delta, second: &Delta) -> Result<Delta, Re
 
 /// The delta with the effect of all in turn, from the left; of none, the empty delta. Refused as `compose` refuses the
 /// first delta that can't be composed with those before it. Each step takes the operations that are there apart and moves
-/// those that the next delta leaves whole, with their texts: text is copied where a delta inserts it, and then only in a step
-/// that parts it, or that merges it with a text before it. A step's time is linear in the operations that are there, those of
-/// the next delta, and the text that the step copies.
+/// those that the next delta leaves whole, with their texts: after its insertion a text is copied only in a step that parts
+/// it, or that merges it with the text before it. A step's time is linear in the operations that are there, those of the
+/// next delta, and the text that is copied.
 pub fn compose_many(alloc: Global, deltas: &[Delta]) -> Result<Delta, Refusal>
     ensures one { IfOk result (λ one. one ≡ many deltas.now) }
     ensures composes { IfOk result (λ one. ComposesAll one deltas.now) }

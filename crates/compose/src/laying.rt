@@ -8,9 +8,9 @@ ghost use Rattle.compose.specs.Steps.{AllSome, listed};
 ghost use Rattle.compose.specs.SoFar.{HasMade, CarriesOn, GoesOn, IsCutAfter, IsOutcome};
 
 use crate::output::Output;
-use crate::pieces::{Rest, all, copy_of, cut, is_delete, is_insert, len_of, plain_len};
+use crate::pieces::{Rest, all, copy_of, cut, is_delete, is_insert, len_of};
 use crate::stepping::next_step;
-use delta::{Delta, Kind, Op, OpRef};
+use delta::{Delta, Op, OpRef};
 use refusal::Refusal;
 use std::alloc::Global;
 
@@ -63,7 +63,7 @@ pub fn lay_over<'b>(
             Ok(second)
         }
         Some(next) => {
-            let len = len_of(op.get());
+            let len = op.len16();
             if is_insert(next) || len_of(next) < len {
                 let whole = Rest {
                     head: Some(op.get()),
@@ -137,21 +137,17 @@ fn changed(alloc: Global, op: Op, next: OpRef<'_>) -> Result<Option<Op>, Refusal
     ensures made { IfOk result (λ made. listed made ≡ met op (operation_of next.entry)) }
     ensures only { IsOkUnless result Refusal.NoMemory }
 {
-    if plain_len(next).is_some() {
-        return Ok(Some(op));
-    }
-    match (op.into_kind(), next) {
-        (Kind::Text(text, attrs), OpRef::Retain(_, change)) => {
-            Ok(Some(Op::text(text, attributes::apply(alloc, &attrs, change)?)))
+    match next {
+        OpRef::Retain(_, change) => {
+            if change.is_empty() {
+                return Ok(Some(op));
+            }
+            Ok(Some(op.then(alloc, change)?))
         }
-        (Kind::Embed(name, value, attrs), OpRef::Retain(_, change)) => {
-            let attrs = attributes::apply(alloc, &attrs, change)?;
-            Ok(Some(Op::from_kind(Kind::Embed(name, value, attrs))))
-        }
-        (Kind::Retain(len, change), OpRef::Retain(_, then)) => {
-            Ok(Some(Op::retain(len, attributes::compose(alloc, &change, then)?)))
-        }
-        (Kind::Retain(len, _), OpRef::Delete(_)) => Ok(Some(Op::delete(len))),
-        _ => Ok(None),
+        OpRef::Delete(_) => match op.get() {
+            OpRef::Retain(len, _) => Ok(Some(Op::delete(len))),
+            _ => Ok(None),
+        },
+        OpRef::Text(_, _) | OpRef::Embed(_, _, _) => Ok(None),
     }
 }

@@ -1,9 +1,9 @@
 -- Where one operation more is added, and what stands there then.
-use Rattle.std.proofs.Common.{◌≡◌, ℕ, zero, suc, ◌-◌, ◌<◌, ◌≤◌, Bool, true, false, ◌&&◌, cond, List, [], ◌∷◌, ◌++◌, length, take, drop, get_or, set, insert, Some, None, refl, sym, ap, ◌∙◌, arith}
+use Rattle.std.proofs.Common.{◌≡◌, ℕ, zero, suc, ◌-◌, ◌<◌, ◌≤◌, Bool, true, false, ◌&&◌, cond, List, [], ◌∷◌, ◌++◌, length, take, drop, get_or, set, insert, Some, None, refl, sym, ap, ◌∙◌, arith, ◌+◌, ◌^◌}
 use Rattle.std.proofs.Math.Numerals.{sub-one}
 use Rattle.std.proofs.lemmas.List.{set-get_or}
 use Rattle.std.specs.Prelude.{MatchBool}
-use Rattle.delta.specs.Operation.{Operation, is_insert, is_delete, merged, op_base, base_of}
+use Rattle.delta.specs.Operation.{Operation, insert_text, insert_embed, retain, delete, is_insert, is_delete, merged, op_len, op_base, op_out, base_of, out_of}
 use Rattle.delta.specs.Building.{met, added, place_of, IsAddedApart}
 
 -- by the last operation
@@ -55,10 +55,19 @@ put-there (a ∷ []) (suc k) op d h e = absurd (omega arith)
 put-there (a ∷ b ∷ r) (suc k) op d h e = ap (λ l. a ∷ l) (put-there (b ∷ r) k op d (omega arith) e)
 
 -- no operation is longer than all of them
-pub op_base-le : (ops : List Operation) (k : ℕ) (d : Operation) → k < length ops → op_base (get_or ops k d) ≤ base_of ops
-op_base-le [] k d h = absurd (omega arith)
-op_base-le (a ∷ r) zero d h = omega arith
-op_base-le (a ∷ r) (suc k) d h = omega (arith, op_base-le r k d (omega arith))
+op_len-both : (op : Operation) → op_len op ≤ op_base op + op_out op
+op_len-both (insert_text us a) = omega arith
+op_len-both (insert_embed key value a) = omega arith
+op_len-both (retain n c) = omega arith
+op_len-both (delete n) = omega arith
+
+pub op_len-le : (ops : List Operation) (k : ℕ) (d : Operation) → k < length ops → op_len (get_or ops k d) ≤ base_of ops + out_of ops
+op_len-le [] k d h = absurd (omega arith)
+op_len-le (a ∷ r) zero d h = omega (arith, op_len-both a)
+op_len-le (a ∷ r) (suc k) d h = omega (arith, op_len-le r k d (omega arith))
+
+pub op_len-room : (op : Operation) (base out : ℕ) → base + op_base op ≤ 2 ^ 48 → out + op_out op ≤ 2 ^ 48 → base + out + op_len op ≤ 2 ^ 49
+op_len-room op base out base_fits out_fits = omega (arith, op_len-both op)
 
 -- the same by the place itself
 pub merged-at : (ops : List Operation) (place : ℕ) (op last m : Operation) → 0 < place → place ≤ length ops → last ≡ get_or ops (place - 1) last → merged last op ≡ Some m

@@ -1,17 +1,21 @@
 -- What an operation of the program is, as an operation.
-use Rattle.std.specs.Prelude.{string_bytes}
+use Rattle.std.specs.Prelude.{◌≡◌, ℕ, string_bytes}
 use Rattle.utf16.specs.Units.{units_of}
-use Rattle.delta.specs.Operation.{Operation, insert_text, insert_embed, retain, delete}
+use Rattle.delta.specs.Operation.{Operation, insert_text, insert_embed, retain, delete, op_len}
 use Rattle.delta.specs.declared.op.Kind.{Kind}
 use Rattle.delta.specs.declared.op.Kind.TheVariants as kind
 use Rattle.delta.specs.declared.op.OpRef.{OpRef}
 use Rattle.delta.specs.declared.op.OpRef.TheVariants as op_ref
 
-abbrev pub operation_of_kind : Kind → Operation
-operation_of_kind (kind.Text text a) = insert_text (units_of (string_bytes text)) a
-operation_of_kind (kind.Embed name value a) = insert_embed name value a
-operation_of_kind (kind.Retain len c) = retain len c
-operation_of_kind (kind.Delete len) = delete len
+abbrev pub operation_of_kind : ℕ → Kind → Operation
+operation_of_kind len (kind.Text text a) = insert_text (units_of (string_bytes text)) a
+operation_of_kind len (kind.Embed name value a) = insert_embed name value a
+operation_of_kind len (kind.Retain c) = retain len c
+operation_of_kind len kind.Delete = delete len
+
+-- its length is kept beside it
+abbrev pub IsKept : ℕ → Kind → Type 0
+IsKept len k = len ≡ op_len (operation_of_kind len k)
 
 -- the operation that a borrowed one shows
 abbrev pub operation_of : OpRef → Operation

@@ -3,7 +3,7 @@ use Rattle.std.specs.Prelude.{◌≡◌, ℕ, ◌+◌, ◌≤◌, ◌^◌, Bool,
 use Rattle.std.specs.Coded.{Coded, code_by, coded×, coded⊎, coded_list, coded_ℕ, coded_option}
 use Rattle.std.proofs.Common.{◌⊎◌, inl, inr}
 use Rattle.attributes.specs.Map.{empty, map_code}
-use Rattle.attributes.specs.Attributes.{Attributes, Changes, same_attributes, same_changes}
+use Rattle.attributes.specs.Attributes.{Attributes, Changes, changed, composed, same_attributes, same_changes}
 use Rattle.attributes.specs.Scalar.{Scalar, scalar_code}
 
 -- insert a text, by its code units, or an embed; keep units, with a change of their attributes; delete units
@@ -45,6 +45,13 @@ op_len (insert_text us a) = length us
 op_len (insert_embed key value a) = 1
 op_len (retain n c) = n
 op_len (delete n) = n
+
+-- an operation, and then a change of the units that it inserts or keeps
+abbrev pub then_changed : Operation → Changes → Operation
+then_changed (insert_text us a) d = insert_text us (changed a d)
+then_changed (insert_embed key value a) d = insert_embed key value (changed a d)
+then_changed (retain n c) d = retain n (composed c d)
+then_changed (delete n) d = delete n
 
 -- how many units of the document before it stands on
 abbrev pub op_base : Operation → ℕ

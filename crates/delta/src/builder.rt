@@ -1,6 +1,6 @@
 //! The builder of deltas.
 ghost use Rattle.std.specs.Prelude.{◌≡◌, ◌+◌, ◌≤◌, ◌<◌, ◌^◌, ◌↔◌, ◌⊎◌, ◌++◌, [], ◌∷◌, IfErr, IfOk, OnOk, OnErr, IsOkUnless, MatchBool, vec_len};
-ghost use Rattle.delta.specs.Operation.{base_of, out_of, op_base, IsBounded};
+ghost use Rattle.delta.specs.Operation.{base_of, out_of, op_base, op_out, IsBounded};
 ghost use Rattle.delta.specs.Gaps.{counted};
 ghost use Rattle.delta.specs.Normal.{built, nf};
 ghost use Rattle.delta.specs.Building.{added_at, place_of, without_plain, IsAddedApart};
@@ -86,7 +86,8 @@ impl Builder {
 
 // adds an operation at its place
 fn put(ops: &mut Vec<Op>, op: Op) -> Result<(), Refusal>
-    requires { base_of ops.old.items + op_base op ≤ 2 ^ 48 }
+    requires base { base_of ops.old.items + op_base op ≤ 2 ^ 48 }
+    requires out { out_of ops.old.items + op_out op ≤ 2 ^ 48 }
     ensures ok { OnOk result (ops.new.items ≡ added_at ops.old.items (place_of ops.old.items op) op) }
     ensures err { OnErr result (ops.new.items ≡ ops.old.items) }
     ensures only { IsOkUnless result Refusal.NoMemory }
@@ -102,7 +103,8 @@ fn put(ops: &mut Vec<Op>, op: Op) -> Result<(), Refusal>
 // takes an operation into the one before its place, where they merge, and says whether they do
 fn merge_before(ops: &mut Vec<Op>, at: usize, op: &Op) -> Result<bool, Refusal>
     requires place { at ≤ vec_len ops.old }
-    requires bound { base_of ops.old.items + op_base op.now ≤ 2 ^ 48 }
+    requires base { base_of ops.old.items + op_base op.now ≤ 2 ^ 48 }
+    requires out { out_of ops.old.items + op_out op.now ≤ 2 ^ 48 }
     ensures ok { IfOk result (λ yes.
         MatchBool yes (ops.new.items ≡ added_at ops.old.items at op.now) (IsAddedApart ops.old.items ops.new.items at op.now)) }
     ensures err { OnErr result (ops.new.items ≡ ops.old.items) }

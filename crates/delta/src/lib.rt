@@ -18,4 +18,4 @@ mod tests;
 
 pub use builder::{Builder, MAX_LEN};
 pub use delta::Delta;
-pub use op::{Kind, Op, OpRef};
+pub use op::{Op, OpRef};

@@ -5,7 +5,7 @@ ghost use Rattle.std.specs.Str.{bytes_eq};
 ghost use Rattle.utf16.specs.Units.{units_of};
 ghost use Rattle.attributes.specs.Attributes.{IsKey};
 ghost use Rattle.attributes.specs.Map.{empty};
-ghost use Rattle.delta.specs.Operation.{insert_text, insert_embed, retain, delete, op_base, op_out, is_insert, is_delete, is_plain, merged};
+ghost use Rattle.delta.specs.Operation.{insert_text, insert_embed, retain, delete, then_changed, op_len, op_base, op_out, is_insert, is_delete, is_plain, merged};
 
 use attributes::{Attrs, Change, Key, Value};
 use refusal::Refusal;
@@ -18,19 +18,15 @@ use utf16::len16;
 #[derive(Drop)]
 pub struct Op {
     kind: Kind,
+    len: u64,
 }
 
-/// An operation taken apart.
 #[derive(Drop)]
-pub enum Kind {
-    /// Insert a text with attributes.
+enum Kind {
     Text(String, Attrs),
-    /// Insert an embed, by its name and value, with attributes.
     Embed(Key, Value, Attrs),
-    /// Keep so many code units, with a change of their attributes.
-    Retain(u64, Change),
-    /// Delete so many code units.
-    Delete(u64),
+    Retain(Change),
+    Delete,
 }
 
 /// An operation as it is, to match on.
@@ -54,19 +50,24 @@ impl Model for Op {
     ghost coded = { operation_code };
 
     ghost use Rattle.delta.specs.Kind.{operation_of_kind};
+    ghost use Rattle.delta.specs.Kind.{IsKept};
 
-    ghost view = { λ op. operation_of_kind op.kind };
+    ghost view = { λ op. operation_of_kind op.len op.kind };
+
+    ghost invariant = { λ op. IsKept op.len op.kind };
 }
 
 impl Op {
-    ghost use Rattle.delta.specs.Kind.{operation_of, operation_of_kind};
+    ghost use Rattle.delta.specs.Kind.{operation_of};
 
     /// Inserts a text.
     pub fn text(text: String, attrs: Attrs) -> Self
         ensures { result ≡ insert_text (units_of (string_bytes text)) attrs }
     {
+        let len = len16(text.as_str());
         Op {
             kind: Kind::Text(text, attrs),
+            len,
         }
     }
 
@@ -80,6 +81,7 @@ impl Op {
         match Key::new(alloc, name) {
             Ok(key) => Ok(Op {
                 kind: Kind::Embed(key, value, attrs),
+                len: 1,
             }),
             Err(refusal) => Err(refusal),
         }
@@ -90,7 +92,8 @@ impl Op {
         ensures { result ≡ retain len change }
     {
         Op {
-            kind: Kind::Retain(len, change),
+            kind: Kind::Retain(change),
+            len,
         }
     }
 
@@ -99,7 +102,8 @@ impl Op {
         ensures { result ≡ delete len }
     {
         Op {
-            kind: Kind::Delete(len),
+            kind: Kind::Delete,
+            len,
         }
     }
 
@@ -110,24 +114,35 @@ impl Op {
         match &self.kind {
             Kind::Text(text, attrs) => OpRef::Text(text.as_str(), attrs),
             Kind::Embed(name, value, attrs) => OpRef::Embed(name, value, attrs),
-            Kind::Retain(len, change) => OpRef::Retain(*len, change),
-            Kind::Delete(len) => OpRef::Delete(*len),
+            Kind::Retain(change) => OpRef::Retain(self.len, change),
+            Kind::Delete => OpRef::Delete(self.len),
         }
     }
 
-    /// The operation of these parts.
-    pub fn from_kind(kind: Kind) -> Self
-        ensures { result ≡ operation_of_kind kind }
+    /// How many code units it inserts, keeps or deletes. Constant time.
+    pub fn len16(&self) -> u64
+        ensures { result ≡ op_len self.now }
     {
-        Op { kind }
+        self.len
     }
 
-    /// The operation, taken apart. Nothing is copied.
-    pub fn into_kind(self) -> Kind
-        ensures { operation_of_kind result ≡ self }
+    /// The operation, and then a change of the units that it inserts or keeps; a delete stays as it is. Its text is moved.
+    pub fn then(self, alloc: Global, change: &Change) -> Result<Self, Refusal>
+        ensures changed { IfOk result (λ op. op ≡ then_changed self change.now) }
+        ensures only { IsOkUnless result Refusal.NoMemory }
     {
-        let Op { kind } = self;
-        kind
+        let Op { kind, len } = self;
+        let kind = match kind {
+            Kind::Text(text, attrs) => {
+                Kind::Text(text, attributes::apply(alloc, &attrs, change)?)
+            }
+            Kind::Embed(name, value, attrs) => {
+                Kind::Embed(name, value, attributes::apply(alloc, &attrs, change)?)
+            }
+            Kind::Retain(first) => Kind::Retain(attributes::compose(alloc, &first, change)?),
+            Kind::Delete => Kind::Delete,
+        };
+        Ok(Op { kind, len })
     }
 
     /// How many code units of the document before it the operation stands on: what it retains or deletes.
@@ -136,8 +151,7 @@ impl Op {
     {
         match &self.kind {
             Kind::Text(_, _) | Kind::Embed(_, _, _) => 0,
-            Kind::Retain(len, _) => *len,
-            Kind::Delete(len) => *len,
+            Kind::Retain(_) | Kind::Delete => self.len,
         }
     }
 
@@ -146,10 +160,8 @@ impl Op {
         ensures { result ≡ op_out self.now }
     {
         match &self.kind {
-            Kind::Text(text, _) => len16(text.as_str()),
-            Kind::Embed(_, _, _) => 1,
-            Kind::Retain(len, _) => *len,
-            Kind::Delete(_) => 0,
+            Kind::Text(_, _) | Kind::Embed(_, _, _) | Kind::Retain(_) => self.len,
+            Kind::Delete => 0,
         }
     }
 
@@ -158,7 +170,7 @@ impl Op {
     {
         match &self.kind {
             Kind::Text(_, _) | Kind::Embed(_, _, _) => true,
-            Kind::Retain(_, _) | Kind::Delete(_) => false,
+            Kind::Retain(_) | Kind::Delete => false,
         }
     }
 
@@ -166,8 +178,8 @@ impl Op {
         ensures { result ≡ is_delete self.now }
     {
         match &self.kind {
-            Kind::Delete(_) => true,
-            Kind::Text(_, _) | Kind::Embed(_, _, _) | Kind::Retain(_, _) => false,
+            Kind::Delete => true,
+            Kind::Text(_, _) | Kind::Embed(_, _, _) | Kind::Retain(_) => false,
         }
     }
 
@@ -176,39 +188,40 @@ impl Op {
         ensures { MatchOption result (is_plain self.now ≡ false) (λ len. self.now ≡ retain len empty) }
     {
         match &self.kind {
-            Kind::Retain(len, change) => { if change.is_empty() { Some(*len) } else { None } }
-            Kind::Text(_, _) | Kind::Embed(_, _, _) | Kind::Delete(_) => None,
+            Kind::Retain(change) => {
+                if change.is_empty() {
+                    Some(self.len)
+                } else {
+                    None
+                }
+            }
+            Kind::Text(_, _) | Kind::Embed(_, _, _) | Kind::Delete => None,
         }
     }
 
     // takes the next operation in, where they merge, and says whether they do
     pub(crate) fn merge(&mut self, next: &Op) -> Result<bool, Refusal>
-        requires { op_base self.old + op_base next.now < 2 ^ 64 }
+        requires { op_len self.old + op_len next.now < 2 ^ 64 }
         ensures ok { IfOk result (λ yes. MatchBool yes (merged self.old next.now ≡ Some self.new) ((merged self.old next.now ≡ None) × (self.new ≡ self.old))) }
         ensures err { OnErr result (self.new ≡ self.old) }
         ensures only { IsOkUnless result Refusal.NoMemory }
     {
-        match (&mut self.kind, &next.kind) {
+        let merged = match (&mut self.kind, &next.kind) {
             (Kind::Text(text, attrs), Kind::Text(more, others)) => {
                 let same = *attrs == *others;
                 if same {
                     append(text, more.as_str())?;
                 }
-                Ok(same)
+                same
             }
-            (Kind::Retain(len, change), Kind::Retain(more, other)) => {
-                let same = *change == *other;
-                if same {
-                    *len += *more;
-                }
-                Ok(same)
-            }
-            (Kind::Delete(len), Kind::Delete(more)) => {
-                *len += *more;
-                Ok(true)
-            }
-            _ => Ok(false),
+            (Kind::Retain(change), Kind::Retain(other)) => *change == *other,
+            (Kind::Delete, Kind::Delete) => true,
+            _ => false,
+        };
+        if merged {
+            self.len += next.len;
         }
+        Ok(merged)
     }
 
     /// An equal operation.
@@ -224,10 +237,13 @@ impl Op {
             Kind::Embed(name, value, attrs) => {
                 Kind::Embed(name.copy(alloc)?, value.copy(alloc)?, attrs.copy(alloc)?)
             }
-            Kind::Retain(len, change) => Kind::Retain(*len, change.copy(alloc)?),
-            Kind::Delete(len) => Kind::Delete(*len),
+            Kind::Retain(change) => Kind::Retain(change.copy(alloc)?),
+            Kind::Delete => Kind::Delete,
         };
-        Ok(Op { kind })
+        Ok(Op {
+            kind,
+            len: self.len,
+        })
     }
 }
 
@@ -259,16 +275,16 @@ impl PartialEq for Op {
 
     fn eq(&self, other: &Self) -> bool {
         match (&self.kind, &other.kind) {
-            (Kind::Text(text, attrs), Kind::Text(other, others)) => {
-                same_text(text.as_str(), other.as_str()) && attrs == others
+            (Kind::Text(text, attrs), Kind::Text(words, others)) => {
+                same_text(text.as_str(), words.as_str()) && attrs == others
             }
-            (Kind::Embed(name, value, attrs), Kind::Embed(other, content, others)) => {
-                name == other && value == content && attrs == others
+            (Kind::Embed(name, value, attrs), Kind::Embed(key, content, others)) => {
+                name == key && value == content && attrs == others
             }
-            (Kind::Retain(len, change), Kind::Retain(other, changes)) => {
-                len == other && change == changes
+            (Kind::Retain(change), Kind::Retain(changes)) => {
+                self.len == other.len && change == changes
             }
-            (Kind::Delete(len), Kind::Delete(other)) => len == other,
+            (Kind::Delete, Kind::Delete) => self.len == other.len,
             _ => false,
         }
     }

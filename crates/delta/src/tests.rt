@@ -222,7 +222,7 @@ fn comes_apart(rt: HostRuntime) -> Result<(), Fail> {
     let same = delta.copy(rt.alloc())?;
     let mut builder = Builder::new(rt.alloc());
     for op in delta.into_ops() {
-        builder.push(Op::from_kind(op.into_kind()))?;
+        builder.push(op)?;
     }
     assert!(rt; builder.finish() == same);
     Ok(())

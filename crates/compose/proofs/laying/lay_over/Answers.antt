@@ -44,11 +44,11 @@ pub returns-clause-on : goal.returns-clause-on
 returns-clause-on c =
     let stays : is_delete c.args.op ≡ false = ap is_delete (sym c.get.ensures) ∙ (sym c.is_delete.ensures ∙ c.if-is_delete.false) in
     let stands : is_insert (operation_of c.in-Some.next) ≡ false = sym c.is_insert.ensures ∙ c.if-is_insert.false in
-    let len_is : c.len_of-len.result ≡ op_len c.args.op = c.len_of-len.ensures ∙ ap op_len c.get-in-Some.ensures in
-    let within : c.len_of-len.result ≤ op_len (operation_of c.in-Some.next) = omega (arith, c.len_of.ensures, c.if-len_of-len.false) in
+    let len_is : c.len16-len.result ≡ op_len c.args.op = c.len16-len.ensures in
+    let within : c.len16-len.result ≤ op_len (operation_of c.in-Some.next) = omega (arith, c.len_of.ensures, c.if-len_of-len.false) in
     let normal = rw c.in-Some.is at c.in_ok-second.ensures.second in
     let before = rw c.in-Some.is at c.in_ok-second.ensures.on in
     carries-then c.args.out.now c.pass_inserts.new.out c.add-in-Some-cut.new.self c.args.op (left c.args.second) (operation_of c.in-Some.next ∷ c.in_ok-second.second.tail.now) (left c.in-Some-cut.rest) before
-    (carries-whole c.pass_inserts.new.out c.add-in-Some-cut.new.self c.args.op (operation_of c.in-Some.next) (operation_of c.in-Some-cut.then) c.in_ok-second.second.tail.now (left c.in-Some-cut.rest) (listed c.in_ok-changed-in-Some-cut.field-0) c.len_of-len.result
+    (carries-whole c.pass_inserts.new.out c.add-in-Some-cut.new.self c.args.op (operation_of c.in-Some.next) (operation_of c.in-Some-cut.then) c.in_ok-second.second.tail.now (left c.in-Some-cut.rest) (listed c.in_ok-changed-in-Some-cut.field-0) c.len16-len.result
     c.requires.first stays stands normal len_is within c.in-Some-cut.ensures.first c.in-Some-cut.ensures.rest c.in_ok-changed-in-Some-cut.ensures.made
     (record { kept = c.in_ok-add-in-Some-cut.ensures.kept; still = c.in_ok-add-in-Some-cut.ensures.still; past = c.in_ok-add-in-Some-cut.ensures.over; room = c.add-in-Some-cut.ensures.room }))

@@ -11,5 +11,5 @@ not_plain n c some = false_from_ne_true _ (λ e. some ((same_changes-Decides c e
 
 pub returns-else-is_empty : goal.returns-else-is_empty
 returns-else-is_empty c =
-    ap is_plain (sym c.self.view_is ∙ ap operation_of_kind c.in-Retain.is)
-    ∙ not_plain c.in-Retain.len c.in-Retain.change (λ e. both_ways _ c.if-is_empty.false (c.is_empty.ensures.1 e))
+    ap is_plain (sym c.self.view_is ∙ ap (operation_of_kind c.self.inside.len) c.in-Retain.is)
+    ∙ not_plain c.self.inside.len c.in-Retain.change (λ e. both_ways _ c.if-is_empty.false (c.is_empty.ensures.1 e))
