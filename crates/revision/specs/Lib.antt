@@ -8,3 +8,6 @@ pub mod State
 pub mod Agree
 pub mod Acceptance
 pub mod Planned
+pub mod Late
+pub mod Past
+mod Examples
