@@ -5,3 +5,5 @@ pub mod Creations
 pub mod Taking
 pub mod Agreeing
 pub mod Answering
+pub mod Room
+pub mod Replays

@@ -1,10 +1,11 @@
 -- An edit that was made on an older revision, as it is on the newest one (ShareDB speaks so of late edits; that the deltas
 -- taken since are passed one by one, each with priority, is this project's own).
-use Rattle.std.specs.Prelude.{ℕ, ◌+◌, ◌≤◌, ◌^◌, true, List, [], ◌∷◌, length, All}
+use Rattle.std.specs.Prelude.{ℕ, ◌+◌, ◌≤◌, ◌<◌, ◌^◌, true, List, [], ◌∷◌, length, All}
 use Rattle.delta.specs.Element.{Element}
 use Rattle.delta.specs.Operation.{Operation, insert_text, insert_embed, retain, delete, base_of, out_of}
 use Rattle.delta.specs.Gaps.{counted, apply}
 use Rattle.delta.specs.Normal.{nf}
+use Rattle.document.specs.Weight.{weight_of}
 use Rattle.xform.specs.After.{after}
 
 -- an edit past one delta, which was taken first and so has priority
@@ -46,3 +47,13 @@ InsertedStay = (units : List Element) (taken : List Operation) → base_of taken
 abbrev pub RoomForCommands : Type 0
 RoomForCommands = (edit : List Operation) (since : List (List Operation)) → base_of edit ≤ 2 ^ 44 → out_of edit ≤ 2 ^ 44
     → length since ≤ 65536 → All (λ taken. inserted_of taken ≤ 2 ^ 29) since → HasRoom edit since
+
+-- so have what takes one of them back, and the document that they stand on
+abbrev pub RoomForUndo : Type 0
+RoomForUndo = (units : List Element) (deltas : List (List Operation)) → length units ≤ 2 ^ 29
+    → length deltas ≤ 65536 → All (λ taken. inserted_of taken ≤ 2 ^ 29) deltas → length units + all_inserted deltas ≤ 2 ^ 48
+
+-- a delta inserts no more than 2^29 units where the document after it weighs less than 2^32, as every limit of a weight is
+abbrev pub LightInserts : Type 0
+LightInserts = (units : List Element) (taken : List Operation) → base_of taken ≤ length units
+    → weight_of (apply units (counted taken)) < 2 ^ 32 → inserted_of taken ≤ 2 ^ 29

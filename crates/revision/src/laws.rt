@@ -4,6 +4,7 @@ ghost use Rattle.revision.specs.Command.{Command, Taken};
 ghost use Rattle.revision.specs.State.{State, grows};
 ghost use Rattle.revision.specs.Acceptance.{Takes, answer};
 ghost use Rattle.revision.specs.Agree.{Agree, AgreeingGrow};
+ghost use Rattle.revision.specs.Late.{InsertedStay, LightInserts, RoomForCommands, RoomForUndo};
 
 /// What the rule of acceptance takes continues the state.
 pub fn taken_grows()
@@ -25,4 +26,16 @@ pub fn agreeing_answer()
 /// States that agree are continued by the same commands, and agree after them.
 pub fn agreeing_grow()
     ensures { AgreeingGrow }
+{}
+
+/// What a delta inserts stays in the document after it, and is no more than 2^29 units where that keeps its weight.
+pub fn inserted_stay()
+    ensures stay { InsertedStay }
+    ensures light { LightInserts }
+{}
+
+/// Past all deltas that a document holds there is room for a command's delta, and for what takes one of them back.
+pub fn late_room()
+    ensures commands { RoomForCommands }
+    ensures undo { RoomForUndo }
 {}

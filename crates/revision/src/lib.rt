@@ -4,15 +4,19 @@
 //! `State::plan` answers a command by the first case that holds and leaves the state alone; `State::absorb` adds what was
 //! taken, just where it continues the state. So far commands create documents. The definitions stand in
 //! specs/Acceptance.antt and specs/State.antt; when two states hold the same, and that such states stay so, in
-//! specs/Agree.antt and `laws`.
-//! It stands on `delta` and `document`.
+//! specs/Agree.antt and `laws`. For edits and undo, which are to come, `late` and `past` say and do what they take: a delta
+//! past those that were taken since its base, the document at an older revision, and what undoes a revision (specs/Late.antt
+//! and specs/Past.antt).
+//! It stands on `delta`, `document`, `compose` and `xform`.
 #![tactic(auto)]
 
 mod command;
 mod growing;
+mod late;
 pub mod laws;
 mod made;
 mod name;
+mod past;
 mod planning;
 mod state;
 mod taken;
