@@ -10,4 +10,6 @@ pub mod Acceptance
 pub mod Planned
 pub mod Late
 pub mod Past
+pub mod Whole
 mod Examples
+mod WholeExamples
