@@ -7,3 +7,4 @@ pub mod Agreeing
 pub mod Answering
 pub mod Room
 pub mod Replays
+pub mod Kept

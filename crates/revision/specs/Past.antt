@@ -1,5 +1,5 @@
 -- What is held of a document's past: its units at one revision, the floor, and the deltas of the revisions after it, in order.
-use Rattle.std.specs.Prelude.{ℕ, ◌-◌, List, [], ◌∷◌, take, drop}
+use Rattle.std.specs.Prelude.{ℕ, ◌+◌, ◌-◌, ◌≤◌, ◌<◌, ◌^◌, max, List, [], ◌∷◌, ◌++◌, length, take, drop}
 use Rattle.delta.specs.Element.{Element}
 use Rattle.delta.specs.Operation.{Operation}
 use Rattle.delta.specs.Gaps.{counted, apply}
@@ -35,3 +35,40 @@ way_back_late units (taken ∷ others) = late (way_back units taken) others
 -- the delta by which the change of a revision above the floor is undone
 abbrev pub undo_of : ℕ → List Element → List (List Operation) → ℕ → List Operation
 undo_of floor units deltas revision = way_back_late (units_at floor units deltas (revision - 1)) (deltas_since floor deltas (revision - 1))
+
+-- A document's past, as far back as it is held: the floor, the units there, and the deltas of the revisions after it.
+pub record Past : Type 0 where
+  pub floor : ℕ
+  pub units : List Element
+  pub deltas : List (List Operation)
+
+-- its newest revision, and the units there
+abbrev pub newest : Past → ℕ
+newest past = past.floor + length past.deltas
+
+abbrev pub newest_units : Past → List Element
+newest_units past = applied past.units past.deltas
+
+-- the document has at most 2^29 units at each of these revisions, as one of a weight below 2^32 has
+abbrev pub StayShort : List Element → List (List Operation) → Type 0
+StayShort units [] = length units ≤ 2 ^ 29
+StayShort units (taken ∷ others) = (length units ≤ 2 ^ 29) × StayShort (apply units (counted taken)) others
+
+-- what a past keeps: its deltas stand in turn on short documents, there are at most 65,536, and revisions are below 2^53
+pub record IsPast (past : Past) : Type 0 where
+  pub stand : StandInTurn past.units past.deltas
+  pub short : StayShort past.units past.deltas
+  pub count : length past.deltas ≤ 65536
+  pub revision : newest past < 2 ^ 53
+
+-- One revision more: the floor rises to `keep` below it where it is lower, and what is held begins there.
+abbrev pub with_floor : Past → ℕ → Past
+with_floor past floor = record {
+  floor = floor;
+  units = units_at past.floor past.units past.deltas floor;
+  deltas = deltas_since past.floor past.deltas floor;
+}
+
+abbrev pub with_delta : ℕ → Past → List Operation → Past
+with_delta keep past taken =
+    with_floor (record past { deltas = past.deltas ++ taken ∷ [] }) (max past.floor (newest past + 1 - keep))

@@ -1,9 +1,12 @@
 //! Edits of older revisions, documents at them, and undo. What is taken, and the texts, are worked out by hand.
-ghost use Rattle.std.specs.Prelude.{◌≡◌, ◌+◌, ◌≤◌, ◌^◌, true, IfOk};
+ghost use Rattle.std.specs.Prelude.{◌≡◌, ◌+◌, ◌≤◌, ◌^◌, true, length, IfOk};
 ghost use Rattle.revision.specs.Late.{HasRoom, all_inserted};
-ghost use Rattle.revision.specs.Past.{StandInTurn};
+ghost use Rattle.revision.specs.Past.{StandInTurn, newest_units};
+ghost use Rattle.delta.specs.Gaps.{counted, apply};
+ghost use Rattle.document.specs.Outcome.{IsAccepted};
 
 use super::{Step, delta_of};
+use crate::held::Past;
 use crate::late::late;
 use crate::past::{document_after, undo};
 use attributes::{Change, Key, Value};
@@ -235,4 +238,88 @@ fn undone(
     assert!(rt; room);
     assert!(rt; place < deltas.len());
     Ok(undo(alloc, base, deltas, place)?)
+}
+
+/// 2^29
+const SHORT: u64 = 536_870_912;
+
+// whether a delta may be added to a past: the document there takes it, and stays short
+fn is_next(alloc: Global, past: &Past, taken: &Delta) -> Result<bool, Refusal>
+    ensures accepted { IfOk result (λ yes. yes ≡ true → IsAccepted (newest_units past.now) (counted taken.now)) }
+    ensures short { IfOk result (λ yes. yes ≡ true → length (apply (newest_units past.now) (counted taken.now)) ≤ 2 ^ 29) }
+{
+    let mut document = past.document_at(alloc, past.revision())?;
+    if taken.base_len() > document.len16() {
+        return Ok(false);
+    }
+    document.apply(alloc, taken)?;
+    Ok(document.len16() <= SHORT)
+}
+
+// adds a delta to a past of which two revisions below the newest one are held
+fn go_on(rt: &impl Abort, alloc: Global, past: &mut Past, steps: &[Step]) -> Result<(), Fail> {
+    let taken = delta_of(alloc, steps)?;
+    let next = is_next(alloc, past, &taken)?;
+    assert!(rt; next);
+    let revision = past.revision();
+    assert!(rt; revision < 1000);
+    past.add(alloc, taken, 2)?;
+    Ok(())
+}
+
+/// What is taken from the empty document on, and the floor and the text after it.
+const ROUND: [(&[Step], u64, &str); 5] = [
+    (&[Step::Plain("ab")], 0, "ab"),
+    (&[Step::Keep(1), Step::Drop(1)], 0, "a"),
+    (&[Step::Plain("q")], 1, "qa"),
+    (&[Step::Keep(2), Step::Plain("b")], 2, "qab"),
+    (&[Step::Keep(2), Step::Drop(1)], 3, "qa"),
+];
+
+#[test]
+fn a_past_begins_at_its_floor(rt: HostRuntime) -> Result<(), Fail> {
+    let alloc = rt.alloc();
+    let mut past = Past::new(alloc, 0, Document::empty(alloc));
+    for (steps, floor, text) in &ROUND {
+        go_on(&rt, alloc, &mut past, steps)?;
+        assert_eq!(&rt; past.floor(), *floor);
+        let newest = past.revision();
+        is_there(&rt, alloc, &past, newest, text)?;
+    }
+    is_there(&rt, alloc, &past, 3, "qa")?;
+    is_there(&rt, alloc, &past, 4, "qab")
+}
+
+// the text at a revision that is held
+fn is_there(
+    rt: &impl Abort,
+    alloc: Global,
+    past: &Past,
+    revision: u64,
+    text: &'static str,
+) -> Result<(), Fail> {
+    assert!(rt; past.floor() <= revision);
+    assert!(rt; revision <= past.revision());
+    let document = past.document_at(alloc, revision)?;
+    assert!(rt; document.as_delta(alloc)? == delta_of(alloc, &[Step::Plain(text)])?);
+    Ok(())
+}
+
+#[test]
+fn a_past_makes_edits_late_and_undoes(rt: HostRuntime) -> Result<(), Fail> {
+    let alloc = rt.alloc();
+    let mut past = Past::new(alloc, 1, Document::empty(alloc));
+    go_on(&rt, alloc, &mut past, &[Step::Plain("z")])?;
+    go_on(&rt, alloc, &mut past, &[Step::Keep(1), Step::Plain("x")])?;
+    go_on(&rt, alloc, &mut past, &[Step::Drop(1)])?;
+    assert!(&rt; past.floor() == 2);
+    assert!(&rt; past.revision() == 4);
+    let edit = delta_of(alloc, &[Step::Plain("y")])?;
+    assert!(&rt; edit.base_len() <= 1 && edit.out_len() <= 1);
+    let made = past.late(alloc, &edit, 2)?;
+    assert!(&rt; made == delta_of(alloc, &[Step::Plain("y")])?);
+    let back = past.undo(alloc, 3)?;
+    assert!(&rt; back == delta_of(alloc, &[Step::Drop(1)])?);
+    assert_eq!(&rt; past.since(3).len(), 1);
+    Ok(())
 }
