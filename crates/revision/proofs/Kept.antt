@@ -1,5 +1,5 @@
 -- What a past keeps, as it goes on and its floor rises.
-use Rattle.std.proofs.Common.{◌≡◌, ℕ, zero, suc, ◌+◌, ◌-◌, ◌≤◌, ◌<◌, ◌^◌, max, List, [], ◌∷◌, ◌++◌, length, take, drop, length-append, length-drop, refl, sym, ap, subst, ◌∙◌, arith}
+use Rattle.std.proofs.Common.{◌≡◌, ℕ, zero, suc, ◌+◌, ◌-◌, ◌≤◌, ◌<◌, ◌^◌, List, [], ◌∷◌, ◌++◌, length, take, drop, length-append, length-drop, sym, ap, subst, ◌∙◌, arith}
 use Rattle.std.specs.Prelude.{All}
 use Rattle.std.proofs.lemmas.List.{take-append-le}
 use Rattle.std.proofs.lemmas.List.Elements.{All-nil, All-cons}
@@ -10,7 +10,7 @@ use Rattle.delta.proofs.Joins.{units_below-counted}
 use Rattle.document.specs.Outcome.{IsAccepted}
 use Rattle.compose.specs.Many.{applied}
 use Rattle.revision.specs.Late.{inserted_of, all_inserted, HasRoom}
-use Rattle.revision.specs.Past.{Past, newest, newest_units, StandInTurn, StayShort, IsPast, with_floor, with_delta}
+use Rattle.revision.specs.Past.{Past, newest, newest_units, StandInTurn, StayShort, IsPast}
 use Rattle.revision.proofs.Room.{inserted_stay, room_for_commands, room_for_undo}
 use Rattle.revision.proofs.Replays.{stand-drop}
 

@@ -1,8 +1,7 @@
-use Rattle.std.proofs.Common.{◌≡◌, ℕ, ◌+◌, ◌-◌, ◌≤◌, ◌++◌, ◌∷◌, [], List, refl, sym, ap, subst, ◌∙◌, length, take, drop, arith}
-use Rattle.delta.specs.Element.{Element}
+use Rattle.std.proofs.Common.{◌≡◌, ℕ, ◌+◌, ◌-◌, ◌≤◌, ◌++◌, ◌∷◌, [], List, ap, subst, ◌∙◌, length, take, drop, arith}
 use Rattle.delta.specs.Operation.{Operation}
 use Rattle.compose.specs.Many.{applied}
-use Rattle.revision.specs.Past.{Past, IsPast, newest}
+use Rattle.revision.specs.Past.{Past, IsPast}
 use Rattle.revision.proofs.Kept.{past-on}
 use Rattle.revision.proofs.held.Past.add.Goals as goal
 
