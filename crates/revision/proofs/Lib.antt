@@ -8,3 +8,5 @@ pub mod Answering
 pub mod Room
 pub mod Replays
 pub mod Kept
+pub mod Told
+pub mod WholeTaking

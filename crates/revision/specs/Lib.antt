@@ -10,6 +10,7 @@ pub mod Acceptance
 pub mod Planned
 pub mod Late
 pub mod Past
+pub mod Parting
 pub mod Whole
 mod Examples
 mod WholeExamples

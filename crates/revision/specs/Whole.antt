@@ -1,16 +1,16 @@
--- The whole rule of acceptance, with edits, undo and the past that is held. Nothing stands on these definitions yet: State.antt
+-- The whole rule of acceptance, with edits, undo and the past that is held. No code stands on these definitions yet: State.antt
 -- and Acceptance.antt have what the program does so far, which is creations. Here are the same words with all their cases.
-use Rattle.std.specs.Prelude.{ℕ, ◌+◌, ◌-◌, ◌^◌, ◌==◌, ◌&&◌, not, nat_lt, nat_le, bytes_eq, if◌then◌else◌, max, Bool, true, false, Option, Some, None, is_none, Result, Ok, Err, List, [], ◌∷◌, ◌++◌, length}
+use Rattle.std.specs.Prelude.{ℕ, ◌+◌, ◌-◌, ◌^◌, ◌≡◌, ◌≤◌, ◌<◌, ◌==◌, ◌&&◌, ◌||◌, not, nat_lt, nat_le, bytes_eq, if◌then◌else◌, max, Bool, true, false, Option, Some, None, is_none, Result, Ok, Err, List, [], ◌∷◌, ◌++◌, length}
 use Rattle.refusal.specs.declared.Refusal.{Refusal}
 use Rattle.refusal.specs.declared.Refusal.TheVariants.{NoDocument, Exists, Gap, OldNumber, TooManySources, Future, TooOld, PastEnd, CutsPair, TooHeavy, TooWide, RevisionsSpent, NothingToUndo, TooManyDocuments}
 use Rattle.delta.specs.Element.{Element}
 use Rattle.delta.specs.Operation.{Operation}
 use Rattle.delta.specs.Gaps.{counted, apply}
-use Rattle.compose.specs.Cuts.{cuts_units}
 use Rattle.revision.specs.declared.state.Limits.{Limits}
 use Rattle.revision.specs.declared.state.SourceEntry.{SourceEntry}
 use Rattle.revision.specs.Command.{Taken, width_of}
 use Rattle.revision.specs.State.{last_of, reaches_past, weight_of}
+use Rattle.revision.specs.Parting.{parts_pair}
 use Rattle.revision.specs.Late.{late}
 use Rattle.revision.specs.Past.{units_at, deltas_since, undo_of}
 
@@ -54,6 +54,10 @@ find name number (first ∷ others) = if bytes_eq first.name name then Some (num
 abbrev pub sources_with : ℕ → List SourceEntry → ℕ
 sources_with last sources = if last == 0 then length sources + 1 else length sources
 
+-- a source has its place in a document: it is there, or there is room for one more
+abbrev pub has_place : Limits → ℕ → List SourceEntry → Bool
+has_place limits last sources = not (last == 0) || nat_lt (length sources) limits.sources
+
 -- the last revision and the last number
 abbrev pub last_of_all : ℕ
 last_of_all = 2 ^ 53 - 1
@@ -70,7 +74,7 @@ pub data Answer : Type 0 where
 abbrev pub take_delta : Limits → List Element → ℕ → Taken → Answer
 take_delta limits units sources taken =
     if reaches_past taken.delta units then Refuses PastEnd
-    else if cuts_units units (counted taken.delta) then Refuses CutsPair
+    else if parts_pair taken.delta units then Refuses CutsPair
     else if nat_lt limits.weight (weight_of (apply units (counted taken.delta)) sources) then Refuses TooHeavy
     else if nat_lt limits.width (width_of taken) then Refuses TooWide
     else Takes taken
@@ -197,7 +201,7 @@ grown state taken = grown_by_name state taken taken.name
 -- what a delta keeps that continues a state: it is defined, parts no pair, and the limits are kept
 abbrev pub keeps : Limits → List Element → ℕ → Taken → Bool
 keeps limits units sources taken =
-    not (reaches_past taken.delta units) && not (cuts_units units (counted taken.delta))
+    not (reaches_past taken.delta units) && not (parts_pair taken.delta units)
     && nat_le (weight_of (apply units (counted taken.delta)) sources) limits.weight && nat_le (width_of taken) limits.width
 
 -- a creation continues the state: the next document, of a new name, by its source's first command
@@ -211,9 +215,8 @@ creates state taken name =
 abbrev pub changes : Limits → DocumentRecord → Taken → Bool
 changes limits found taken =
     let last = last_of taken.source found.sources in
-    (taken.revision == found.revision + 1) && nat_lt found.revision last_of_all
-    && (taken.number == last.0 + 1) && nat_le taken.number last_of_all
-    && nat_le (sources_with last.0 found.sources) limits.sources
+    (taken.revision == found.revision + 1) && not (found.revision == last_of_all)
+    && (taken.number == last.0 + 1) && nat_le taken.number last_of_all && has_place limits last.0 found.sources
     && keeps limits found.units (sources_with last.0 found.sources) taken
 
 abbrev pub changes_at : Limits → ℕ → Taken → List DocumentRecord → Bool
@@ -288,3 +291,8 @@ adopted state name units revision sources = record state {
     sources = sources;
   } ∷ [];
 }
+
+-- what is taken of a command continues the state
+abbrev pub TakenGrows : Type 0
+TakenGrows = (state : State) (command : Command) (taken : Taken) → 1 ≤ command.number → command.number < 2 ^ 53
+    → answer state command ≡ Takes taken → grows state taken ≡ true

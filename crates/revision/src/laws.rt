@@ -4,6 +4,8 @@ ghost use Rattle.revision.specs.Command.{Command, Taken};
 ghost use Rattle.revision.specs.State.{State, grows};
 ghost use Rattle.revision.specs.Acceptance.{Takes, answer};
 ghost use Rattle.revision.specs.Agree.{Agree, AgreeingGrow};
+ghost use Rattle.revision.specs.Parting.{PartsTold};
+ghost use Rattle.revision.specs.Whole.{TakenGrows};
 ghost use Rattle.revision.specs.Late.{InsertedStay, LightInserts, RoomForCommands, RoomForUndo};
 
 /// What the rule of acceptance takes continues the state.
@@ -38,4 +40,14 @@ pub fn inserted_stay()
 pub fn late_room()
     ensures commands { RoomForCommands }
     ensures undo { RoomForUndo }
+{}
+
+/// The test of a parted pair tells just where a delta cuts one.
+pub fn parts_told()
+    ensures { PartsTold }
+{}
+
+/// What the whole rule takes, with edits and undo, continues the state. No state of the program is one of the whole rule yet.
+pub fn whole_taken_grows()
+    ensures { TakenGrows }
 {}
