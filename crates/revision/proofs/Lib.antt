@@ -4,3 +4,8 @@ pub mod Lookups
 pub mod Taking
 pub mod Agreeing
 pub mod Answering
+pub mod Room
+pub mod Replays
+pub mod Kept
+pub mod Told
+pub mod WholeTaking

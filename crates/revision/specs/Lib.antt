@@ -8,3 +8,9 @@ pub mod State
 pub mod Agree
 pub mod Acceptance
 pub mod Planned
+pub mod Late
+pub mod Past
+pub mod Parting
+pub mod Whole
+mod Examples
+mod WholeExamples

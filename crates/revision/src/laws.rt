@@ -4,6 +4,9 @@ ghost use Rattle.revision.specs.Command.{Command, Taken};
 ghost use Rattle.revision.specs.State.{State, grows};
 ghost use Rattle.revision.specs.Acceptance.{Takes, answer};
 ghost use Rattle.revision.specs.Agree.{Agree, AgreeingGrow};
+ghost use Rattle.revision.specs.Parting.{PartsTold};
+ghost use Rattle.revision.specs.Whole.{TakenGrows};
+ghost use Rattle.revision.specs.Late.{InsertedStay, LightInserts, RoomForCommands, RoomForUndo};
 
 /// What the rule of acceptance takes continues the state.
 pub fn taken_grows()
@@ -25,4 +28,26 @@ pub fn agreeing_answer()
 /// States that agree are continued by the same commands, and agree after them.
 pub fn agreeing_grow()
     ensures { AgreeingGrow }
+{}
+
+/// What a delta inserts stays in the document after it, and is no more than 2^29 units where that keeps its weight.
+pub fn inserted_stay()
+    ensures stay { InsertedStay }
+    ensures light { LightInserts }
+{}
+
+/// Past all deltas that a document holds there is room for a command's delta, and for what takes one of them back.
+pub fn late_room()
+    ensures commands { RoomForCommands }
+    ensures undo { RoomForUndo }
+{}
+
+/// The test of a parted pair tells just where a delta cuts one.
+pub fn parts_told()
+    ensures { PartsTold }
+{}
+
+/// What the whole rule takes, with edits and undo, continues the state. No state of the program is one of the whole rule yet.
+pub fn whole_taken_grows()
+    ensures { TakenGrows }
 {}

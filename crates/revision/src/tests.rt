@@ -1,5 +1,7 @@
 //! Creations under small limits. What they weigh, how wide their entries are and how they are answered is added up by hand
 //! from docs/ACCEPTANCE.md and docs/FORMATS.md.
+mod older;
+
 use crate::{Command, Limits, Name, Plan, State, Taken};
 use attributes::{Attrs, Change, Key, Value};
 use delta::{Builder, Delta, Op};

@@ -1,0 +1,221 @@
+-- The whole rule of acceptance, computed. What is answered, and the texts, are worked out by hand.
+use Rattle.std.specs.Prelude.{◌≡◌, ℕ, zero, suc, ◌+◌, true, false, Some, None, Ok, Err, List, [], ◌∷◌, ◌++◌, refl, codes, map}
+use Rattle.std.specs.Char.{encode_utf8}
+use Rattle.std.specs.Char.Utf16.{utf16_chars}
+use Rattle.refusal.specs.declared.Refusal.TheVariants.{NoDocument, Exists, Gap, OldNumber, Future, TooOld, PastEnd, TooHeavy, TooWide, NothingToUndo}
+use Rattle.attributes.specs.Map.{empty, insert, retain as retained}
+use Rattle.attributes.specs.Attributes.{Changes, changed_by, reverted_by}
+use Rattle.attributes.specs.Scalar.{flag_scalar}
+use Rattle.delta.specs.Element.{Element, letters}
+use Rattle.delta.specs.Operation.{Operation, insert_text, retain, delete}
+use Rattle.revision.specs.declared.state.SourceEntry.{SourceEntry}
+use Rattle.revision.specs.Whole.{DocumentRecord, State, Action, Create, Edit, Undo, Command, Reply, TakenAt, AgainAt, Refused, decide, document_at, taken_since, adopts, adopted}
+
+abbrev ins : List ℕ → Operation
+ins us = insert_text us empty
+
+abbrev ret : ℕ → Operation
+ret n = retain n empty
+
+abbrev text : List ℕ → List Element
+text us = letters us empty
+
+-- an empty store whose slots and cells have 256 bytes
+abbrev small : State
+small = record { limits = record { docs = 2; sources = 4; weight = 128; width = 237; keep = 2 }; documents = [] }
+
+-- one of which the documents may be heavier
+abbrev roomy : State
+roomy = record { limits = record { docs = 2; sources = 4; weight = 1000; width = 237; keep = 2 }; documents = [] }
+
+-- a source's command to the document "d", by the letter of its name
+abbrev ask : ℕ → ℕ → Action → Command
+ask source number action = record { name = 100 ∷ []; source = source ∷ []; number = number; action = action }
+
+abbrev ann : ℕ
+ann = 97
+
+abbrev bob : ℕ
+bob = 98
+
+abbrev carl : ℕ
+carl = 99
+
+-- the state after commands
+abbrev after_all : State → List Command → State
+after_all state [] = state
+after_all state (first ∷ others) = after_all (decide state first).1 others
+
+abbrev reply_after : State → List Command → Command → Reply
+reply_after state before command = (decide (after_all state before) command).0
+
+-- "abcd" at revision 1: [ret 5] is the empty delta, and taken; [ret 5, ins "x"] speaks of a unit that isn't there
+abbrev abcd : List Command
+abcd = ask ann 1 (Create (ins (codes "abcd") ∷ [])) ∷ []
+
+nothing_is_taken : reply_after small abcd (ask ann 2 (Edit 1 [])) ≡ TakenAt 2
+unfolding utf16_chars encode_utf8
+nothing_is_taken = refl
+
+past_the_end : reply_after small abcd (ask ann 2 (Edit 1 (ret 5 ∷ ins (codes "x") ∷ []))) ≡ Refused PastEnd
+unfolding utf16_chars encode_utf8
+past_the_end = refl
+
+-- "z" at 1, [ret 1, ins "x"] at 2, [del 1] at 3; an edit [ins "y"] of base 1 gives "yx" at 4
+abbrev z_to_x : List Command
+z_to_x = ask ann 1 (Create (ins (codes "z") ∷ [])) ∷ ask ann 2 (Edit 1 (ret 1 ∷ ins (codes "x") ∷ [])) ∷ ask ann 3 (Edit 2 (delete 1 ∷ [])) ∷ []
+
+y_is_taken : reply_after roomy z_to_x (ask bob 1 (Edit 1 (ins (codes "y") ∷ []))) ≡ TakenAt 4
+unfolding utf16_chars encode_utf8 changed_by
+y_is_taken = refl
+
+y_before_x : document_at (after_all roomy (z_to_x ++ ask bob 1 (Edit 1 (ins (codes "y") ∷ [])) ∷ [])) (100 ∷ []) 4 ≡ Ok (text (codes "yx"))
+unfolding utf16_chars encode_utf8 changed_by
+y_before_x = refl
+
+-- [ret 1 {bold: true}] was taken; [ret 1 {bold: null, italic: true}] of the same base is taken as [ret 1 {italic: true}]
+abbrev bolden : Changes
+bolden = insert empty (codes "bold") (Some (flag_scalar true))
+
+abbrev slant : Changes
+slant = insert empty (codes "italic") (Some (flag_scalar true))
+
+abbrev z_in_bold : List Command
+z_in_bold = ask ann 1 (Create (ins (codes "z") ∷ [])) ∷ ask ann 2 (Edit 1 (retain 1 bolden ∷ [])) ∷ []
+
+bold_stays : taken_since (after_all roomy (z_in_bold ++ ask bob 1 (Edit 1 (retain 1 (insert slant (codes "bold") None) ∷ [])) ∷ [])) (100 ∷ []) 2
+    ≡ Ok ((retain 1 slant ∷ []) ∷ [])
+unfolding utf16_chars encode_utf8 insert retained changed_by
+bold_stays = refl
+
+-- one source: create 1, then edits numbered 2, 2, 1, 4
+abbrev created : List Command
+created = ask ann 1 (Create []) ∷ []
+
+abbrev edited : List Command
+edited = ask ann 1 (Create []) ∷ ask ann 2 (Edit 1 []) ∷ []
+
+first_is_taken : reply_after small [] (ask ann 1 (Create [])) ≡ TakenAt 1
+first_is_taken = refl
+
+second_is_taken : reply_after small created (ask ann 2 (Edit 1 [])) ≡ TakenAt 2
+second_is_taken = refl
+
+second_again : reply_after small edited (ask ann 2 (Edit 1 [])) ≡ AgainAt 2
+second_again = refl
+
+first_is_old : reply_after small edited (ask ann 1 (Edit 1 [])) ≡ Refused OldNumber
+first_is_old = refl
+
+fourth_leaves_a_gap : reply_after small edited (ask ann 4 (Edit 1 [])) ≡ Refused Gap
+fourth_leaves_a_gap = refl
+
+-- keep 2, revision 4, floor 2: base 5 is yet to come, base 1 is too old, base 2 is taken as 5 and the floor becomes 3
+abbrev four : List Command
+four = edited ++ (ask ann 3 (Edit 2 []) ∷ ask ann 4 (Edit 3 []) ∷ [])
+
+abbrev floors : State → List ℕ
+floors state = map (λ (d : DocumentRecord). d.floor) state.documents
+
+floor_of_four : floors (after_all small four) ≡ 2 ∷ []
+floor_of_four = refl
+
+base_to_come : reply_after small four (ask bob 1 (Edit 5 [])) ≡ Refused Future
+base_to_come = refl
+
+base_too_old : reply_after small four (ask bob 1 (Edit 1 [])) ≡ Refused TooOld
+base_too_old = refl
+
+base_is_held : reply_after small four (ask bob 1 (Edit 2 [])) ≡ TakenAt 5
+base_is_held = refl
+
+floor_of_five : floors (after_all small (four ++ ask bob 1 (Edit 2 []) ∷ [])) ≡ 3 ∷ []
+floor_of_five = refl
+
+-- "abcde" weighs 124 and is taken; "abcdef" weighs 136
+five_letters : reply_after small [] (ask ann 1 (Create (ins (codes "abcde") ∷ []))) ≡ TakenAt 1
+unfolding utf16_chars encode_utf8
+five_letters = refl
+
+six_letters : reply_after small [] (ask ann 1 (Create (ins (codes "abcdef") ∷ []))) ≡ Refused TooHeavy
+unfolding utf16_chars encode_utf8
+six_letters = refl
+
+-- ann creates "ab" (1), and edits [ret 1, del 1] (2); bob edits [ins "q"] of base 2 (3); ann's undo 3 gives "qab" (4), her
+-- undo 4 gives "qa" (5); carl has nothing to undo
+abbrev undone : List Command
+undone = ask ann 1 (Create (ins (codes "ab") ∷ [])) ∷ ask ann 2 (Edit 1 (ret 1 ∷ delete 1 ∷ [])) ∷ ask bob 1 (Edit 2 (ins (codes "q") ∷ []))
+    ∷ ask ann 3 Undo ∷ []
+
+undo_is_taken : document_at (after_all roomy undone) (100 ∷ []) 4 ≡ Ok (text (codes "qab"))
+unfolding utf16_chars encode_utf8 changed_by reverted_by
+undo_is_taken = refl
+
+undo_is_undone : document_at (after_all roomy (undone ++ ask ann 4 Undo ∷ [])) (100 ∷ []) 5 ≡ Ok (text (codes "qa"))
+unfolding utf16_chars encode_utf8 changed_by reverted_by
+undo_is_undone = refl
+
+nothing_to_undo : reply_after roomy undone (ask carl 1 Undo) ≡ Refused NothingToUndo
+unfolding utf16_chars encode_utf8 changed_by reverted_by
+nothing_to_undo = refl
+
+-- what was taken since, while it is held
+since_2 : taken_since (after_all roomy undone) (100 ∷ []) 2 ≡ Ok ((ins (codes "q") ∷ []) ∷ (ret 2 ∷ ins (codes "b") ∷ []) ∷ [])
+unfolding utf16_chars encode_utf8 changed_by reverted_by
+since_2 = refl
+
+since_1 : taken_since (after_all roomy undone) (100 ∷ []) 1 ≡ Err TooOld
+unfolding utf16_chars encode_utf8 changed_by reverted_by
+since_1 = refl
+
+-- ann's creation sent again, her last number there being 1, is again 1; bob's creation of the document comes too late
+creation_again : reply_after small created (ask ann 1 (Create [])) ≡ AgainAt 1
+creation_again = refl
+
+created_by_another : reply_after small created (ask bob 1 (Create [])) ≡ Refused Exists
+created_by_another = refl
+
+-- an edit [ret 1] with 15 removals of names of ten bytes has an entry of 236 bytes; with 16 of them it has 249
+abbrev removals : ℕ → Changes
+removals zero = empty
+removals (suc n) = insert (removals n) (codes "removal_x" ++ (97 + n) ∷ []) None
+
+abbrev z_alone : List Command
+z_alone = ask ann 1 (Create (ins (codes "z") ∷ [])) ∷ []
+
+fifteen_removals : reply_after small z_alone (ask ann 2 (Edit 1 (retain 1 (removals 15) ∷ []))) ≡ TakenAt 2
+unfolding utf16_chars encode_utf8 insert retained changed_by
+fifteen_removals = refl
+
+sixteen_removals : reply_after small z_alone (ask ann 2 (Edit 1 (retain 1 (removals 16) ∷ []))) ≡ Refused TooWide
+unfolding utf16_chars encode_utf8 insert retained changed_by
+sixteen_removals = refl
+
+-- what a document's past says of revisions that aren't held
+no_document : document_at small (100 ∷ []) 0 ≡ Err NoDocument
+no_document = refl
+
+revision_to_come : document_at (after_all small four) (100 ∷ []) 5 ≡ Err Future
+revision_to_come = refl
+
+-- a document with two sources is added at revision 7, without its past
+abbrev sevens : List SourceEntry
+sevens = record { source = ann ∷ []; number = 3; revision = 7 } ∷ record { source = bob ∷ []; number = 1; revision = 2 } ∷ []
+
+abbrev after_adoption : State
+after_adoption = adopted small (100 ∷ []) [] 7 sevens
+
+is_adopted : adopts small (100 ∷ []) [] 7 sevens ≡ true
+is_adopted = refl
+
+too_late_an_entry : adopts small (100 ∷ []) [] 6 sevens ≡ false
+too_late_an_entry = refl
+
+same_name : adopts after_adoption (100 ∷ []) [] 7 [] ≡ false
+same_name = refl
+
+taken_after_adoption : reply_after after_adoption [] (ask ann 4 (Edit 7 [])) ≡ TakenAt 8
+taken_after_adoption = refl
+
+undo_after_adoption : reply_after after_adoption [] (ask ann 4 Undo) ≡ Refused TooOld
+undo_after_adoption = refl
