@@ -4,9 +4,9 @@
 //! `invert` the delta that takes back another on a document. The crate promises the results exactly, by what they do to
 //! the units of any document, and each refusal where it belongs: CutsPair where a surrogate pair would be parted, BadOps
 //! where a length would pass 2^48, PastEnd where a delta reaches past a document's end. Each walks the operations of both
-//! sides once, cutting them where they meet; text is copied once a call. The definitions stand in specs/ (Composes,
-//! Inverse and Many are read first, then Composed and Cuts); `laws` has the law of undoing and that nothing else composes
-//! two deltas. It stands on `delta`, `document`, `attributes` and `utf16`.
+//! sides once, cutting them where they meet; what `compose_many` copies stands with it. The definitions stand in specs/
+//! (Composes, Inverse and Many are read first, then Composed and Cuts); `laws` has the law of undoing and that nothing else
+//! composes two deltas. It stands on `delta`, `document`, `attributes` and `utf16`.
 #![tactic(auto)]
 
 mod composing;
