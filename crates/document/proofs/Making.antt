@@ -7,7 +7,7 @@ use Rattle.delta.specs.Operation.{Operation, base_of, IsBounded}
 use Rattle.delta.specs.Gaps.{counted}
 use Rattle.delta.proofs.Joins.{units_below-counted}
 use Rattle.delta.proofs.Lengths.{length-apply_counted}
-use Rattle.document.specs.Places.{IsDefined}
+use Rattle.delta.specs.Places.{IsDefined}
 use Rattle.document.specs.Outcome.{IsRefused}
 
 -- the empty document lacks a unit just where the delta retains or deletes one
