@@ -1,5 +1,5 @@
 -- What holds of any gap forms: before one another, joined, settled and trimmed, and their lengths.
-use Rattle.std.specs.Prelude.{◌≡◌, ℕ, ◌+◌, List, [], ◌++◌, length}
+use Rattle.std.specs.Prelude.{◌≡◌, ℕ, ◌+◌, List, [], ◌++◌}
 use Rattle.attributes.specs.Map.{empty}
 use Rattle.attributes.specs.Attributes.{Attributes, changed}
 use Rattle.delta.specs.Element.{Element}

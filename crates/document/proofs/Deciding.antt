@@ -4,7 +4,7 @@ use Rattle.delta.specs.Element.{Element}
 use Rattle.delta.specs.Operation.{Operation, base_of}
 use Rattle.delta.specs.Gaps.{counted}
 use Rattle.delta.specs.Normal.{IsNormal}
-use Rattle.delta.proofs.Joins.{units_below-counted}
+use Rattle.delta.proofs.CallerLemmas.{units_below-counted}
 use Rattle.document.specs.Passes.{StopsInPair}
 use Rattle.delta.specs.Places.{IsDefined}
 use Rattle.document.specs.Places.{Cuts}

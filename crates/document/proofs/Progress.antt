@@ -9,8 +9,7 @@ use Rattle.attributes.specs.Map.{empty}
 use Rattle.delta.specs.Element.{Element}
 use Rattle.delta.specs.Operation.{Operation, retain, delete, op_base, base_of, out_of}
 use Rattle.delta.specs.Gaps.{counted, apply}
-use Rattle.delta.proofs.Lengths.{base_of-append, out_of-append, length-apply_counted}
-use Rattle.delta.proofs.Parts.{effect_of_parts, effect_past_end, effect_of_retain, effect_of_delete}
+use Rattle.delta.proofs.CallerLemmas.{base_of-append, out_of-append, length-apply_counted, effect_of_parts, effect_past_end, effect_of_retain, effect_of_delete}
 use Rattle.document.specs.Pairs.{IsPairAt, IsWithinPair}
 use Rattle.document.specs.Passes.{StopsInPair, IsOneApplied, IsSteppedOver, IsKept, with_change}
 use Rattle.document.proofs.Formed.{IsWellFormed-seam}

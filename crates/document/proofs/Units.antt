@@ -14,7 +14,7 @@ use Rattle.delta.specs.Element.{Element, lettered, letters, embedded}
 use Rattle.delta.specs.Operation.{Operation, retain, delete, op_base}
 use Rattle.delta.specs.Gaps.{counted, apply}
 use Rattle.delta.specs.Normal.{IsNormal}
-use Rattle.delta.proofs.Parts.{effect_past_end, effect_of_retain, effect_of_delete}
+use Rattle.delta.proofs.CallerLemmas.{effect_past_end, effect_of_retain, effect_of_delete}
 use Rattle.document.specs.Pairs.{IsPair, IsPairAt, IsWithinPair}
 use Rattle.document.specs.Passes.{StopsInPair, IsOneApplied, with_change}
 use Rattle.document.specs.Places.{Cuts}
