@@ -5,10 +5,11 @@ ghost use Rattle.attributes.specs.Scalar.{IsExactScalar};
 ghost use Rattle.serde_json.specs.Data.{array, string, object, member, no_members};
 ghost use Rattle.serde_json.specs.View.{view, members_view};
 ghost use Rattle.utf16.specs.Units.{units_of, utf8_of};
-ghost use Rattle.optext.specs.Laws.{IsText, IsAttribute, IsAttributeChange, IsKept, IsReadBack};
+ghost use Rattle.optext.specs.Laws.{IsText, IsAttribute, IsAttributeChange, HasSpellableContent, IsReadBack};
 ghost use Rattle.optext.specs.Printed.{printed, printed_operation, printed_insert, printed_retain, printed_entries, printed_scalar, printed_change, attributes_member};
 
 use crate::laws::delta_reads_back;
+use attributes::laws::first_entries_ascend;
 use attributes::{Attrs, Change, Key, Value, ValueRef};
 use delta::{Delta, Op, OpRef};
 use refusal::Refusal;
@@ -35,7 +36,7 @@ pub fn write_ops(alloc: Global, delta: &Delta) -> Result<Json, Refusal>
 
 fn write_op(alloc: Global, op: &Op) -> Result<Json, Refusal>
     ensures printed { IfOk result (λ value. view value ≡ printed_operation op.now) }
-    ensures kept { OnOk result (IsKept op.now) }
+    ensures kept { OnOk result (HasSpellableContent op.now) }
     ensures only { IsOkUnless result Refusal.NoMemory }
 {
     match op.get() {
@@ -112,6 +113,7 @@ fn write_attributes(alloc: Global, attrs: &Attrs) -> Result<Map<String, Json>, R
     ensures kept { OnOk result (All IsAttribute attrs.now.entries) }
     ensures only { IsOkUnless result Refusal.NoMemory }
 {
+    first_entries_ascend();
     let mut members = Map::new(alloc);
     for (name, value) in attrs.entries() {
         let value = write_value(alloc, value)?;
@@ -125,6 +127,7 @@ fn write_change(alloc: Global, change: &Change) -> Result<Map<String, Json>, Ref
     ensures kept { OnOk result (All IsAttributeChange change.now.entries) }
     ensures only { IsOkUnless result Refusal.NoMemory }
 {
+    first_entries_ascend();
     let mut members = Map::new(alloc);
     for (name, value) in change.entries() {
         let value = write_change_value(alloc, value)?;
