@@ -1,5 +1,5 @@
 -- What the whole rule of acceptance takes continues the state.
-use Rattle.std.proofs.Common.{◌≡◌, ℕ, zero, suc, ◌+◌, ◌≤◌, ◌<◌, ◌^◌, Bool, true, false, cond, List, [], ◌∷◌, length, Option, Some, None, refl, sym, ap, ◌∙◌, arith}
+use Rattle.std.proofs.Common.{◌≡◌, ℕ, suc, ◌+◌, ◌≤◌, ◌<◌, ◌^◌, Bool, true, false, cond, List, [], ◌∷◌, length, Option, Some, None, refl, sym, ap, ◌∙◌, arith}
 use Rattle.std.specs.Prelude.{◌&&◌, ◌||◌, ◌==◌, not, nat_lt, nat_le, is_none, bytes_eq, slice_get}
 use Rattle.std.proofs.lemmas.Bool.Decides.{nat_tests}
 use Rattle.refusal.specs.declared.Refusal.TheVariants.{Exists, Gap, OldNumber, TooManySources, Future, TooOld, PastEnd, CutsPair, TooHeavy, TooWide, RevisionsSpent, NothingToUndo, TooManyDocuments}
@@ -135,7 +135,7 @@ module _ (state : State) (number : ℕ) (found : DocumentRecord) (command : Comm
       let spent = passed (revision_of found == last_of_all) (Refuses RevisionsSpent) _ taken (λ e. cc) h in
       let kept = taken_kept state.limits (units_of found) (sources_of found) asked taken spent.1 in
       let one : follows state.limits found asked ≡ true =
-          follows_holds (revision_of found) command.number (last_of command.source (sources_of found)).number _ _ _ next bound spent.0 place kept.kept in
+      follows_holds (revision_of found) command.number (last_of command.source (sources_of found)).number _ _ _ next bound spent.0 place kept.kept in
       let continued : continues state.limits (slice_get state.documents number) asked ≡ true = rw (found_at command.name state.documents number found there) one in
       ap (grows state) (sym kept.same) ∙ continued
 
@@ -153,7 +153,7 @@ module _ (state : State) (number : ℕ) (found : DocumentRecord) (command : Comm
       let none = passed (last.number == 0) (Refuses NothingToUndo) _ taken (λ e. cc) h in
       let old = passed (nat_le last.revision found.past.floor) (Refuses TooOld) _ taken (λ e. cc) none.1 in
       change_grows (undo_of found.past.floor found.past.content.units (deltas_of found.past) last.revision)
-          (place_of (last.number == 0) _ none.0) next old.1
+      (place_of (last.number == 0) _ none.0) next old.1
     where
       place_of : (fresh room : Bool) → fresh ≡ false → (not fresh || room) ≡ true
       place_of fresh room is = rw is refl

@@ -1,8 +1,7 @@
 -- When two states hold the same. How far back they hold it, their floors, may differ: a state that is recovered may hold fewer
 -- revisions than the one that was lost, or more.
-use Rattle.std.specs.Prelude.{◌≡◌, ◌⊎◌, ◌≤◌, ◌<◌, ℕ, max, List, Option, Some, None, slice_get, ◌↔◌}
+use Rattle.std.specs.Prelude.{◌≡◌, ◌⊎◌, ◌≤◌, ◌<◌, ℕ, max, List, Option, Some, None, slice_get}
 use Rattle.refusal.specs.declared.Refusal.TheVariants.{TooOld}
-use Rattle.delta.specs.Operation.{Operation}
 use Rattle.revision.specs.Command.{Taken}
 use Rattle.revision.specs.Sources.{last_of}
 use Rattle.revision.specs.Whole.{DocumentRecord, State, Action, Create, Edit, Undo, Command, revision_of, content_of, sources_of, from_floor, find, answer, Refuses, all_grow, fold}
@@ -62,5 +61,5 @@ StandsOnHeld source Undo a b =
 abbrev pub AgreeingAnswerHeld : Type 0
 AgreeingAnswerHeld = (s t : State) (command : Command) → Agree s t
     → ((number : ℕ) (a b : DocumentRecord) → find command.name 0 s.documents ≡ Some (number, a) → find command.name 0 t.documents ≡ Some (number, b)
-        → StandsOnHeld command.source command.action a b)
+    → StandsOnHeld command.source command.action a b)
     → answer s command ≡ answer t command
