@@ -2,6 +2,8 @@ pub mod Element
 pub mod ElementCode
 pub mod Operation
 pub mod Kind
+pub mod Parts
+pub mod Cursor
 pub mod Gaps
 pub mod Normal
 pub mod Laws

@@ -1,5 +1,5 @@
 -- Normal form: the one spelling of what a delta does (quill-delta's `Delta` merges and orders its operations so as they are pushed).
-use Rattle.std.specs.Prelude.{ℕ, suc, Bool, true, false, not, ◌&&◌, IsTrue, List, [], ◌∷◌, is_none, nat_lt, if◌then◌else◌}
+use Rattle.std.specs.Prelude.{ℕ, suc, ◌<◌, Bool, true, false, not, ◌&&◌, IsTrue, List, [], ◌∷◌, is_none, nat_lt, if◌then◌else◌}
 use Rattle.attributes.specs.Map.{empty}
 use Rattle.attributes.specs.Attributes.{Attributes, same_attributes, same_changes}
 use Rattle.delta.specs.Element.{Element, Item, code_unit, embed}
@@ -15,6 +15,11 @@ abbrev pub is_built : List Operation → Bool
 is_built [] = true
 is_built (op ∷ []) = nat_lt 0 (op_len op)
 is_built (op ∷ next ∷ ops) = nat_lt 0 (op_len op) && (may_precede op next && is_built (next ∷ ops))
+
+-- each operation inserts, keeps or deletes a unit
+abbrev pub NoneIsEmpty : List Operation → Type 0
+NoneIsEmpty [] = Unit {0}
+NoneIsEmpty (op ∷ ops) = (0 < op_len op) × NoneIsEmpty ops
 
 -- the last operation is a retain without attributes
 abbrev pub ends_plain : List Operation → Bool

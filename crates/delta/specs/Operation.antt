@@ -14,30 +14,30 @@ pub data Operation : Type 0 where
   delete : ℕ → Operation
 
 -- how an operation is told from every other
-abbrev pub Parts : Type 0
-Parts = (List ℕ × Attributes) ⊎ ((List ℕ × (Scalar × Attributes)) ⊎ ((ℕ × Changes) ⊎ ℕ))
+abbrev pub Fields : Type 0
+Fields = (List ℕ × Attributes) ⊎ ((List ℕ × (Scalar × Attributes)) ⊎ ((ℕ × Changes) ⊎ ℕ))
 
-abbrev pub parts : Operation → Parts
-parts (insert_text us a) = inl (us, a)
-parts (insert_embed key value a) = inr (inl (key, (value, a)))
-parts (retain n c) = inr (inr (inl (n, c)))
-parts (delete n) = inr (inr (inr n))
+abbrev pub fields_of : Operation → Fields
+fields_of (insert_text us a) = inl (us, a)
+fields_of (insert_embed key value a) = inr (inl (key, (value, a)))
+fields_of (retain n c) = inr (inr (inl (n, c)))
+fields_of (delete n) = inr (inr (inr n))
 
-abbrev pub of_parts : Parts → Operation
-of_parts (inl p) = insert_text p.0 p.1
-of_parts (inr (inl p)) = insert_embed p.0 p.1.0 p.1.1
-of_parts (inr (inr (inl p))) = retain p.0 p.1
-of_parts (inr (inr (inr n))) = delete n
+abbrev pub of_fields : Fields → Operation
+of_fields (inl p) = insert_text p.0 p.1
+of_fields (inr (inl p)) = insert_embed p.0 p.1.0 p.1.1
+of_fields (inr (inr (inl p))) = retain p.0 p.1
+of_fields (inr (inr (inr n))) = delete n
 
-pub of_parts-parts : (op : Operation) → of_parts (parts op) ≡ op
-of_parts-parts (insert_text us a) = refl
-of_parts-parts (insert_embed key value a) = refl
-of_parts-parts (retain n c) = refl
-of_parts-parts (delete n) = refl
+pub of_fields-fields_of : (op : Operation) → of_fields (fields_of op) ≡ op
+of_fields-fields_of (insert_text us a) = refl
+of_fields-fields_of (insert_embed key value a) = refl
+of_fields-fields_of (retain n c) = refl
+of_fields-fields_of (delete n) = refl
 
 abbrev pub operation_code : Coded Operation
 operation_code =
-    code_by Parts (coded⊎ (coded× (coded_list coded_ℕ) (map_code scalar_code)) (coded⊎ (coded× (coded_list coded_ℕ) (coded× scalar_code (map_code scalar_code))) (coded⊎ (coded× coded_ℕ (map_code (coded_option scalar_code))) coded_ℕ))) parts of_parts of_parts-parts
+    code_by Fields (coded⊎ (coded× (coded_list coded_ℕ) (map_code scalar_code)) (coded⊎ (coded× (coded_list coded_ℕ) (coded× scalar_code (map_code scalar_code))) (coded⊎ (coded× coded_ℕ (map_code (coded_option scalar_code))) coded_ℕ))) fields_of of_fields of_fields-fields_of
 
 -- how many units it inserts, keeps or deletes
 abbrev pub op_len : Operation → ℕ
