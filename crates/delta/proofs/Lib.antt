@@ -17,3 +17,4 @@ pub mod Ends
 pub mod Shortest
 pub mod Trimmed
 pub mod LeftOver
+pub mod CallerLemmas

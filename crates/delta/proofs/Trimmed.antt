@@ -85,3 +85,6 @@ nf-plain ops now n same =
     ∙ (ap nf (sym (counted-append ops (retain n empty ∷ [])))
     ∙ (ap (λ g. spelled (trimmed g)) (sym (settled-settled (counted (with_plain ops n))))
     ∙ (ap nf (sym (counted-spelled (settled (counted (with_plain ops n))))) ∙ ap (λ l. nf (counted l)) same)))
+
+pub nf-with_plain : (ops : List Operation) (n : ℕ) → nf (counted (with_plain ops n)) ≡ nf (counted ops)
+nf-with_plain ops n = ap nf (counted-append ops (retain n empty ∷ [])) ∙ ap spelled (shortest-joined (counted ops) n)

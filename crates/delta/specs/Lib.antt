@@ -5,8 +5,11 @@ pub mod Kind
 pub mod Parts
 pub mod Cursor
 pub mod Gaps
+pub mod Places
 pub mod Normal
 pub mod Laws
+pub mod GapLaws
+pub mod PartLaws
 pub mod Building
 pub mod Equality
 mod Examples

@@ -1,7 +1,9 @@
 -- Operations of a delta (quill-delta's README, "Operations"), their lengths, and which neighbours are merged.
-use Rattle.std.specs.Prelude.{◌≡◌, ℕ, ◌+◌, ◌≤◌, ◌^◌, Bool, true, false, List, [], ◌∷◌, ◌++◌, length, Option, Some, None, if◌then◌else◌, refl}
+use Rattle.std.specs.Prelude.{◌≡◌, ℕ, ◌+◌, ◌≤◌, ◌^◌, Bool, true, false, ◌&&◌, nat_le, List, [], ◌∷◌, ◌++◌, length, Option, Some, None, if◌then◌else◌, refl}
 use Rattle.std.specs.Coded.{Coded, code_by, coded×, coded⊎, coded_list, coded_ℕ, coded_option}
+use Rattle.std.specs.Bool.{Decides}
 use Rattle.std.proofs.Common.{◌⊎◌, inl, inr}
+use Rattle.std.proofs.lemmas.Bool.{and_parts, and_from, le-leb, leb-true}
 use Rattle.attributes.specs.Map.{empty, map_code}
 use Rattle.attributes.specs.Attributes.{Attributes, Changes, changed, composed, same_attributes, same_changes}
 use Rattle.attributes.specs.Scalar.{Scalar, scalar_code}
@@ -81,6 +83,17 @@ out_of (op ∷ ops) = op_out op + out_of ops
 pub record IsBounded (ops : List Operation) : Type 0 where
   pub base : base_of ops ≤ 2 ^ 48
   pub out : out_of ops ≤ 2 ^ 48
+
+-- the same as a test
+abbrev pub is_bounded : List Operation → Bool
+is_bounded ops = nat_le (base_of ops) (2 ^ 48) && nat_le (out_of ops) (2 ^ 48)
+
+pub is_bounded-Decides : (ops : List Operation) → Decides (is_bounded ops) (IsBounded ops)
+is_bounded-Decides ops = (
+  λ t. let parts = and_parts (nat_le (base_of ops) (2 ^ 48)) (nat_le (out_of ops) (2 ^ 48)) t in
+      record { base = leb-true _ _ parts.0; out = leb-true _ _ parts.1 },
+  λ h. and_from (nat_le (base_of ops) (2 ^ 48)) (nat_le (out_of ops) (2 ^ 48)) (le-leb _ _ h.base) (le-leb _ _ h.out),
+)
 
 abbrev pub is_insert : Operation → Bool
 is_insert (insert_text us a) = true
