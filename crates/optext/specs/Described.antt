@@ -1,9 +1,12 @@
--- Which operation a JSON value describes, and which delta an array of them (quill-delta's README, "Operations": an object
--- with one of `insert`, `retain` and `delete`, and with `attributes` or not on the first two).
+-- Which operation a JSON value describes, and which delta an array of them (quill-delta's README, "Operations": an
+-- object with one of `insert`, `retain` and `delete`, and with `attributes` or not on the first two).
 use Rattle.std.specs.Prelude.{ℕ, ℤ, ◌+◌, ◌^◌, ◌==◌, ◌&&◌, Bool, nat_lt, nat_le, if◌then◌else◌, List, [], ◌∷◌, codes, Option, Some, None, option_map, option_and_then, Result, Ok, Err}
 use Rattle.serde_json.specs.Data.{Num, unsigned, Data, null, boolean, number, string, object, Items, no_items, item, Members, no_members, member}
 use Rattle.serde_json.specs.Find.{get, as_integer, as_object}
 use Rattle.serde_json.specs.Events.{items_len, members_len}
+use Rattle.serde_json.specs.View.{view}
+use Rattle.serde_json.specs.declared.value.Value.{Value}
+use denote.Ref.{Bor}
 use Rattle.refusal.specs.declared.Refusal.{Refusal}
 use Rattle.refusal.specs.declared.Refusal.TheVariants.{BadOps, TooManyOps}
 use Rattle.utf16.specs.Units.{units_of}
@@ -42,7 +45,9 @@ change_of value = option_map Some (scalar_of value)
 abbrev pub with_members : {X : Type 0} → (Data → Option X) → Map X → Members → Option (Map X)
 with_members value_of m no_members = Some m
 with_members value_of m (member name value others) =
-    option_and_then (λ key. option_and_then (λ x. with_members value_of (insert m key x) others) (value_of value)) (key_of name)
+    option_and_then
+    (λ key. option_and_then (λ x. with_members value_of (insert m key x) others) (value_of value))
+    (key_of name)
 
 -- what `attributes` describes: an object, or none where it is left out
 abbrev pub described_by : {X : Type 0} → (Data → Option X) → Option Data → Option (Map X)
@@ -84,6 +89,10 @@ retain_of len attributes = option_and_then (λ n. option_map (retain n) (changes
 abbrev pub delete_of : Data → Option Operation
 delete_of len = option_map delete (length_of len)
 
+-- the value of a member that is there or not
+abbrev pub data_of : Option (Bor Value) → Option Data
+data_of found = option_map (λ value. view value.now) found
+
 -- the operation by the members insert, retain, delete and attributes: exactly one of the first three is there, and
 -- attributes or not on the first two
 abbrev pub operation_by : Option Data → Option Data → Option Data → Option Data → Option Operation
@@ -105,7 +114,7 @@ members_counted (Some members) = members_len members
 abbrev pub member_count : Data → ℕ
 member_count value = members_counted (as_object value)
 
--- the operation that a value describes: an object that has, besides attributes where it is there, one member and no other
+-- the operation that a value describes: an object that has one member, and attributes beside it or not
 abbrev pub operation_of : Data → Option Operation
 operation_of value =
     let attributes = get (codes "attributes") value in

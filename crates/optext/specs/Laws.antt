@@ -19,8 +19,8 @@ IsAttributeChange e = IsKey e.0 × IfSome e.1 IsExactScalar
 abbrev pub IsText : List ℕ → Type 0
 IsText units = units_of (utf8_of units) ≡ units
 
--- what an operation inserts or changes is what a message can spell: its text is a text, its names have 1 to 64 bytes, and
--- its whole numbers are exact. Every operation of the program has such a content.
+-- what an operation inserts or changes is what a message can spell: its text is a text, its names have 1 to 64 bytes,
+-- and its whole numbers are exact. Every operation of the program has such a content.
 abbrev pub HasSpellableContent : Operation → Type 0
 HasSpellableContent (insert_text units a) = IsText units × All IsAttribute a.entries
 HasSpellableContent (insert_embed name value a) = IsKey name × IsExactScalar value × All IsAttribute a.entries

@@ -1,8 +1,8 @@
 pub mod Both
 pub mod After
+pub mod Outcome
 pub mod Place
 pub mod Laws
-pub mod Cursor
-pub mod Merging
+pub mod steps
 pub mod Plain
 mod Examples
