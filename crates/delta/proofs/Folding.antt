@@ -8,14 +8,14 @@ use Rattle.delta.specs.Element.{Element, Item, code_unit, embed, letters, embedd
 use Rattle.delta.specs.Operation.{Operation, insert_text, insert_embed, retain, delete, is_insert, is_delete, merged, op_len}
 use Rattle.delta.specs.Gaps.{Gaps, End, Gap, Fate, Del, Keep, front, counted}
 use Rattle.delta.specs.Normal.{past, settled, spell_unit, spell_item, spell_inserts, spell_fate, spelled, built}
-use Rattle.delta.specs.Building.{met}
+use Rattle.delta.specs.Building.{neighbours}
 use Rattle.delta.proofs.Settling.{settled-front}
 use Rattle.delta.proofs.Spellings.{spelled-front}
 
 -- an operation before others, in its place, merged where it can be
 abbrev pub consed : Operation → List Operation → List Operation
 consed a [] = a ∷ []
-consed a (b ∷ r) = if is_delete a && is_insert b then b ∷ consed a r else met (merged a b) a b r
+consed a (b ∷ r) = if is_delete a && is_insert b then b ∷ consed a r else neighbours (merged a b) a b r
 
 pub same_attributes-refl : (a : Attributes) → same_attributes a a ≡ true
 same_attributes-refl a = (same_attributes-Decides a a).1 refl
@@ -30,8 +30,8 @@ spell_unit-text u us a r = rw (same_attributes-refl a)
 spell_unit-consed : (u v : ℕ) (us : List ℕ) (a : Attributes) (r : List Operation) → spell_unit u a (consed (insert_text (v ∷ us) a) r) ≡ consed (insert_text (u ∷ v ∷ us) a) r
 spell_unit-consed u v us a [] = spell_unit-text u (v ∷ us) a []
 spell_unit-consed u v us a (insert_text vs b ∷ r) =
-    elim (same_attributes a b) as (λ t. spell_unit u a (met (cond t (Some (insert_text ((v ∷ us) ++ vs) a)) None) (insert_text (v ∷ us) a) (insert_text vs b) r)
-    ≡ met (cond t (Some (insert_text ((u ∷ v ∷ us) ++ vs) a)) None) (insert_text (u ∷ v ∷ us) a) (insert_text vs b) r) [
+    elim (same_attributes a b) as (λ t. spell_unit u a (neighbours (cond t (Some (insert_text ((v ∷ us) ++ vs) a)) None) (insert_text (v ∷ us) a) (insert_text vs b) r)
+    ≡ neighbours (cond t (Some (insert_text ((u ∷ v ∷ us) ++ vs) a)) None) (insert_text (u ∷ v ∷ us) a) (insert_text vs b) r) [
       | true ↦ spell_unit-text u ((v ∷ us) ++ vs) a r
       | false ↦ spell_unit-text u (v ∷ us) a (insert_text vs b ∷ r)
     ]
@@ -44,7 +44,7 @@ spell_unit-one u a [] = refl
 spell_unit-one u a (insert_text vs b ∷ r) =
     elim (same_attributes a b) as (λ t. same_attributes a b ≡ t
     → cond t (insert_text (u ∷ vs) b ∷ r) (insert_text (u ∷ []) a ∷ insert_text vs b ∷ r)
-    ≡ met (cond t (Some (insert_text ((u ∷ []) ++ vs) a)) None) (insert_text (u ∷ []) a) (insert_text vs b) r) [
+    ≡ neighbours (cond t (Some (insert_text ((u ∷ []) ++ vs) a)) None) (insert_text (u ∷ []) a) (insert_text vs b) r) [
       | true ↦ λ e. ap (λ t. insert_text (u ∷ vs) t ∷ r) (sym ((same_attributes-Decides a b).0 e))
       | false ↦ λ e. refl
     ] refl
@@ -72,7 +72,7 @@ spell_keep-one : (c : Changes) (r : List Operation) → spell_fate (Keep c) r �
 spell_keep-one c [] = refl
 spell_keep-one c (retain n d ∷ r) =
     elim (same_changes c d) as (λ t. same_changes c d ≡ t
-    → cond t (retain (suc n) d ∷ r) (retain 1 c ∷ retain n d ∷ r) ≡ met (cond t (Some (retain (1 + n) c)) None) (retain 1 c) (retain n d) r) [
+    → cond t (retain (suc n) d ∷ r) (retain 1 c ∷ retain n d ∷ r) ≡ neighbours (cond t (Some (retain (1 + n) c)) None) (retain 1 c) (retain n d) r) [
       | true ↦ λ e. ap (λ t. retain (suc n) t ∷ r) (sym ((same_changes-Decides c d).0 e)) ∙ ap (λ m. retain m c ∷ r) (sym (one-add n))
       | false ↦ λ e. refl
     ] refl
@@ -83,8 +83,8 @@ spell_keep-one c (delete n ∷ r) = refl
 spell_keep-consed : (m : ℕ) (c : Changes) (r : List Operation) → spell_fate (Keep c) (consed (retain m c) r) ≡ consed (retain (suc m) c) r
 spell_keep-consed m c [] = spell_keep-retain m c []
 spell_keep-consed m c (retain n d ∷ r) =
-    elim (same_changes c d) as (λ t. spell_fate (Keep c) (met (cond t (Some (retain (m + n) c)) None) (retain m c) (retain n d) r)
-    ≡ met (cond t (Some (retain (suc m + n) c)) None) (retain (suc m) c) (retain n d) r) [
+    elim (same_changes c d) as (λ t. spell_fate (Keep c) (neighbours (cond t (Some (retain (m + n) c)) None) (retain m c) (retain n d) r)
+    ≡ neighbours (cond t (Some (retain (suc m + n) c)) None) (retain (suc m) c) (retain n d) r) [
       | true ↦ spell_keep-retain (m + n) c r ∙ ap (λ k. retain k c ∷ r) (omega arith)
       | false ↦ spell_keep-retain m c (retain n d ∷ r)
     ]

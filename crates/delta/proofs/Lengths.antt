@@ -5,6 +5,7 @@ use Rattle.attributes.specs.Map.{empty}
 use Rattle.attributes.specs.Attributes.{Changes, same_changes}
 use Rattle.delta.specs.Element.{Element, letters, lettered, embedded}
 use Rattle.delta.specs.Operation.{Operation, insert_text, insert_embed, retain, delete, base_of, out_of, IsBounded}
+pub use Rattle.delta.specs.Gaps.{units_kept, units_made}
 use Rattle.delta.specs.Gaps.{Gaps, End, Gap, Fate, Del, Keep, front, run, fated, apply, counted, units_below}
 use Rattle.delta.specs.Normal.{past, settled, trim, trimmed, spelled, nf, built}
 use Rattle.delta.proofs.Joins.{units_below-front, units_below-counted}
@@ -17,16 +18,6 @@ base_of-append (op ∷ a) b = omega (arith, base_of-append a b)
 pub out_of-append : (a b : List Operation) → out_of (a ++ b) ≡ out_of a + out_of b
 out_of-append [] b = omega arith
 out_of-append (op ∷ a) b = omega (arith, out_of-append a b)
-
--- how many units of a fate are left
-abbrev pub units_kept : Fate → ℕ
-units_kept Del = 0
-units_kept (Keep c) = 1
-
--- how many units a gap form inserts and keeps
-abbrev pub units_made : Gaps → ℕ
-units_made (End xs) = length xs
-units_made (Gap xs f g) = length xs + (units_kept f + units_made g)
 
 units_made-front : (xs : List Element) (g : Gaps) → units_made (front xs g) ≡ length xs + units_made g
 units_made-front xs (End ys) = length-append xs ys

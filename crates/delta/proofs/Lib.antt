@@ -14,3 +14,7 @@ pub mod Pushing
 pub mod Places
 pub mod Pushed
 pub mod Ends
+pub mod Shortest
+pub mod Trimmed
+pub mod LeftOver
+pub mod CallerLemmas

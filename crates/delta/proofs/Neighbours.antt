@@ -6,26 +6,8 @@ use Rattle.attributes.specs.Attributes.{Attributes, Changes, same_attributes, sa
 use Rattle.delta.specs.Element.{letters}
 use Rattle.delta.specs.Operation.{Operation, insert_text, insert_embed, retain, delete, op_len}
 use Rattle.delta.specs.Gaps.{Gaps, Del, Keep, run}
+pub use Rattle.delta.specs.Normal.{may_lead, is_apart_text, is_apart_retain, is_apart_delete}
 use Rattle.delta.specs.Normal.{may_precede, is_built, spell_unit, spell_inserts, spell_fate, spelled}
-
--- the operation may stand before the operations
-abbrev pub may_lead : Operation → List Operation → Bool
-may_lead op [] = true
-may_lead op (next ∷ ops) = may_precede op next
-
--- the operations begin with no text of these attributes, with no retain of this change, with no insert and no delete
-abbrev pub is_apart_text : Attributes → List Operation → Bool
-is_apart_text a (insert_text vs b ∷ ops) = not (same_attributes a b)
-is_apart_text a ops = true
-
-abbrev pub is_apart_retain : Changes → List Operation → Bool
-is_apart_retain c (retain n d ∷ ops) = not (same_changes c d)
-is_apart_retain c ops = true
-
-abbrev pub is_apart_delete : List Operation → Bool
-is_apart_delete [] = true
-is_apart_delete (retain n d ∷ ops) = true
-is_apart_delete _ = false
 
 chosen_none : {X : Type 0} (t : Bool) (x : X) → (is_none (cond t (Some x) None) && true) ≡ not t
 chosen_none true x = refl

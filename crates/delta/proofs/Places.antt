@@ -4,7 +4,7 @@ use Rattle.std.proofs.Math.Numerals.{sub-one}
 use Rattle.std.proofs.lemmas.List.{set-get_or}
 use Rattle.std.specs.Prelude.{MatchBool}
 use Rattle.delta.specs.Operation.{Operation, insert_text, insert_embed, retain, delete, is_insert, is_delete, merged, op_len, op_base, op_out, base_of, out_of}
-use Rattle.delta.specs.Building.{met, added, place_of, IsAddedApart}
+use Rattle.delta.specs.Building.{neighbours, added, place_of, IsAddedApart}
 
 -- by the last operation
 pub place_of-last : (ops : List Operation) (k : ℕ) (op d : Operation) → length ops ≡ suc k → place_of ops op ≡ cond (is_delete (get_or ops k d) && is_insert op) k (suc k)
@@ -22,7 +22,7 @@ place_of-le (a ∷ []) op = elim (is_delete a && is_insert op) as (λ t. cond t 
 place_of-le (a ∷ b ∷ r) op = omega (arith, place_of-le (b ∷ r) op)
 
 -- added after the first operations: beside the last of them
-pub added-take : (ops : List Operation) (k : ℕ) (op d : Operation) → k < length ops → added (take (suc k) ops) op ≡ take k ops ++ met (merged (get_or ops k d) op) (get_or ops k d) op []
+pub added-take : (ops : List Operation) (k : ℕ) (op d : Operation) → k < length ops → added (take (suc k) ops) op ≡ take k ops ++ neighbours (merged (get_or ops k d) op) (get_or ops k d) op []
 added-take [] k op d h = absurd (omega arith)
 added-take (a ∷ r) zero op d h = refl
 added-take (a ∷ []) (suc k) op d h = absurd (omega arith)
@@ -44,13 +44,13 @@ place_of-none (a ∷ ops) op none = absurd (omega arith)
 -- merged with the one before its place, or put at its place
 pub merged-there : (ops : List Operation) (k : ℕ) (op d m : Operation) → k < length ops → merged (get_or ops k d) op ≡ Some m → set ops k m ≡ added (take (suc k) ops) op ++ drop (suc k) ops
 merged-there [] k op d m h e = absurd (omega arith)
-merged-there (a ∷ r) zero op d m h e = ap (λ o. met o a op [] ++ r) (sym e)
+merged-there (a ∷ r) zero op d m h e = ap (λ o. neighbours o a op [] ++ r) (sym e)
 merged-there (a ∷ []) (suc k) op d m h e = absurd (omega arith)
 merged-there (a ∷ b ∷ r) (suc k) op d m h e = ap (λ l. a ∷ l) (merged-there (b ∷ r) k op d m (omega arith) e)
 
 pub put-there : (ops : List Operation) (k : ℕ) (op d : Operation) → k < length ops → merged (get_or ops k d) op ≡ None → insert ops (suc k) op ≡ added (take (suc k) ops) op ++ drop (suc k) ops
 put-there [] k op d h e = absurd (omega arith)
-put-there (a ∷ r) zero op d h e = ap (λ o. met o a op [] ++ r) (sym e)
+put-there (a ∷ r) zero op d h e = ap (λ o. neighbours o a op [] ++ r) (sym e)
 put-there (a ∷ []) (suc k) op d h e = absurd (omega arith)
 put-there (a ∷ b ∷ r) (suc k) op d h e = ap (λ l. a ∷ l) (put-there (b ∷ r) k op d (omega arith) e)
 

@@ -41,7 +41,7 @@ op_len-some (delete n) some = omega arith
 pub built-added : (ops new : List Operation) (op : Operation) → IsTrue (is_built ops) → 0 < op_base op + op_out op → new ≡ added (take (place_of ops op) ops) op ++ drop (place_of ops op) ops → new ≡ built (ops ++ op ∷ [])
 built-added ops new op h some e = e ∙ sym (built-push ops op h (op_len-some op some))
 
-counted-nothing : (op : Operation) → op_len op ≡ 0 → counted (op ∷ []) ≡ End []
+pub counted-nothing : (op : Operation) → op_len op ≡ 0 → counted (op ∷ []) ≡ End []
 counted-nothing (insert_text [] a) none = refl
 counted-nothing (insert_text (u ∷ us) a) none = absurd (omega arith)
 counted-nothing (insert_embed key value a) none = absurd (omega arith)

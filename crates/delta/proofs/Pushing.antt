@@ -5,11 +5,11 @@ use Rattle.std.specs.Prelude.{is_none, nat_lt}
 use Rattle.attributes.specs.Attributes.{Attributes, Changes, same_attributes, same_changes}
 use Rattle.delta.specs.Operation.{Operation, insert_text, insert_embed, retain, delete, is_insert, is_delete, merged, op_len}
 use Rattle.delta.specs.Normal.{may_precede, is_built, built}
-use Rattle.delta.specs.Building.{met, added, place_of}
+use Rattle.delta.specs.Building.{neighbours, added, place_of}
 use Rattle.delta.proofs.Folding.{consed, built-cons}
 
 -- what may stand before an operation is put before it as it is
-apart : (o : Option Operation) (t : Bool) (a b : Operation) (r s : List Operation) → is_none o ≡ true → not t ≡ true → cond t s (met o a b r) ≡ a ∷ b ∷ r
+apart : (o : Option Operation) (t : Bool) (a b : Operation) (r s : List Operation) → is_none o ≡ true → not t ≡ true → cond t s (neighbours o a b r) ≡ a ∷ b ∷ r
 apart None false a b r s none kept = refl
 apart None true a b r s none kept = cc
 apart (Some m) t a b r s none kept = cc
@@ -62,7 +62,7 @@ may_precede-merged a (delete k) (retain n d) m e = absurd (cc)
 -- so it is put before what another was added to
 consed-added : (a b : Operation) (r s : List Operation) (op : Operation) → may_precede a b ≡ true → consed a (added (b ∷ r) op ++ s) ≡ a ∷ (added (b ∷ r) op ++ s)
 consed-added a b [] s op may =
-    elim (merged b op) as (λ o. merged b op ≡ o → consed a (met o b op [] ++ s) ≡ a ∷ (met o b op [] ++ s)) [
+    elim (merged b op) as (λ o. merged b op ≡ o → consed a (neighbours o b op [] ++ s) ≡ a ∷ (neighbours o b op [] ++ s)) [
       | Some m ↦ λ e. consed-apart a m s (may_precede-merged a b op m e ∙ may)
       | None ↦ λ e. consed-apart a b (op ∷ s) may
     ] refl
@@ -78,12 +78,12 @@ not_deleted (delete m) (insert_text us s) may e = absurd (cc)
 not_deleted (delete m) (insert_embed key value s) may e = absurd (cc)
 not_deleted (delete m) (retain n c) may e = absurd (cc)
 
-met-append : (o : Option Operation) (a b : Operation) (s : List Operation) → met o a b s ≡ met o a b [] ++ s
-met-append (Some m) a b s = refl
-met-append None a b s = refl
+neighbours-append : (o : Option Operation) (a b : Operation) (s : List Operation) → neighbours o a b s ≡ neighbours o a b [] ++ s
+neighbours-append (Some m) a b s = refl
+neighbours-append None a b s = refl
 
-consed-not_deleted : (a b : Operation) (s : List Operation) → is_delete a ≡ false → consed a (b ∷ s) ≡ met (merged a b) a b [] ++ s
-consed-not_deleted a b s e = rw e (met-append (merged a b) a b s)
+consed-not_deleted : (a b : Operation) (s : List Operation) → is_delete a ≡ false → consed a (b ∷ s) ≡ neighbours (merged a b) a b [] ++ s
+consed-not_deleted a b s e = rw e (neighbours-append (merged a b) a b s)
 
 -- the two parts of a built list
 is_built-parts : (a b : Operation) (r : List Operation) → is_built (a ∷ b ∷ r) ≡ true → (0 < op_len a) × (may_precede a b ≡ true) × (is_built (b ∷ r) ≡ true)
@@ -98,10 +98,10 @@ built-push [] op h some = built-cons op [] some
 built-push (a ∷ []) op h some =
     built-cons a (op ∷ []) (ltb-true 0 (op_len a) h)
     ∙ (ap (consed a) (built-cons op [] some)
-    ∙ elim (is_delete a && is_insert op) as (λ t. cond t (op ∷ a ∷ []) (met (merged a op) a op [])
+    ∙ elim (is_delete a && is_insert op) as (λ t. cond t (op ∷ a ∷ []) (neighbours (merged a op) a op [])
     ≡ added (take (cond t 0 1) (a ∷ [])) op ++ drop (cond t 0 1) (a ∷ [])) [
       | true ↦ refl
-      | false ↦ met-append (merged a op) a op []
+      | false ↦ neighbours-append (merged a op) a op []
     ])
 built-push (a ∷ b ∷ []) op h some =
     let parts = is_built-parts a b [] h in

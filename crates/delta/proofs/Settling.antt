@@ -5,15 +5,9 @@ use Rattle.attributes.specs.Map.{empty}
 use Rattle.attributes.specs.Attributes.{Changes, same_changes}
 use Rattle.delta.specs.Element.{Element}
 use Rattle.delta.specs.Gaps.{Gaps, End, Gap, Fate, Del, Keep, front, joined}
+pub use Rattle.delta.specs.Places.{IsBare}
 use Rattle.delta.specs.Normal.{past, settled, trim, trimmed}
 use Rattle.delta.proofs.Joins.{front-nil, front-front, joined-front}
-
--- nothing is inserted before its first unit
-abbrev pub IsBare : Gaps → Type 0
-IsBare (End []) = Unit {0}
-IsBare (End (x ∷ xs)) = ⊥
-IsBare (Gap [] f g) = Unit {0}
-IsBare (Gap (x ∷ xs) f g) = ⊥
 
 -- nothing is inserted directly after a deleted unit
 abbrev pub IsSettled : Gaps → Type 0

@@ -1,17 +1,18 @@
 -- What a builder and a delta keep, and one operation more for a builder.
 use Rattle.std.specs.Prelude.{◌≡◌, ℕ, suc, List, [], ◌∷◌, ◌++◌, take, drop, insert, ◌&&◌, IsTrue, Option, Some, None, if◌then◌else◌}
-use Rattle.delta.specs.Operation.{Operation, is_insert, is_delete, is_plain, merged, base_of, out_of, IsBounded}
+use Rattle.attributes.specs.Map.{empty}
+use Rattle.delta.specs.Operation.{Operation, retain, is_insert, is_delete, is_plain, merged, base_of, out_of, IsBounded}
 use Rattle.delta.specs.Normal.{is_built, IsNormal}
 
 -- two neighbours before others: one operation where they merge
-abbrev pub met : Option Operation → Operation → Operation → List Operation → List Operation
-met (Some m) a b r = m ∷ r
-met None a b r = a ∷ b ∷ r
+abbrev pub neighbours : Option Operation → Operation → Operation → List Operation → List Operation
+neighbours (Some m) a b r = m ∷ r
+neighbours None a b r = a ∷ b ∷ r
 
 -- one operation more at the end, in the last one where they merge
 abbrev pub added : List Operation → Operation → List Operation
 added [] op = op ∷ []
-added (a ∷ []) op = met (merged a op) a op []
+added (a ∷ []) op = neighbours (merged a op) a op []
 added (a ∷ b ∷ r) op = a ∷ added (b ∷ r) op
 
 -- where one operation more is added: at the end, and an insert before a delete that is last
@@ -34,6 +35,10 @@ abbrev pub without_plain : List Operation → List Operation
 without_plain [] = []
 without_plain (op ∷ []) = if is_plain op then [] else op ∷ []
 without_plain (op ∷ next ∷ ops) = op ∷ without_plain (next ∷ ops)
+
+-- operations, and units kept without a change behind them
+abbrev pub with_plain : List Operation → ℕ → List Operation
+with_plain ops n = ops ++ retain n empty ∷ []
 
 -- what a builder keeps: operations merged and in order, within the bound, with their two lengths
 pub record IsBuilding (ops : List Operation) (base out : ℕ) : Type 0 where

@@ -1,5 +1,5 @@
 -- Counting out: what a delta does at each place, unit by unit, however its operations are cut.
-use Rattle.std.specs.Prelude.{ℕ, zero, suc, List, [], ◌∷◌, ◌++◌}
+use Rattle.std.specs.Prelude.{ℕ, zero, suc, ◌+◌, List, [], ◌∷◌, ◌++◌, length}
 use Rattle.attributes.specs.Attributes.{Changes, changed}
 use Rattle.delta.specs.Element.{Element, letters, embedded}
 use Rattle.delta.specs.Operation.{Operation, insert_text, insert_embed, retain, delete}
@@ -42,12 +42,24 @@ abbrev pub units_below : Gaps → ℕ
 units_below (End xs) = 0
 units_below (Gap xs f g) = suc (units_below g)
 
+-- how many units of a fate are left
+abbrev pub units_kept : Fate → ℕ
+units_kept Del = 0
+units_kept (Keep c) = 1
+
+-- how many units a gap form inserts and keeps
+abbrev pub units_made : Gaps → ℕ
+units_made (End xs) = length xs
+units_made (Gap xs f g) = length xs + (units_kept f + units_made g)
+
 -- a unit by its fate
 abbrev pub fated : Fate → Element → List Element
 fated Del x = []
 fated (Keep c) x = record x { attributes = changed x.attributes c } ∷ []
 
--- a document after a delta; where the document ends first, only what is inserted is left of the delta
+-- a document after a delta. It may end first only where the delta isn't defined on it (`IsDefined`), so nothing is ever
+-- applied there: what the definition says of it, that of the delta what is inserted is left, makes it total, and no law needs
+-- the premise for that.
 abbrev pub apply : List Element → Gaps → List Element
 apply d (End xs) = xs ++ d
 apply [] (Gap xs f g) = xs ++ apply [] g

@@ -14,8 +14,8 @@ operation_of_kind len (kind.Retain c) = retain len c
 operation_of_kind len kind.Delete = delete len
 
 -- its length is kept beside it
-abbrev pub IsKept : ℕ → Kind → Type 0
-IsKept len k = len ≡ op_len (operation_of_kind len k)
+abbrev pub HasLength : ℕ → Kind → Type 0
+HasLength len k = len ≡ op_len (operation_of_kind len k)
 
 -- the operation that a borrowed one shows
 abbrev pub operation_of : OpRef → Operation

@@ -2,9 +2,14 @@ pub mod Element
 pub mod ElementCode
 pub mod Operation
 pub mod Kind
+pub mod Parts
+pub mod Cursor
 pub mod Gaps
+pub mod Places
 pub mod Normal
 pub mod Laws
+pub mod GapLaws
+pub mod PartLaws
 pub mod Building
 pub mod Equality
 mod Examples

@@ -1,7 +1,7 @@
 -- Normal form: the one spelling of what a delta does (quill-delta's `Delta` merges and orders its operations so as they are pushed).
-use Rattle.std.specs.Prelude.{ℕ, suc, Bool, true, false, not, ◌&&◌, IsTrue, List, [], ◌∷◌, is_none, nat_lt, if◌then◌else◌}
+use Rattle.std.specs.Prelude.{ℕ, suc, ◌<◌, Bool, true, false, not, ◌&&◌, IsTrue, List, [], ◌∷◌, is_none, nat_lt, if◌then◌else◌}
 use Rattle.attributes.specs.Map.{empty}
-use Rattle.attributes.specs.Attributes.{Attributes, same_attributes, same_changes}
+use Rattle.attributes.specs.Attributes.{Attributes, Changes, same_attributes, same_changes}
 use Rattle.delta.specs.Element.{Element, Item, code_unit, embed}
 use Rattle.delta.specs.Operation.{Operation, insert_text, insert_embed, retain, delete, op_len, is_insert, is_delete, is_plain, merged}
 use Rattle.delta.specs.Gaps.{Gaps, End, Gap, Fate, Del, Keep, front, counted}
@@ -10,11 +10,35 @@ use Rattle.delta.specs.Gaps.{Gaps, End, Gap, Fate, Del, Keep, front, counted}
 abbrev pub may_precede : Operation → Operation → Bool
 may_precede first second = is_none (merged first second) && not (is_delete first && is_insert second)
 
+-- the operation may stand before the operations
+abbrev pub may_lead : Operation → List Operation → Bool
+may_lead op [] = true
+may_lead op (next ∷ ops) = may_precede op next
+
+-- the operations begin with no text of these attributes, with no retain of this change, with no insert and no delete
+abbrev pub is_apart_text : Attributes → List Operation → Bool
+is_apart_text a (insert_text vs b ∷ ops) = not (same_attributes a b)
+is_apart_text a ops = true
+
+abbrev pub is_apart_retain : Changes → List Operation → Bool
+is_apart_retain c (retain n d ∷ ops) = not (same_changes c d)
+is_apart_retain c ops = true
+
+abbrev pub is_apart_delete : List Operation → Bool
+is_apart_delete [] = true
+is_apart_delete (retain n d ∷ ops) = true
+is_apart_delete _ = false
+
 -- merged and in order, as a builder keeps its operations: none is empty, and each neighbours may stand so
 abbrev pub is_built : List Operation → Bool
 is_built [] = true
 is_built (op ∷ []) = nat_lt 0 (op_len op)
 is_built (op ∷ next ∷ ops) = nat_lt 0 (op_len op) && (may_precede op next && is_built (next ∷ ops))
+
+-- each operation inserts, keeps or deletes a unit
+abbrev pub NoneIsEmpty : List Operation → Type 0
+NoneIsEmpty [] = Unit {0}
+NoneIsEmpty (op ∷ ops) = (0 < op_len op) × NoneIsEmpty ops
 
 -- the last operation is a retain without attributes
 abbrev pub ends_plain : List Operation → Bool

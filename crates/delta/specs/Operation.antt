@@ -1,7 +1,9 @@
 -- Operations of a delta (quill-delta's README, "Operations"), their lengths, and which neighbours are merged.
-use Rattle.std.specs.Prelude.{◌≡◌, ℕ, ◌+◌, ◌≤◌, ◌^◌, Bool, true, false, List, [], ◌∷◌, ◌++◌, length, Option, Some, None, if◌then◌else◌, refl}
+use Rattle.std.specs.Prelude.{◌≡◌, ℕ, ◌+◌, ◌≤◌, ◌^◌, Bool, true, false, ◌&&◌, nat_le, List, [], ◌∷◌, ◌++◌, length, Option, Some, None, if◌then◌else◌, refl}
 use Rattle.std.specs.Coded.{Coded, code_by, coded×, coded⊎, coded_list, coded_ℕ, coded_option}
+use Rattle.std.specs.Bool.{Decides}
 use Rattle.std.proofs.Common.{◌⊎◌, inl, inr}
+use Rattle.std.proofs.lemmas.Bool.{and_parts, and_from, le-leb, leb-true}
 use Rattle.attributes.specs.Map.{empty, map_code}
 use Rattle.attributes.specs.Attributes.{Attributes, Changes, changed, composed, same_attributes, same_changes}
 use Rattle.attributes.specs.Scalar.{Scalar, scalar_code}
@@ -14,30 +16,30 @@ pub data Operation : Type 0 where
   delete : ℕ → Operation
 
 -- how an operation is told from every other
-abbrev pub Parts : Type 0
-Parts = (List ℕ × Attributes) ⊎ ((List ℕ × (Scalar × Attributes)) ⊎ ((ℕ × Changes) ⊎ ℕ))
+abbrev pub Fields : Type 0
+Fields = (List ℕ × Attributes) ⊎ ((List ℕ × (Scalar × Attributes)) ⊎ ((ℕ × Changes) ⊎ ℕ))
 
-abbrev pub parts : Operation → Parts
-parts (insert_text us a) = inl (us, a)
-parts (insert_embed key value a) = inr (inl (key, (value, a)))
-parts (retain n c) = inr (inr (inl (n, c)))
-parts (delete n) = inr (inr (inr n))
+abbrev pub fields_of : Operation → Fields
+fields_of (insert_text us a) = inl (us, a)
+fields_of (insert_embed key value a) = inr (inl (key, (value, a)))
+fields_of (retain n c) = inr (inr (inl (n, c)))
+fields_of (delete n) = inr (inr (inr n))
 
-abbrev pub of_parts : Parts → Operation
-of_parts (inl p) = insert_text p.0 p.1
-of_parts (inr (inl p)) = insert_embed p.0 p.1.0 p.1.1
-of_parts (inr (inr (inl p))) = retain p.0 p.1
-of_parts (inr (inr (inr n))) = delete n
+abbrev pub of_fields : Fields → Operation
+of_fields (inl p) = insert_text p.0 p.1
+of_fields (inr (inl p)) = insert_embed p.0 p.1.0 p.1.1
+of_fields (inr (inr (inl p))) = retain p.0 p.1
+of_fields (inr (inr (inr n))) = delete n
 
-pub of_parts-parts : (op : Operation) → of_parts (parts op) ≡ op
-of_parts-parts (insert_text us a) = refl
-of_parts-parts (insert_embed key value a) = refl
-of_parts-parts (retain n c) = refl
-of_parts-parts (delete n) = refl
+pub of_fields-fields_of : (op : Operation) → of_fields (fields_of op) ≡ op
+of_fields-fields_of (insert_text us a) = refl
+of_fields-fields_of (insert_embed key value a) = refl
+of_fields-fields_of (retain n c) = refl
+of_fields-fields_of (delete n) = refl
 
 abbrev pub operation_code : Coded Operation
 operation_code =
-    code_by Parts (coded⊎ (coded× (coded_list coded_ℕ) (map_code scalar_code)) (coded⊎ (coded× (coded_list coded_ℕ) (coded× scalar_code (map_code scalar_code))) (coded⊎ (coded× coded_ℕ (map_code (coded_option scalar_code))) coded_ℕ))) parts of_parts of_parts-parts
+    code_by Fields (coded⊎ (coded× (coded_list coded_ℕ) (map_code scalar_code)) (coded⊎ (coded× (coded_list coded_ℕ) (coded× scalar_code (map_code scalar_code))) (coded⊎ (coded× coded_ℕ (map_code (coded_option scalar_code))) coded_ℕ))) fields_of of_fields of_fields-fields_of
 
 -- how many units it inserts, keeps or deletes
 abbrev pub op_len : Operation → ℕ
@@ -81,6 +83,17 @@ out_of (op ∷ ops) = op_out op + out_of ops
 pub record IsBounded (ops : List Operation) : Type 0 where
   pub base : base_of ops ≤ 2 ^ 48
   pub out : out_of ops ≤ 2 ^ 48
+
+-- the same as a test
+abbrev pub is_bounded : List Operation → Bool
+is_bounded ops = nat_le (base_of ops) (2 ^ 48) && nat_le (out_of ops) (2 ^ 48)
+
+pub is_bounded-Decides : (ops : List Operation) → Decides (is_bounded ops) (IsBounded ops)
+is_bounded-Decides ops = (
+  λ t. let parts = and_parts (nat_le (base_of ops) (2 ^ 48)) (nat_le (out_of ops) (2 ^ 48)) t in
+      record { base = leb-true _ _ parts.0; out = leb-true _ _ parts.1 },
+  λ h. and_from (nat_le (base_of ops) (2 ^ 48)) (nat_le (out_of ops) (2 ^ 48)) (le-leb _ _ h.base) (le-leb _ _ h.out),
+)
 
 abbrev pub is_insert : Operation → Bool
 is_insert (insert_text us a) = true

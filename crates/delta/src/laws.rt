@@ -1,5 +1,7 @@
 //! What holds of operations, counted out and in normal form, as contracts to cite: each function does nothing and promises one law.
 ghost use Rattle.delta.specs.Laws.{CountedOfAppend, JoinedThrice, UnitsCounted, BuiltIsKept, NormalIsKept, CountedOfSpelled, SpelledIsBuilt, NormalIsNormal, BuiltInPieces, BuiltFromPieces, NormalOfBuilt, EffectOfParts, EffectOfNothing, EffectPastEnd, EffectOfText, EffectOfEmbed, EffectOfRetain, EffectOfDelete, EffectOfSettled, EffectOfTrimmed, EffectOfBuilt, EffectOfNormal, SameForm, SameEffect, SameEffectFrom, NormalOfSameEffect, LengthsOfBuilt, LengthsOfNormal, BaseOfNormal, BoundOfBuilt, BoundOfNormal, LengthOfEffect};
+ghost use Rattle.delta.specs.GapLaws.{FrontOfNothing, FrontTwice, RunInParts, JoinedToFront, JoinedToRun, JoinedToNothing, EffectOfFront, ChangedByNothing, SettledTwice, SettledOfFront, PastOfFront, SettledInPieces, SettledFromPieces, TrimmedOfKept, NormalOfPlain, UnitsOfFront, UnitsOfRun, UnitsOfSettled, MadeByCounted, MadeBySettled, BaseOfAppend, OutOfAppend, BaseOfSpelled, OutOfSpelled};
+ghost use Rattle.delta.specs.PartLaws.{LeftWithin, LeftBeyond, LeftOfWhole, LeftBeforeMore, FirstOfWhole, CountedInParts, LengthOfFirst, LengthOfLast, BaseInParts, CountOfLeft, CountOfWhole, NormalOfLeft, LeftIsFilled, NormalOfRest, NormalIsFilled, NormalInParts, BuiltInParts, LeadOfText, LeadOfRetain};
 
 /// Counting out of an append.
 pub fn counted_of_append()
@@ -159,4 +161,67 @@ pub fn bound_of_normal()
 /// The length of a document after operations.
 pub fn length_of_effect()
     ensures { LengthOfEffect }
+{}
+
+/// What stands before a gap form, and gap forms that are joined.
+pub fn gap_forms()
+    ensures front_of_nothing { FrontOfNothing }
+    ensures front_twice { FrontTwice }
+    ensures run_in_parts { RunInParts }
+    ensures joined_to_front { JoinedToFront }
+    ensures joined_to_run { JoinedToRun }
+    ensures joined_to_nothing { JoinedToNothing }
+    ensures effect_of_front { EffectOfFront }
+    ensures changed_by_nothing { ChangedByNothing }
+{}
+
+/// What settles and what is trimmed.
+pub fn settling()
+    ensures settled_twice { SettledTwice }
+    ensures settled_of_front { SettledOfFront }
+    ensures past_of_front { PastOfFront }
+    ensures settled_in_pieces { SettledInPieces }
+    ensures settled_from_pieces { SettledFromPieces }
+    ensures trimmed_of_kept { TrimmedOfKept }
+    ensures normal_of_plain { NormalOfPlain }
+{}
+
+/// How many units gap forms and operations speak of and make.
+pub fn lengths()
+    ensures units_of_front { UnitsOfFront }
+    ensures units_of_run { UnitsOfRun }
+    ensures units_of_settled { UnitsOfSettled }
+    ensures made_by_counted { MadeByCounted }
+    ensures made_by_settled { MadeBySettled }
+    ensures base_of_append { BaseOfAppend }
+    ensures out_of_append { OutOfAppend }
+    ensures base_of_spelled { BaseOfSpelled }
+    ensures out_of_spelled { OutOfSpelled }
+{}
+
+/// An operation in two parts, and what is left of the operations behind the first.
+pub fn operations_in_parts()
+    ensures left_within { LeftWithin }
+    ensures left_beyond { LeftBeyond }
+    ensures left_of_whole { LeftOfWhole }
+    ensures left_before_more { LeftBeforeMore }
+    ensures first_of_whole { FirstOfWhole }
+    ensures counted_in_parts { CountedInParts }
+    ensures length_of_first { LengthOfFirst }
+    ensures length_of_last { LengthOfLast }
+    ensures base_in_parts { BaseInParts }
+    ensures count_of_left { CountOfLeft }
+    ensures count_of_whole { CountOfWhole }
+    ensures normal_of_left { NormalOfLeft }
+    ensures left_is_filled { LeftIsFilled }
+{}
+
+/// The first of operations in normal form, and the others.
+pub fn normal_lists()
+    ensures normal_of_rest { NormalOfRest }
+    ensures normal_is_filled { NormalIsFilled }
+    ensures normal_in_parts { NormalInParts }
+    ensures built_in_parts { BuiltInParts }
+    ensures lead_of_text { LeadOfText }
+    ensures lead_of_retain { LeadOfRetain }
 {}

@@ -7,11 +7,12 @@ ghost use Rattle.attributes.specs.Attributes.{IsKey};
 ghost use Rattle.attributes.specs.Map.{empty};
 ghost use Rattle.delta.specs.Operation.{insert_text, insert_embed, retain, delete, then_changed, op_len, op_base, op_out, is_insert, is_delete, is_plain, merged};
 
+use crate::part::Part;
 use attributes::{Attrs, Change, Key, Value};
 use refusal::Refusal;
 use std::alloc::Global;
 use std::marker::Model;
-use utf16::len16;
+use utf16::{append, len16};
 
 /// One operation: insert a text or an embed, retain units, or delete units. Lengths count UTF-16 code units; an embed
 /// has length 1.
@@ -50,11 +51,11 @@ impl Model for Op {
     ghost coded = { operation_code };
 
     ghost use Rattle.delta.specs.Kind.{operation_of_kind};
-    ghost use Rattle.delta.specs.Kind.{IsKept};
+    ghost use Rattle.delta.specs.Kind.{HasLength};
 
     ghost view = { λ op. operation_of_kind op.len op.kind };
 
-    ghost invariant = { λ op. IsKept op.len op.kind };
+    ghost invariant = { λ op. HasLength op.len op.kind };
 }
 
 impl Op {
@@ -149,54 +150,35 @@ impl Op {
     pub fn base_len(&self) -> u64
         ensures { result ≡ op_base self.now }
     {
-        match &self.kind {
-            Kind::Text(_, _) | Kind::Embed(_, _, _) => 0,
-            Kind::Retain(_) | Kind::Delete => self.len,
-        }
+        Part::whole(self).base_len()
     }
 
     /// How many code units of the document after it the operation makes up: what it inserts or retains.
     pub fn out_len(&self) -> u64
         ensures { result ≡ op_out self.now }
     {
-        match &self.kind {
-            Kind::Text(_, _) | Kind::Embed(_, _, _) | Kind::Retain(_) => self.len,
-            Kind::Delete => 0,
-        }
+        Part::whole(self).out_len()
     }
 
-    pub(crate) fn is_insert(&self) -> bool
+    /// Whether it inserts.
+    pub fn is_insert(&self) -> bool
         ensures { result ≡ is_insert self.now }
     {
-        match &self.kind {
-            Kind::Text(_, _) | Kind::Embed(_, _, _) => true,
-            Kind::Retain(_) | Kind::Delete => false,
-        }
+        Part::whole(self).is_insert()
     }
 
-    pub(crate) fn is_delete(&self) -> bool
+    /// Whether it deletes.
+    pub fn is_delete(&self) -> bool
         ensures { result ≡ is_delete self.now }
     {
-        match &self.kind {
-            Kind::Delete => true,
-            Kind::Text(_, _) | Kind::Embed(_, _, _) | Kind::Retain(_) => false,
-        }
+        Part::whole(self).is_delete()
     }
 
-    // the length of a retain without attributes
-    pub(crate) fn plain_len(&self) -> Option<u64>
+    /// The length of a retain without attributes.
+    pub fn plain_len(&self) -> Option<u64>
         ensures { MatchOption result (is_plain self.now ≡ false) (λ len. self.now ≡ retain len empty) }
     {
-        match &self.kind {
-            Kind::Retain(change) => {
-                if change.is_empty() {
-                    Some(self.len)
-                } else {
-                    None
-                }
-            }
-            Kind::Text(_, _) | Kind::Embed(_, _, _) | Kind::Delete => None,
-        }
+        Part::whole(self).plain_len()
     }
 
     // takes the next operation in, where they merge, and says whether they do
@@ -229,33 +211,25 @@ impl Op {
         ensures same { IfOk result (λ op. op ≡ self.now) }
         ensures only { IsOkUnless result Refusal.NoMemory }
     {
-        let kind = match &self.kind {
-            Kind::Text(text, attrs) => Kind::Text(
-                copy_text(alloc, text.as_str())?,
-                attrs.copy(alloc)?,
-            ),
-            Kind::Embed(name, value, attrs) => {
+        Op::of(alloc, self.get(), self.len)
+    }
+
+    // an operation of its own, whose length is known
+    pub(crate) fn of(alloc: Global, op: OpRef<'_>, len: u64) -> Result<Self, Refusal>
+        requires { len ≡ op_len (operation_of op) }
+        ensures same { IfOk result (λ copy. copy ≡ operation_of op.entry) }
+        ensures only { IsOkUnless result Refusal.NoMemory }
+    {
+        let kind = match op {
+            OpRef::Text(text, attrs) => Kind::Text(copy_text(alloc, text)?, attrs.copy(alloc)?),
+            OpRef::Embed(name, value, attrs) => {
                 Kind::Embed(name.copy(alloc)?, value.copy(alloc)?, attrs.copy(alloc)?)
             }
-            Kind::Retain(change) => Kind::Retain(change.copy(alloc)?),
-            Kind::Delete => Kind::Delete,
+            OpRef::Retain(_, change) => Kind::Retain(change.copy(alloc)?),
+            OpRef::Delete(_) => Kind::Delete,
         };
-        Ok(Op {
-            kind,
-            len: self.len,
-        })
+        Ok(Op { kind, len })
     }
-}
-
-// a text with another at its end
-fn append(text: &mut String, more: &str) -> Result<(), Refusal>
-    ensures ok { OnOk result (units_of (string_bytes text.new) ≡ units_of (string_bytes text.old) ++ units_of more.now) }
-    ensures err { OnErr result (string_bytes text.new ≡ string_bytes text.old) }
-    ensures only { IsOkUnless result Refusal.NoMemory }
-{
-    let _ = text.as_str();
-    text.push_str(more)?;
-    Ok(())
 }
 
 fn copy_text(alloc: Global, text: &str) -> Result<String, Refusal>

@@ -10,7 +10,7 @@ use lib.Utf8.{scalar_cases}
 use Rattle.attributes.specs.Attributes.{Attributes}
 use Rattle.attributes.specs.Scalar.{Scalar}
 use Rattle.utf16.specs.Units.{units_of, units_of_chars, IsHigh, IsLow}
-use Rattle.utf16.proofs.CodeUnits.{pair_of-large}
+use Rattle.utf16.proofs.CallerLemmas.{pair_of-large}
 use Rattle.delta.specs.Element.{lettered, letters, embedded}
 use Rattle.document.specs.Pairs.{IsWellFormed}
 use Rattle.document.proofs.Formed.{Formed, IsSingle, Formed-single, well_formed-of_formed}

@@ -3,7 +3,7 @@ use Rattle.std.proofs.Common.{◌≡◌, ℕ, zero, suc, ◌-◌, ◌<◌, ◌�
 use Rattle.std.proofs.lemmas.Bool.{false≢true}
 use Rattle.std.proofs.lemmas.List.{take-append-drop, length-drop, length-take}
 use Rattle.attributes.specs.Attributes.{Attributes}
-use Rattle.utf16.specs.Units.{units_of, IsHigh, IsLow, PartsPair}
+use Rattle.utf16.specs.Units.{units_of, IsHigh, IsLow, IsInPair}
 use Rattle.std.specs.Borrow.{Bor}
 use Rattle.document.specs.declared.run.Piece.{Piece}
 use Rattle.document.specs.declared.run.Piece.TheVariants as piece
@@ -29,12 +29,12 @@ units_of_pair (u ∷ []) i a at = absurd at
 units_of_pair (u ∷ v ∷ us) zero a at = (at.0, at.1)
 units_of_pair (u ∷ v ∷ us) (suc i) a at = units_of_pair (v ∷ us) i a at
 
-pub within_of_parts : (us : List ℕ) (n : ℕ) (a : Attributes) → PartsPair us n → IsWithinPair (letters us a) n
+pub within_of_parts : (us : List ℕ) (n : ℕ) (a : Attributes) → IsInPair us n → IsWithinPair (letters us a) n
 within_of_parts us zero a parts = absurd (omega (arith, parts.0))
 within_of_parts us (suc i) a parts =
     pair_of_units us i a (subst (λ k. IsHigh (get_or us k 0)) (let e : suc i - 1 ≡ i = omega arith in e) parts.1) parts.2
 
-pub parts_of_within : (us : List ℕ) (n : ℕ) (a : Attributes) → IsWithinPair (letters us a) n → PartsPair us n
+pub parts_of_within : (us : List ℕ) (n : ℕ) (a : Attributes) → IsWithinPair (letters us a) n → IsInPair us n
 parts_of_within us zero a within = absurd within
 parts_of_within us (suc i) a within =
     let pair = units_of_pair us i a within in
@@ -53,7 +53,7 @@ length-back us back n within b = omega (arith, ap length b, length-drop n us)
 
 -- and both are well formed where no pair is parted
 pub both_formed : (us front back : List ℕ) (n : ℕ) (a : Attributes) → n ≤ length us → front ≡ take n us → back ≡ drop n us
-    → IsWellFormed (letters us a) → ¬ (PartsPair us n) → IsWellFormed (letters front a) × IsWellFormed (letters back a)
+    → IsWellFormed (letters us a) → ¬ (IsInPair us n) → IsWellFormed (letters front a) × IsWellFormed (letters back a)
 both_formed us front back n a within f b formed whole =
     let parts = letters-parts us front back n a f b in
     let count : length (letters front a) ≡ n = omega (arith, length-letters front a, length-front us front n within f) in
@@ -65,7 +65,7 @@ refused T cut = Err cut
 
 -- a text of enough units is refused a cut only where that parts a pair
 pub parted_by : (T : Type 0) (cut : Cut) (us : List ℕ) (n : ℕ) (a : Attributes) → n ≤ length us
-    → ((refused T cut ≡ refused T PastEnd) ↔ (length us < n)) → ((refused T cut ≡ refused T InPair) ↔ PartsPair us n) → IsWithinPair (letters us a) n
+    → ((refused T cut ≡ refused T PastEnd) ↔ (length us < n)) → ((refused T cut ≡ refused T InPair) ↔ IsInPair us n) → IsWithinPair (letters us a) n
 parted_by T PastEnd us n a within past pair = absurd (omega (arith, past.0 refl))
 parted_by T InPair us n a within past pair = within_of_parts us n a (pair.0 refl)
 

@@ -4,9 +4,10 @@ use Rattle.delta.specs.Element.{Element}
 use Rattle.delta.specs.Operation.{Operation, base_of}
 use Rattle.delta.specs.Gaps.{counted}
 use Rattle.delta.specs.Normal.{IsNormal}
-use Rattle.delta.proofs.Joins.{units_below-counted}
-use Rattle.document.specs.Passes.{PartsPair}
-use Rattle.document.specs.Places.{IsDefined, Cuts}
+use Rattle.delta.proofs.CallerLemmas.{units_below-counted}
+use Rattle.document.specs.Passes.{StopsInPair}
+use Rattle.delta.specs.Places.{IsDefined}
+use Rattle.document.specs.Places.{Cuts}
 use Rattle.document.specs.Runs.{units_of_runs}
 use Rattle.document.proofs.Parting.{parts_of_cut, cut_of_parts}
 
@@ -16,17 +17,17 @@ defined_by d ops there = omega (arith, units_below-counted ops)
 pub base_by : (d : List Element) (ops : List Operation) → IsDefined d (counted ops) → base_of ops ≤ length d
 base_by d ops defined = omega (arith, units_below-counted ops, defined)
 
-same_parts : (rs items : List (List Element)) (d : List Element) (seen ops : List Operation) → rs ≡ items → units_of_runs items ≡ d → seen ≡ ops → PartsPair (units_of_runs rs) seen ≡ PartsPair d ops
+same_parts : (rs items : List (List Element)) (d : List Element) (seen ops : List Operation) → rs ≡ items → units_of_runs items ≡ d → seen ≡ ops → StopsInPair (units_of_runs rs) seen ≡ StopsInPair d ops
 same_parts rs items d seen ops runs view same =
-    ap (λ e. PartsPair e seen) (ap units_of_runs runs ∙ view) ∙ ap (PartsPair d) same
+    ap (λ e. StopsInPair e seen) (ap units_of_runs runs ∙ view) ∙ ap (StopsInPair d) same
 
 -- the runs' units are the document's, and the operations the delta's
 pub cut_by_runs : (rs items : List (List Element)) (d : List Element) (seen ops : List Operation) → rs ≡ items → units_of_runs items ≡ d → seen ≡ ops → IsNormal ops
-    → PartsPair (units_of_runs rs) seen → Cuts d (counted ops)
+    → StopsInPair (units_of_runs rs) seen → Cuts d (counted ops)
 cut_by_runs rs items d seen ops runs view same normal parts =
     cut_of_parts d ops normal (subst (λ t. t) (same_parts rs items d seen ops runs view same) parts)
 
 pub runs_parted : (rs items : List (List Element)) (d : List Element) (seen ops : List Operation) → rs ≡ items → units_of_runs items ≡ d → seen ≡ ops → IsNormal ops
-    → Cuts d (counted ops) → PartsPair (units_of_runs rs) seen
+    → Cuts d (counted ops) → StopsInPair (units_of_runs rs) seen
 runs_parted rs items d seen ops runs view same normal cut =
     subst (λ t. t) (sym (same_parts rs items d seen ops runs view same)) (parts_of_cut d ops normal cut)

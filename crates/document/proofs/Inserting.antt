@@ -7,10 +7,7 @@ use Rattle.delta.specs.Element.{Element}
 use Rattle.delta.specs.Operation.{Operation, op_base, op_out, base_of, out_of, IsBounded}
 use Rattle.delta.specs.Gaps.{End, front, joined, counted, units_below, apply}
 use Rattle.delta.specs.Normal.{spelled, settled, built, nf}
-use Rattle.delta.proofs.Effects.{apply-nf}
-use Rattle.delta.proofs.Joins.{counted-append, units_below-counted}
-use Rattle.delta.proofs.Lengths.{base_of-append, out_of-append, base_of-nf, length-apply_counted}
-use Rattle.delta.proofs.Spellings.{counted-spelled}
+use Rattle.delta.proofs.CallerLemmas.{apply-nf, counted-append, units_below-counted, base_of-append, out_of-append, base_of-nf, length-apply_counted, counted-spelled}
 use Rattle.document.specs.Runs.{units_of_runs}
 use Rattle.document.proofs.Joined.{units_of_runs-last}
 

@@ -6,7 +6,8 @@ use Rattle.attributes.specs.Map.{empty}
 use Rattle.delta.specs.Element.{Element}
 use Rattle.delta.specs.Gaps.{Gaps, End, Gap, Fate, Del, Keep, fated, apply}
 use Rattle.document.specs.Pairs.{IsPair}
-use Rattle.document.specs.Places.{inserted_at, Cuts}
+use Rattle.delta.specs.Places.{inserted_at}
+use Rattle.document.specs.Places.{Cuts}
 use Rattle.document.specs.Laws.{StaysWellFormed}
 use Rattle.document.proofs.Formed.{Formed, IsSingle, Formed-append, formed-of_well_formed, well_formed-of_formed, IsPairAt-later}
 

@@ -5,9 +5,8 @@ use Rattle.refusal.specs.declared.Refusal.{Refusal}
 use Rattle.refusal.specs.declared.Refusal.TheVariants.{PastEnd, CutsPair, BadOps, NoMemory}
 use Rattle.delta.specs.Operation.{Operation, base_of, IsBounded}
 use Rattle.delta.specs.Gaps.{counted}
-use Rattle.delta.proofs.Joins.{units_below-counted}
-use Rattle.delta.proofs.Lengths.{length-apply_counted}
-use Rattle.document.specs.Places.{IsDefined}
+use Rattle.delta.proofs.CallerLemmas.{units_below-counted, length-apply_counted}
+use Rattle.delta.specs.Places.{IsDefined}
 use Rattle.document.specs.Outcome.{IsRefused}
 
 -- the empty document lacks a unit just where the delta retains or deletes one

@@ -9,8 +9,9 @@ use Rattle.delta.specs.Operation.{Operation, insert_text, insert_embed, retain, 
 use Rattle.delta.specs.Gaps.{Gaps, End, Gap, Fate, Del, Keep, front, run, counted}
 use Rattle.delta.specs.Normal.{is_built, ends_plain, IsNormal}
 use Rattle.document.specs.Pairs.{IsPairAt}
-use Rattle.document.specs.Passes.{PartsPair}
-use Rattle.document.specs.Places.{fate_at, inserted_at, Cuts}
+use Rattle.document.specs.Passes.{StopsInPair}
+use Rattle.delta.specs.Places.{fate_at, inserted_at}
+use Rattle.document.specs.Places.{Cuts}
 use Rattle.document.proofs.Formed.{IsPairAt-later, IsPairAt-earlier}
 use Rattle.document.proofs.Kept.{cuts_later}
 
@@ -144,7 +145,7 @@ run_cut : (n : ℕ) (f : Fate) (g : Gaps) (d : List Element) (Rest : Type 0) →
 run_cut n f g d Rest turns later (inl at) = (n, at, turned_at_end n f g turns)
 run_cut n f g d Rest turns later (inr rest) = behind_run n f g d (later rest)
 
-pub parts_of_cut : (d : List Element) (ops : List Operation) → IsNormal ops → Cuts d (counted ops) → PartsPair d ops
+pub parts_of_cut : (d : List Element) (ops : List Operation) → IsNormal ops → Cuts d (counted ops) → StopsInPair d ops
 parts_of_cut d [] normal cut = elim cut.2 [ inl differ ↦ differ refl | inr some ↦ some refl ]
 parts_of_cut d (insert_text us a ∷ ops) normal cut =
     inr (parts_of_cut d ops (normal_rest (insert_text us a) ops normal) (of_front d (letters us a) (counted ops) cut))
@@ -157,7 +158,7 @@ parts_of_cut d (delete zero ∷ ops) normal cut = absurd (omega (arith, normal_s
 parts_of_cut d (delete (suc n) ∷ ops) normal cut =
     run_parts n Del (counted ops) d _ (λ rest. parts_of_cut (drop (suc n) d) ops (normal_rest (delete (suc n)) ops normal) rest) cut
 
-pub cut_of_parts : (d : List Element) (ops : List Operation) → IsNormal ops → PartsPair d ops → Cuts d (counted ops)
+pub cut_of_parts : (d : List Element) (ops : List Operation) → IsNormal ops → StopsInPair d ops → Cuts d (counted ops)
 cut_of_parts d [] normal parts = absurd parts
 cut_of_parts d (insert_text us a ∷ ops) normal (inl within) = absurd within
 cut_of_parts d (insert_text us a ∷ ops) normal (inr later) =

@@ -6,7 +6,7 @@ use Rattle.delta.specs.Element.{Element, lettered, letters}
 use Rattle.document.specs.declared.run.Piece.{Piece}
 use Rattle.document.specs.declared.run.Piece.TheVariants as piece
 use Rattle.document.specs.Pairs.{IsPairAt, IsWithinPair, IsWellFormed}
-use Rattle.document.specs.Passes.{IsPassed, IsKept, kept}
+use Rattle.document.specs.Passes.{IsSteppedOver, IsKept, with_change}
 use Rattle.document.specs.Pieces.{piece_units, piece_attributes, piece_dressed}
 use Rattle.document.proofs.Formed.{IsPairAt-later, IsWellFormed-append, well_formed-of_formed}
 
@@ -22,10 +22,10 @@ IsWithinPair-after a b (suc i) zero within e = absurd (omega (arith, e))
 IsWithinPair-after a b (suc i) (suc k) within e = IsPairAt-after a b i k within (omega (arith, e))
 
 -- nothing, and one piece more
-abbrev pub passed_none : (d : List Element) (n : ℕ) → n ≡ 0 → IsPassed d d n
+abbrev pub passed_none : (d : List Element) (n : ℕ) → n ≡ 0 → IsSteppedOver d d n
 passed_none d n none = record { taken = []; parts = refl; count = sym none; formed = well_formed-of_formed [] tt }
 
-abbrev pub passed_more : (old mid new piece : List Element) (m n : ℕ) → IsPassed old mid m → piece ++ new ≡ mid → IsWellFormed piece → n ≡ m + length piece → IsPassed old new n
+abbrev pub passed_more : (old mid new piece : List Element) (m n : ℕ) → IsSteppedOver old mid m → piece ++ new ≡ mid → IsWellFormed piece → n ≡ m + length piece → IsSteppedOver old new n
 passed_more old mid new piece m n passed parts formed e = record {
   taken = passed.taken ++ piece;
   parts = passed.parts ∙ (ap (λ l. passed.taken ++ l) (sym parts) ∙ sym (append_assoc passed.taken piece new));
@@ -34,7 +34,7 @@ passed_more old mid new piece m n passed parts formed e = record {
 }
 
 -- a pair parted further on
-pub passed_parted : (old mid : List Element) (m n k : ℕ) → IsPassed old mid m → IsWithinPair mid n → k ≡ m + n → IsWithinPair old k
+pub passed_parted : (old mid : List Element) (m n k : ℕ) → IsSteppedOver old mid m → IsWithinPair mid n → k ≡ m + n → IsWithinPair old k
 passed_parted old mid m n k passed within e =
     subst (λ d. IsWithinPair d k) (sym passed.parts) (IsWithinPair-after passed.taken mid n k within (omega (arith, e, passed.count)))
 
@@ -43,11 +43,11 @@ whole_after mid new piece m n whole parts e within =
     whole (subst (λ d. IsWithinPair d n) parts (IsWithinPair-after piece new m n within e))
 
 -- a piece with a change of its attributes
-kept-letters : (c : Changes) (us : List ℕ) (a : Attributes) → kept c (letters us a) ≡ letters us (changed a c)
+kept-letters : (c : Changes) (us : List ℕ) (a : Attributes) → with_change c (letters us a) ≡ letters us (changed a c)
 kept-letters c [] a = refl
 kept-letters c (u ∷ us) a = ap (λ l. lettered u (changed a c) ∷ l) (kept-letters c us a)
 
-pub kept-piece : (c : Changes) (p : Piece) → kept c (piece_units p) ≡ piece_dressed p (changed (piece_attributes p) c)
+pub kept-piece : (c : Changes) (p : Piece) → with_change c (piece_units p) ≡ piece_dressed p (changed (piece_attributes p) c)
 kept-piece c (piece.Text text units a) = kept-letters c _ a.now
 kept-piece c (piece.Embed key value a) = refl
 
@@ -66,8 +66,8 @@ kept_more old mid new out made more p b c m n keeps parts formed e attributes pu
   made_of =
       put
       ∙ (ap (λ l. l ++ piece_dressed p b) keeps.made_of
-      ∙ (append_assoc out (kept c keeps.passed.taken) (piece_dressed p b)
-      ∙ (ap (λ l. out ++ (kept c keeps.passed.taken ++ l)) (ap (piece_dressed p) attributes ∙ sym (kept-piece c p))
+      ∙ (append_assoc out (with_change c keeps.passed.taken) (piece_dressed p b)
+      ∙ (ap (λ l. out ++ (with_change c keeps.passed.taken ++ l)) (ap (piece_dressed p) attributes ∙ sym (kept-piece c p))
       ∙ ap (λ l. out ++ l) (sym (map-append (λ (x : Element). record x { attributes = changed x.attributes c }) keeps.passed.taken (piece_units p))))));
 }
 

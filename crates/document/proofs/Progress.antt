@@ -9,10 +9,9 @@ use Rattle.attributes.specs.Map.{empty}
 use Rattle.delta.specs.Element.{Element}
 use Rattle.delta.specs.Operation.{Operation, retain, delete, op_base, base_of, out_of}
 use Rattle.delta.specs.Gaps.{counted, apply}
-use Rattle.delta.proofs.Lengths.{base_of-append, out_of-append, length-apply_counted}
-use Rattle.delta.proofs.Parts.{effect_of_parts, effect_past_end, effect_of_retain, effect_of_delete}
+use Rattle.delta.proofs.CallerLemmas.{base_of-append, out_of-append, length-apply_counted, effect_of_parts, effect_past_end, effect_of_retain, effect_of_delete}
 use Rattle.document.specs.Pairs.{IsPairAt, IsWithinPair}
-use Rattle.document.specs.Passes.{PartsPair, IsDone, IsPassed, IsKept, kept}
+use Rattle.document.specs.Passes.{StopsInPair, IsOneApplied, IsSteppedOver, IsKept, with_change}
 use Rattle.document.proofs.Formed.{IsWellFormed-seam}
 use Rattle.document.proofs.Passing.{length-parts}
 
@@ -34,7 +33,7 @@ pub base-here : (op : Operation) (ops rest : List Operation) (d : List Element) 
 base-here op ops rest d e there = omega (arith, ap base_of e)
 
 -- no pair is parted where the units taken are well formed
-passed_whole : (old new : List Element) (n : ℕ) → IsPassed old new n → ¬ (IsWithinPair old n)
+passed_whole : (old new : List Element) (n : ℕ) → IsSteppedOver old new n → ¬ (IsWithinPair old n)
 passed_whole old new n passed within =
     IsWellFormed-seam passed.taken new passed.formed
     (subst (λ m. IsWithinPair (passed.taken ++ new) m) (sym passed.count) (subst (λ d. IsWithinPair d n) passed.parts within))
@@ -43,38 +42,38 @@ drop-taken : (old new taken : List Element) (n : ℕ) → old ≡ taken ++ new �
 drop-taken old new taken n parts count =
     ap (drop n) parts ∙ (ap (λ m. drop m (taken ++ new)) (sym count) ∙ drop-append_seam taken new)
 
-pub parts_next : (old new : List Element) (n : ℕ) (op : Operation) (rest ops : List Operation) → IsPassed old new n → n ≡ op_base op → rest ≡ op ∷ ops
-    → PartsPair old rest → PartsPair new ops
+pub parts_next : (old new : List Element) (n : ℕ) (op : Operation) (rest ops : List Operation) → IsSteppedOver old new n → n ≡ op_base op → rest ≡ op ∷ ops
+    → StopsInPair old rest → StopsInPair new ops
 parts_next old new n op rest ops passed is e parted =
-    let here = subst (λ m. IsPassed old new m) is passed in
-    elim (subst (PartsPair old) e parted) [
+    let here = subst (λ m. IsSteppedOver old new m) is passed in
+    elim (subst (StopsInPair old) e parted) [
       | inl within ↦ absurd (passed_whole old new (op_base op) here within)
-      | inr later ↦ subst (λ d. PartsPair d ops) (drop-taken old new here.taken (op_base op) here.parts here.count) later
+      | inr later ↦ subst (λ d. StopsInPair d ops) (drop-taken old new here.taken (op_base op) here.parts here.count) later
     ]
 
 pub parts_before : (old new taken : List Element) (op : Operation) (rest ops : List Operation) → old ≡ taken ++ new → length taken ≡ op_base op → rest ≡ op ∷ ops
-    → PartsPair new ops → PartsPair old rest
+    → StopsInPair new ops → StopsInPair old rest
 parts_before old new taken op rest ops parts count e parted =
-    subst (PartsPair old) (sym e) (inr (subst (λ d. PartsPair d ops) (sym (drop-taken old new taken (op_base op) parts count)) parted))
+    subst (StopsInPair old) (sym e) (inr (subst (λ d. StopsInPair d ops) (sym (drop-taken old new taken (op_base op) parts count)) parted))
 
 -- what one operation makes
-pub done_retain : (old new : List Element) (n : ℕ) (c : Changes) (op : Operation) (out made : List Element) → retain n c ≡ op → IsKept old new n c out made → IsDone old new op out made
+pub done_retain : (old new : List Element) (n : ℕ) (c : Changes) (op : Operation) (out made : List Element) → retain n c ≡ op → IsKept old new n c out made → IsOneApplied old new op out made
 done_retain old new n c op out made is keeps =
     let taken = keeps.passed.taken in
-    subst (λ o. IsDone old new o out made) is (record {
+    subst (λ o. IsOneApplied old new o out made) is (record {
       taken = taken;
       parts = keeps.passed.parts;
       count = keeps.passed.count;
       made_of =
           keeps.made_of
           ∙ ap (λ l. out ++ l)
-          (sym (append-nil (kept c taken)) ∙ (sym (effect_of_retain taken [] n c [] (sym keeps.passed.count)) ∙ ap (λ d. apply d (counted (retain n c ∷ []))) (append-nil taken)));
+          (sym (append-nil (with_change c taken)) ∙ (sym (effect_of_retain taken [] n c [] (sym keeps.passed.count)) ∙ ap (λ d. apply d (counted (retain n c ∷ []))) (append-nil taken)));
     })
 
-pub done_delete : (old new : List Element) (n : ℕ) (op : Operation) (out : List Element) → delete n ≡ op → IsPassed old new n → IsDone old new op out out
+pub done_delete : (old new : List Element) (n : ℕ) (op : Operation) (out : List Element) → delete n ≡ op → IsSteppedOver old new n → IsOneApplied old new op out out
 done_delete old new n op out is passed =
     let taken = passed.taken in
-    subst (λ o. IsDone old new o out out) is (record {
+    subst (λ o. IsOneApplied old new o out out) is (record {
       taken = taken;
       parts = passed.parts;
       count = passed.count;
@@ -94,7 +93,7 @@ pub applied_none : (d : List Element) → IsApplied d d [] []
 applied_none d = record { taken = []; parts = refl; count = refl; made_of = refl }
 
 pub applied_more : (old mid new : List Element) (ops more : List Operation) (op : Operation) (made next : List Element)
-    → IsApplied old mid ops made → IsDone mid new op made next → more ≡ ops ++ op ∷ [] → IsApplied old new more next
+    → IsApplied old mid ops made → IsOneApplied mid new op made next → more ≡ ops ++ op ∷ [] → IsApplied old new more next
 applied_more old mid new ops more op made next applied done e =
     subst (λ l. IsApplied old new l next) (sym e) (record {
       taken = applied.taken ++ done.taken;
@@ -130,7 +129,7 @@ pub whole_at_end : (d : List Element) (n : ℕ) → length d ≡ n → ¬ (IsWit
 whole_at_end d zero e within = within
 whole_at_end d (suc i) e within = not_at_end d i e within
 
-pub kept_same : (d : List Element) → kept empty d ≡ d
+pub kept_same : (d : List Element) → with_change empty d ≡ d
 unfolding changed_by
 kept_same [] = refl
 kept_same (x ∷ d) = ap (λ l. x ∷ l) (kept_same d)

@@ -14,9 +14,9 @@ use Rattle.delta.specs.Element.{Element, lettered, letters, embedded}
 use Rattle.delta.specs.Operation.{Operation, retain, delete, op_base}
 use Rattle.delta.specs.Gaps.{counted, apply}
 use Rattle.delta.specs.Normal.{IsNormal}
-use Rattle.delta.proofs.Parts.{effect_past_end, effect_of_retain, effect_of_delete}
+use Rattle.delta.proofs.CallerLemmas.{effect_past_end, effect_of_retain, effect_of_delete}
 use Rattle.document.specs.Pairs.{IsPair, IsPairAt, IsWithinPair}
-use Rattle.document.specs.Passes.{PartsPair, IsDone, kept}
+use Rattle.document.specs.Passes.{StopsInPair, IsOneApplied, with_change}
 use Rattle.document.specs.Places.{Cuts}
 use Rattle.document.proofs.Parting.{parts_of_cut, cut_of_parts}
 use Rattle.document.proofs.Letters.{letters-append}
@@ -72,11 +72,11 @@ letters_pair high low a b x y r first next is_high is_low same =
 
 -- what one operation makes of the units that it stands on
 pub keeps_units : (d : List Element) (n : ℕ) (c : Changes) (op : Operation) (out made : List Element)
-    → retain n c ≡ op → length d ≡ op_base op → made ≡ out ++ kept c d → made ≡ out ++ apply d (counted (op ∷ []))
+    → retain n c ≡ op → length d ≡ op_base op → made ≡ out ++ with_change c d → made ≡ out ++ apply d (counted (op ∷ []))
 keeps_units d n c op out made is count put =
     put
     ∙ ap (λ l. out ++ l)
-    (sym (append-nil (kept c d))
+    (sym (append-nil (with_change c d))
     ∙ (sym (effect_of_retain d [] n c [] (ap op_base is ∙ sym count))
     ∙ (ap (λ e. apply e (counted (retain n c ∷ []))) (append-nil d) ∙ ap (λ o. apply d (counted (o ∷ []))) is)))
 
@@ -90,7 +90,7 @@ drops_units d n op out is count =
 
 -- the units cut in two, and one operation on the front
 pub done_front : (d front back : List Element) (n : ℕ) (op : Operation) (out made : List Element)
-    → front ≡ take n d → back ≡ drop n d → length front ≡ op_base op → made ≡ out ++ apply front (counted (op ∷ [])) → IsDone d back op out made
+    → front ≡ take n d → back ≡ drop n d → length front ≡ op_base op → made ≡ out ++ apply front (counted (op ∷ [])) → IsOneApplied d back op out made
 done_front d front back n op out made is_front is_back count put = record {
   taken = front;
   parts = sym (take-append-drop n d) ∙ (ap (λ l. l ++ drop n d) (sym is_front) ∙ ap (λ l. front ++ l) (sym is_back));
@@ -100,29 +100,29 @@ done_front d front back n op out made is_front is_back count put = record {
 
 -- all units, where those behind the operations are kept as they are
 pub applied_all : (old mid : List Element) (c : Changes) (ops : List Operation) (made next : List Element)
-    → IsApplied old mid ops made → c ≡ empty → next ≡ made ++ kept c mid → next ≡ apply old (counted ops)
+    → IsApplied old mid ops made → c ≡ empty → next ≡ made ++ with_change c mid → next ≡ apply old (counted ops)
 applied_all old mid c ops made next applied same put =
     put
-    ∙ (ap (λ l. made ++ l) (ap (λ change. kept change mid) same ∙ kept_same mid)
+    ∙ (ap (λ l. made ++ l) (ap (λ change. with_change change mid) same ∙ kept_same mid)
     ∙ (ap (λ l. l ++ mid) applied.made_of
     ∙ (sym (effect_past_end applied.taken mid ops (omega (arith, applied.count))) ∙ ap (λ d. apply d (counted ops)) (sym applied.parts))))
 
 -- the first operation parts a pair, or one of the others
-pub parts_at : (d : List Element) (op : Operation) (rest ops : List Operation) → rest ≡ op ∷ ops → IsWithinPair d (op_base op) → PartsPair d rest
-parts_at d op rest ops e within = subst (PartsPair d) (sym e) (inl within)
+pub parts_at : (d : List Element) (op : Operation) (rest ops : List Operation) → rest ≡ op ∷ ops → IsWithinPair d (op_base op) → StopsInPair d rest
+parts_at d op rest ops e within = subst (StopsInPair d) (sym e) (inl within)
 
 pub parts_later : (d back : List Element) (op : Operation) (rest ops : List Operation)
-    → rest ≡ op ∷ ops → back ≡ drop (op_base op) d → ¬ (IsWithinPair d (op_base op)) → PartsPair d rest → PartsPair back ops
+    → rest ≡ op ∷ ops → back ≡ drop (op_base op) d → ¬ (IsWithinPair d (op_base op)) → StopsInPair d rest → StopsInPair back ops
 parts_later d back op rest ops e is_back whole parted =
-    elim (subst (PartsPair d) e parted) [
+    elim (subst (StopsInPair d) e parted) [
       | inl within ↦ absurd (whole within)
-      | inr later ↦ subst (λ l. PartsPair l ops) (sym is_back) later
+      | inr later ↦ subst (λ l. StopsInPair l ops) (sym is_back) later
     ]
 
 pub parts_sooner : (d back : List Element) (op : Operation) (rest ops : List Operation)
-    → rest ≡ op ∷ ops → back ≡ drop (op_base op) d → PartsPair back ops → PartsPair d rest
+    → rest ≡ op ∷ ops → back ≡ drop (op_base op) d → StopsInPair back ops → StopsInPair d rest
 parts_sooner d back op rest ops e is_back parted =
-    subst (PartsPair d) (sym e) (inr (subst (λ l. PartsPair l ops) is_back parted))
+    subst (StopsInPair d) (sym e) (inr (subst (λ l. StopsInPair l ops) is_back parted))
 
 -- a place within a pair, by the units on both sides of it
 pair_at : (d : List Element) (i : ℕ) (x y : Element) → suc i < length d → x ≡ get_or d i x → y ≡ get_or d (suc i) y → IsPairAt d i ≡ IsPair x y
@@ -147,8 +147,8 @@ within_bounds d zero within = absurd within
 within_bounds d (suc i) within = (omega arith, pair_before_end d i within)
 
 -- a delta cuts a pair just where an operation parts one
-pub cuts_by : (d : List Element) (seen ops : List Operation) → seen ≡ ops → IsNormal ops → PartsPair d seen → Cuts d (counted ops)
-cuts_by d seen ops same normal parted = cut_of_parts d ops normal (subst (PartsPair d) same parted)
+pub cuts_by : (d : List Element) (seen ops : List Operation) → seen ≡ ops → IsNormal ops → StopsInPair d seen → Cuts d (counted ops)
+cuts_by d seen ops same normal parted = cut_of_parts d ops normal (subst (StopsInPair d) same parted)
 
-pub parted_by_cut : (d : List Element) (seen ops : List Operation) → seen ≡ ops → IsNormal ops → Cuts d (counted ops) → PartsPair d seen
-parted_by_cut d seen ops same normal cut = subst (PartsPair d) (sym same) (parts_of_cut d ops normal cut)
+pub parted_by_cut : (d : List Element) (seen ops : List Operation) → seen ≡ ops → IsNormal ops → Cuts d (counted ops) → StopsInPair d seen
+parted_by_cut d seen ops same normal cut = subst (StopsInPair d) (sym same) (parts_of_cut d ops normal cut)

@@ -7,7 +7,8 @@ use Rattle.attributes.specs.Scalar.{text_scalar, flag_scalar}
 use Rattle.delta.specs.Element.{Element, letters, embedded}
 use Rattle.delta.specs.Operation.{insert_text, retain, delete}
 use Rattle.delta.specs.Gaps.{counted, apply}
-use Rattle.document.specs.Places.{IsDefined, Cuts}
+use Rattle.delta.specs.Places.{IsDefined}
+use Rattle.document.specs.Places.{Cuts}
 use Rattle.document.specs.Weight.{weight_of}
 
 abbrev bare : Attributes

@@ -5,7 +5,8 @@ use Rattle.delta.specs.Operation.{Operation, base_of, out_of}
 use Rattle.delta.specs.Gaps.{Gaps, counted, apply}
 use Rattle.delta.specs.Normal.{nf}
 use Rattle.document.specs.Pairs.{IsWellFormed}
-use Rattle.document.specs.Places.{IsDefined, Cuts, InsertsWellFormed}
+use Rattle.delta.specs.Places.{IsDefined}
+use Rattle.document.specs.Places.{Cuts, InsertsWellFormed}
 
 -- a document stays well formed where no pair is cut and what is inserted at each place is well formed
 abbrev pub StaysWellFormed : Type 0

@@ -5,5 +5,6 @@ pub mod Runs
 pub mod Pieces
 pub mod Passes
 pub mod Outcome
+pub mod Making
 pub mod Laws
 mod Examples

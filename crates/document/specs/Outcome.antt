@@ -4,7 +4,8 @@ use Rattle.refusal.specs.declared.Refusal.{Refusal}
 use Rattle.refusal.specs.declared.Refusal.TheVariants.{PastEnd, CutsPair, BadOps, NoMemory}
 use Rattle.delta.specs.Element.{Element}
 use Rattle.delta.specs.Gaps.{Gaps, apply}
-use Rattle.document.specs.Places.{IsDefined, Cuts}
+use Rattle.delta.specs.Places.{IsDefined}
+use Rattle.document.specs.Places.{Cuts}
 
 -- defined, without a cut, and no more than 2^48 units after it
 abbrev pub IsAccepted : List Element → Gaps → Type 0

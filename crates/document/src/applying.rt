@@ -3,7 +3,7 @@ ghost use Rattle.std.specs.Prelude.{◌≡◌, ◌+◌, ◌≤◌, ◌<◌, ◌^
 ghost use Rattle.delta.specs.Operation.{op_base, op_out, base_of, out_of};
 ghost use Rattle.delta.specs.Gaps.{counted, apply};
 ghost use Rattle.document.specs.Pairs.{IsWithinPair};
-ghost use Rattle.document.specs.Passes.{PartsPair, IsDone};
+ghost use Rattle.document.specs.Passes.{StopsInPair, IsOneApplied};
 ghost use Rattle.document.specs.Runs.{units_of_runs, AreRuns};
 
 use crate::cursor::Cursor;
@@ -20,7 +20,7 @@ use utf16::len16;
 pub fn parts_pair(runs: &[Run], ops: &[Op]) -> bool
     requires runs { AreRuns runs.now }
     requires there { base_of ops.now ≤ length (units_of_runs runs.now) }
-    ensures { IsTrue result ↔ PartsPair (units_of_runs runs.now) ops.now }
+    ensures { IsTrue result ↔ StopsInPair (units_of_runs runs.now) ops.now }
 {
     let mut cursor = Cursor::new(runs);
     for op in ops {
@@ -35,7 +35,7 @@ pub fn parts_pair(runs: &[Run], ops: &[Op]) -> bool
 pub fn applied(alloc: Global, runs: &[Run], ops: &[Op], behind: u64) -> Result<Vec<Run>, Refusal>
     requires runs { AreRuns runs.now }
     requires there { length (units_of_runs runs.now) ≡ base_of ops.now + behind }
-    requires whole { ¬ (PartsPair (units_of_runs runs.now) ops.now) }
+    requires whole { ¬ (StopsInPair (units_of_runs runs.now) ops.now) }
     requires out { out_of ops.now ≤ 2 ^ 48 }
     requires behind { behind ≤ 2 ^ 48 }
     ensures units { IfOk result (λ made. units_of_runs made.items ≡ apply (units_of_runs runs.now) (counted ops.now)) }
@@ -58,7 +58,7 @@ fn step(alloc: Global, cursor: &mut Cursor<'_>, op: &Op, made: &mut Vec<Run>) ->
     requires whole { ¬ (IsWithinPair cursor.old (op_base op.now)) }
     requires bound { length (units_of_runs made.old.items) + op_out op.now < 2 ^ 64 }
     requires runs { AreRuns made.old.items }
-    ensures done { OnOk result (IsDone cursor.old cursor.new op.now (units_of_runs made.old.items) (units_of_runs made.new.items)) }
+    ensures done { OnOk result (IsOneApplied cursor.old cursor.new op.now (units_of_runs made.old.items) (units_of_runs made.new.items)) }
     ensures runs { OnOk result (AreRuns made.new.items) }
     ensures only { IsOkUnless result Refusal.NoMemory }
 {

@@ -6,7 +6,9 @@ ghost use Rattle.delta.specs.Normal.{nf};
 ghost use Rattle.document.specs.Weight.{weight_of};
 ghost use Rattle.document.specs.Pieces.{piece_units};
 ghost use Rattle.delta.specs.Operation.{base_of, op_base, op_out};
-ghost use Rattle.document.specs.Places.{IsDefined, Cuts};
+ghost use Rattle.delta.specs.Places.{IsDefined};
+ghost use Rattle.document.specs.Places.{Cuts};
+ghost use Rattle.document.specs.Making.{document_from};
 ghost use Rattle.document.specs.Outcome.{IsAccepted, IsTooLong, IsRefused};
 
 use crate::applying::{applied, parts_pair};
@@ -52,7 +54,7 @@ impl Document {
     /// The document that a delta makes of the empty one. Refused as PastEnd just where the delta retains or deletes a unit,
     /// since the empty document has none, and as NoMemory. It takes the memory that `apply` takes.
     pub fn from_delta(alloc: Global, delta: &Delta) -> Result<Self, Refusal>
-        ensures made { IfOk result (λ document. document ≡ apply [] (counted delta.now)) }
+        ensures made { IfOk result (λ document. document ≡ document_from delta.now) }
         ensures past_end { (result ≡ Err Refusal.PastEnd) ↔ (0 < base_of delta.now) }
         ensures only { IfErr result (λ e. (e ≡ Refusal.PastEnd) ⊎ (e ≡ Refusal.NoMemory)) }
     {
@@ -122,6 +124,7 @@ impl Document {
     /// document is then as it was. Linear in the runs and the operations, and no text is copied more than once.
     pub fn apply(&mut self, alloc: Global, delta: &Delta) -> Result<(), Refusal>
         ensures ok { OnOk result (self.new ≡ apply self.old (counted delta.now)) }
+        ensures well_formed { OnOk result (IsWellFormed self.new) }
         ensures err { OnErr result (self.new ≡ self.old) }
         ensures past_end { (result ≡ Err Refusal.PastEnd) ↔ ¬ (IsDefined self.old (counted delta.now)) }
         ensures cuts { (result ≡ Err Refusal.CutsPair) ↔ (IsDefined self.old (counted delta.now) × Cuts self.old (counted delta.now)) }

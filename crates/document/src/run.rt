@@ -1,5 +1,5 @@
 //! Runs of a document.
-ghost use Rattle.std.specs.Prelude.{◌≡◌, ◌≢◌, ◌+◌, ◌-◌, min, ◌<◌, ◌^◌, ◌++◌, [], ◌∷◌, length, IfOk, OnOk, OnErr, IsOkUnless, MatchBool, Some, string_bytes};
+ghost use Rattle.std.specs.Prelude.{◌≡◌, ◌≢◌, ◌+◌, ◌-◌, min, ◌<◌, ◌^◌, ◌++◌, [], ◌∷◌, length, IfOk, OnErr, IsOkUnless, MatchBool, Some};
 ghost use Rattle.utf16.specs.Units.{units_of};
 ghost use Rattle.delta.specs.Element.{letters, embedded};
 ghost use Rattle.document.specs.Runs.{text_attributes};
@@ -9,6 +9,7 @@ use attributes::{Attrs, Key, Value, ValueRef};
 use refusal::Refusal;
 use std::alloc::Global;
 use std::marker::Model;
+use utf16::append;
 
 /// A text or an embed with attributes, seen as its units. Its number of code units is kept beside it.
 #[derive(Drop)]
@@ -166,17 +167,6 @@ impl Run {
             Content::Embed(_, _) => Ok(false),
         }
     }
-}
-
-// a text with another at its end
-fn append(text: &mut String, more: &str) -> Result<(), Refusal>
-    ensures ok { OnOk result (units_of (string_bytes text.new) ≡ units_of (string_bytes text.old) ++ units_of more.now) }
-    ensures err { OnErr result (string_bytes text.new ≡ string_bytes text.old) }
-    ensures only { IsOkUnless result Refusal.NoMemory }
-{
-    let _ = text.as_str();
-    text.push_str(more)?;
-    Ok(())
 }
 
 // the weight of attributes, and 2^64 - 1 where that is more

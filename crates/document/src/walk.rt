@@ -1,7 +1,7 @@
 //! Steps over units of runs: past them, or out with a change.
 ghost use Rattle.std.specs.Prelude.{◌≡◌, ◌+◌, ◌≤◌, ◌<◌, ◌^◌, ◌++◌, length, IfOk, OnOk, OnErr, IsOkUnless};
 ghost use Rattle.document.specs.Pairs.{IsWithinPair};
-ghost use Rattle.document.specs.Passes.{IsPassed, IsKept};
+ghost use Rattle.document.specs.Passes.{IsSteppedOver, IsKept};
 ghost use Rattle.document.specs.Pieces.{piece_dressed, IsPiece};
 ghost use Rattle.document.specs.Runs.{units_of_runs, AreRuns};
 
@@ -16,7 +16,7 @@ use utf16::Cut;
 /// Steps over so many code units; refused where that would part a pair.
 pub fn skip(cursor: &mut Cursor<'_>, len: u64) -> Result<(), Cut>
     requires { len ≤ length cursor.old }
-    ensures passed { OnOk result (IsPassed cursor.old cursor.new len) }
+    ensures passed { OnOk result (IsSteppedOver cursor.old cursor.new len) }
     ensures parted { OnErr result (IsWithinPair cursor.old len) }
     ensures only { IsOkUnless result Cut.InPair }
 {

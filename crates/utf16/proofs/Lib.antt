@@ -1,2 +1,3 @@
 pub mod CodeUnits
 pub mod Walk
+pub mod CallerLemmas

@@ -9,7 +9,7 @@ use Rattle.std.specs.Char.{IsScalar, encode_utf8}
 use Rattle.std.specs.Char.Escape.{encode_utf16}
 use Rattle.std.specs.Str.{IsUtf8, chars, IsCharBoundary}
 use Rattle.utf16.proofs.CodeUnits.{units_of-append, units_of-halves, first_not_low, pair_of-large, length-units_of-le, length-encode_utf16}
-use Rattle.utf16.specs.Units.{units_of, units_of_chars, IsHigh, IsLow, PartsPair}
+use Rattle.utf16.specs.Units.{units_of, units_of_chars, IsHigh, IsLow, IsInPair}
 
 -- the walk has left the rest, and what lies behind it has these bytes and code units
 pub record IsWalk (text rest : List ℕ) (bytes units : ℕ) : Type 0 where
@@ -71,13 +71,13 @@ IsWalk-at text rest bytes units walk k =
     ∙ get_or-append-add (units_of walk.behind) (units_of rest) k 0)
 
 -- no pair is parted where a character begins
-pub IsWalk-whole : (text rest : List ℕ) (bytes units : ℕ) → IsWalk text rest bytes units → ¬ (PartsPair (units_of text) units)
+pub IsWalk-whole : (text rest : List ℕ) (bytes units : ℕ) → IsWalk text rest bytes units → ¬ (IsInPair (units_of text) units)
 IsWalk-whole text rest bytes units walk pair =
     let here : get_or (units_of text) units 0 ≡ get_or (units_of rest) 0 0 = ap (λ n. get_or (units_of text) n 0) (sym (add-zero units)) ∙ IsWalk-at text rest bytes units walk 0 in
     first_not_low (chars rest) (scalars-chars rest walk.rest_valid) (subst IsLow here pair.2)
 
 -- a pair is parted within a character of two units
-pub IsWalk-within : (text rest after : List ℕ) (bytes units c : ℕ) → IsWalk text rest bytes units → rest ≡ encode_utf8 c ++ after → 0x1_0000 ≤ c → PartsPair (units_of text) (units + 1)
+pub IsWalk-within : (text rest after : List ℕ) (bytes units c : ℕ) → IsWalk text rest bytes units → rest ≡ encode_utf8 c ++ after → 0x1_0000 ≤ c → IsInPair (units_of text) (units + 1)
 IsWalk-within text rest after bytes units c walk begins large =
     let pair = pair_of-large c (units_of after) (first_scalar rest after c walk.rest_valid begins) large in
     let start : units_of rest ≡ encode_utf16 c ++ units_of after = ap units_of_chars (chars_past_char rest after c walk.rest_valid begins) in
@@ -115,23 +115,23 @@ IsWalk-end text rest bytes units walk empty =
 
 -- a walk that reached the place cuts there
 pub halves_at : (text rest : List ℕ) (bytes units at : ℕ) → IsWalk text rest bytes units → units ≡ at
-    → (units_of (take bytes text) ≡ take at (units_of text)) × (units_of (drop bytes text) ≡ drop at (units_of text)) × (at ≤ length (units_of text)) × ¬ (PartsPair (units_of text) at)
+    → (units_of (take bytes text) ≡ take at (units_of text)) × (units_of (drop bytes text) ≡ drop at (units_of text)) × (at ≤ length (units_of text)) × ¬ (IsInPair (units_of text) at)
 halves_at text rest bytes units at walk here =
     let halves = IsWalk-halves text rest bytes units walk in (
       halves.1 ∙ ap (λ n. take n (units_of text)) here,
       halves.2 ∙ ap (λ n. drop n (units_of text)) here,
       omega (arith, IsWalk-length text rest bytes units walk),
-      subst (λ n. ¬ (PartsPair (units_of text) n)) here (IsWalk-whole text rest bytes units walk),
+      subst (λ n. ¬ (IsInPair (units_of text) n)) here (IsWalk-whole text rest bytes units walk),
     )
 
 -- a walk that stepped over the place did so within a pair
 pub within_at : (text rest after : List ℕ) (bytes units c n at : ℕ) → IsWalk text rest bytes units → rest ≡ encode_utf8 c ++ after → (c < 0x1_0000 → n ≡ 1) → (0x1_0000 ≤ c → n ≡ 2)
-    → units < at → at < units + n → PartsPair (units_of text) at × (at ≤ length (units_of text))
+    → units < at → at < units + n → IsInPair (units_of text) at × (at ≤ length (units_of text))
 within_at text rest after bytes units c n at walk begins one two before past =
     let turned = IsWalk-length text after _ _ (IsWalk-turn text rest after bytes units c n walk begins one two) in (
       ⊎_elim
           (λ small. absurd (omega (arith, one small)))
-          (λ large. subst (PartsPair (units_of text)) (omega (arith, two large)) (IsWalk-within text rest after bytes units c walk begins large))
+          (λ large. subst (IsInPair (units_of text)) (omega (arith, two large)) (IsWalk-within text rest after bytes units c walk begins large))
           (cases_lt c 0x1_0000),
       omega arith,
     )

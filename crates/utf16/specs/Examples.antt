@@ -4,7 +4,7 @@ use Rattle.std.specs.Str.{chars}
 use Rattle.std.proofs.Common.{lit<}
 use Rattle.std.specs.Char.{encode_utf8}
 use Rattle.std.specs.Char.Utf16.{utf16_chars}
-use Rattle.utf16.specs.Units.{units_of, utf8_of, PartsPair}
+use Rattle.utf16.specs.Units.{units_of, utf8_of, IsInPair}
 
 -- "a😀b", whose middle character is U+1F600
 abbrev a_smile_b : List ℕ
@@ -20,7 +20,7 @@ unfolding chars encode_utf8
 length-units_of_a_smile_b = refl
 
 -- a cut at 2 parts its pair
-parted : PartsPair (97 ∷ 0xD83D ∷ 0xDE00 ∷ 98 ∷ []) 2
+parted : IsInPair (97 ∷ 0xD83D ∷ 0xDE00 ∷ 98 ∷ []) 2
 parted = (lit< tt, refl, refl)
 
 -- its code units give the text back

@@ -22,8 +22,8 @@ abbrev pub IsLow : ℕ → Type 0
 IsLow u = IsTrue (is_low_surrogate u)
 
 -- the place lies between the two units of a pair
-abbrev pub PartsPair : List ℕ → ℕ → Type 0
-PartsPair units at = (0 < at) × IsHigh (slice_index units (at - 1)) × IsLow (slice_index units at)
+abbrev pub IsInPair : List ℕ → ℕ → Type 0
+IsInPair units at = (0 < at) × IsHigh (slice_index units (at - 1)) × IsLow (slice_index units at)
 
 -- the text whose code units these are, where each pair is whole
 abbrev pub utf8_of : List ℕ → List ℕ

@@ -1,6 +1,6 @@
 //! The two halves of a text at a code unit.
 ghost use Rattle.std.specs.Prelude.{◌≡◌, ◌++◌, ◌<◌, ◌↔◌, length, take, drop, IfOk};
-ghost use Rattle.utf16.specs.Units.{units_of, PartsPair};
+ghost use Rattle.utf16.specs.Units.{units_of, IsInPair};
 
 /// Why a text can't be cut at a code unit.
 #[derive(Clone, Copy, Debug, PartialEq, Eq)]
@@ -18,7 +18,7 @@ pub fn split_at16(text: &str, at: u64) -> Result<(&str, &str), Cut>
     ensures back { IfOk result (λ halves. units_of halves.1.now ≡ drop at (units_of text.now)) }
 
     ensures past_end { (result ≡ Err Cut.PastEnd) ↔ (length (units_of text.now) < at) }
-    ensures in_pair { (result ≡ Err Cut.InPair) ↔ PartsPair (units_of text.now) at }
+    ensures in_pair { (result ≡ Err Cut.InPair) ↔ IsInPair (units_of text.now) at }
 {
     let mut units = 0;
     for (bytes, c) in text.char_indices() {

@@ -1,5 +1,5 @@
 //! What holds of code units, as contracts to cite: each function does nothing and promises one law.
-ghost use Rattle.utf16.specs.Laws.{UnitsOfAppend, UnitsOfSplit, TextOfUnits, SameUnits};
+ghost use Rattle.utf16.specs.Laws.{UnitsOfAppend, UnitsOfSplit, TextOfUnits, SameUnits, PairOfCharacter};
 
 /// Code units of an append.
 pub fn units_of_append()
@@ -19,4 +19,9 @@ pub fn text_of_units()
 /// Texts of the same code units.
 pub fn same_units()
     ensures { SameUnits }
+{}
+
+/// The two units of a character above U+FFFF.
+pub fn pair_of_character()
+    ensures { PairOfCharacter }
 {}

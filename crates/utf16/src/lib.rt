@@ -1,15 +1,17 @@
-//! Lengths and cuts of a text, counted in UTF-16 code units.
+//! Lengths, cuts and appends of texts, counted in UTF-16 code units.
 //!
 //! Rich text counts its lengths in code units: one for a character below U+10000, two (a high one and
 //! a low one) for every other. The crate promises the length and the two halves of a text by code
-//! units, without a copy and without memory; nothing is ever cut between the two units of a pair.
-//! The definitions stand in specs/Units.antt, and `laws` has what follows from them.
+//! units, without a copy and without memory, and a text at the end of another; nothing is ever cut
+//! between the two units of a pair. The definitions stand in specs/Units.antt, and `laws` has what follows from them.
 //! It stands on nothing but `std`.
 #![tactic(auto)]
 
+mod appending;
 mod cut;
 pub mod laws;
 mod len;
 
+pub use appending::append;
 pub use cut::{Cut, split_at16};
 pub use len::len16;

@@ -7,8 +7,9 @@ ghost use Rattle.delta.specs.Element.{letters};
 ghost use Rattle.delta.specs.Operation.{op_base, base_of};
 ghost use Rattle.delta.specs.Gaps.{counted, apply};
 ghost use Rattle.document.specs.Pairs.{IsPair, IsWithinPair};
-ghost use Rattle.document.specs.Passes.{PartsPair, kept};
-ghost use Rattle.document.specs.Places.{IsDefined, Cuts};
+ghost use Rattle.document.specs.Passes.{StopsInPair, kept};
+ghost use Rattle.delta.specs.Places.{IsDefined};
+ghost use Rattle.document.specs.Places.{Cuts};
 
 use attributes::{Attrs, Change, Key, Value};
 use delta::{Delta, Op, OpRef};
@@ -137,7 +138,7 @@ pub fn apply(alloc: Global, units: &[Unit], delta: &Delta) -> Result<Vec<Unit>, 
 // whether an operation ends between the two units of a pair
 fn parts_pair(units: &[Unit], ops: &[Op]) -> bool
     requires { base_of ops.now ≤ length units.now }
-    ensures { IsTrue result ↔ PartsPair units.now ops.now }
+    ensures { IsTrue result ↔ StopsInPair units.now ops.now }
 {
     let mut rest = units;
     for op in ops {

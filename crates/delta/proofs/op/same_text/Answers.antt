@@ -3,7 +3,7 @@ use Rattle.std.proofs.lemmas.Bool.{cases_Bool, both_ways, false_from_ne_true}
 use Rattle.std.specs.Str.{IsUtf8, bytes_eq}
 use Rattle.std.specs.Cmp.Lexicographic.{bytes_decides}
 use Rattle.utf16.specs.Units.{units_of}
-use Rattle.utf16.proofs.CodeUnits.{same_units}
+use Rattle.utf16.proofs.CallerLemmas.{same_units}
 use Rattle.delta.proofs.op.same_text.Goals as goal
 
 bytes_eq-units_of : (a b : List ℕ) → IsUtf8 a → IsUtf8 b → bytes_eq a b ≡ bytes_eq (units_of a) (units_of b)

@@ -1,5 +1,5 @@
 use Rattle.std.proofs.Common.{take, drop}
-use Rattle.document.specs.Passes.{PartsPair}
+use Rattle.document.specs.Passes.{StopsInPair}
 use Rattle.document.specs.Runs.{units_of_runs, AreRuns}
 use Rattle.document.proofs.Progress.{IsApplied}
 use Rattle.document.proofs.applying.applied.Given as goal
@@ -7,6 +7,6 @@ use Rattle.document.proofs.applying.applied.Given as goal
 abbrev pub invariant-loop-op : goal.invariant-loop-op
 invariant-loop-op l = record {
   applied : IsApplied (units_of_runs l.runs) l.cursor (take l.op-index l.ops) (units_of_runs l.made.items);
-  whole : ¬ (PartsPair l.cursor (drop l.op-index l.ops));
+  whole : ¬ (StopsInPair l.cursor (drop l.op-index l.ops));
   runs : AreRuns l.made.items;
 }

@@ -1,5 +1,5 @@
 use Rattle.std.proofs.Common.{◌≤◌, ◌-◌, length, arith, sym, ap, ◌∙◌, subst}
-use Rattle.utf16.specs.Units.{units_of, PartsPair}
+use Rattle.utf16.specs.Units.{units_of, IsInPair}
 use Rattle.document.specs.Pairs.{IsWithinPair}
 use Rattle.document.specs.Pieces.{piece_units}
 use Rattle.document.proofs.Cutting.{parted_by, not_refused, on_err, text_of_piece, letters-parts, length-front, length-back, both_formed}
@@ -22,7 +22,7 @@ returns-in_ok-front-in-Text-clause-front c =
     let piece = text_of_piece _ c.in-Text.is c.requires.piece in
     let us = units_of c.in-Text.text.now in
     let within : c.args.most ≤ length us = omega (arith, piece.0, c.if-units-most.false) in
-    let whole : ¬ (PartsPair us c.args.most) = λ parted. not_refused _ _ _ (c.in_ok-front-in-Text.ensures.in_pair.1 parted) in
+    let whole : ¬ (IsInPair us c.args.most) = λ parted. not_refused _ _ _ (c.in_ok-front-in-Text.ensures.in_pair.1 parted) in
     let both = both_formed us _ _ c.args.most c.in-Text.attrs.now within c.in_ok-front-in-Text.ensures.front c.in_ok-front-in-Text.ensures.back piece.2 whole in
     ((length-front us _ c.args.most within c.in_ok-front-in-Text.ensures.front, c.requires.some), both.0)
 
@@ -31,6 +31,6 @@ returns-in_ok-front-in-Text-clause-back c =
     let piece = text_of_piece _ c.in-Text.is c.requires.piece in
     let us = units_of c.in-Text.text.now in
     let within : c.args.most ≤ length us = omega (arith, piece.0, c.if-units-most.false) in
-    let whole : ¬ (PartsPair us c.args.most) = λ parted. not_refused _ _ _ (c.in_ok-front-in-Text.ensures.in_pair.1 parted) in
+    let whole : ¬ (IsInPair us c.args.most) = λ parted. not_refused _ _ _ (c.in_ok-front-in-Text.ensures.in_pair.1 parted) in
     let both = both_formed us _ _ c.args.most c.in-Text.attrs.now within c.in_ok-front-in-Text.ensures.front c.in_ok-front-in-Text.ensures.back piece.2 whole in
     ((ap (λ n. n - c.args.most) piece.0 ∙ length-back us _ c.args.most within c.in_ok-front-in-Text.ensures.back, omega (arith, c.if-units-most.false)), both.1)

@@ -1,5 +1,5 @@
 use Rattle.std.proofs.Common.{sym, ap, ◌∙◌}
-use Rattle.delta.proofs.Effects.{apply-nf}
+use Rattle.delta.proofs.CallerLemmas.{apply-nf}
 use Rattle.delta.specs.Gaps.{apply, counted}
 use Rattle.document.proofs.laws.effect_alone.Goals as goal
 

@@ -1,6 +1,5 @@
 use Rattle.std.proofs.Common.{◌≤◌, length, subst}
-use Rattle.delta.proofs.Joins.{units_below-counted}
-use Rattle.delta.proofs.Lengths.{length-apply_counted}
+use Rattle.delta.proofs.CallerLemmas.{units_below-counted, length-apply_counted}
 use Rattle.document.proofs.laws.length_after.Goals as goal
 
 pub returns : goal.returns

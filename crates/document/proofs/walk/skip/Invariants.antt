@@ -1,9 +1,9 @@
 use Rattle.std.proofs.Common.{◌≤◌, ◌-◌, length}
-use Rattle.document.specs.Passes.{IsPassed}
+use Rattle.document.specs.Passes.{IsSteppedOver}
 use Rattle.document.proofs.walk.skip.Given as goal
 
 abbrev pub invariant-loop-left : goal.invariant-loop-left
-invariant-loop-left l = IsPassed l.initial.cursor l.cursor (l.len - l.left) × (l.left ≤ l.len) × (l.left ≤ length l.cursor)
+invariant-loop-left l = IsSteppedOver l.initial.cursor l.cursor (l.len - l.left) × (l.left ≤ l.len) × (l.left ≤ length l.cursor)
 
 abbrev pub decreases-loop-left : goal.decreases-loop-left
 decreases-loop-left l = l.left

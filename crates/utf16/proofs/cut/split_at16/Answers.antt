@@ -1,6 +1,6 @@
 use Rattle.std.proofs.Common.{◌+◌, ◌≡◌, ◌∙◌, ◌≤◌, length, take, drop, refl, subst, sym, ap, arith}
 use Rattle.std.specs.Str.Iter.{char_indices_rest, char_indices_offset}
-use Rattle.utf16.specs.Units.{units_of, PartsPair}
+use Rattle.utf16.specs.Units.{units_of, IsInPair}
 use Rattle.utf16.proofs.Walk.{IsWalk, IsWalk-start, IsWalk-turn, IsWalk-bound, halves_at, within_at, nothing_left}
 use Rattle.utf16.proofs.cut.split_at16.Goals as goal
 use Rattle.utf16.proofs.cut.split_at16.Goals.{After-len_utf16, After-split_at, Then-units-at-2}
@@ -40,7 +40,7 @@ returns-then-units-at-clause-in_pair c =
 pub overflow_add-units : goal.overflow_add-units
 overflow_add-units c = omega (arith, IsWalk-bound c.args.text.now _ _ _ c.utf8.text (turn (goal.at.overflow_add-units c).After-len_utf16))
 
-within : (c : Then-units-at-2) → PartsPair (units_of c.args.text.now) c.args.at × (c.args.at ≤ length (units_of c.args.text.now))
+within : (c : Then-units-at-2) → IsInPair (units_of c.args.text.now) c.args.at × (c.args.at ≤ length (units_of c.args.text.now))
 within c =
     within_at c.args.text.now _ _ _ _ c.in-Some.c _ c.args.at c.loop-bytes.invariant.0 c.in-Some.ensures.steps.1 c.len_utf16.ensures.bmp c.len_utf16.ensures.surrogate_pair (omega arith) c.if-units-at-2.true
 

@@ -1,7 +1,7 @@
 use Rattle.std.proofs.Common.{◌≤◌, length, refl, arith}
 use Rattle.std.proofs.lemmas.Bool.{false≢true}
 use Rattle.delta.specs.Operation.{base_of}
-use Rattle.delta.proofs.Lengths.{length-apply_counted}
+use Rattle.delta.proofs.CallerLemmas.{length-apply_counted}
 use Rattle.document.proofs.Deciding.{defined_by, base_by, cut_by_runs, runs_parted}
 use Rattle.document.proofs.document.Document.behind.Goals as goal
 

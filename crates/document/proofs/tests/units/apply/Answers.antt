@@ -2,7 +2,8 @@ use Rattle.std.proofs.Common.{◌≤◌, length, refl, sym, ◌∙◌, arith}
 use Rattle.std.proofs.lemmas.Bool.{false≢true}
 use Rattle.delta.specs.Gaps.{counted}
 use Rattle.delta.specs.Operation.{base_of}
-use Rattle.document.specs.Places.{IsDefined, Cuts}
+use Rattle.delta.specs.Places.{IsDefined}
+use Rattle.document.specs.Places.{Cuts}
 use Rattle.document.proofs.Deciding.{defined_by, base_by}
 use Rattle.document.proofs.Units.{cuts_by, parted_by_cut}
 use Rattle.document.proofs.tests.units.apply.Goals as goal

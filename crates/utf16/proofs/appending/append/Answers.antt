@@ -1,7 +1,7 @@
 use Rattle.std.proofs.Common.{◌∙◌, ◌++◌, ap, sym}
 use Rattle.utf16.specs.Units.{units_of}
 use Rattle.utf16.proofs.CodeUnits.{units_of-append}
-use Rattle.delta.proofs.op.append.Goals as goal
+use Rattle.utf16.proofs.appending.append.Goals as goal
 
 pub returns-clause-ok : goal.returns-clause-ok
 returns-clause-ok c =
