@@ -6,10 +6,10 @@ pub mod CutPieces
 pub mod Borders
 pub mod Progress
 pub mod Meetings
+pub mod Lengths
 pub mod Trimmings
-pub mod HeldBack
 pub mod Outcomes
-pub mod Whole
+pub mod PartsComposed
 pub mod LaidOver
 pub mod ManyDeltas
 pub mod StepsBack

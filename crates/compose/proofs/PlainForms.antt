@@ -6,7 +6,7 @@ use Rattle.delta.specs.Element.{Element}
 use Rattle.delta.specs.Gaps.{Gaps, Gap, Del, Keep, front, run, units_below}
 use Rattle.delta.proofs.Joins.{front-nil}
 use Rattle.compose.specs.Places.{inserts, fate, tail}
-use Rattle.compose.specs.Composed.{laid, beyond, kept_then, composed}
+use Rattle.compose.specs.Composed.{units_after, beyond, kept_then, composed}
 use Rattle.compose.specs.Inverse.{unit_back}
 use Rattle.compose.specs.Plain.{Placed, fate_of, placed, form_of}
 
@@ -17,17 +17,17 @@ placed-push (q ∷ ps) p g = ap (Gap q.0 (fate_of q.1)) (placed-push ps p g)
 
 -- over a unit that the first deletes, and over one that it keeps
 pub composed_deleted : (ps : List Placed) (xs : List Element) (g b : Gaps)
-    → placed (ps ++ (laid xs b, None) ∷ []) (composed g (beyond xs b)) ≡ placed ps (composed (Gap xs Del g) b)
+    → placed (ps ++ (units_after xs b, None) ∷ []) (composed g (beyond xs b)) ≡ placed ps (composed (Gap xs Del g) b)
 composed_deleted ps xs g b =
-    placed-push ps (laid xs b, None) (composed g (beyond xs b))
-    ∙ ap (λ l. placed ps (Gap l Del (composed g (beyond xs b)))) (sym (append-nil (laid xs b)))
+    placed-push ps (units_after xs b, None) (composed g (beyond xs b))
+    ∙ ap (λ l. placed ps (Gap l Del (composed g (beyond xs b)))) (sym (append-nil (units_after xs b)))
 
 pub composed_kept : (ps : List Placed) (xs : List Element) (c : Changes) (d : Option Changes) (g b : Gaps)
     → fate_of d ≡ kept_then c (fate (beyond xs b))
-    → placed (ps ++ (laid xs b ++ inserts (beyond xs b), d) ∷ []) (composed g (tail (beyond xs b))) ≡ placed ps (composed (Gap xs (Keep c) g) b)
+    → placed (ps ++ (units_after xs b ++ inserts (beyond xs b), d) ∷ []) (composed g (tail (beyond xs b))) ≡ placed ps (composed (Gap xs (Keep c) g) b)
 composed_kept ps xs c d g b e =
-    placed-push ps (laid xs b ++ inserts (beyond xs b), d) (composed g (tail (beyond xs b)))
-    ∙ ap (λ f. placed ps (Gap (laid xs b ++ inserts (beyond xs b)) f (composed g (tail (beyond xs b))))) e
+    placed-push ps (units_after xs b ++ inserts (beyond xs b), d) (composed g (tail (beyond xs b)))
+    ∙ ap (λ f. placed ps (Gap (units_after xs b ++ inserts (beyond xs b)) f (composed g (tail (beyond xs b))))) e
 
 -- units, and then one more of a fate, and one more kept
 pub run_more : (ps : List Placed) (xs : List Element) (c : Option Changes) (n : ℕ) (g : Gaps)
@@ -77,13 +77,13 @@ kept_back ps qs xs ys c d a o x g q_is y_is c_is a_is o_is =
     rw (q_is, y_is, o_is) (kept_more ps xs c g ∙ ap (λ e. placed ps (front xs (Gap [] (Keep e) g))) (c_is ∙ ap (reverted d) a_is))
 
 pub passed_deleted : (ps qs : List Placed) (xs ls es : List Element) (p : Placed) (g b r : Gaps)
-    → qs ≡ ps ++ (ls, None) ∷ [] → ls ≡ es ++ laid xs b → es ≡ [] → r ≡ beyond xs b → xs ≡ p.0 → p.1 ≡ None
+    → qs ≡ ps ++ (ls, None) ∷ [] → ls ≡ es ++ units_after xs b → es ≡ [] → r ≡ beyond xs b → xs ≡ p.0 → p.1 ≡ None
     → placed qs (composed g r) ≡ placed ps (composed (Gap p.0 (fate_of p.1) g) b)
 passed_deleted ps qs xs ls es p g b r q_is l_is e_is r_is x_is none =
     rw (q_is, l_is, e_is, r_is, ← x_is, none) (composed_deleted ps xs g b)
 
 pub passed_kept : (ps qs : List Placed) (xs ls ks is es : List Element) (p : Placed) (c : Changes) (d o : Option Changes) (g b r t : Gaps)
-    → qs ≡ ps ++ (ks, d) ∷ [] → ks ≡ ls ++ is → is ≡ inserts r → ls ≡ es ++ laid xs b → es ≡ [] → r ≡ beyond xs b → t ≡ tail r
+    → qs ≡ ps ++ (ks, d) ∷ [] → ks ≡ ls ++ is → is ≡ inserts r → ls ≡ es ++ units_after xs b → es ≡ [] → r ≡ beyond xs b → t ≡ tail r
     → fate_of d ≡ kept_then c (fate_of o) → fate_of o ≡ fate r → xs ≡ p.0 → p.1 ≡ Some c
     → placed qs (composed g t) ≡ placed ps (composed (Gap p.0 (fate_of p.1) g) b)
 passed_kept ps qs xs ls ks is es p c d o g b r t q_is k_is i_is l_is e_is r_is t_is d_is o_is x_is some =

@@ -3,12 +3,9 @@ pub mod Places
 pub mod Composed
 pub mod Inverse
 pub mod Cuts
-pub mod Pieces
-pub mod Steps
-pub mod Held
-pub mod SoFar
 pub mod Many
-pub mod Undoing
+pub mod Outcome
 pub mod Laws
+pub mod steps
 pub mod Plain
 mod Examples

@@ -6,9 +6,8 @@ use Rattle.delta.specs.Operation.{Operation, insert_text, insert_embed, retain, 
 use Rattle.delta.specs.Gaps.{counted, joined}
 use Rattle.delta.specs.Normal.{IsNormal, settled}
 use Rattle.compose.specs.Places.{inserts}
-use Rattle.compose.specs.Cuts.{cuts}
 use Rattle.compose.specs.Inverse.{inverse}
-use Rattle.compose.specs.Steps.{AllSome}
+use Rattle.compose.specs.steps.PairTest.{cuts}
 
 -- operations that only insert, and the units that they insert
 abbrev pub AllInsert : List Operation → Type 0
@@ -29,9 +28,7 @@ turned_back _ _ = []
 -- a step makes operations of the way back and leaves shorter lists: they stand for the whole way back
 pub record IsStepBack (base ops made base_left ops_left : List Operation) : Type 0 where
   pub effect : settled (inverse (counted ops) (units_inserted base)) ≡ settled (joined (counted made) (inverse (counted ops_left) (units_inserted base_left)))
-  pub some : AllSome made
   pub cut : cuts (counted base) (counted ops) ≡ cuts (counted base_left) (counted ops_left)
-  pub room : base_of made + out_of ops_left ≤ out_of ops
   pub shorter : length base_left + length ops_left < length base + length ops
   pub base_normal : IsNormal base_left
   pub ops_normal : IsNormal ops_left
