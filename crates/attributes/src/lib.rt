@@ -14,8 +14,6 @@ mod changing;
 mod key;
 pub mod laws;
 mod map;
-#[cfg(test)]
-mod tests;
 mod value;
 
 pub use attrs::Attrs;
