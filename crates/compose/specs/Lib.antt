@@ -10,5 +10,4 @@ pub mod SoFar
 pub mod Many
 pub mod Undoing
 pub mod Laws
-pub mod Plain
 mod Examples

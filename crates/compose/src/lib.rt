@@ -16,8 +16,6 @@ mod laying;
 mod output;
 mod pieces;
 mod stepping;
-#[cfg(test)]
-mod tests;
 mod undoing;
 
 pub use composing::{compose, compose_many};
