@@ -6,4 +6,3 @@ pub mod Heads
 pub mod Trimming
 pub mod Cuts
 pub mod Merges
-pub mod Plain

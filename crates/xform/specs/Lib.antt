@@ -4,5 +4,4 @@ pub mod Place
 pub mod Laws
 pub mod Cursor
 pub mod Merging
-pub mod Plain
 mod Examples

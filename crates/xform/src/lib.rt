@@ -12,8 +12,6 @@ mod cursor;
 pub mod laws;
 mod merging;
 mod position;
-#[cfg(test)]
-mod tests;
 mod transforming;
 
 pub use position::transform_position;
