@@ -15,5 +15,3 @@ pub mod ManyDeltas
 pub mod StepsBack
 pub mod WayBack
 pub mod DocumentCuts
-pub mod PlainForms
-pub mod PlainDeltas

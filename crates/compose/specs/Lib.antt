@@ -7,5 +7,4 @@ pub mod Many
 pub mod Outcome
 pub mod Laws
 pub mod steps
-pub mod Plain
 mod Examples

@@ -15,8 +15,6 @@ pub mod laws;
 mod laying;
 mod pieces;
 mod stepping;
-#[cfg(test)]
-mod tests;
 mod undoing;
 
 pub use composing::{compose, compose_many};

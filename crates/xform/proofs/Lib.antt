@@ -5,4 +5,3 @@ pub mod Places
 pub mod Heads
 pub mod Steps
 pub mod Partly
-pub mod Plain
