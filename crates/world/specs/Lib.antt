@@ -1,0 +1,6 @@
+pub mod Board
+pub mod Event
+pub mod World
+pub mod Step
+pub mod Shown
+pub mod Law
