@@ -4,3 +4,4 @@ pub mod World
 pub mod Step
 pub mod Shown
 pub mod Law
+mod Examples
