@@ -4,4 +4,5 @@ pub mod World
 pub mod Step
 pub mod Shown
 pub mod Law
+pub mod Followed
 mod Examples

@@ -11,4 +11,7 @@
 //! its revision (specs/Law.antt). It stands on the rule of acceptance, `revision`.
 #![tactic(auto)]
 
+mod follower;
 pub mod laws;
+
+pub use follower::{Follower, Happening, Place, Waiting};
