@@ -1,0 +1,14 @@
+//! What holds of every schedule, as the contract of a function that does nothing.
+ghost use Rattle.world.specs.Law.{OverAll, AcksStay, TakenOnce, OneRevision, NothingTakenBack, KeptIsAgain, ShownStays, StateIsFold};
+
+/// Over every list of events, with crashes and commands sent again, from every state that a store may begin with: no
+/// acknowledged edit is missing, none is taken twice, and none changes its revision.
+pub fn every_schedule()
+    ensures acks_stay { OverAll AcksStay }
+    ensures taken_once { OverAll TakenOnce }
+    ensures one_revision { OverAll OneRevision }
+    ensures nothing_taken_back { OverAll NothingTakenBack }
+    ensures kept_is_again { OverAll KeptIsAgain }
+    ensures shown_stays { OverAll ShownStays }
+    ensures state_is_fold { OverAll StateIsFold }
+{}
