@@ -6,3 +6,4 @@ pub mod Heads
 pub mod Steps
 pub mod Partly
 pub mod Plain
+pub mod CallerLemmas
