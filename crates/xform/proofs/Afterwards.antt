@@ -3,14 +3,14 @@ use Rattle.std.proofs.Common.{◌≡◌, ◌+◌, Bool, true, false, not, List, 
 use Rattle.std.proofs.lemmas.List.{append_assoc, length-append}
 use Rattle.attributes.specs.Attributes.{Attributes, Changes, changed, transformed}
 use Rattle.attributes.specs.Map.{empty}
-use Rattle.attributes.proofs.AtEachName.{changed-changed, changed-transformed}
+use Rattle.attributes.proofs.CallerLemmas.{changed-changed, changed-transformed}
 use Rattle.delta.specs.Element.{Element}
 use Rattle.delta.specs.Gaps.{Gaps, End, Gap, Fate, Del, Keep, front, run, fated, apply, units_below}
-use Rattle.delta.proofs.Joins.{units_below-front, units_below-run}
-use Rattle.delta.proofs.Effects.{apply-front, changed-empty}
+use Rattle.delta.proofs.CallerLemmas.{units_below-front, units_below-run, apply-front, changed-empty}
 use Rattle.xform.specs.Both.{in_turn, changes_of_both, fate_of_both, both_at_once}
 use Rattle.xform.specs.After.{beside, left_of, after}
-use Rattle.xform.specs.Laws.{IsDefined, BothWays, DefinedAfter}
+use Rattle.delta.specs.Places.{IsDefined}
+use Rattle.xform.specs.Laws.{BothWays, DefinedAfter}
 
 -- units that are kept
 pub apply-kept : (xs d : List Element) (g : Gaps) → apply (xs ++ d) (run (length xs) (Keep empty) g) ≡ xs ++ apply d g

@@ -5,10 +5,11 @@ use Rattle.attributes.specs.Attributes.{Changes}
 use Rattle.attributes.specs.Laws.{first_of}
 use Rattle.attributes.specs.Map.{empty, get, insert_all, overwritten}
 use Rattle.attributes.specs.Scalar.{Scalar}
-use Rattle.attributes.proofs.Maps.{same_map, get-overwritten}
+use Rattle.attributes.proofs.CallerLemmas.{same_changes_map, get-composed}
 use Rattle.delta.specs.Element.{Element}
 use Rattle.delta.specs.Gaps.{Gaps, End, Gap, Fate, Del, Keep, units_below}
-use Rattle.xform.specs.Both.{in_turn, changes_of_both, fate_of_both, both_at_once, inserted_at, fate_at}
+use Rattle.delta.specs.Places.{inserted_at, fate_at}
+use Rattle.xform.specs.Both.{in_turn, changes_of_both, fate_of_both, both_at_once}
 use Rattle.xform.specs.Laws.{BothAtEachPlace}
 
 -- where one inserts nothing
@@ -30,7 +31,7 @@ only (Some x) = refl
 only None = refl
 
 nothing-overwritten : (c : Changes) → overwritten empty c ≡ c
-nothing-overwritten c = same_map (overwritten empty c) c (λ name. get-overwritten empty c name ∙ only (get c name))
+nothing-overwritten c = same_changes_map (overwritten empty c) c (λ name. get-composed empty c name ∙ only (get c name))
 
 changes-first : (c : Changes) (priority : Bool) → c ≡ changes_of_both c empty priority
 changes-first c true = sym (nothing-overwritten c)

@@ -5,3 +5,4 @@ pub mod Places
 pub mod Heads
 pub mod Steps
 pub mod Partly
+pub mod CallerLemmas

@@ -11,33 +11,33 @@ use Rattle.delta.specs.Operation.{Operation, insert_text, insert_embed, retain, 
 use Rattle.delta.specs.Gaps.{Gaps, End, Fate, Del, Keep, front, run, counted, joined}
 use Rattle.delta.specs.Normal.{NoneIsEmpty}
 use Rattle.delta.specs.Parts.{left_after}
-use Rattle.delta.proofs.Joins.{front-nil, joined-run, joined-front, counted-append}
-use Rattle.delta.proofs.Settling.{IsBare}
+use Rattle.delta.proofs.CallerLemmas.{front-nil, joined-run, joined-front, counted-append, run-parts}
+use Rattle.delta.specs.Places.{IsBare}
 use Rattle.xform.specs.After.{fate_after, after}
 use Rattle.xform.specs.steps.Stepping.{made_of, BeginsWithInsert, IsStep}
-use Rattle.xform.proofs.Heads.{run-cut, after-first, after-second, after-deleted, after-kept, after-nothing}
+use Rattle.xform.proofs.Heads.{after-first, after-second, after-deleted, after-kept, after-nothing}
 
 -- units of one fate, as an operation
 abbrev pub stretch : ℕ → Fate → Operation
 stretch n Del = delete n
 stretch n (Keep c) = retain n c
 
--- how many of these units are left
-abbrev pub units_kept : ℕ → Fate → ℕ
-units_kept k Del = 0
-units_kept k (Keep c) = k
+-- how many of so many units of a fate are left
+abbrev pub kept_of : ℕ → Fate → ℕ
+kept_of k Del = 0
+kept_of k (Keep c) = k
 
 -- what is left without some units of this fate
 record IsCut (k : ℕ) (f : Fate) (all left : List Operation) : Type 0 where
   counted_is : counted all ≡ run k f (counted left)
   base_is : base_of all ≡ k + base_of left
-  out_is : out_of all ≡ units_kept k f + out_of left
+  out_is : out_of all ≡ kept_of k f + out_of left
   some : NoneIsEmpty all → NoneIsEmpty left
   length_le : length left ≤ length all
 
 part-kept : (n k : ℕ) (c : Changes) (ops : List Operation) → k < n → IsCut k (Keep c) (retain n c ∷ ops) (retain (n - k) c ∷ ops)
 part-kept n k c ops h = record {
-  counted_is = run-cut n k (Keep c) (counted ops) (omega arith);
+  counted_is = run-parts n k (n - k) (Keep c) (counted ops) (omega arith);
   base_is = omega arith;
   out_is = omega arith;
   some = λ all. (omega arith, all.1);
@@ -46,7 +46,7 @@ part-kept n k c ops h = record {
 
 part-deleted : (n k : ℕ) (ops : List Operation) → k < n → IsCut k Del (delete n ∷ ops) (delete (n - k) ∷ ops)
 part-deleted n k ops h = record {
-  counted_is = run-cut n k Del (counted ops) (omega arith);
+  counted_is = run-parts n k (n - k) Del (counted ops) (omega arith);
   base_is = omega arith;
   out_is = omega arith;
   some = λ all. (omega arith, all.1);

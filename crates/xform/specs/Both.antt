@@ -1,7 +1,7 @@
 -- Two deltas of one document at once.
-use Rattle.std.specs.Prelude.{ℕ, zero, suc, Bool, List, [], ◌++◌, if◌then◌else◌}
+use Rattle.std.specs.Prelude.{Bool, List, ◌++◌, if◌then◌else◌}
 use Rattle.attributes.specs.Attributes.{Changes}
-use Rattle.attributes.specs.Map.{empty, overwritten}
+use Rattle.attributes.specs.Map.{overwritten}
 use Rattle.delta.specs.Element.{Element}
 use Rattle.delta.specs.Gaps.{Gaps, End, Gap, Fate, Del, Keep}
 
@@ -26,16 +26,3 @@ both_at_once (End xs) (Gap ys e h) priority = Gap (in_turn xs ys priority) e h
 both_at_once (Gap xs f g) (End ys) priority = Gap (in_turn xs ys priority) f g
 both_at_once (Gap xs f g) (Gap ys e h) priority =
     Gap (in_turn xs ys priority) (fate_of_both f e priority) (both_at_once g h priority)
-
--- the fate of the unit at the place; units after the last are kept without a change
-abbrev pub fate_at : Gaps → ℕ → Fate
-fate_at (End xs) i = Keep empty
-fate_at (Gap xs f g) zero = f
-fate_at (Gap xs f g) (suc i) = fate_at g i
-
--- what is inserted before the unit at the place
-abbrev pub inserted_at : Gaps → ℕ → List Element
-inserted_at (End xs) zero = xs
-inserted_at (End xs) (suc i) = []
-inserted_at (Gap xs f g) zero = xs
-inserted_at (Gap xs f g) (suc i) = inserted_at g i

@@ -1,14 +1,11 @@
 -- What holds of any two deltas of one document.
-use Rattle.std.specs.Prelude.{◌≡◌, ℕ, ◌≤◌, Bool, not, List, ◌++◌, length, max}
+use Rattle.std.specs.Prelude.{◌≡◌, ℕ, ◌+◌, Bool, not, List, ◌++◌, length, max}
 use Rattle.delta.specs.Element.{Element}
 use Rattle.delta.specs.Gaps.{Gaps, apply, units_below}
-use Rattle.xform.specs.Both.{in_turn, fate_of_both, both_at_once, inserted_at, fate_at}
-use Rattle.xform.specs.After.{after}
+use Rattle.delta.specs.Places.{IsDefined, inserted_at, fate_at}
+use Rattle.xform.specs.Both.{in_turn, fate_of_both, both_at_once}
+use Rattle.xform.specs.After.{beside, after}
 use Rattle.xform.specs.Place.{place, up_to, onward}
-
--- a delta is defined on a document that has every unit that it speaks of
-abbrev pub IsDefined : List Element → Gaps → Type 0
-IsDefined d g = units_below g ≤ length d
 
 -- the first and then the second after it, both at once, and the second and then the first after it: one document
 pub record SameBothWays (d : List Element) (a b : Gaps) (priority : Bool) : Type 0 where
@@ -24,6 +21,11 @@ abbrev pub DefinedAfter : Type 0
 DefinedAfter =
     (d : List Element) (a b : Gaps) (priority : Bool) → IsDefined d a → IsDefined d b
     → IsDefined (apply d a) (after a b priority)
+
+-- what is put beside at one place speaks of the units that the first inserts there, and of those behind
+abbrev pub UnitsBeside : Type 0
+UnitsBeside = (xs ys : List Element) (priority : Bool) (g : Gaps)
+    → units_below (beside xs ys priority g) ≡ length xs + units_below g
 
 -- both at once, place by place: their inserts in turn, a unit's fate of the two, and as many units as either speaks of
 abbrev pub BothAtEachPlace : Type 0

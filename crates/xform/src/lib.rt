@@ -7,6 +7,37 @@
 //! document, the one that both at once leave. The definitions stand in specs/Both.antt, specs/After.antt,
 //! specs/Outcome.antt and specs/Place.antt. It stands on `delta`, whose cursor and builder it walks with, and on
 //! `attributes`.
+//!
+//! A caller, with its contract, which is proved as it stands:
+//!
+//! ```text
+//! ghost use Rattle.std.specs.Prelude.{◌≡◌, ◌≤◌, IfOk, List, length};
+//! ghost use Rattle.delta.specs.Element.{Element};
+//! ghost use Rattle.delta.specs.Operation.{base_of};
+//! ghost use Rattle.delta.specs.Gaps.{counted, apply};
+//!
+//! use delta::Delta;
+//! use delta::laws::{effect_of_normal, units_counted};
+//! use refusal::Refusal;
+//! use std::alloc::Global;
+//! use xform::laws::both_ways;
+//! use xform::transform;
+//!
+//! /// Each of two deltas of one document as it is after the other: in either order they lead to the same document.
+//! pub fn transform_both(alloc: Global, one: &Delta, other: &Delta) -> Result<(Delta, Delta), Refusal>
+//!     ensures { IfOk result (λ moved. (document : List Element)
+//!         → base_of one.now ≤ length document → base_of other.now ≤ length document
+//!         → apply (apply document (counted one.now)) (counted moved.1)
+//!             ≡ apply (apply document (counted other.now)) (counted moved.0)) }
+//! {
+//!     both_ways();
+//!     effect_of_normal();
+//!     units_counted();
+//!     let one_moved = transform(alloc, other, one, false)?;
+//!     let other_moved = transform(alloc, one, other, true)?;
+//!     Ok((one_moved, other_moved))
+//! }
+//! ```
 #![tactic(auto)]
 
 pub mod laws;

@@ -1,13 +1,13 @@
 //! One step along a delta and another of the same document.
 ghost use Rattle.std.specs.Prelude.{◌≡◌, ◌⊎◌, ◌+◌, ◌<◌, ◌^◌, ◌++◌, [], ◌∷◌, IfOk, IfErr, OnOk, IsOkUnless, true, false};
+ghost use Rattle.std.specs.Option.{option_to_list};
 ghost use Rattle.delta.specs.Operation.{base_of, is_insert, IsBounded};
 ghost use Rattle.delta.specs.Gaps.{Gaps, counted, joined};
 ghost use Rattle.delta.specs.Normal.{nf, NoneIsEmpty};
 ghost use Rattle.delta.specs.Cursor.{operation_of_part, operations_left};
-ghost use Rattle.xform.specs.steps.Stepping.{as_list, made_of, BeginsWithInsert, IsStepOf, StandsFor};
+ghost use Rattle.xform.specs.steps.Stepping.{made_of, BeginsWithInsert, IsStepOf, StandsFor};
 
 use attributes::Change;
-use delta::laws::{built_in_pieces, counted_of_append, counted_of_spelled, lengths_of_built};
 use delta::{Cursor, Op, OpRef, Part, TrimmingBuilder};
 use refusal::Refusal;
 use std::alloc::Global;
@@ -126,7 +126,7 @@ fn made_of(
     priority: bool,
 ) -> Result<Option<Op>, Refusal>
     ensures made { IfOk result (λ op.
-        as_list op ≡ made_of (operation_of_part one.entry) (operation_of_part two.entry) len priority) }
+        option_to_list op ≡ made_of (operation_of_part one.entry) (operation_of_part two.entry) len priority) }
     ensures only { IsOkUnless result Refusal.NoMemory }
 {
     match (one.get(), two.get()) {
@@ -145,16 +145,12 @@ pub(crate) fn push_made(
     out: &mut TrimmingBuilder,
     made: Option<Op>,
 ) -> Result<(), Refusal>
-    requires room { base_of out.old + base_of (as_list made) < 2 ^ 64 }
-    ensures ok { OnOk result (StandsFor out.new (out.old ++ as_list made)) }
+    requires room { base_of out.old + base_of (option_to_list made) < 2 ^ 64 }
+    ensures ok { OnOk result (StandsFor out.new (out.old ++ option_to_list made)) }
     ensures bad { result ≡ Err Refusal.BadOps
-        → (more : Gaps) → ¬ (IsBounded (nf (joined (counted (out.old ++ as_list made)) more))) }
+        → (more : Gaps) → ¬ (IsBounded (nf (joined (counted (out.old ++ option_to_list made)) more))) }
     ensures only { IfErr result (λ e. (e ≡ Refusal.BadOps) ⊎ (e ≡ Refusal.NoMemory)) }
 {
-    counted_of_append();
-    counted_of_spelled();
-    built_in_pieces();
-    lengths_of_built();
     match made {
         Some(op) => out.push(alloc, op),
         None => Ok(()),

@@ -5,7 +5,6 @@ ghost use Rattle.xform.specs.After.{second_past};
 ghost use Rattle.xform.specs.Outcome.{CanTransform, IsTransformRefused};
 
 use crate::stepping::{next_step, push_made};
-use delta::laws::{bound_of_normal, counted_of_append};
 use delta::{Cursor, Delta, TrimmingBuilder};
 use refusal::Refusal;
 use std::alloc::Global;
@@ -27,8 +26,6 @@ pub fn transform(
     ensures long { result ≡ Err Refusal.BadOps
         → 2 ^ 48 < base_of first.now + out_of first.now + base_of second.now + out_of second.now }
 {
-    bound_of_normal();
-    counted_of_append();
     let mut one = Cursor::new(first.ops());
     let mut two = Cursor::new(second.ops());
     let mut out = TrimmingBuilder::new(alloc);

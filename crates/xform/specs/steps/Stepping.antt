@@ -1,5 +1,6 @@
 -- One step along two lists of operations of one document: what it makes of the second after the first.
-use Rattle.std.specs.Prelude.{◌≡◌, ℕ, ◌+◌, ◌<◌, ◌≤◌, ◌^◌, Bool, true, List, [], ◌∷◌, length, Option, Some, None}
+use Rattle.std.specs.Prelude.{◌≡◌, ℕ, ◌+◌, ◌<◌, ◌≤◌, ◌^◌, Bool, true, List, [], ◌∷◌, length}
+use Rattle.std.specs.Option.{option_to_list}
 use Rattle.attributes.specs.Attributes.{transformed}
 use Rattle.delta.specs.Operation.{Operation, retain, delete, is_insert, base_of, out_of}
 use Rattle.delta.specs.Gaps.{Gaps, counted, joined}
@@ -7,11 +8,6 @@ use Rattle.delta.specs.Normal.{settled, NoneIsEmpty}
 use Rattle.delta.specs.Cursor.{operations_left}
 use Rattle.xform.specs.After.{after}
 use Rattle.xform.specs.declared.stepping.Step.{Step}
-
--- none or one
-abbrev pub as_list : Option Operation → List Operation
-as_list None = []
-as_list (Some op) = op ∷ []
 
 -- what stands first inserts
 abbrev pub BeginsWithInsert : List Operation → Type 0
@@ -37,7 +33,7 @@ pub record IsStep (first second made first_left second_left : List Operation) (p
 -- the same of what the program gives
 abbrev pub IsStepOf : List Operation → List Operation → Bool → Step → Type 0
 IsStepOf first second priority step =
-    IsStep first second (as_list step.made) (operations_left step.first) (operations_left step.second) priority
+    IsStep first second (option_to_list step.made) (operations_left step.first) (operations_left step.second) priority
 
 -- operations stand for others, whatever comes after them
 pub record StandsFor (ops others : List Operation) : Type 0 where

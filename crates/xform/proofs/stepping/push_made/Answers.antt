@@ -7,5 +7,5 @@ pub returns-in-Some-clause-ok : goal.returns-in-Some-clause-ok
 returns-in-Some-clause-ok c =
     rw c.in-Some.is
     (on_ok_weaker c.push.result
-    (stands-built c.counted_of_append.ensures c.counted_of_spelled.ensures c.built_in_pieces.ensures c.lengths_of_built.ensures (c.args.out.now ++ c.in-Some.op ∷ []) c.push.new.self)
+    (stands-built (c.args.out.now ++ c.in-Some.op ∷ []) c.push.new.self)
     c.push.ensures.ok)

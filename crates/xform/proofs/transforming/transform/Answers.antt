@@ -24,15 +24,15 @@ returns-in_err-push_made-clause-only c =
     let p = err_from_is_err_and c.from_residual-in_err-push_made.result c.from_residual-in_err-push_made.ensures.1 in
     rw (p.1, p.2)
     (refused c.args.first.now c.args.second.now c.args.priority c.in_err-push_made.field-0.0 c.in_err-push_made.ensures.only
-    (λ is. passed-next (second_as c.in-Some.ensures c.loop-part.invariant) c.in_ok-step.ensures.step c.counted_of_append.ensures (c.in_err-push_made.ensures.bad (ap Err is))))
+    (λ is. passed-next (second_as c.in-Some.ensures c.loop-part.invariant) c.in_ok-step.ensures.step (c.in_err-push_made.ensures.bad (ap Err is))))
 
 pub returns-in_err-push_made-clause-long : goal.returns-in_err-push_made-clause-long
 returns-in_err-push_made-clause-long c =
     let p = err_from_is_err_and c.from_residual-in_err-push_made.result c.from_residual-in_err-push_made.ensures.1 in
-    λ is. long-next (second_as c.in-Some.ensures c.loop-part.invariant) c.in_ok-step.ensures.step c.counted_of_append.ensures c.bound_of_normal.ensures (c.in_err-push_made.ensures.bad (cc))
+    λ is. long-next (second_as c.in-Some.ensures c.loop-part.invariant) c.in_ok-step.ensures.step (c.in_err-push_made.ensures.bad (cc))
 
 pub loop-part-preserved : goal.loop-part-preserved
-loop-part-preserved c = partly-next (second_as c.in-Some.ensures c.loop-part.invariant) c.in_ok-step.ensures.step c.counted_of_append.ensures c.push_made.new.out c.in_ok-push_made.ensures.ok
+loop-part-preserved c = partly-next (second_as c.in-Some.ensures c.loop-part.invariant) c.in_ok-step.ensures.step c.push_made.new.out c.in_ok-push_made.ensures.ok
 
 pub returns-clause-delta : goal.returns-clause-delta
 returns-clause-delta c = c.finish.ensures.delta ∙ partly-end c.loop-part.invariant c.in_default.ensures
