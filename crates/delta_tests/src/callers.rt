@@ -1,0 +1,60 @@
+//! A caller of each crate's main call.
+ghost use Rattle.std.specs.Prelude.{◌≡◌, [], ◌∷◌, take, length, string_bytes, IfOk, OnOk, OnErr};
+ghost use Rattle.utf16.specs.Units.{units_of};
+ghost use Rattle.attributes.specs.Map.{empty};
+ghost use Rattle.attributes.specs.Attributes.{changed};
+ghost use Rattle.delta.specs.Operation.{retain, insert_text};
+ghost use Rattle.delta.specs.Gaps.{counted, apply};
+ghost use Rattle.delta.specs.Normal.{nf};
+
+use attributes::{Attrs, Change};
+use delta::{Builder, Delta, Op};
+use document::Document;
+use refusal::Refusal;
+use std::alloc::Global;
+use utf16::{Cut, split_at16};
+
+/// The first code units of a text; refused where the text is shorter, or where a pair would be parted.
+pub fn first_units(text: &str, count: u64) -> Result<&str, Cut>
+    ensures { IfOk result (λ front. units_of front.now ≡ take count (units_of text.now)) }
+{
+    let (front, _) = split_at16(text, count)?;
+    Ok(front)
+}
+
+/// The attributes after a change, and the change that takes it back.
+pub fn change_attributes(
+    alloc: Global,
+    attrs: &Attrs,
+    change: &Change,
+) -> Result<(Attrs, Change), Refusal>
+    ensures after { IfOk result (λ done. done.0 ≡ changed attrs.now change.now) }
+    ensures back { IfOk result (λ done. changed done.0 done.1 ≡ attrs.now) }
+{
+    attributes::laws::changed_back();
+    let after = attributes::apply(alloc, attrs, change)?;
+    let back = attributes::invert(alloc, change, attrs)?;
+    Ok((after, back))
+}
+
+/// The delta that inserts a text behind so many code units.
+pub fn insert_behind(alloc: Global, kept: u64, text: String) -> Result<Delta, Refusal>
+    ensures { IfOk result (λ delta. delta ≡ nf (counted (retain kept empty ∷ insert_text (units_of (string_bytes text)) empty ∷ []))) }
+{
+    delta::laws::built_in_pieces();
+    delta::laws::normal_of_built();
+    let mut builder = Builder::new(alloc);
+    builder.push(Op::retain(kept, Change::new(alloc)))?;
+    builder.push(Op::text(text, Attrs::new(alloc)))?;
+    Ok(builder.finish())
+}
+
+/// Applies a delta, and gives the document's new length. Refused, the document is as it was.
+pub fn edit(alloc: Global, document: &mut Document, delta: &Delta) -> Result<u64, Refusal>
+    ensures document { OnOk result (document.new ≡ apply document.old (counted delta.now)) }
+    ensures len { IfOk result (λ len. len ≡ length (apply document.old (counted delta.now))) }
+    ensures err { OnErr result (document.new ≡ document.old) }
+{
+    document.apply(alloc, delta)?;
+    Ok(document.len16())
+}
