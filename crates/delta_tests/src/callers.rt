@@ -1,18 +1,26 @@
 //! A caller of each crate's main call.
-ghost use Rattle.std.specs.Prelude.{◌≡◌, [], ◌∷◌, take, length, string_bytes, IfOk, OnOk, OnErr};
+ghost use Rattle.std.specs.Prelude.{◌≡◌, ◌≤◌, [], ◌∷◌, List, Ok, take, length, string_bytes, IfOk, OnOk, OnErr};
 ghost use Rattle.utf16.specs.Units.{units_of};
 ghost use Rattle.attributes.specs.Map.{empty};
 ghost use Rattle.attributes.specs.Attributes.{changed};
-ghost use Rattle.delta.specs.Operation.{retain, insert_text};
+ghost use Rattle.delta.specs.Element.{Element};
+ghost use Rattle.delta.specs.Operation.{Operation, retain, insert_text, base_of};
 ghost use Rattle.delta.specs.Gaps.{counted, apply};
 ghost use Rattle.delta.specs.Normal.{nf};
+ghost use Rattle.optext.specs.Described.{delta_of};
+ghost use Rattle.optext.specs.Printed.{printed};
+ghost use Rattle.serde_json.specs.Data.{array};
+ghost use Rattle.serde_json.specs.View.{view, items_view};
 
 use attributes::{Attrs, Change};
 use delta::{Builder, Delta, Op};
 use document::Document;
+use optext::{read_ops, write_ops};
 use refusal::Refusal;
+use serde_json::Value as Json;
 use std::alloc::Global;
 use utf16::{Cut, split_at16};
+use xform::transform;
 
 /// The first code units of a text; refused where the text is shorter, or where a pair would be parted.
 pub fn first_units(text: &str, count: u64) -> Result<&str, Cut>
@@ -57,4 +65,28 @@ pub fn edit(alloc: Global, document: &mut Document, delta: &Delta) -> Result<u64
 {
     document.apply(alloc, delta)?;
     Ok(document.len16())
+}
+
+/// Each of two deltas of one document as it is after the other: in either order they lead to the same document.
+pub fn transform_both(alloc: Global, one: &Delta, other: &Delta) -> Result<(Delta, Delta), Refusal>
+    ensures { IfOk result (λ moved. (document : List Element)
+        → base_of one.now ≤ length document → base_of other.now ≤ length document
+        → apply (apply document (counted one.now)) (counted moved.1)
+        ≡ apply (apply document (counted other.now)) (counted moved.0)) }
+{
+    xform::laws::both_ways();
+    delta::laws::effect_of_normal();
+    delta::laws::units_counted();
+    let one_moved = transform(alloc, other, one, false)?;
+    let other_moved = transform(alloc, one, other, true)?;
+    Ok((one_moved, other_moved))
+}
+
+/// The operations of an array as they are printed in normal form.
+pub fn print_normal(alloc: Global, operations: &[Json]) -> Result<Json, Refusal>
+    ensures { IfOk result (λ value.
+        (delta : List Operation) × (delta_of (items_view operations.now) ≡ Ok delta) × (view value ≡ array (printed delta))) }
+{
+    let delta = read_ops(alloc, operations)?;
+    write_ops(alloc, &delta)
 }
