@@ -2,7 +2,7 @@ use Rattle.std.proofs.Common.{◌≡◌, ◌∙◌, List, true, false, sym, ap, 
 use Rattle.revision.specs.Command.{Taken}
 use Rattle.revision.specs.State.{all_grow}
 use Rattle.recovery.proofs.Replays.{batch_same}
-use Rattle.recovery.proofs.reading.replay.replay.Goals as goal
+use Rattle.recovery.proofs.reading.replay.replay_body.Goals as goal
 
 -- another batch of this body would be the same one, and that doesn't continue the state
 pub returns-in-Err-Stranger-clause-damaged : goal.returns-in-Err-Stranger-clause-damaged

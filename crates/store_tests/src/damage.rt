@@ -1,6 +1,6 @@
-use super::{SLOT, changed, formatted, is_found_with, part};
-use std::alloc::Global;
-use std::test::Fail;
+//! Bytes that are no store, and bytes that do not matter.
+use crate::stores::{SLOT, is_opened_with, part, small_device, with_bytes_at};
+use std::process::Abort;
 
 /// What damages a device that was just formatted: a place, and what is written there.
 const FORMATTED: [(usize, &[u8]); 26] = [
@@ -44,19 +44,11 @@ const FORMATTED: [(usize, &[u8]); 26] = [
 ];
 
 #[test]
-fn a_device_is_damaged(rt: HostRuntime) -> Result<(), Fail> {
-    let disk = formatted(rt.alloc())?;
+fn a_device_is_damaged(rt: HostRuntime) {
+    let disk = small_device(&rt);
     for (at, other) in &FORMATTED {
-        is_found_with(
-            &rt,
-            rt.alloc(),
-            disk.bytes(),
-            *at,
-            other,
-            "error 32 Damaged",
-        )?;
+        is_opened_with(&rt, disk.bytes(), *at, other, "error 32 Damaged");
     }
-    Ok(())
 }
 
 /// What damages two records: a place, and what is written there. The first batch stands at 1,102, the second at 1,152.
@@ -88,22 +80,27 @@ const WRITTEN: [(usize, &[u8]); 18] = [
 ];
 
 /// A small device that holds two records.
-fn written(alloc: Global) -> Result<Vec<u8>, Fail> {
-    changed(alloc, formatted(alloc)?.bytes(), 1_088, &SLOT)
+fn written(rt: &(impl Abort + AllocGlobal)) -> Vec<u8> {
+    with_bytes_at(rt, small_device(rt).bytes(), 1_088, &SLOT)
 }
 
 #[test]
-fn a_record_is_damaged(rt: HostRuntime) -> Result<(), Fail> {
-    let bytes = written(rt.alloc())?;
+fn a_record_is_damaged(rt: HostRuntime) {
+    let bytes = written(&rt);
     for (at, other) in &WRITTEN {
-        is_found_with(&rt, rt.alloc(), &bytes, *at, other, "error 32 Damaged")?;
+        is_opened_with(&rt, &bytes, *at, other, "error 32 Damaged");
     }
     // The first record stands twice.
-    let first = part(rt.alloc(), &SLOT, 9, 50)?;
-    is_found_with(&rt, rt.alloc(), &bytes, 1_147, &first, "error 32 Damaged")
+    is_opened_with(
+        &rt,
+        &bytes,
+        1_147,
+        &part(&rt, &SLOT, 9, 50),
+        "error 32 Damaged",
+    );
 }
 
-/// The places of gates, and what is found where one is closed.
+/// The places of gates, and what is opened where one is closed.
 const GATES: [(usize, &str); 8] = [
     (0, "error 30 NotFormatted"),
     (64, "d 1 z\ne 1 y\n"),
@@ -115,23 +112,26 @@ const GATES: [(usize, &str); 8] = [
     (1_344, "d 1 z\ne 1 y\n"),
 ];
 
+/// Values of a gate that is closed.
+const CLOSED: [u8; 5] = [0x00, 0x01, 0x3c, 0xa4, 0xff];
+
 #[test]
-fn all_other_bytes_close_a_gate(rt: HostRuntime) -> Result<(), Fail> {
-    let bytes = written(rt.alloc())?;
+fn all_other_bytes_close_a_gate(rt: HostRuntime) {
+    let bytes = written(&rt);
     for (at, lines) in &GATES {
-        for byte in [0x00, 0x01, 0x3c, 0xa4, 0xff] {
-            is_found_with(&rt, rt.alloc(), &bytes, *at, &[byte], lines)?;
+        for byte in CLOSED {
+            is_opened_with(&rt, &bytes, *at, &[byte], lines);
         }
     }
-    Ok(())
 }
 
-// Any segment number but 0 is taken, and what isn't used may be anything.
+/// Any segment number but 0 is taken, and what isn't used may be anything.
+const UNUSED: [usize; 7] = [33, 63, 65, 1_089, 1_096, 1_198, 1_345];
+
 #[test]
-fn other_bytes_change_nothing(rt: HostRuntime) -> Result<(), Fail> {
-    let bytes = written(rt.alloc())?;
-    for at in [33, 63, 65, 1_089, 1_096, 1_198, 1_345] {
-        is_found_with(&rt, rt.alloc(), &bytes, at, &[0xa5], "d 1 z\ne 1 y\n")?;
+fn other_bytes_change_nothing(rt: HostRuntime) {
+    let bytes = written(&rt);
+    for at in UNUSED {
+        is_opened_with(&rt, &bytes, at, &[0xa5], "d 1 z\ne 1 y\n");
     }
-    Ok(())
 }

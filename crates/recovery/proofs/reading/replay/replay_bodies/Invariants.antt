@@ -3,7 +3,7 @@ use Rattle.revision.specs.State.{State}
 use Rattle.journal.specs.Scan.{items_of}
 use Rattle.recovery.specs.Found.{empty_state}
 use Rattle.recovery.proofs.Replays.{Leads}
-use Rattle.recovery.proofs.reading.replay.replayed.Given as goal
+use Rattle.recovery.proofs.reading.replay.replay_bodies.Given as goal
 
 -- the bodies that are left lead from here to where all lead from the beginning
 abbrev pub invariant-loop-body : goal.invariant-loop-body
