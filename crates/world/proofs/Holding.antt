@@ -77,7 +77,7 @@ sent-own (first ∷ others) command = by_test (sent-own others command) (is_of c
     by_test further false = further
 
 -- the world after a command that was answered so
-abbrev with_answer : World → Command → Answer → World
+abbrev pub with_answer : World → Command → Answer → World
 with_answer world command answer = record world {
   board = submitted_by (entry_of command) world.board answer;
   tickets = world.tickets ++ option_to_list (ticket_by world.board command answer);

@@ -7,3 +7,4 @@ pub mod Openings
 pub mod Standing
 pub mod Holding
 pub mod Clauses
+pub mod Followings

@@ -98,24 +98,21 @@ acknowledged followed place = acknowledged_ticket followed (slice_get followed.t
 abbrev pub may_leave : Followed → ℕ → Bool
 may_leave followed kept = (kept == followed.without) || (kept == followed.with_batch)
 
+-- so many commands are left, and what memory held is gone
+abbrev pub forgotten : Followed → ℕ → Followed
+forgotten followed kept = record followed { without = kept; with_batch = kept; tickets = []; failed = false }
+
 abbrev pub stopped : Followed → ℕ → Followed
-stopped followed kept =
-    if may_leave followed kept
-    then record followed { without = kept; with_batch = kept; tickets = []; failed = false; crashed = true }
-    else followed
+stopped followed kept = if may_leave followed kept then record (forgotten followed kept) { crashed = true } else followed
 
 abbrev pub opened : Followed → ℕ → Bool → Followed
 opened followed kept picked =
     if may_leave followed kept && picked
-    then record followed {
+    then record (forgotten followed kept) {
       order = take kept followed.order;
-      tickets = [];
       taken = kept;
       settled = kept;
       published = kept;
-      without = kept;
-      with_batch = kept;
-      failed = false;
       crashed = false;
     }
     else followed

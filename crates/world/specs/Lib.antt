@@ -5,4 +5,5 @@ pub mod Step
 pub mod Shown
 pub mod Law
 pub mod Followed
+pub mod Following
 mod Examples

@@ -1,6 +1,6 @@
 //! A plain program that goes through a schedule, step by step.
 ghost use Rattle.std.specs.Prelude.{◌≡◌, [], OnOk, OnErr};
-ghost use Rattle.world.specs.Followed.{begun_followed, last_place, submitted, submitted_numbered, resent, taken_off, written, shown, settled, acknowledged, may_leave, stopped, opened, running, followed_step};
+ghost use Rattle.world.specs.Followed.{begun_followed, last_place, submitted, submitted_numbered, resent, taken_off, written, shown, settled, acknowledged, may_leave, forgotten, stopped, opened, running, followed_step};
 
 use std::alloc::{AllocError, Global};
 use std::marker::Model;
@@ -151,13 +151,13 @@ impl Follower {
         ensures unchanged { OnErr result (self.new ≡ self.old) }
     {
         let last = self.last();
-        let length = self.order.len() as u64;
+        let ahead = self.order.len() as u64;
         if number == last.number {
             self.tickets.push(Waiting {
                 number,
                 again: true,
                 revision: last.revision,
-                length,
+                length: ahead,
             })?;
         } else if let Some(revision) = taken_as {
             self.tickets.reserve(1)?;
@@ -262,15 +262,22 @@ impl Follower {
         kept == self.without || kept == self.with_batch
     }
 
+    // So many commands are left, and what memory held is gone.
+    fn forget(&mut self, kept: u64)
+        ensures { self.new ≡ forgotten self.old kept }
+    {
+        self.without = kept;
+        self.with_batch = kept;
+        self.tickets.clear();
+        self.failed = false;
+    }
+
     // The machine stops, and so many commands are left.
     fn crash(&mut self, kept: u64)
         ensures { self.new ≡ stopped self.old kept }
     {
         if self.may_leave(kept) {
-            self.without = kept;
-            self.with_batch = kept;
-            self.tickets.clear();
-            self.failed = false;
+            self.forget(kept);
             self.crashed = true;
         }
     }
@@ -280,14 +287,11 @@ impl Follower {
         ensures { self.new ≡ opened self.old kept picked }
     {
         if self.may_leave(kept) && picked {
+            self.forget(kept);
             self.order.truncate(kept as usize);
-            self.tickets.clear();
             self.taken = kept;
             self.settled = kept;
             self.published = kept;
-            self.without = kept;
-            self.with_batch = kept;
-            self.failed = false;
             self.crashed = false;
         }
     }
