@@ -36,8 +36,6 @@ mod changing;
 mod key;
 pub mod laws;
 mod map;
-#[cfg(test)]
-mod tests;
 mod value;
 
 pub use attrs::Attrs;

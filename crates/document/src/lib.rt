@@ -7,6 +7,28 @@
 //! belongs and changes nothing, and the document's length, weight, copy and delta. The definitions stand in specs/
 //! (Pairs, Places and Weight are read first); `laws` has what follows from them.
 //! It stands on `utf16`, `attributes`, `delta` and `refusal`.
+//!
+//! A caller, with its contract, which is proved as it stands:
+//!
+//! ```text
+//! ghost use Rattle.std.specs.Prelude.{◌≡◌, length, IfOk, OnOk, OnErr};
+//! ghost use Rattle.delta.specs.Gaps.{counted, apply};
+//!
+//! use delta::Delta;
+//! use document::Document;
+//! use refusal::Refusal;
+//! use std::alloc::Global;
+//!
+//! /// Applies a delta, and gives the document's new length. Refused, the document is as it was.
+//! pub fn edit(alloc: Global, document: &mut Document, delta: &Delta) -> Result<u64, Refusal>
+//!     ensures document { OnOk result (document.new ≡ apply document.old (counted delta.now)) }
+//!     ensures len { IfOk result (λ len. len ≡ length (apply document.old (counted delta.now))) }
+//!     ensures err { OnErr result (document.new ≡ document.old) }
+//! {
+//!     document.apply(alloc, delta)?;
+//!     Ok(document.len16())
+//! }
+//! ```
 #![tactic(auto)]
 
 mod applying;
@@ -15,8 +37,6 @@ mod document;
 pub mod laws;
 mod run;
 mod runs;
-#[cfg(test)]
-mod tests;
 mod walk;
 
 pub use document::Document;

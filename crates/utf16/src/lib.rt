@@ -5,6 +5,23 @@
 //! units, without a copy and without memory, and a text at the end of another; nothing is ever cut
 //! between the two units of a pair. The definitions stand in specs/Units.antt, and `laws` has what follows from them.
 //! It stands on nothing but `std`.
+//!
+//! A caller, with its contract, which is proved as it stands:
+//!
+//! ```text
+//! ghost use Rattle.std.specs.Prelude.{◌≡◌, take, IfOk};
+//! ghost use Rattle.utf16.specs.Units.{units_of};
+//!
+//! use utf16::{Cut, split_at16};
+//!
+//! /// The first code units of a text; refused where the text is shorter, or where a pair would be parted.
+//! pub fn first_units(text: &str, count: u64) -> Result<&str, Cut>
+//!     ensures { IfOk result (λ front. units_of front.now ≡ take count (units_of text.now)) }
+//! {
+//!     let (front, _) = split_at16(text, count)?;
+//!     Ok(front)
+//! }
+//! ```
 #![tactic(auto)]
 
 mod appending;

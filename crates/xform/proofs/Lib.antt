@@ -5,5 +5,4 @@ pub mod Places
 pub mod Heads
 pub mod Steps
 pub mod Partly
-pub mod Plain
 pub mod CallerLemmas

@@ -4,5 +4,4 @@ pub mod Outcome
 pub mod Place
 pub mod Laws
 pub mod steps
-pub mod Plain
 mod Examples

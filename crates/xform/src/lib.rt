@@ -43,8 +43,6 @@
 pub mod laws;
 mod position;
 mod stepping;
-#[cfg(test)]
-mod tests;
 mod transforming;
 
 pub use position::transform_position;
