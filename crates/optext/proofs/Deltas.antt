@@ -9,12 +9,13 @@ use Rattle.serde_json.specs.declared.value.Value.{Value}
 use Rattle.serde_json.proofs.Views.{items_len-items_view}
 use Rattle.refusal.specs.declared.Refusal.{Refusal}
 use Rattle.refusal.specs.declared.Refusal.TheVariants.{BadOps, TooManyOps, NoMemory}
-use Rattle.delta.specs.Operation.{Operation, base_of, out_of, IsBounded}
+use Rattle.delta.specs.Operation.{Operation, base_of, out_of, IsBounded, is_bounded, is_bounded-Decides}
 use Rattle.delta.specs.Gaps.{counted}
 use Rattle.delta.specs.Normal.{nf, built}
 use Rattle.delta.specs.Laws.{BuiltInPieces, NormalOfBuilt, LengthsOfBuilt}
+use Rattle.delta.proofs.CallerLemmas.{base_of-append, out_of-append}
 use Rattle.optext.specs.Answer.{IsAnswer, IsRead}
-use Rattle.optext.specs.Described.{operation_of, operations_of, delta_by, delta_of, is_bounded}
+use Rattle.optext.specs.Described.{operation_of, operations_of, delta_by, delta_of}
 
 pub delta_of-many : (vs : List Value) → 1024 < length vs → delta_of (items_view vs) ≡ Err TooManyOps
 delta_of-many vs many = let len = items_len-items_view vs in grind (arith, nat_tests)
@@ -27,14 +28,6 @@ pub items_at : (vs : List Value) (i : ℕ) (v : Value) → i < length vs → v �
 items_at vs i v inside is =
     let here : drop i vs ≡ get_or vs i v ∷ drop (i + 1) vs = rw add-one (drop-cons vs i v inside) in
     ap items_view here ∙ ap (λ (w : Value). item (view w) (items_view (drop (i + 1) vs))) (sym is)
-
-base_of-append : (a b : List Operation) → base_of (a ++ b) ≡ base_of a + base_of b
-base_of-append [] b = omega arith
-base_of-append (op ∷ a) b = omega (arith, base_of-append a b)
-
-out_of-append : (a b : List Operation) → out_of (a ++ b) ≡ out_of a + out_of b
-out_of-append [] b = omega arith
-out_of-append (op ∷ a) b = omega (arith, out_of-append a b)
 
 -- a delta is told by the two lengths and the normal form
 delta_by-same : (a b : List Operation) → base_of a ≡ base_of b → out_of a ≡ out_of b → nf (counted a) ≡ nf (counted b) → delta_by (Some a) ≡ delta_by (Some b)
@@ -81,21 +74,12 @@ delta_with-over done op (Some rest) over =
     λ b o. over (record { base = omega arith; out = omega arith }) in
     grind (arith, nat_tests)
 
-is_bounded-true : (ops : List Operation) → is_bounded ops ≡ true → IsBounded ops
-is_bounded-true ops e =
-    let base : base_of ops ≤ 2 ^ 48 = grind (arith, nat_tests) in
-    let out : out_of ops ≤ 2 ^ 48 = grind (arith, nat_tests) in
-    record { base = base; out = out }
-
-is_bounded-false : (ops : List Operation) → is_bounded ops ≡ false → ¬ (IsBounded ops)
-is_bounded-false ops e bounded = let base = bounded.base in let out = bounded.out in grind (arith, nat_tests)
-
 -- what isn't unbounded is bounded
 pub bounded_from : (ops : List Operation) → ¬ (¬ (IsBounded ops)) → IsBounded ops
 bounded_from ops not_over =
     elim (is_bounded ops) as (λ t. is_bounded ops ≡ t → IsBounded ops) [
-      | true ↦ λ e. is_bounded-true ops e
-      | false ↦ λ e. absurd (not_over (is_bounded-false ops e))
+      | true ↦ λ e. (is_bounded-Decides ops).0 e
+      | false ↦ λ e. absurd (not_over (λ bounded. absurd (cc ((is_bounded-Decides ops).1 bounded))))
     ] refl
 
 -- a loop over an array, at the value at i, with the operations so far

@@ -1,6 +1,6 @@
 -- Which operation a JSON value describes, and which delta an array of them (quill-delta's README, "Operations": an
 -- object with one of `insert`, `retain` and `delete`, and with `attributes` or not on the first two).
-use Rattle.std.specs.Prelude.{ℕ, ℤ, ◌+◌, ◌^◌, ◌==◌, ◌&&◌, Bool, nat_lt, nat_le, if◌then◌else◌, List, [], ◌∷◌, codes, Option, Some, None, option_map, option_and_then, Result, Ok, Err}
+use Rattle.std.specs.Prelude.{ℕ, ℤ, ◌+◌, ◌^◌, ◌==◌, nat_lt, if◌then◌else◌, List, [], ◌∷◌, codes, Option, Some, None, option_map, option_and_then, Result, Ok, Err}
 use Rattle.serde_json.specs.Data.{Num, unsigned, Data, null, boolean, number, string, object, Items, no_items, item, Members, no_members, member}
 use Rattle.serde_json.specs.Find.{get, as_integer, as_object}
 use Rattle.serde_json.specs.Events.{items_len, members_len}
@@ -13,7 +13,7 @@ use Rattle.utf16.specs.Units.{units_of}
 use Rattle.attributes.specs.Scalar.{Scalar, text_scalar, whole_scalar, flag_scalar, is_exact}
 use Rattle.attributes.specs.Map.{Map, empty, insert}
 use Rattle.attributes.specs.Attributes.{Attributes, Changes, is_key}
-use Rattle.delta.specs.Operation.{Operation, insert_text, insert_embed, retain, delete, base_of, out_of}
+use Rattle.delta.specs.Operation.{Operation, insert_text, insert_embed, retain, delete, is_bounded}
 use Rattle.delta.specs.Gaps.{counted}
 use Rattle.delta.specs.Normal.{nf}
 
@@ -127,10 +127,6 @@ abbrev pub operations_of : Items → Option (List Operation)
 operations_of no_items = Some []
 operations_of (item first others) =
     option_and_then (λ op. option_map (λ ops. op ∷ ops) (operations_of others)) (operation_of first)
-
--- the base length and the output length are each at most 2^48
-abbrev pub is_bounded : List Operation → Bool
-is_bounded ops = nat_le (base_of ops) (2 ^ 48) && nat_le (out_of ops) (2 ^ 48)
 
 -- the delta of operations, in normal form, where the bound holds
 abbrev pub delta_by : Option (List Operation) → Result (List Operation) Refusal
