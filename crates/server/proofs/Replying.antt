@@ -15,7 +15,7 @@ use Rattle.server.specs.Line.{Partial, with_byte}
 use Rattle.server.specs.Request.{request_of}
 use Rattle.server.specs.Reply.{greeting, line_of}
 use Rattle.server.specs.Session.{Session}
-use Rattle.server.specs.Replies.{Exchange, refusal_line, answer_line, IsLine, text_told, IsReplied, Greeted, Asked, Refused, NotTaken, Takes, GoesOn, Overflows, Ends, Replies, Asks, Feeds, Stops}
+use Rattle.server.specs.Replies.{Exchange, refusal_line, answer_line, IsLine, text_told, IsReplied, Greeted, Asked, Refused, NotTaken, TakesByte, LineContinues, LineOverflows, LineEnds, Replies, Asks, Feeds, Stops}
 use Rattle.server.proofs.Writes.{appends-nothing}
 
 -- an answer that is no refusal is the one that is due
@@ -85,7 +85,7 @@ abbrev pair : Partial → Event × Partial
 pair line = (Complete, line)
 
 -- one byte as a piece
-pub one_byte : (old new : Session) (byte : ℕ) (asked : List Exchange) (text : List ℕ) → Takes old byte asked new text → Replies old (byte ∷ []) asked new text
+pub one_byte : (old new : Session) (byte : ℕ) (asked : List Exchange) (text : List ℕ) → TakesByte old byte asked new text → Replies old (byte ∷ []) asked new text
 one_byte old new byte asked text takes = (new, asked, [], text, [], takes, (refl, refl, refl), sym (append-nil asked), sym (append-nil text))
 
 module _ {D : Type 0} (gives : D → Command → Result Reply Refusal → D → Type 0) where
@@ -95,7 +95,7 @@ module _ {D : Type 0} (gives : D → Command → Result Reply Refusal → D → 
   goes_on old new byte desk out event others = record {
     asked = [];
     text = [];
-    replies = one_byte old new byte [] [] (subst (λ n. Takes old byte [] n []) (sym others) (GoesOn new.line event));
+    replies = one_byte old new byte [] [] (subst (λ n. TakesByte old byte [] n []) (sym others) (LineContinues new.line event));
     asks = refl;
     written = appends-nothing out;
   }
@@ -104,7 +104,7 @@ module _ {D : Type 0} (gives : D → Command → Result Reply Refusal → D → 
   overflows : (old new : Session) (byte : ℕ) (text : List ℕ) → with_byte old.line byte ≡ (TooLong, new.line)
       → new ≡ record old { line = new.line } → IsLine (refusal_line LineTooLong) text → Replies old (byte ∷ []) [] new text
   overflows old new byte text event others line =
-      one_byte old new byte [] text (subst (λ n. Takes old byte [] n text) (sym others) (Overflows new.line text event line))
+      one_byte old new byte [] text (subst (λ n. TakesByte old byte [] n text) (sym others) (LineOverflows new.line text event line))
 
   pub overflow_fed : (old new sent : Session) (byte : ℕ) (text : List ℕ) (desk : D) (out out' : Option (List ℕ)) → with_byte old.line byte ≡ (TooLong, new.line)
       → new ≡ record old { line = new.line } → IsLine (refusal_line LineTooLong) text → sent ≡ new → Appends out out' text → Feeds gives old (byte ∷ []) sent desk desk out out'
@@ -142,8 +142,8 @@ module _ {D : Type 0} (gives : D → Command → Result Reply Refusal → D → 
         subst (λ (s : Option (List ℕ)). IsReplied s line responds.0 answered.source text) (ap (λ (s : Session). s.source) others) responds.1 in (
           responds.0,
           one_byte old new byte responds.0 text
-              (subst (λ n. Takes old byte responds.0 n text) (sym new_session)
-              (Ends line responds.0 answered.source text (event ∙ ap (λ (l : Partial). pair l) is) reply)),
+              (subst (λ n. TakesByte old byte responds.0 n text) (sym new_session)
+              (LineEnds line responds.0 answered.source text (event ∙ ap (λ (l : Partial). pair l) is) reply)),
           responds.2,
         )
 

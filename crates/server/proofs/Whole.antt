@@ -7,7 +7,7 @@ use Rattle.server.specs.declared.session.line.Event.{Event}
 use Rattle.server.specs.declared.session.line.Event.TheVariants.{More, TooLong, Complete}
 use Rattle.server.specs.Line.{Partial, with_byte, HasNoEnd}
 use Rattle.server.specs.Session.{Session}
-use Rattle.server.specs.Replies.{Exchange, refusal_line, IsLine, IsReplied, Takes, GoesOn, Overflows, Ends, Replies}
+use Rattle.server.specs.Replies.{Exchange, refusal_line, IsLine, IsReplied, TakesByte, LineContinues, LineOverflows, LineEnds, Replies}
 
 -- what a byte makes of a line
 more_of : (front : List ℕ) (byte : ℕ) → byte ≢ 10 → length front < 65536 → with_byte (Some front) byte ≡ (More, Some (front ++ byte ∷ []))
@@ -33,30 +33,30 @@ line_of p = p.1
 
 -- what comes of a byte, by its event
 takes-more : (old next : Session) (byte : ℕ) (line : Partial) (asked : List Exchange) (text : List ℕ) → with_byte old.line byte ≡ (More, line)
-    → Takes old byte asked next text → (asked ≡ []) × (next ≡ record old { line = line }) × (text ≡ [])
-takes-more old next byte line asked text event (GoesOn found is) =
+    → TakesByte old byte asked next text → (asked ≡ []) × (next ≡ record old { line = line }) × (text ≡ [])
+takes-more old next byte line asked text event (LineContinues found is) =
     (refl, ap (λ (l : Partial). record old { line = l }) (ap (λ (p : Event × Partial). p.1) (sym is ∙ event)), refl)
-takes-more old next byte line asked text event (Overflows found t is reply) =
+takes-more old next byte line asked text event (LineOverflows found t is reply) =
     let e : TooLong ≡ More = ap (λ (p : Event × Partial). p.0) (sym is ∙ event) in cc
-takes-more old next byte line asked text event (Ends found a source t is reply) =
+takes-more old next byte line asked text event (LineEnds found a source t is reply) =
     let e : Complete ≡ More = ap (λ (p : Event × Partial). p.0) (sym is ∙ event) in cc
 
 takes-full : (old next : Session) (byte : ℕ) (asked : List Exchange) (text : List ℕ) → with_byte old.line byte ≡ (TooLong, None)
-    → Takes old byte asked next text → (asked ≡ []) × (next ≡ record old { line = None }) × IsLine (refusal_line LineTooLong) text
-takes-full old next byte asked text event (GoesOn found is) =
+    → TakesByte old byte asked next text → (asked ≡ []) × (next ≡ record old { line = None }) × IsLine (refusal_line LineTooLong) text
+takes-full old next byte asked text event (LineContinues found is) =
     let e : More ≡ TooLong = ap (λ (p : Event × Partial). p.0) (sym is ∙ event) in cc
-takes-full old next byte asked text event (Overflows found t is reply) =
+takes-full old next byte asked text event (LineOverflows found t is reply) =
     (refl, ap (λ (l : Partial). record old { line = l }) (ap (λ (p : Event × Partial). p.1) (sym is ∙ event)), reply)
-takes-full old next byte asked text event (Ends found a source t is reply) =
+takes-full old next byte asked text event (LineEnds found a source t is reply) =
     let e : Complete ≡ TooLong = ap (λ (p : Event × Partial). p.0) (sym is ∙ event) in cc
 
 takes-end : (old next : Session) (byte : ℕ) (line : List ℕ) (asked : List Exchange) (text : List ℕ) → with_byte old.line byte ≡ (Complete, Some line)
-    → Takes old byte asked next text → (next ≡ record old { line = Some []; source = next.source }) × IsReplied old.source line asked next.source text
-takes-end old next byte line asked text event (GoesOn found is) =
+    → TakesByte old byte asked next text → (next ≡ record old { line = Some []; source = next.source }) × IsReplied old.source line asked next.source text
+takes-end old next byte line asked text event (LineContinues found is) =
     let e : More ≡ Complete = ap (λ (p : Event × Partial). p.0) (sym is ∙ event) in cc
-takes-end old next byte line asked text event (Overflows found t is reply) =
+takes-end old next byte line asked text event (LineOverflows found t is reply) =
     let e : TooLong ≡ Complete = ap (λ (p : Event × Partial). p.0) (sym is ∙ event) in cc
-takes-end old next byte line asked text event (Ends found a source t is reply) =
+takes-end old next byte line asked text event (LineEnds found a source t is reply) =
     let e : Some found ≡ Some line = ap (λ (p : Event × Partial). p.1) (sym is ∙ event) in
     let same : found ≡ line = cc in
     (refl, subst (λ (l : List ℕ). IsReplied old.source l a source t) same reply)

@@ -7,6 +7,6 @@ use Rattle.server.specs.declared.failure.Failure.{Failure}
 use Rattle.server.specs.declared.failure.Failure.TheVariants.{Refused, Stream}
 
 -- by the refusal that the task comes to, for want of memory, or since the stream failed
-abbrev pub Ends : Task → Failure → Type 0
-Ends task (Refused refusal) = ComesTo task (Err refusal) ⊎ (refusal ≡ NoMemory)
-Ends task Stream = Unit {0}
+abbrev pub EndsWith : Task → Failure → Type 0
+EndsWith task (Refused refusal) = ComesTo task (Err refusal) ⊎ (refusal ≡ NoMemory)
+EndsWith task Stream = Unit {0}

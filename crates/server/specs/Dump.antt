@@ -8,12 +8,12 @@ use Rattle.algebra.specs.Text.{text_of}
 use Rattle.revision.specs.State.{DocumentRecord}
 
 -- two parts with one blank between them
-abbrev pub spaced : List ℕ → List ℕ → List ℕ
-spaced front back = front ++ (32 ∷ back)
+abbrev pub blank_between : List ℕ → List ℕ → List ℕ
+blank_between front back = front ++ (32 ∷ back)
 
 -- name, revision, floor and content, parted by one blank, and a line end
 abbrev pub line_of : List ℕ → ℕ → ℕ → List ℕ → List ℕ
-line_of name revision floor text = spaced name (spaced (decimal revision) (spaced (decimal floor) (text ++ 10 ∷ [])))
+line_of name revision floor text = blank_between name (blank_between (decimal revision) (blank_between (decimal floor) (text ++ 10 ∷ [])))
 
 -- a document's line has the operations, `{"ops":[..]}`, that make it of the empty document
 abbrev pub document_line : DocumentRecord → List ℕ

@@ -8,13 +8,13 @@ abbrev pub Partial : Type 0
 Partial = Option (List ℕ)
 
 -- a line that has 65,536 bytes has no room for a further one
-abbrev pub extended : List ℕ → ℕ → Event × Partial
-extended bytes byte = if length bytes == 65536 then (TooLong, None) else (More, Some (bytes ++ byte ∷ []))
+abbrev pub with_text_byte : List ℕ → ℕ → Event × Partial
+with_text_byte bytes byte = if length bytes == 65536 then (TooLong, None) else (More, Some (bytes ++ byte ∷ []))
 
 -- what one byte makes of the line so far
 abbrev pub with_byte : Partial → ℕ → Event × Partial
 with_byte None byte = (More, if byte == 10 then Some [] else None)
-with_byte (Some bytes) byte = if byte == 10 then (Complete, Some bytes) else extended bytes byte
+with_byte (Some bytes) byte = if byte == 10 then (Complete, Some bytes) else with_text_byte bytes byte
 
 -- a line has no end within it
 abbrev pub HasNoEnd : List ℕ → Type 0

@@ -9,7 +9,7 @@ use Rattle.server.specs.declared.session.line.Event.TheVariants.{More, TooLong, 
 use Rattle.server.specs.declared.session.request.Request.TheVariants.{Greet, Ask}
 use Rattle.server.specs.Line.{Partial, with_byte}
 use Rattle.server.specs.Request.{request_of}
-use Rattle.server.specs.Reply.{greeting, acknowledgement, refused, line_of}
+use Rattle.server.specs.Reply.{greeting, acknowledgement, refusal_reply, line_of}
 use Rattle.server.specs.Session.{Session}
 
 -- a command, and what the desk answered to it
@@ -18,7 +18,7 @@ Exchange = Command × Result Reply Refusal
 
 -- the line of a refusal
 abbrev pub refusal_line : Refusal → List ℕ
-refusal_line refusal = line_of (refused refusal)
+refusal_line refusal = line_of (refusal_reply refusal)
 
 -- the line of what the desk answered to a command
 abbrev pub answer_line : Command → Result Reply Refusal → List ℕ
@@ -48,22 +48,22 @@ pub data IsReplied (source : Option (List ℕ)) (line : List ℕ) : List Exchang
   NotTaken : IsReplied source line [] source (refusal_line NoMemory)
 
 -- What comes of one byte of the input.
-pub data Takes (old : Session) (byte : ℕ) : List Exchange → Session → List ℕ → Type 0 where
+pub data TakesByte (old : Session) (byte : ℕ) : List Exchange → Session → List ℕ → Type 0 where
   -- the line goes on, or the rest of one that is too long is dropped
-  GoesOn : (line : Partial) → with_byte old.line byte ≡ (More, line) → Takes old byte [] (record old { line = line }) []
+  LineContinues : (line : Partial) → with_byte old.line byte ≡ (More, line) → TakesByte old byte [] (record old { line = line }) []
   -- the line gets too long, which is replied at once
-  Overflows : (line : Partial) (text : List ℕ) → with_byte old.line byte ≡ (TooLong, line) → IsLine (refusal_line LineTooLong) text
-      → Takes old byte [] (record old { line = line }) text
+  LineOverflows : (line : Partial) (text : List ℕ) → with_byte old.line byte ≡ (TooLong, line) → IsLine (refusal_line LineTooLong) text
+      → TakesByte old byte [] (record old { line = line }) text
   -- the line ends, is replied, and the next one begins
-  Ends : (line : List ℕ) (asked : List Exchange) (source : Option (List ℕ)) (text : List ℕ) → with_byte old.line byte ≡ (Complete, Some line)
-      → IsReplied old.source line asked source text → Takes old byte asked (record old { line = Some []; source = source }) text
+  LineEnds : (line : List ℕ) (asked : List Exchange) (source : Option (List ℕ)) (text : List ℕ) → with_byte old.line byte ≡ (Complete, Some line)
+      → IsReplied old.source line asked source text → TakesByte old byte asked (record old { line = Some []; source = source }) text
 
 -- what comes of a piece of the input, byte by byte
 abbrev pub Replies : Session → List ℕ → List Exchange → Session → List ℕ → Type 0
 Replies old [] asked new text = (asked ≡ []) × (new ≡ old) × (text ≡ [])
 Replies old (byte ∷ bytes) asked new text =
     (next : Session) × (first : List Exchange) × (others : List Exchange) × (front : List ℕ) × (back : List ℕ)
-    × Takes old byte first next front × Replies next bytes others new back × (asked ≡ first ++ others) × (text ≡ front ++ back)
+    × TakesByte old byte first next front × Replies next bytes others new back × (asked ≡ first ++ others) × (text ≡ front ++ back)
 
 module _ {D : Type 0} (gives : D → Command → Result Reply Refusal → D → Type 0) where
   -- the desk was asked these commands in order, gave these answers, and came from its old state to the new one

@@ -20,18 +20,18 @@ rev_of (Taken rev) = rev
 rev_of (Again rev) = rev
 
 -- `{"doc":"d","n":1,"ok":"taken","rev":1}`
-abbrev pub accepted : List ℕ → ℕ → List ℕ → ℕ → Data
-accepted doc n kind rev =
+abbrev pub acknowledgement_of : List ℕ → ℕ → List ℕ → ℕ → Data
+acknowledgement_of doc n kind rev =
     object (member (codes "doc") (string doc) (member (codes "n") (number (unsigned n))
     (member (codes "ok") (string kind) (member (codes "rev") (number (unsigned rev)) no_members))))
 
 -- the same of a command's reply, with `again` where it was taken before
 abbrev pub acknowledgement : List ℕ → ℕ → Reply → Data
-acknowledgement doc n reply = accepted doc n (kind_of reply) (rev_of reply)
+acknowledgement doc n reply = acknowledgement_of doc n (kind_of reply) (rev_of reply)
 
 -- `{"code":7,"error":"Exists"}`
-abbrev pub refused : Refusal → Data
-refused refusal =
+abbrev pub refusal_reply : Refusal → Data
+refusal_reply refusal =
     object (member (codes "code") (number (unsigned (number_of refusal))) (member (codes "error") (string (name_of refusal)) no_members))
 
 -- the value's line

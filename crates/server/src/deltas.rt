@@ -4,7 +4,7 @@ ghost use Rattle.std.specs.Io.KnownBytes.{Appends};
 ghost use Rattle.delta.specs.Operation.{Operation};
 ghost use Rattle.algebra.specs.Tasks.{ComesTo};
 ghost use Rattle.algebra.specs.Text.{text_of};
-ghost use Rattle.server.specs.Deltas.{Ends};
+ghost use Rattle.server.specs.Deltas.{EndsWith};
 
 use crate::failure::Failure;
 use algebra::Task;
@@ -16,7 +16,7 @@ use std::io::Write;
 pub fn print_answer<W: Write>(alloc: Global, task: Task<'_>, output: &mut W) -> Result<(), Failure>
     ensures printed { OnOk result ((made : List Operation) × ComesTo task.entry (Ok made)
         × Appends (W.contents output.old) (W.contents output.new) (text_of made ++ 10 ∷ [])) }
-    ensures ends { IfErr result (Ends task.entry) }
+    ensures ends { IfErr result (EndsWith task.entry) }
     ensures silent { IfErr result (λ e. e ≢ Failure.Stream → output.new ≡ output.old) }
 {
     let mut line = task.answer(alloc)?;

@@ -54,11 +54,13 @@ impl<D: Disk> StoreDesk<D> {
         requires works { has_failed self.old ≡ false }
         requires grows { grows (state_of (store_of self.old)) taken ≡ true }
         ensures told { IsToldOf taken result }
-        ensures state { OnOk result (state_of (store_of self.new) ≡ folded (state_of (store_of self.old)) (taken ∷ [])) }
+        ensures state { OnOk result (state_of (store_of self.new)
+            ≡ folded (state_of (store_of self.old)) (taken ∷ [])) }
         ensures same_state { OnErr result (state_of (store_of self.new) ≡ state_of (store_of self.old)) }
         ensures room { OnOk result (has_room (store_of self.old) (taken ∷ []) ≡ true) }
         ensures works { OnOk result (store_has_failed (store_of self.new) ≡ false) }
-        ensures store_works { has_failed self.new ≡ false → store_has_failed (store_of self.old) ≡ false → store_has_failed (store_of self.new) ≡ false }
+        ensures store_works { has_failed self.new ≡ false → store_has_failed (store_of self.old) ≡ false
+            → store_has_failed (store_of self.new) ≡ false }
         ensures fails { (has_failed self.new ≡ true) ↔ (result ≡ Err Refusal.StoreFailed) }
         ensures cause { result ≡ Err Refusal.StoreFailed → FailsCommit self.old taken self.new }
         ensures any_moment { store_has_failed (store_of self.old) ≡ false → IsOpen (store_of self.old)
@@ -75,8 +77,16 @@ impl<D: Disk> StoreDesk<D> {
         if refusal == Refusal::NoMemory {
             return Err(Refusal::NoMemory);
         }
-        self.failed = true;
+        self.fail();
         Err(Refusal::StoreFailed)
+    }
+
+    // From now on each command is answered StoreFailed.
+    fn fail(&mut self)
+        ensures failed { has_failed self.new ≡ true }
+        ensures store { store_of self.new ≡ store_of self.old }
+    {
+        self.failed = true;
     }
 }
 

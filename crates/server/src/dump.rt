@@ -14,7 +14,8 @@ use std::io::Write;
 /// Writes one line for each document, in order of creation: name, revision, floor and operations. Ends where a write
 /// fails (`Stream`), or with `NoMemory`.
 pub fn dump<W: Write>(alloc: Global, state: &State, output: &mut W) -> Result<(), Failure>
-    ensures dumped { OnOk result (Appends (W.contents output.old) (W.contents output.new) (spec.dump_of state.now.documents)) }
+    ensures dumped { OnOk result (Appends (W.contents output.old) (W.contents output.new)
+        (spec.dump_of state.now.documents)) }
     ensures only { IfErr result (λ e. (e ≡ Failure.Stream) ⊎ (e ≡ Failure.Refused Refusal.NoMemory)) }
 {
     for document in state.documents() {
@@ -36,11 +37,11 @@ fn line_of(alloc: Global, document: &DocState) -> Result<String, Refusal>
     let delta = document.document().as_delta(alloc)?;
     let content = write_delta(alloc, &delta)?;
     let name = document.name().as_str();
-    let line = joined(alloc, name, document.revision(), document.floor(), &content)?;
+    let line = line_with(alloc, name, document.revision(), document.floor(), &content)?;
     Ok(line)
 }
 
-fn joined(
+fn line_with(
     alloc: Global,
     name: &str,
     revision: u64,

@@ -27,16 +27,20 @@ pub fn serve<D: Disk, I: Read, O: Write>(
     output: &mut O,
 ) -> Result<(), Failure>
     // What is written is what comes of all the input, with the answers of the desk.
-    ensures served { OnOk result (IsServed AnswersFromStore desk.old desk.new (I.remaining input.old) (I.remaining input.new) (O.contents output.old) (O.contents output.new)) }
+    ensures served { OnOk result (IsServed AnswersFromStore desk.old desk.new
+        (I.remaining input.old) (I.remaining input.new) (O.contents output.old) (O.contents output.new)) }
     // Whatever ends it: the desk was asked commands one after another, and a crash at any moment, or afterwards, leaves
     // all that was acknowledged before it.
     ensures keeps { has_failed desk.old ≡ false → store_has_failed (store_of desk.old) ≡ false → IsOpen (store_of desk.old)
         → (asked : List Exchange) × Asks AnswersFromStore desk.old asked desk.new × KeepsAll ⟦<D as Disk>⟧ desk.old desk.new asked }
     ensures works { OnOk result (has_failed desk.new ≡ false) }
     ensures failed { IsErrOf result (Failure.Refused Refusal.StoreFailed) → (has_failed desk.new ≡ true)
-        × IsServed AnswersFromStore desk.old desk.new (I.remaining input.old) (I.remaining input.new) (O.contents output.old) (O.contents output.new) }
-    ensures no_memory { IsErrOf result (Failure.Refused Refusal.NoMemory) → (desk.new ≡ desk.old) × (input.new ≡ input.old) × (output.new ≡ output.old) }
-    ensures only { IfErr result (λ e. (e ≡ Failure.Stream) ⊎ ((e ≡ Failure.Refused Refusal.StoreFailed) ⊎ (e ≡ Failure.Refused Refusal.NoMemory))) }
+        × IsServed AnswersFromStore desk.old desk.new
+        (I.remaining input.old) (I.remaining input.new) (O.contents output.old) (O.contents output.new) }
+    ensures no_memory { IsErrOf result (Failure.Refused Refusal.NoMemory) → (desk.new ≡ desk.old)
+        × (input.new ≡ input.old) × (output.new ≡ output.old) }
+    ensures only { IfErr result (λ e. (e ≡ Failure.Stream)
+        ⊎ ((e ≡ Failure.Refused Refusal.StoreFailed) ⊎ (e ≡ Failure.Refused Refusal.NoMemory))) }
 {
     let mut session = Session::new(alloc)?;
     serve_all(alloc, &mut session, desk, input, output)?;
@@ -54,7 +58,8 @@ fn serve_all<K: Desk, I: Read, O: Write>(
     input: &mut I,
     output: &mut O,
 ) -> Result<(), Failure>
-    ensures served { OnOk result (Serves K.gives session.old session.new desk.old desk.new (I.remaining input.old) (I.remaining input.new) (O.contents output.old) (O.contents output.new)) }
+    ensures served { OnOk result (Serves K.gives session.old session.new desk.old desk.new
+        (I.remaining input.old) (I.remaining input.new) (O.contents output.old) (O.contents output.new)) }
     ensures at_end { OnOk result (IsAtEnd (I.remaining input.new)) }
     ensures asked { WasAsked K.gives desk.old desk.new }
     ensures only { IfErr result (λ e. e ≡ Failure.Stream) }
@@ -75,7 +80,8 @@ fn serve_piece<K: Desk, I: Read, O: Write>(
     input: &mut I,
     output: &mut O,
 ) -> Result<bool, Failure>
-    ensures served { OnOk result (Serves K.gives session.old session.new desk.old desk.new (I.remaining input.old) (I.remaining input.new) (O.contents output.old) (O.contents output.new)) }
+    ensures served { OnOk result (Serves K.gives session.old session.new desk.old desk.new
+        (I.remaining input.old) (I.remaining input.new) (O.contents output.old) (O.contents output.new)) }
     ensures at_end { IfOk result (λ went_on. went_on ≡ false → IsAtEnd (I.remaining input.new)) }
     ensures asked { WasAsked K.gives desk.old desk.new }
     ensures only { IfErr result (λ e. e ≡ Failure.Stream) }
@@ -112,7 +118,8 @@ fn feed_lines<K: Desk, O: Write>(
     piece: &[u8],
     output: &mut O,
 ) -> Result<(), Failure>
-    ensures fed { OnOk result (Feeds K.gives session.old piece.now session.new desk.old desk.new (O.contents output.old) (O.contents output.new)) }
+    ensures fed { OnOk result (Feeds K.gives session.old piece.now session.new desk.old desk.new
+        (O.contents output.old) (O.contents output.new)) }
     ensures asked { WasAsked K.gives desk.old desk.new }
     ensures only { IfErr result (λ e. e ≡ Failure.Stream) }
 {
@@ -132,7 +139,8 @@ fn feed_line<K: Desk, O: Write>(
     line: &[u8],
     output: &mut O,
 ) -> Result<(), Failure>
-    ensures fed { OnOk result (Feeds K.gives session.old line.now session.new desk.old desk.new (O.contents output.old) (O.contents output.new)) }
+    ensures fed { OnOk result (Feeds K.gives session.old line.now session.new desk.old desk.new
+        (O.contents output.old) (O.contents output.new)) }
     ensures asked { WasAsked K.gives desk.old desk.new }
     ensures only { IfErr result (λ e. e ≡ Failure.Stream) }
 {

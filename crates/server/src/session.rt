@@ -19,7 +19,7 @@ mod request;
 use line::{Event, Line};
 use refusal::Refusal;
 pub use reply::Reply;
-use reply::{acknowledgement, greeting, refused};
+use reply::{acknowledgement, greeting, refusal_reply};
 use request::Request;
 use revision::{Command, Name};
 use std::alloc::{AllocError, Global};
@@ -101,9 +101,11 @@ impl Session {
         ensures idle { self.old.ended ≡ true → desk.new ≡ desk.old }
 
         // What is written is what comes of the piece, with the answers of the desk.
-        ensures fed { OnOk result (Feeds D.gives self.old piece.now self.new desk.old desk.new (W.contents out.old) (W.contents out.new)) }
+        ensures fed { OnOk result (Feeds D.gives self.old piece.now self.new desk.old desk.new
+            (W.contents out.old) (W.contents out.new)) }
         // A write that fails ends the session. The desk was asked for the front of the piece, each command once.
-        ensures stopped { OnErr result (self.old.ended ≡ false → Stops D.gives self.old piece.now self.new desk.old desk.new) }
+        ensures stopped { OnErr result (self.old.ended ≡ false
+            → Stops D.gives self.old piece.now self.new desk.old desk.new) }
         ensures ok { OnOk result (self.new.ended ≡ false) }
         ensures err { OnErr result (self.new.ended ≡ true) }
     {
@@ -125,14 +127,15 @@ impl Session {
         desk: &mut D,
     ) -> Result<(), SessionEnded>
         requires { self.old.ended ≡ false }
-        ensures fed { OnOk result (Feeds D.gives self.old (byte ∷ []) self.new desk.old desk.new (W.contents out.old) (W.contents out.new)) }
+        ensures fed { OnOk result (Feeds D.gives self.old (byte ∷ []) self.new desk.old desk.new
+            (W.contents out.old) (W.contents out.new)) }
         ensures stopped { OnErr result (Stops D.gives self.old (byte ∷ []) self.new desk.old desk.new) }
         ensures ok { OnOk result (self.new.ended ≡ false) }
         ensures err { OnErr result (self.new.ended ≡ true) }
     {
         match self.event_of(byte) {
             Event::More => {}
-            Event::TooLong => self.send(out, &refused(alloc, Refusal::LineTooLong))?,
+            Event::TooLong => self.send(out, &refusal_reply(alloc, Refusal::LineTooLong))?,
             Event::Complete => {
                 let reply = self.respond(alloc, desk);
                 self.next_line();
@@ -166,7 +169,7 @@ impl Session {
         match self.request(alloc) {
             Ok(Request::Greet(source)) => self.greet(alloc, source),
             Ok(Request::Ask(command)) => ask(alloc, desk, &command),
-            Err(refusal) => refused(alloc, refusal),
+            Err(refusal) => refusal_reply(alloc, refusal),
         }
     }
 
@@ -197,7 +200,8 @@ impl Session {
         reply: &Result<String, AllocError>,
     ) -> Result<(), SessionEnded>
         requires { self.old.ended ≡ false }
-        ensures written { OnOk result (Appends (W.contents out.old) (W.contents out.new) (text_told (λ t. string_bytes t) reply.now)) }
+        ensures written { OnOk result (Appends (W.contents out.old) (W.contents out.new)
+            (text_told (λ t. string_bytes t) reply.now)) }
         ensures ok { OnOk result (self.new ≡ self.old) }
         ensures err { OnErr result (self.new ≡ record self.old { ended = true }) }
     {
@@ -216,7 +220,7 @@ fn ask<D: Desk>(alloc: Global, desk: &mut D, command: &Command) -> Result<String
 {
     match desk.ask(alloc, command) {
         Ok(reply) => acknowledgement(alloc, command, reply),
-        Err(refusal) => refused(alloc, refusal),
+        Err(refusal) => refusal_reply(alloc, refusal),
     }
 }
 

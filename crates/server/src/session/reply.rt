@@ -52,32 +52,33 @@ pub fn acknowledgement(alloc: Global, command: &Command, reply: Reply) -> Result
         spec.line_of (spec.acknowledgement command.now.name command.now.number reply)) }
 {
     let doc = command.name().as_str();
-    let value = accepted(alloc, doc, command.number(), reply.kind(), reply.rev())?;
+    let value = acknowledgement_of(alloc, doc, command.number(), reply.kind(), reply.rev())?;
     line_of(alloc, &value)
 }
 
-fn accepted(
+fn acknowledgement_of(
     alloc: Global,
     doc: &str,
     number: u64,
     kind: &str,
     rev: u64,
 ) -> Result<Value, AllocError>
-    ensures { IfOk result (λ value. view value ≡ spec.accepted doc.now number kind.now rev) }
+    ensures { IfOk result (λ value. view value ≡ spec.acknowledgement_of doc.now number kind.now rev) }
 {
     json!(in alloc; {"doc": doc, "n": number, "ok": kind, "rev": rev})
 }
 
 /// The reply to a line that is refused.
-pub fn refused(alloc: Global, refusal: Refusal) -> Result<String, AllocError>
-    ensures { IfOk result (λ text. string_bytes text ≡ spec.line_of (spec.refused refusal)) }
+pub fn refusal_reply(alloc: Global, refusal: Refusal) -> Result<String, AllocError>
+    ensures { IfOk result (λ text. string_bytes text ≡ spec.line_of (spec.refusal_reply refusal)) }
 {
     let value = json!(in alloc; {"code": refusal.number(), "error": refusal.name()})?;
     line_of(alloc, &value)
 }
 
 fn line_of(alloc: Global, value: &Value) -> Result<String, AllocError>
-    ensures { IfOk result (λ text. has_float (view value.now) ≡ false → string_bytes text ≡ spec.line_of (view value.now)) }
+    ensures { IfOk result (λ text. has_float (view value.now) ≡ false
+        → string_bytes text ≡ spec.line_of (view value.now)) }
 {
     let mut text = value.to_string(alloc)?;
     text.push('\n')?;

@@ -71,7 +71,8 @@ impl Request {
         requires source { is_source_name source.now ≡ true }
         requires first { 1 ≤ number }
         requires last { number < 2 ^ 53 }
-        ensures due { IsDue (spec.request_in (Some source.now) (Create doc.now number (items_view operations.now))) result }
+        ensures due { IsDue (spec.request_in (Some source.now)
+            (Create doc.now number (items_view operations.now))) result }
         ensures asks { IfOk result spec.GreetsSource }
     {
         let name = Name::doc(alloc, doc)?;

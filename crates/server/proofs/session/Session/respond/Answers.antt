@@ -18,5 +18,5 @@ returns-in-Ok-Ask-clause-replied g c =
 pub returns-in-Err-clause-replied : goal.returns-in-Err-clause-replied
 returns-in-Err-clause-replied g c =
     let session = c.args.self.now in
-    refused_any g.D.Desk.gives (λ t. string_bytes t) session.line session c.in-Err.refusal c.refused.result c.args.desk.now
-    c.in-Err.ensures.due c.refused.ensures
+    refused_any g.D.Desk.gives (λ t. string_bytes t) session.line session c.in-Err.refusal c.refusal_reply.result c.args.desk.now
+    c.in-Err.ensures.due c.refusal_reply.ensures

@@ -16,7 +16,7 @@ returns-in_ok-send-in-TooLong-clause-fed g c =
     let sent = c.in_ok-send-in-TooLong.ensures in
     overflow_fed g.D.Desk.gives c.args.self.now c.event_of.new.self c.send.new.self c.args.byte _ c.args.desk.now _ _
     (sym c.in-TooLong.ensures.event) c.in-TooLong.ensures.others
-    (told_line (λ t. string_bytes t) c.refused.result (refusal_line LineTooLong) c.refused.ensures) sent.ok sent.written
+    (told_line (λ t. string_bytes t) c.refusal_reply.result (refusal_line LineTooLong) c.refusal_reply.ensures) sent.ok sent.written
 
 pub returns-in_ok-send-in-Complete-clause-fed : goal.returns-in_ok-send-in-Complete-clause-fed
 returns-in_ok-send-in-Complete-clause-fed g c =
@@ -30,9 +30,9 @@ returns-in_ok-send-in-Complete-clause-fed g c =
 pub returns-in_err-send-in-TooLong-clause-stopped : goal.returns-in_err-send-in-TooLong-clause-stopped
 returns-in_err-send-in-TooLong-clause-stopped g c =
     on_err c.from_residual.result
-    (overflow_stopped g.D.Desk.gives c.args.self.now c.event_of.new.self c.send.new.self c.args.byte (text_told (λ t. string_bytes t) c.refused.result) c.args.desk.now
+    (overflow_stopped g.D.Desk.gives c.args.self.now c.event_of.new.self c.send.new.self c.args.byte (text_told (λ t. string_bytes t) c.refusal_reply.result) c.args.desk.now
     (sym c.in-TooLong.ensures.event) c.in-TooLong.ensures.others
-    (told_line (λ t. string_bytes t) c.refused.result (refusal_line LineTooLong) c.refused.ensures) c.in_err-send-in-TooLong.ensures.err)
+    (told_line (λ t. string_bytes t) c.refusal_reply.result (refusal_line LineTooLong) c.refusal_reply.ensures) c.in_err-send-in-TooLong.ensures.err)
 
 pub returns-in_err-send-in-Complete-clause-stopped : goal.returns-in_err-send-in-Complete-clause-stopped
 returns-in_err-send-in-Complete-clause-stopped g c =
