@@ -12,9 +12,9 @@ use Rattle.revision.specs.Command.{Taken, IsTaken, is_kind}
 use Rattle.journal.specs.Spelling.{number, text16}
 use Rattle.journal.specs.DeltaSpelling.{delta}
 use Rattle.journal.specs.BatchSpelling.{created_name, entry, batch, IsBatch}
-use Rattle.journal.specs.Reading.{number_at, fixed_at, within_at, byte_at, name_at}
-use Rattle.journal.specs.BatchReading.{creation_at, edit_at, entry_behind, entry_at, entries_at, batch_at, whole_at}
-use Rattle.journal.specs.DeltaReading.{delta_at}
+use Rattle.journal.specs.steps.Reading.{number_at, fixed_at, within_at, byte_at, name_at}
+use Rattle.journal.specs.steps.BatchReading.{creation_at, edit_at, entry_behind, entry_at, entries_at, batch_at, whole_at}
+use Rattle.journal.specs.steps.DeltaReading.{delta_at}
 use Rattle.journal.proofs.Numbers.{IsBytes, Takes, Takes-then, number32, number64, number_takes, number_again, fixed_takes, fixed_again, within_takes, within_again}
 use Rattle.journal.proofs.ReadValues.{ReadBehind, either_way, with_tag, byte_takes}
 use Rattle.journal.proofs.Texts.{name_takes, name_again}

@@ -4,8 +4,8 @@ use Rattle.std.proofs.lemmas.List.{append-nil}
 use Rattle.journal.specs.declared.batch.unread.Unread.{Unread}
 use Rattle.journal.specs.declared.batch.unread.Unread.TheVariants.{Malformed, NoMemory}
 use Rattle.revision.specs.Command.{Taken}
-use Rattle.journal.specs.Reading.{◌>>=◌, Fails}
-use Rattle.journal.specs.BatchReading.{entry_at, entries_at}
+use Rattle.journal.specs.steps.Reading.{◌>>=◌, Fails}
+use Rattle.journal.specs.steps.BatchReading.{entry_at, entries_at}
 
 -- the commands that were read before, and those that are still read
 abbrev pub behind : List Taken → Option (List Taken × List ℕ) → Option (List Taken × List ℕ)

@@ -8,9 +8,9 @@ use Rattle.delta.proofs.BuiltLists.{built-same, nf-same}
 use Rattle.delta.proofs.Lengths.{base_of-append, out_of-append}
 use Rattle.journal.specs.declared.batch.unread.Unread.{Unread}
 use Rattle.journal.specs.declared.batch.unread.Unread.TheVariants.{Malformed, NoMemory}
-use Rattle.journal.specs.Reading.{Fails}
+use Rattle.journal.specs.steps.Reading.{Fails}
 use Rattle.delta.specs.Normal.{is_built, ends_plain, may_precede, built, nf}
-use Rattle.journal.specs.DeltaReading.{is_normal, begins_normal, is_bounded, delta_of}
+use Rattle.journal.specs.steps.DeltaReading.{is_normal, begins_normal, is_bounded, delta_of}
 
 -- the length is the greater of the two
 pub op_len_max : (op : Operation) → op_len op ≡ max (op_base op) (op_out op)

@@ -10,8 +10,8 @@ use Rattle.delta.specs.Operation.{Operation, base_of, out_of, IsBounded}
 use Rattle.journal.specs.Spelling.{number}
 use Rattle.journal.specs.DeltaSpelling.{operation, delta}
 use Rattle.revision.specs.Spellable.{IsOperation, IsSpellable}
-use Rattle.journal.specs.Reading.{number_at}
-use Rattle.journal.specs.DeltaReading.{operations_at, is_normal, is_bounded, delta_of, delta_at}
+use Rattle.journal.specs.steps.Reading.{number_at}
+use Rattle.journal.specs.steps.DeltaReading.{operations_at, is_normal, is_bounded, delta_of, delta_at}
 use Rattle.journal.proofs.Numbers.{IsBytes, Takes, Takes-then, number32, number_takes, number_again}
 use Rattle.journal.proofs.ReadOperations.{operations_take, operations_again}
 

@@ -14,8 +14,8 @@ use Rattle.attributes.specs.Attributes.{Attributes, Changes}
 use Rattle.journal.specs.Spelling.{number, text16}
 use Rattle.journal.specs.DeltaSpelling.{value, new_value, pair, pairs}
 use Rattle.revision.specs.Spellable.{IsValue, IsNewValue, IsName, IsPair, IsPairs}
-use Rattle.journal.specs.Reading.{◌>>=◌, number_at, text_at, name_at}
-use Rattle.journal.specs.DeltaReading.{is_key, key_at, key_above, pair_at, pairs_at, value_at, new_value_at, attributes_at, change_at}
+use Rattle.journal.specs.steps.Reading.{◌>>=◌, number_at, text_at, name_at}
+use Rattle.journal.specs.steps.DeltaReading.{is_key, key_at, key_above, pair_at, pairs_at, value_at, new_value_at, attributes_at, change_at}
 use Rattle.journal.proofs.Numbers.{IsBytes, Takes, Takes-then, number16, number32, number_takes, number_again}
 use Rattle.journal.proofs.Texts.{text_takes, text_again}
 use Rattle.journal.proofs.ReadValues.{value_takes, value_again, new_value_takes, new_value_again}

@@ -10,8 +10,8 @@ use Rattle.attributes.specs.Scalar.{Scalar, text_scalar, whole_scalar, flag_scal
 use Rattle.journal.specs.Spelling.{number, text32}
 use Rattle.journal.specs.DeltaSpelling.{value, new_value}
 use Rattle.revision.specs.Spellable.{IsValue, IsNewValue}
-use Rattle.journal.specs.Reading.{number_at, text_at, byte_at}
-use Rattle.journal.specs.DeltaReading.{is_exact, whole_at, text_value_at, value_behind, value_at, new_value_behind, new_value_at}
+use Rattle.journal.specs.steps.Reading.{number_at, text_at, byte_at}
+use Rattle.journal.specs.steps.DeltaReading.{is_exact, whole_at, text_value_at, value_behind, value_at, new_value_behind, new_value_at}
 use Rattle.journal.proofs.Numbers.{IsBytes, Takes, Takes-then, number32, number64, number_takes, number_again}
 use Rattle.journal.proofs.Texts.{text_takes, text_again}
 

@@ -3,9 +3,9 @@ use Rattle.std.proofs.Common.{◌≡◌, ℕ, suc, ◌-◌, ◌+◌, ◌≤◌, 
 use Rattle.attributes.specs.Map.{Map, insert}
 use Rattle.journal.specs.declared.batch.unread.Unread.{Unread}
 use Rattle.journal.specs.declared.batch.unread.Unread.TheVariants.{Malformed, NoMemory}
-use Rattle.journal.specs.Reading.{Fails}
+use Rattle.journal.specs.steps.Reading.{Fails}
 use Rattle.delta.specs.Operation.{Operation}
-use Rattle.journal.specs.DeltaReading.{pair_at, pairs_at, operation_at, operations_at}
+use Rattle.journal.specs.steps.DeltaReading.{pair_at, pairs_at, operation_at, operations_at}
 
 -- so many of the count are read, and these bytes are left
 module _ {X : Type 0} (read : List ℕ → Option (X × List ℕ)) (count done : ℕ) (last : List ℕ) (front : Map X) (bytes : List ℕ) (total : Option (Map X × List ℕ)) (so_far : pairs_at read (count - done) last front bytes ≡ total) where

@@ -9,7 +9,7 @@ use Rattle.std.proofs.lemmas.Option.{cond_some, option_and_then_some, same_Some}
 use Rattle.std.proofs.lemmas.Str.{IsUtf8-from_ascii, is_utf8-from_IsUtf8}
 use Rattle.revision.specs.Name.{is_name_byte, is_name}
 use Rattle.journal.specs.Spelling.{number, text16}
-use Rattle.journal.specs.Reading.{part_at, number_at, utf8_at, text_at, name_at}
+use Rattle.journal.specs.steps.Reading.{part_at, number_at, utf8_at, text_at, name_at}
 use Rattle.journal.proofs.Numbers.{IsBytes, Takes, Takes-then, IsNumber, number16, part_takes, part_again, number_takes, number_again}
 
 -- ---- texts

@@ -4,8 +4,8 @@ ghost use Rattle.std.specs.Int.{w16, w32, w64};
 ghost use Rattle.revision.specs.Name.{is_source_name, is_document_name};
 ghost use Rattle.revision.specs.Command as command;
 ghost use Rattle.journal.specs.BatchSpelling as spelling;
-ghost use Rattle.journal.specs.Reading.{Gives, part_at, number_at, fixed_at, within_at, byte_at, utf8_at, text_at, name_at};
-ghost use Rattle.journal.specs.BatchReading.{creation_at, edit_at, entry_behind, entry_at, entries_at, batch_at, whole_at};
+ghost use Rattle.journal.specs.steps.Reading.{Gives, part_at, number_at, fixed_at, within_at, byte_at, utf8_at, text_at, name_at};
+ghost use Rattle.journal.specs.steps.BatchReading.{creation_at, edit_at, entry_behind, entry_at, entries_at, batch_at, whole_at};
 
 mod deltas;
 mod normal_form;
@@ -44,7 +44,7 @@ pub fn decode_batch(alloc: Global, bytes: &[u8]) -> Result<Option<Vec<Taken>>, A
     }
 }
 
-#[tactic(auto, unfolding(crate::specs::BatchReading::whole_at))]
+#[tactic(auto, unfolding(crate::specs::steps::BatchReading::whole_at))]
 fn whole(alloc: Global, bytes: &[u8]) -> Result<Vec<Taken>, Unread>
     ensures { Gives (λ batch. batch.items) result (whole_at bytes.now) }
 {
@@ -55,7 +55,7 @@ fn whole(alloc: Global, bytes: &[u8]) -> Result<Vec<Taken>, Unread>
     Ok(batch)
 }
 
-#[tactic(auto, unfolding(crate::specs::BatchReading::batch_at))]
+#[tactic(auto, unfolding(crate::specs::steps::BatchReading::batch_at))]
 fn batch_of(alloc: Global, bytes: &[u8]) -> Result<(Vec<Taken>, &[u8]), Unread>
     ensures { Gives (λ x. (x.0.items, x.1.now)) result (batch_at bytes.now) }
 {
@@ -79,7 +79,7 @@ fn entries(alloc: Global, count: u32, bytes: &[u8]) -> Result<(Vec<Taken>, &[u8]
     Ok((batch, rest))
 }
 
-#[tactic(auto, unfolding(crate::specs::BatchReading::entry_at))]
+#[tactic(auto, unfolding(crate::specs::steps::BatchReading::entry_at))]
 fn entry(alloc: Global, bytes: &[u8]) -> Result<(Taken, &[u8]), Unread>
     ensures { Gives (λ x. (x.0, x.1.now)) result (entry_at bytes.now) }
 {
@@ -87,7 +87,7 @@ fn entry(alloc: Global, bytes: &[u8]) -> Result<(Taken, &[u8]), Unread>
     entry_of_tag(alloc, tag, rest)
 }
 
-#[tactic(auto, unfolding(crate::specs::BatchReading::entry_behind))]
+#[tactic(auto, unfolding(crate::specs::steps::BatchReading::entry_behind))]
 fn entry_of_tag(alloc: Global, tag: u8, bytes: &[u8]) -> Result<(Taken, &[u8]), Unread>
     ensures { Gives (λ x. (x.0, x.1.now)) result (entry_behind tag bytes.now) }
 {
@@ -98,7 +98,7 @@ fn entry_of_tag(alloc: Global, tag: u8, bytes: &[u8]) -> Result<(Taken, &[u8]), 
     }
 }
 
-#[tactic(auto, unfolding(crate::specs::BatchReading::creation_at))]
+#[tactic(auto, unfolding(crate::specs::steps::BatchReading::creation_at))]
 fn creation(alloc: Global, bytes: &[u8]) -> Result<(Taken, &[u8]), Unread>
     ensures { Gives (λ x. (x.0, x.1.now)) result (creation_at bytes.now) }
 {
@@ -111,7 +111,7 @@ fn creation(alloc: Global, bytes: &[u8]) -> Result<(Taken, &[u8]), Unread>
     Ok((Taken::creation(document, name, source, delta), rest))
 }
 
-#[tactic(auto, unfolding(crate::specs::BatchReading::edit_at))]
+#[tactic(auto, unfolding(crate::specs::steps::BatchReading::edit_at))]
 fn edit(alloc: Global, bytes: &[u8]) -> Result<(Taken, &[u8]), Unread>
     ensures { Gives (λ x. (x.0, x.1.now)) result (edit_at bytes.now) }
 {
@@ -123,7 +123,7 @@ fn edit(alloc: Global, bytes: &[u8]) -> Result<(Taken, &[u8]), Unread>
     Ok((Taken::edit(document, revision, source, number, delta), rest))
 }
 
-#[tactic(auto, unfolding(crate::specs::Reading::name_at))]
+#[tactic(auto, unfolding(crate::specs::steps::Reading::name_at))]
 fn source_name(alloc: Global, bytes: &[u8]) -> Result<(Name, &[u8]), Unread>
     ensures read { Gives (λ x. (x.0, x.1.now)) result (name_at is_source_name bytes.now) }
     ensures valid { IfOk result (λ x. is_source_name x.0 ≡ true) }
@@ -136,7 +136,7 @@ fn source_name(alloc: Global, bytes: &[u8]) -> Result<(Name, &[u8]), Unread>
     }
 }
 
-#[tactic(auto, unfolding(crate::specs::Reading::name_at))]
+#[tactic(auto, unfolding(crate::specs::steps::Reading::name_at))]
 fn document_name(alloc: Global, bytes: &[u8]) -> Result<(Name, &[u8]), Unread>
     ensures read { Gives (λ x. (x.0, x.1.now)) result (name_at is_document_name bytes.now) }
     ensures valid { IfOk result (λ x. is_document_name x.0 ≡ true) }
@@ -149,7 +149,7 @@ fn document_name(alloc: Global, bytes: &[u8]) -> Result<(Name, &[u8]), Unread>
     }
 }
 
-#[tactic(auto, unfolding(crate::specs::Reading::text_at))]
+#[tactic(auto, unfolding(crate::specs::steps::Reading::text_at))]
 fn text16(bytes: &[u8]) -> Result<(&str, &[u8]), Unread>
     ensures { Gives (λ x. (x.0.now, x.1.now)) result (text_at w16 bytes.now) }
 {
@@ -158,7 +158,7 @@ fn text16(bytes: &[u8]) -> Result<(&str, &[u8]), Unread>
     Ok((utf8(text)?, rest))
 }
 
-#[tactic(auto, unfolding(crate::specs::Reading::text_at))]
+#[tactic(auto, unfolding(crate::specs::steps::Reading::text_at))]
 fn text32(bytes: &[u8]) -> Result<(&str, &[u8]), Unread>
     ensures read { Gives (λ x. (x.0.now, x.1.now)) result (text_at w32 bytes.now) }
     ensures short { IfOk result (λ x. length x.0.now < 2 ^ 32) }
@@ -168,7 +168,7 @@ fn text32(bytes: &[u8]) -> Result<(&str, &[u8]), Unread>
     Ok((utf8(text)?, rest))
 }
 
-#[tactic(auto, unfolding(crate::specs::Reading::utf8_at))]
+#[tactic(auto, unfolding(crate::specs::steps::Reading::utf8_at))]
 fn utf8(bytes: &[u8]) -> Result<&str, Unread>
     ensures read { Gives (λ text. text.now) result (utf8_at bytes.now) }
     ensures same { IfOk result (λ text. text.now ≡ bytes.now) }
@@ -179,7 +179,7 @@ fn utf8(bytes: &[u8]) -> Result<&str, Unread>
     }
 }
 
-#[tactic(auto, unfolding(crate::specs::Reading::fixed_at))]
+#[tactic(auto, unfolding(crate::specs::steps::Reading::fixed_at))]
 fn fixed64(wanted: u64, bytes: &[u8]) -> Result<&[u8], Unread>
     ensures { Gives (λ rest. rest.now) result (fixed_at w64 wanted bytes.now) }
 {
@@ -191,7 +191,7 @@ fn fixed64(wanted: u64, bytes: &[u8]) -> Result<&[u8], Unread>
 }
 
 // a revision or a number, of at least so much
-#[tactic(auto, unfolding(crate::specs::Reading::within_at))]
+#[tactic(auto, unfolding(crate::specs::steps::Reading::within_at))]
 fn number_within(low: u64, bytes: &[u8]) -> Result<(u64, &[u8]), Unread>
     ensures read { Gives (λ x. (x.0, x.1.now)) result (within_at w64 low (2 ^ 53) bytes.now) }
     ensures within { IfOk result (λ x. (low ≤ x.0) × (x.0 < 2 ^ 53)) }
@@ -203,7 +203,7 @@ fn number_within(low: u64, bytes: &[u8]) -> Result<(u64, &[u8]), Unread>
     Ok((number, rest))
 }
 
-#[tactic(auto, unfolding(crate::specs::Reading::number_at))]
+#[tactic(auto, unfolding(crate::specs::steps::Reading::number_at))]
 fn number16(bytes: &[u8]) -> Result<(u16, &[u8]), Unread>
     ensures { Gives (λ x. (x.0, x.1.now)) result (number_at w16 bytes.now) }
 {
@@ -211,7 +211,7 @@ fn number16(bytes: &[u8]) -> Result<(u16, &[u8]), Unread>
     Ok((u16::from_le_bytes([front[0], front[1]]), rest))
 }
 
-#[tactic(auto, unfolding(crate::specs::Reading::number_at))]
+#[tactic(auto, unfolding(crate::specs::steps::Reading::number_at))]
 fn number32(bytes: &[u8]) -> Result<(u32, &[u8]), Unread>
     ensures { Gives (λ x. (x.0, x.1.now)) result (number_at w32 bytes.now) }
 {
@@ -220,7 +220,7 @@ fn number32(bytes: &[u8]) -> Result<(u32, &[u8]), Unread>
     Ok((number, rest))
 }
 
-#[tactic(auto, unfolding(crate::specs::Reading::number_at))]
+#[tactic(auto, unfolding(crate::specs::steps::Reading::number_at))]
 fn number64(bytes: &[u8]) -> Result<(u64, &[u8]), Unread>
     ensures { Gives (λ x. (x.0, x.1.now)) result (number_at w64 bytes.now) }
 {
@@ -231,7 +231,7 @@ fn number64(bytes: &[u8]) -> Result<(u64, &[u8]), Unread>
     Ok((number, rest))
 }
 
-#[tactic(auto, unfolding(crate::specs::Reading::byte_at))]
+#[tactic(auto, unfolding(crate::specs::steps::Reading::byte_at))]
 fn byte(bytes: &[u8]) -> Result<(u8, &[u8]), Unread>
     ensures { Gives (λ x. (x.0, x.1.now)) result (byte_at bytes.now) }
 {
@@ -241,7 +241,7 @@ fn byte(bytes: &[u8]) -> Result<(u8, &[u8]), Unread>
     }
 }
 
-#[tactic(auto, unfolding(crate::specs::Reading::part_at))]
+#[tactic(auto, unfolding(crate::specs::steps::Reading::part_at))]
 fn part(count: usize, bytes: &[u8]) -> Result<(&[u8], &[u8]), Unread>
     ensures read { Gives (λ x. (x.0.now, x.1.now)) result (part_at count bytes.now) }
     ensures length { IfOk result (λ x. length x.0.now ≡ count) }

@@ -3,8 +3,8 @@ ghost use Rattle.std.specs.Prelude.{◌≡◌, ◌++◌, ℕ, List, IfOk, IfSome
 ghost use Rattle.delta.specs.Operation.{Operation};
 ghost use Rattle.journal.specs.DeltaSpelling as spelling;
 ghost use Rattle.revision.specs.Spellable.{IsSpellable};
-ghost use Rattle.journal.specs.Reading.{Gives};
-ghost use Rattle.journal.specs.DeltaReading.{delta_at};
+ghost use Rattle.journal.specs.steps.Reading.{Gives};
+ghost use Rattle.journal.specs.steps.DeltaReading.{delta_at};
 
 use super::normal_form::delta_of_ops;
 use super::number32;
@@ -36,7 +36,7 @@ pub(super) fn delta(alloc: Global, bytes: &[u8]) -> Result<(Delta, &[u8]), Unrea
     Ok((delta, rest))
 }
 
-#[tactic(auto, unfolding(crate::specs::DeltaReading::delta_at))]
+#[tactic(auto, unfolding(crate::specs::steps::DeltaReading::delta_at))]
 fn delta_in(alloc: Global, bytes: &[u8]) -> Result<(Delta, &[u8]), Unread>
     ensures { Gives (λ x. (x.0, x.1.now)) result (delta_at bytes.now) }
 {

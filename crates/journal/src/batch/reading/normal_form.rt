@@ -2,8 +2,8 @@
 ghost use Rattle.std.specs.Prelude.{◌≡◌, ◌++◌, [], ◌∷◌, true, nat_lt, OnOk, IfErr};
 ghost use Rattle.delta.specs.Operation.{op_len, is_plain, IsBounded};
 ghost use Rattle.delta.specs.Normal.{may_precede, built};
-ghost use Rattle.journal.specs.Reading.{Gives};
-ghost use Rattle.journal.specs.DeltaReading.{begins_normal, is_normal, is_bounded, delta_of};
+ghost use Rattle.journal.specs.steps.Reading.{Gives};
+ghost use Rattle.journal.specs.steps.DeltaReading.{begins_normal, is_normal, is_bounded, delta_of};
 
 use crate::batch::unread::Unread;
 use delta::{Builder, Delta, Op, OpRef};
@@ -11,7 +11,7 @@ use refusal::Refusal;
 use std::alloc::Global;
 
 /// The delta of these operations, where they are in normal form and within the bound.
-#[tactic(auto, unfolding(crate::specs::DeltaReading::delta_of))]
+#[tactic(auto, unfolding(crate::specs::steps::DeltaReading::delta_of))]
 pub(super) fn delta_of_ops(alloc: Global, ops: Vec<Op>) -> Result<Delta, Unread>
     ensures { Gives (λ x. x) result (delta_of ops.items) }
 {

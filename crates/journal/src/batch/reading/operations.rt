@@ -1,7 +1,7 @@
 //! Reading of operations.
 ghost use Rattle.std.specs.Prelude.{[]};
-ghost use Rattle.journal.specs.Reading.{Gives};
-ghost use Rattle.journal.specs.DeltaReading.{text_insert_at, embed_insert_at, retain_at, delete_at, operation_behind, operation_at, operations_at};
+ghost use Rattle.journal.specs.steps.Reading.{Gives};
+ghost use Rattle.journal.specs.steps.DeltaReading.{text_insert_at, embed_insert_at, retain_at, delete_at, operation_behind, operation_at, operations_at};
 
 use super::pairs::{attributes, change, name};
 use super::values::value;
@@ -29,7 +29,7 @@ pub(super) fn operations(
     Ok((ops, rest))
 }
 
-#[tactic(auto, unfolding(crate::specs::DeltaReading::operation_at))]
+#[tactic(auto, unfolding(crate::specs::steps::DeltaReading::operation_at))]
 fn operation(alloc: Global, bytes: &[u8]) -> Result<(Op, &[u8]), Unread>
     ensures { Gives (λ x. (x.0, x.1.now)) result (operation_at bytes.now) }
 {
@@ -37,7 +37,7 @@ fn operation(alloc: Global, bytes: &[u8]) -> Result<(Op, &[u8]), Unread>
     operation_of_tag(alloc, tag, rest)
 }
 
-#[tactic(auto, unfolding(crate::specs::DeltaReading::operation_behind))]
+#[tactic(auto, unfolding(crate::specs::steps::DeltaReading::operation_behind))]
 fn operation_of_tag(alloc: Global, tag: u8, bytes: &[u8]) -> Result<(Op, &[u8]), Unread>
     ensures { Gives (λ x. (x.0, x.1.now)) result (operation_behind tag bytes.now) }
 {
@@ -50,7 +50,7 @@ fn operation_of_tag(alloc: Global, tag: u8, bytes: &[u8]) -> Result<(Op, &[u8]),
     }
 }
 
-#[tactic(auto, unfolding(crate::specs::DeltaReading::text_insert_at))]
+#[tactic(auto, unfolding(crate::specs::steps::DeltaReading::text_insert_at))]
 fn text_insert(alloc: Global, bytes: &[u8]) -> Result<(Op, &[u8]), Unread>
     ensures { Gives (λ x. (x.0, x.1.now)) result (text_insert_at bytes.now) }
 {
@@ -60,7 +60,7 @@ fn text_insert(alloc: Global, bytes: &[u8]) -> Result<(Op, &[u8]), Unread>
     Ok((Op::text(text, attrs), rest))
 }
 
-#[tactic(auto, unfolding(crate::specs::DeltaReading::embed_insert_at))]
+#[tactic(auto, unfolding(crate::specs::steps::DeltaReading::embed_insert_at))]
 fn embed_insert(alloc: Global, bytes: &[u8]) -> Result<(Op, &[u8]), Unread>
     ensures { Gives (λ x. (x.0, x.1.now)) result (embed_insert_at bytes.now) }
 {
@@ -74,7 +74,7 @@ fn embed_insert(alloc: Global, bytes: &[u8]) -> Result<(Op, &[u8]), Unread>
     }
 }
 
-#[tactic(auto, unfolding(crate::specs::DeltaReading::retain_at))]
+#[tactic(auto, unfolding(crate::specs::steps::DeltaReading::retain_at))]
 fn retain(alloc: Global, bytes: &[u8]) -> Result<(Op, &[u8]), Unread>
     ensures { Gives (λ x. (x.0, x.1.now)) result (retain_at bytes.now) }
 {
@@ -83,7 +83,7 @@ fn retain(alloc: Global, bytes: &[u8]) -> Result<(Op, &[u8]), Unread>
     Ok((Op::retain(len, change), rest))
 }
 
-#[tactic(auto, unfolding(crate::specs::DeltaReading::delete_at))]
+#[tactic(auto, unfolding(crate::specs::steps::DeltaReading::delete_at))]
 fn delete(bytes: &[u8]) -> Result<(Op, &[u8]), Unread>
     ensures { Gives (λ x. (x.0, x.1.now)) result (delete_at bytes.now) }
 {

@@ -2,8 +2,8 @@
 ghost use Rattle.std.specs.Prelude.{◌≡◌, [], IfOk, IfErr, OnOk};
 ghost use Rattle.attributes.specs.Attributes.{IsKey};
 ghost use Rattle.attributes.specs.Map.{empty, insert};
-ghost use Rattle.journal.specs.Reading.{Gives};
-ghost use Rattle.journal.specs.DeltaReading.{key_at, key_above, pair_at, pairs_at, value_at, new_value_at, attributes_at, change_at};
+ghost use Rattle.journal.specs.steps.Reading.{Gives};
+ghost use Rattle.journal.specs.steps.DeltaReading.{key_at, key_above, pair_at, pairs_at, value_at, new_value_at, attributes_at, change_at};
 
 use super::values::{new_value, value};
 use super::{number32, text16};
@@ -17,7 +17,7 @@ use std::cmp::Ordering;
 const MAX_NAME: usize = 64;
 
 /// Attributes.
-#[tactic(auto, unfolding(crate::specs::DeltaReading::attributes_at))]
+#[tactic(auto, unfolding(crate::specs::steps::DeltaReading::attributes_at))]
 pub(super) fn attributes(alloc: Global, bytes: &[u8]) -> Result<(Attrs, &[u8]), Unread>
     ensures { Gives (λ x. (x.0, x.1.now)) result (attributes_at bytes.now) }
 {
@@ -26,7 +26,7 @@ pub(super) fn attributes(alloc: Global, bytes: &[u8]) -> Result<(Attrs, &[u8]), 
 }
 
 /// A change.
-#[tactic(auto, unfolding(crate::specs::DeltaReading::change_at))]
+#[tactic(auto, unfolding(crate::specs::steps::DeltaReading::change_at))]
 pub(super) fn change(alloc: Global, bytes: &[u8]) -> Result<(Change, &[u8]), Unread>
     ensures { Gives (λ x. (x.0, x.1.now)) result (change_at bytes.now) }
 {
@@ -64,7 +64,7 @@ fn change_pairs(alloc: Global, count: u32, bytes: &[u8]) -> Result<(Change, &[u8
     Ok((change, rest))
 }
 
-#[tactic(auto, unfolding(crate::specs::DeltaReading::pair_at))]
+#[tactic(auto, unfolding(crate::specs::steps::DeltaReading::pair_at))]
 fn attribute_pair<'a>(
     alloc: Global,
     last: &str,
@@ -78,7 +78,7 @@ fn attribute_pair<'a>(
     Ok((name, value, rest))
 }
 
-#[tactic(auto, unfolding(crate::specs::DeltaReading::pair_at))]
+#[tactic(auto, unfolding(crate::specs::steps::DeltaReading::pair_at))]
 fn change_pair<'a>(
     alloc: Global,
     last: &str,
@@ -133,7 +133,7 @@ fn key_of(alloc: Global, name: &str) -> Result<Key, Unread>
     }
 }
 
-#[tactic(auto, unfolding(crate::specs::DeltaReading::key_above))]
+#[tactic(auto, unfolding(crate::specs::steps::DeltaReading::key_above))]
 fn name_above<'a>(last: &str, bytes: &'a [u8]) -> Result<(&'a str, &'a [u8]), Unread>
     ensures read { Gives (λ x. (x.0.now, x.1.now)) result (key_above last.now bytes.now) }
     ensures kept { IfOk result (λ x. IsKey x.0.now) }
@@ -146,7 +146,7 @@ fn name_above<'a>(last: &str, bytes: &'a [u8]) -> Result<(&'a str, &'a [u8]), Un
 }
 
 /// A name of 1 to 64 bytes.
-#[tactic(auto, unfolding(crate::specs::DeltaReading::key_at, crate::specs::Reading::name_at))]
+#[tactic(auto, unfolding(crate::specs::steps::DeltaReading::key_at, crate::specs::steps::Reading::name_at))]
 pub(super) fn name(bytes: &[u8]) -> Result<(&str, &[u8]), Unread>
     ensures read { Gives (λ x. (x.0.now, x.1.now)) result (key_at bytes.now) }
     ensures kept { IfOk result (λ x. IsKey x.0.now) }

@@ -1,6 +1,6 @@
 //! Reading of values, and of what a change makes of a name.
-ghost use Rattle.journal.specs.Reading.{Gives};
-ghost use Rattle.journal.specs.DeltaReading.{whole_at, text_value_at, value_behind, value_at, new_value_behind, new_value_at};
+ghost use Rattle.journal.specs.steps.Reading.{Gives};
+ghost use Rattle.journal.specs.steps.DeltaReading.{whole_at, text_value_at, value_behind, value_at, new_value_behind, new_value_at};
 
 use super::{byte, number64, text32};
 use crate::batch::unread::Unread;
@@ -8,7 +8,7 @@ use attributes::Value;
 use std::alloc::Global;
 
 /// A value.
-#[tactic(auto, unfolding(crate::specs::DeltaReading::value_at))]
+#[tactic(auto, unfolding(crate::specs::steps::DeltaReading::value_at))]
 pub(super) fn value(alloc: Global, bytes: &[u8]) -> Result<(Value, &[u8]), Unread>
     ensures { Gives (λ x. (x.0, x.1.now)) result (value_at bytes.now) }
 {
@@ -17,7 +17,7 @@ pub(super) fn value(alloc: Global, bytes: &[u8]) -> Result<(Value, &[u8]), Unrea
 }
 
 /// A new value, or that a name is removed.
-#[tactic(auto, unfolding(crate::specs::DeltaReading::new_value_at))]
+#[tactic(auto, unfolding(crate::specs::steps::DeltaReading::new_value_at))]
 pub(super) fn new_value(alloc: Global, bytes: &[u8]) -> Result<(Option<Value>, &[u8]), Unread>
     ensures { Gives (λ x. (x.0, x.1.now)) result (new_value_at bytes.now) }
 {
@@ -25,7 +25,7 @@ pub(super) fn new_value(alloc: Global, bytes: &[u8]) -> Result<(Option<Value>, &
     new_value_of_tag(alloc, tag, rest)
 }
 
-#[tactic(auto, unfolding(crate::specs::DeltaReading::new_value_behind))]
+#[tactic(auto, unfolding(crate::specs::steps::DeltaReading::new_value_behind))]
 fn new_value_of_tag(alloc: Global, tag: u8, bytes: &[u8]) -> Result<(Option<Value>, &[u8]), Unread>
     ensures { Gives (λ x. (x.0, x.1.now)) result (new_value_behind tag bytes.now) }
 {
@@ -36,7 +36,7 @@ fn new_value_of_tag(alloc: Global, tag: u8, bytes: &[u8]) -> Result<(Option<Valu
     Ok((Some(value), rest))
 }
 
-#[tactic(auto, unfolding(crate::specs::DeltaReading::value_behind))]
+#[tactic(auto, unfolding(crate::specs::steps::DeltaReading::value_behind))]
 fn value_of_tag(alloc: Global, tag: u8, bytes: &[u8]) -> Result<(Value, &[u8]), Unread>
     ensures { Gives (λ x. (x.0, x.1.now)) result (value_behind tag bytes.now) }
 {
@@ -49,7 +49,7 @@ fn value_of_tag(alloc: Global, tag: u8, bytes: &[u8]) -> Result<(Value, &[u8]), 
     }
 }
 
-#[tactic(auto, unfolding(crate::specs::DeltaReading::whole_at))]
+#[tactic(auto, unfolding(crate::specs::steps::DeltaReading::whole_at))]
 fn whole(bytes: &[u8]) -> Result<(Value, &[u8]), Unread>
     ensures { Gives (λ x. (x.0, x.1.now)) result (whole_at bytes.now) }
 {
@@ -60,7 +60,7 @@ fn whole(bytes: &[u8]) -> Result<(Value, &[u8]), Unread>
     }
 }
 
-#[tactic(auto, unfolding(crate::specs::DeltaReading::text_value_at))]
+#[tactic(auto, unfolding(crate::specs::steps::DeltaReading::text_value_at))]
 fn text(alloc: Global, bytes: &[u8]) -> Result<(Value, &[u8]), Unread>
     ensures { Gives (λ x. (x.0, x.1.now)) result (text_value_at bytes.now) }
 {

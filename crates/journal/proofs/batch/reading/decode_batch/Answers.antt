@@ -1,6 +1,6 @@
 use Rattle.std.proofs.Common.{sym, ap, ◌∙◌, arith}
 use Rattle.std.proofs.lemmas.Option.{none-some}
-use Rattle.journal.specs.BatchReading.{whole_at}
+use Rattle.journal.specs.steps.BatchReading.{whole_at}
 use Rattle.journal.proofs.Batches.{whole_takes, whole_again}
 use Rattle.journal.proofs.batch.reading.decode_batch.Goals as goal
 

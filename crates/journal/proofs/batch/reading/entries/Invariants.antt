@@ -1,5 +1,5 @@
 use Rattle.std.proofs.Common.{◌≡◌, ◌-◌}
-use Rattle.journal.specs.BatchReading.{entries_at}
+use Rattle.journal.specs.steps.BatchReading.{entries_at}
 use Rattle.journal.proofs.Entries.{behind}
 use Rattle.journal.proofs.batch.reading.entries.Given as goal
 

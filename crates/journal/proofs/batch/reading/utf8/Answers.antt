@@ -2,7 +2,7 @@ use Rattle.std.proofs.Common.{Some, None, sym, ap, ◌∙◌}
 use Rattle.std.specs.Str.{is_utf8}
 use Rattle.std.proofs.lemmas.Bool.{cond-true, cond-false, false_from_ne_true}
 use Rattle.std.proofs.lemmas.Str.{IsUtf8-from_is_utf8, is_utf8-from_IsUtf8}
-use Rattle.journal.specs.Reading.{utf8_at}
+use Rattle.journal.specs.steps.Reading.{utf8_at}
 use Rattle.journal.proofs.batch.reading.utf8.Goals as goal
 
 pub returns-in-Ok-clause-read : goal.returns-in-Ok-clause-read

@@ -1,6 +1,6 @@
 use Rattle.std.proofs.Common.{sym, ap, ◌∙◌, arith}
 use Rattle.std.proofs.lemmas.Option.{none-some}
-use Rattle.journal.specs.DeltaReading.{delta_at}
+use Rattle.journal.specs.steps.DeltaReading.{delta_at}
 use Rattle.journal.proofs.ReadDeltas.{delta_takes, delta_again}
 use Rattle.journal.proofs.batch.reading.deltas.read_delta.Goals as goal
 

@@ -1,6 +1,6 @@
 use Rattle.std.proofs.Common.{◌≡◌, ◌-◌, ◌∙◌, sym, ap, take, drop, length, length-drop, arith}
 use Rattle.std.proofs.lemmas.List.{take_all}
-use Rattle.journal.specs.DeltaReading.{begins_normal}
+use Rattle.journal.specs.steps.DeltaReading.{begins_normal}
 use Rattle.journal.proofs.NormalForms.{normal_more}
 use Rattle.journal.proofs.batch.reading.normal_form.has_normal_form.Goals as goal
 

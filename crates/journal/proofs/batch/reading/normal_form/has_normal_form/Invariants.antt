@@ -1,5 +1,5 @@
 use Rattle.std.proofs.Common.{◌≡◌, drop}
-use Rattle.journal.specs.DeltaReading.{is_normal}
+use Rattle.journal.specs.steps.DeltaReading.{is_normal}
 use Rattle.journal.proofs.batch.reading.normal_form.has_normal_form.Given as goal
 
 -- it rests on the operations that are left

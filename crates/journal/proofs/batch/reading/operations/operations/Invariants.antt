@@ -1,5 +1,5 @@
 use Rattle.std.proofs.Common.{◌≡◌, ◌-◌, []}
-use Rattle.journal.specs.DeltaReading.{operations_at}
+use Rattle.journal.specs.steps.DeltaReading.{operations_at}
 use Rattle.journal.proofs.batch.reading.operations.operations.Given as goal
 
 -- what was read and what is left to read are all that is read

@@ -3,8 +3,8 @@ use Rattle.std.specs.Prelude.{ℕ, zero, suc, ◌==◌, ◌^◌, nat_lt, if◌th
 use Rattle.std.specs.Int.{w32, w64}
 use Rattle.revision.specs.Name.{is_source_name, is_document_name}
 use Rattle.revision.specs.Command.{Taken}
-use Rattle.journal.specs.Reading.{◌>>=◌, number_at, fixed_at, within_at, byte_at, name_at}
-use Rattle.journal.specs.DeltaReading.{delta_at}
+use Rattle.journal.specs.steps.Reading.{◌>>=◌, number_at, fixed_at, within_at, byte_at, name_at}
+use Rattle.journal.specs.steps.DeltaReading.{delta_at}
 
 -- a creation, behind its tag
 unfoldable pub creation_at : List ℕ → Option (Taken × List ℕ)

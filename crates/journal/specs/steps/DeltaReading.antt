@@ -8,7 +8,7 @@ use Rattle.attributes.specs.Attributes.{Attributes, Changes}
 use Rattle.attributes.specs.Scalar.{Scalar, text_scalar, whole_scalar, flag_scalar}
 use Rattle.delta.specs.Operation.{Operation, insert_text, insert_embed, retain, delete, base_of, out_of, op_len, is_plain}
 use Rattle.delta.specs.Normal.{is_built, ends_plain, may_precede}
-use Rattle.journal.specs.Reading.{◌>>=◌, number_at, text_at, name_at, byte_at}
+use Rattle.journal.specs.steps.Reading.{◌>>=◌, number_at, text_at, name_at, byte_at}
 
 -- a whole number of magnitude below 2^53
 abbrev pub is_exact : ℤ → Bool
