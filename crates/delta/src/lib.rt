@@ -9,6 +9,33 @@
 //! attributes, which is no part of the delta. A `Cursor` walks over operations and may stop within one, of which a `Part`
 //! is then left; no text is counted again or copied for that. The definitions stand in specs/Operation.antt,
 //! specs/Gaps.antt, specs/Normal.antt and specs/Parts.antt. It stands on `utf16` and `attributes`.
+//!
+//! A caller, with its contract, which is proved as it stands:
+//!
+//! ```text
+//! ghost use Rattle.std.specs.Prelude.{◌≡◌, [], ◌∷◌, IfOk};
+//! ghost use Rattle.utf16.specs.Units.{units_of};
+//! ghost use Rattle.attributes.specs.Map.{empty};
+//! ghost use Rattle.delta.specs.Operation.{insert_text};
+//! ghost use Rattle.delta.specs.Gaps.{counted};
+//! ghost use Rattle.delta.specs.Normal.{nf};
+//!
+//! use attributes::Attrs;
+//! use delta::{Builder, Delta, Op, laws};
+//! use refusal::Refusal;
+//! use std::alloc::Global;
+//!
+//! /// The delta that inserts a text at the beginning of a document.
+//! pub fn insertion(alloc: Global, text: &str) -> Result<Delta, Refusal>
+//!     ensures { IfOk result (λ delta. delta ≡ nf (counted (insert_text (units_of text.now) empty ∷ []))) }
+//! {
+//!     laws::normal_of_built();
+//!     let text = String::from_str(alloc, text)?;
+//!     let mut builder = Builder::new(alloc);
+//!     builder.push(Op::text(text, Attrs::new(alloc)))?;
+//!     Ok(builder.finish())
+//! }
+//! ```
 #![tactic(auto)]
 
 mod builder;

@@ -16,7 +16,7 @@ use Rattle.delta.specs.Gaps.{counted, apply}
 use Rattle.delta.specs.Normal.{IsNormal}
 use Rattle.delta.proofs.CallerLemmas.{effect_past_end, effect_of_retain, effect_of_delete}
 use Rattle.document.specs.Pairs.{IsPair, IsPairAt, IsWithinPair}
-use Rattle.document.specs.Passes.{StopsInPair, IsOneApplied, with_change}
+use Rattle.document.specs.steps.Passes.{StopsInPair, IsOneApplied, with_change}
 use Rattle.document.specs.Places.{Cuts}
 use Rattle.document.proofs.Parting.{parts_of_cut, cut_of_parts}
 use Rattle.document.proofs.Letters.{letters-append}

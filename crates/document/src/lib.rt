@@ -7,6 +7,30 @@
 //! belongs and changes nothing, and the document's length, weight, copy and delta. The definitions stand in specs/
 //! (Pairs, Places and Weight are read first); `laws` has what follows from them.
 //! It stands on `utf16`, `attributes`, `delta` and `refusal`.
+//!
+//! A caller, with its contract, which is proved as it stands:
+//!
+//! ```text
+//! ghost use Rattle.std.specs.Prelude.{◌≡◌, IfOk};
+//! ghost use Rattle.delta.specs.Gaps.{counted, apply};
+//! ghost use Rattle.document.specs.Making.{document_from};
+//! ghost use Rattle.document.specs.Pairs.{IsWellFormed};
+//!
+//! use delta::Delta;
+//! use document::Document;
+//! use refusal::Refusal;
+//! use std::alloc::Global;
+//!
+//! /// The document that the first delta makes, after the second.
+//! pub fn after_both(alloc: Global, first: &Delta, second: &Delta) -> Result<Document, Refusal>
+//!     ensures units { IfOk result (λ document. document ≡ apply (document_from first.now) (counted second.now)) }
+//!     ensures well_formed { IfOk result (λ document. IsWellFormed document) }
+//! {
+//!     let mut document = Document::from_delta(alloc, first)?;
+//!     document.apply(alloc, second)?;
+//!     Ok(document)
+//! }
+//! ```
 #![tactic(auto)]
 
 mod applying;

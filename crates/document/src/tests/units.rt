@@ -7,7 +7,7 @@ ghost use Rattle.delta.specs.Element.{letters};
 ghost use Rattle.delta.specs.Operation.{op_base, base_of};
 ghost use Rattle.delta.specs.Gaps.{counted, apply};
 ghost use Rattle.document.specs.Pairs.{IsPair, IsWithinPair};
-ghost use Rattle.document.specs.Passes.{StopsInPair, kept};
+ghost use Rattle.document.specs.steps.Passes.{StopsInPair, kept};
 ghost use Rattle.delta.specs.Places.{IsDefined};
 ghost use Rattle.document.specs.Places.{Cuts};
 

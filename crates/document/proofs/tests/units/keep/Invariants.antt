@@ -1,5 +1,5 @@
 use Rattle.std.proofs.Common.{◌≡◌, ◌++◌, take}
-use Rattle.document.specs.Passes.{kept}
+use Rattle.document.specs.steps.Passes.{kept}
 use Rattle.document.proofs.tests.units.keep.Given as goal
 
 abbrev pub invariant-loop-unit : goal.invariant-loop-unit

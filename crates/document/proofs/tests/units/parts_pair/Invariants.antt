@@ -1,6 +1,6 @@
 use Rattle.std.proofs.Common.{◌≤◌, length, drop}
 use Rattle.delta.specs.Operation.{base_of}
-use Rattle.document.specs.Passes.{StopsInPair}
+use Rattle.document.specs.steps.Passes.{StopsInPair}
 use Rattle.document.proofs.tests.units.parts_pair.Given as goal
 
 abbrev pub invariant-loop-op : goal.invariant-loop-op
