@@ -14,8 +14,6 @@ pub mod laws;
 mod making;
 mod reading;
 mod task;
-#[cfg(test)]
-mod tests;
 mod writing;
 
 pub use task::Task;

@@ -3,3 +3,4 @@ pub mod AtEachName
 pub mod Places
 pub mod Outcomes
 pub mod Prefixes
+pub mod CallerLemmas

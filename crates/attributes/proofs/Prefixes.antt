@@ -1,5 +1,5 @@
 -- The first entries of a map, and each operation as it comes over them, entry by entry.
-use Rattle.std.proofs.Common.{◌≡◌, ℕ, ◌+◌, ◌<◌, ◌≤◌, Bool, true, false, cond, List, [], ◌∷◌, ◌++◌, length, take, drop, get_or, Option, Some, None, refl, sym, ap, subst, ◌∙◌, Less, Greater, arith}
+use Rattle.std.proofs.Common.{◌≡◌, ℕ, suc, ◌+◌, ◌<◌, ◌≤◌, Bool, true, false, cond, List, [], ◌∷◌, ◌++◌, length, take, drop, get_or, Option, Some, None, refl, sym, ap, subst, ◌∙◌, Less, Greater, add-one, drop-cons, arith}
 use Rattle.std.proofs.Math.Seq.{take-length}
 use Rattle.std.proofs.lemmas.List.{take-append-drop, take_more}
 use Rattle.std.specs.Prelude.{T, ◌&&◌}
@@ -7,7 +7,7 @@ use Rattle.std.specs.Cmp.Lexicographic.{nat_list_cmp_total}
 use Rattle.std.specs.FinMap.Entries.{find, find-append, is_sorted, below_all}
 use Rattle.std.specs.Ordering.{is_lt, ordering_reverse}
 use Rattle.attributes.specs.Attributes.{Attributes, Changes, changed, changed_by, put_or_remove, reverted, reverted_by, same_option}
-use Rattle.attributes.specs.Laws.{first_of, value_after, value_back}
+use Rattle.attributes.specs.Laws.{first_of, value_after, value_back, with_entries}
 use Rattle.attributes.specs.Map.{Map, by_bytes, get, contains, empty, insert, insert_all, overwritten, without, same_entries_map}
 use Rattle.attributes.specs.Scalar.{Scalar}
 use Rattle.attributes.proofs.AtEachName.{get-changed, get-reverted, get-put_or_remove, after_cond}
@@ -98,6 +98,20 @@ module _ {X : Type 0} where
         ∙ (ap (λ o. cond (contains n e.0) o (cond (is_name name e.0) (Some e.1) o)) (get-without (prefix m i) n name)
         ∙ (without_cond n name (is_name name e.0) refl (get (prefix m i) name)
         ∙ (ap (cond (contains n name) None) (sym (get-prefix-more name)) ∙ sym (get-without (prefix m (i + 1)) n name))))))
+
+-- all entries, put into the map without one
+with_entries-rest : {X : Type 0} (m : Map X) (rest : List (List ℕ × X)) (i : ℕ) → i + length rest ≡ length m.entries → drop i m.entries ≡ rest → with_entries (prefix m i) rest ≡ m
+with_entries-rest m [] i all left = prefix-all m i (omega arith)
+with_entries-rest m (e ∷ es) i all left =
+    let inside : i < length m.entries = omega arith in
+    let here : drop i m.entries ≡ get_or m.entries i e ∷ drop (suc i) m.entries = drop-cons m.entries i e inside in
+    let is : e ≡ get_or m.entries i e = cc in
+    let others : drop (suc i) m.entries ≡ es = cc in
+    let next : drop (i + 1) m.entries ≡ es = rw add-one others in
+    ap (λ n. with_entries n es) (insert-prefix m i e inside is) ∙ with_entries-rest m es (i + 1) (omega arith) next
+
+pub with_entries-all : {X : Type 0} (m : Map X) → with_entries empty m.entries ≡ m
+with_entries-all m = ap (λ n. with_entries n m.entries) (prefix-none m empty refl) ∙ with_entries-rest m m.entries 0 (omega arith) refl
 
 module _ (a : Attributes) (c : Changes) (i : ℕ) (e : List ℕ × Option Scalar) (inside : i < length c.entries) (is : e ≡ get_or c.entries i e) where
   -- one more entry of a change

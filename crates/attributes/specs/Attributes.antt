@@ -1,14 +1,25 @@
 -- Attributes, and changes of attributes (quill-delta's README, "Attributes"; its AttributeMap has `compose`, `transform` and `invert`).
-use Rattle.std.specs.Prelude.{◌≡◌, ℕ, ◌≤◌, Bool, List, [], ◌∷◌, length, Option, Some, None, if◌then◌else◌}
+use Rattle.std.specs.Prelude.{◌≡◌, ℕ, ◌≤◌, nat_le, ◌&&◌, Bool, List, [], ◌∷◌, length, Option, Some, None, if◌then◌else◌}
 use Rattle.std.specs.Option.{option_eq}
 use Rattle.std.specs.Bool.{Decides}
 use Rattle.std.proofs.Common.{ap, refl}
+use Rattle.std.proofs.lemmas.Bool.{and_parts, and_from, leb-true, le-leb}
 use Rattle.attributes.specs.Map.{Map, empty, get, insert, remove, overwritten, without, same_map_by, same_map_by-Decides}
 use Rattle.attributes.specs.Scalar.{Scalar, same_scalar, same_scalar-Decides}
 
 -- a name of an attribute or an embed has 1 to 64 bytes of UTF-8
 abbrev pub IsKey : List ℕ → Type 0
 IsKey name = (1 ≤ length name) × (length name ≤ 64)
+
+-- and its test
+abbrev pub is_key : List ℕ → Bool
+is_key name = nat_le 1 (length name) && nat_le (length name) 64
+
+pub is_key-Decides : (name : List ℕ) → Decides (is_key name) (IsKey name)
+is_key-Decides name = (
+  λ e. let parts = and_parts (nat_le 1 (length name)) (nat_le (length name) 64) e in (leb-true _ _ parts.0, leb-true _ _ parts.1),
+  λ is. and_from _ _ (le-leb _ _ is.0) (le-leb _ _ is.1),
+)
 
 -- attributes: a value at each of their names
 abbrev pub Attributes : Type 0

@@ -1,6 +1,8 @@
 -- What holds of any attributes and changes.
-use Rattle.std.specs.Prelude.{◌≡◌, ℕ, true, false, List, Option, Some, None, if◌then◌else◌}
-use Rattle.attributes.specs.Map.{get, contains}
+use Rattle.std.specs.Prelude.{◌≡◌, ℕ, true, false, T, List, [], ◌∷◌, take, Option, Some, None, if◌then◌else◌}
+use Rattle.std.specs.FinMap.Entries.{is_sorted}
+use Rattle.std.specs.Ordering.{eq_by_cmp}
+use Rattle.attributes.specs.Map.{Map, by_bytes, empty, get, contains, insert}
 use Rattle.attributes.specs.Attributes.{Attributes, Changes, changed, composed, transformed, reverted, same_option}
 use Rattle.attributes.specs.Scalar.{Scalar}
 
@@ -25,6 +27,29 @@ SameAttributes = (a b : Attributes) → ((name : List ℕ) → get a name ≡ ge
 
 abbrev pub SameChanges : Type 0
 SameChanges = (c d : Changes) → ((name : List ℕ) → get c name ≡ get d name) → c ≡ d
+
+-- what stands at a name after a value was put at one
+abbrev pub value_put : {X : Type 0} → Map X → List ℕ → X → List ℕ → Option X
+value_put m put_at x name = if eq_by_cmp by_bytes name put_at then Some x else get m name
+
+pub record GetInserted : Type 0 where
+  pub of_attributes : (a : Attributes) (put_at : List ℕ) (x : Scalar) (name : List ℕ) → get (insert a put_at x) name ≡ value_put a put_at x name
+  pub of_changes : (c : Changes) (put_at : List ℕ) (x : Option Scalar) (name : List ℕ) → get (insert c put_at x) name ≡ value_put c put_at x name
+
+-- a map with entries put into it, one after another
+abbrev pub with_entries : {X : Type 0} → Map X → List (List ℕ × X) → Map X
+with_entries m [] = m
+with_entries m (e ∷ es) = with_entries (insert m e.0 e.1) es
+
+-- a map's entries, put into the map without an entry, are the map
+pub record EntriesMakeMap : Type 0 where
+  pub of_attributes : (a : Attributes) → with_entries empty a.entries ≡ a
+  pub of_changes : (c : Changes) → with_entries empty c.entries ≡ c
+
+-- the first of a map's entries are in order too
+pub record FirstEntriesAscend : Type 0 where
+  pub of_attributes : (a : Attributes) (count : ℕ) → T (is_sorted by_bytes (take count a.entries))
+  pub of_changes : (c : Changes) (count : ℕ) → T (is_sorted by_bytes (take count c.entries))
 
 -- what each operation leaves at a name
 abbrev pub GetChanged : Type 0

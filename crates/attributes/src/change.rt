@@ -54,6 +54,21 @@ impl Change {
         self.map.set(key, value)
     }
 
+    /// Sets or removes a name by a copy of the name and of its value.
+    pub(crate) fn set_copy(
+        &mut self,
+        alloc: Global,
+        key: &Key,
+        value: &Option<Value>,
+    ) -> Result<(), Refusal>
+        ensures ok { OnOk result (self.new ≡ insert self.old key.now value.now) }
+        ensures only { IsOkUnless result Refusal.NoMemory }
+    {
+        let key = key.copy(alloc)?;
+        let value = copy_value(alloc, value)?;
+        self.set(key, value)
+    }
+
     /// What the change makes of a name, where it has the name.
     pub fn get(&self, name: &str) -> Option<&Option<Value>>
         ensures { option_copied result ≡ get self.now name.now }
@@ -82,7 +97,7 @@ impl Change {
     {
         let mut copy = Change::new(alloc);
         for (key, value) in self.entries() {
-            copy.set(key.copy(alloc)?, copy_value(alloc, value)?)?;
+            copy.set_copy(alloc, key, value)?;
         }
         Ok(copy)
     }

@@ -4,7 +4,7 @@ ghost use Rattle.attributes.specs.Map.{get};
 ghost use Rattle.attributes.specs.Attributes.{changed, composed, transformed, reverted, same_option};
 
 use crate::attrs::Attrs;
-use crate::change::{Change, copy_value};
+use crate::change::Change;
 use crate::key::Key;
 use crate::value::Value;
 use refusal::Refusal;
@@ -32,7 +32,7 @@ pub fn compose(alloc: Global, first: &Change, second: &Change) -> Result<Change,
 {
     let mut both = first.copy(alloc)?;
     for (key, value) in second.entries() {
-        both.set(key.copy(alloc)?, copy_value(alloc, value)?)?;
+        both.set_copy(alloc, key, value)?;
     }
     Ok(both)
 }
@@ -53,7 +53,7 @@ pub fn transform(
     let mut after = Change::new(alloc);
     for (key, value) in second.entries() {
         if !first.contains(key.as_str()) {
-            after.set(key.copy(alloc)?, copy_value(alloc, value)?)?;
+            after.set_copy(alloc, key, value)?;
         }
     }
     Ok(after)

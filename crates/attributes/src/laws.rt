@@ -1,5 +1,5 @@
 //! What holds of attributes and changes, as contracts to cite: each function does nothing and promises one law.
-ghost use Rattle.attributes.specs.Laws.{SameAttributes, SameChanges, GetChanged, GetComposed, GetTransformed, GetReverted, ChangedTwice, ChangedEitherWay, ChangedBack};
+ghost use Rattle.attributes.specs.Laws.{SameAttributes, SameChanges, GetInserted, EntriesMakeMap, FirstEntriesAscend, GetChanged, GetComposed, GetTransformed, GetReverted, ChangedTwice, ChangedEitherWay, ChangedBack};
 
 /// Attributes are told apart by what stands at their names.
 pub fn same_attributes()
@@ -9,6 +9,21 @@ pub fn same_attributes()
 /// Changes are told apart by what stands at their names.
 pub fn same_changes()
     ensures { SameChanges }
+{}
+
+/// What stands at a name after a value was put at one.
+pub fn get_inserted()
+    ensures { GetInserted }
+{}
+
+/// The entries of attributes or of a change, put into an empty one, make them again.
+pub fn entries_make_map()
+    ensures { EntriesMakeMap }
+{}
+
+/// The first entries of attributes or of a change are in the order of their names' bytes.
+pub fn first_entries_ascend()
+    ensures { FirstEntriesAscend }
 {}
 
 /// What a change leaves at a name.

@@ -6,6 +6,28 @@
 //! crate promises quill-delta's four operations on attributes, exactly, and refuses them only for want
 //! of memory. The definitions stand in specs/Attributes.antt; `laws` has what follows from them.
 //! It stands on `refusal`.
+//!
+//! A caller, with its contract, which is proved as it stands:
+//!
+//! ```text
+//! ghost use Rattle.std.specs.Prelude.{◌≡◌, IfOk};
+//! ghost use Rattle.attributes.specs.Attributes.{changed};
+//!
+//! use attributes::{Attrs, Change, apply, invert, laws};
+//! use refusal::Refusal;
+//! use std::alloc::Global;
+//!
+//! /// The attributes after a change, and the change that takes it back.
+//! pub fn change_attributes(alloc: Global, attrs: &Attrs, change: &Change) -> Result<(Attrs, Change), Refusal>
+//!     ensures after { IfOk result (λ done. done.0 ≡ changed attrs.now change.now) }
+//!     ensures back { IfOk result (λ done. changed done.0 done.1 ≡ attrs.now) }
+//! {
+//!     laws::changed_back();
+//!     let after = apply(alloc, attrs, change)?;
+//!     let back = invert(alloc, change, attrs)?;
+//!     Ok((after, back))
+//! }
+//! ```
 #![tactic(auto)]
 
 mod attrs;
@@ -14,8 +36,6 @@ mod changing;
 mod key;
 pub mod laws;
 mod map;
-#[cfg(test)]
-mod tests;
 mod value;
 
 pub use attrs::Attrs;

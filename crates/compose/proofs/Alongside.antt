@@ -10,13 +10,13 @@ use Rattle.delta.proofs.Effects.{changed-empty}
 use Rattle.delta.proofs.Joins.{front-nil, front-front}
 use Rattle.delta.proofs.Settling.{settled-front, past-front}
 use Rattle.compose.specs.Places.{inserts, fate, tail}
-use Rattle.compose.specs.Composed.{laid, beyond, kept_then, composed}
+use Rattle.compose.specs.Composed.{units_after, beyond, kept_then, composed}
 
 -- nothing over inserted units, and over any gap form
-laid-nothing : (xs : List Element) → laid xs (End []) ≡ xs
+laid-nothing : (xs : List Element) → units_after xs (End []) ≡ xs
 laid-nothing [] = refl
 laid-nothing (x ∷ xs) =
-    ap (λ a. record x { attributes = a } ∷ laid xs (End [])) (changed-empty x.attributes) ∙ ap (λ l. x ∷ l) (laid-nothing xs)
+    ap (λ a. record x { attributes = a } ∷ units_after xs (End [])) (changed-empty x.attributes) ∙ ap (λ l. x ∷ l) (laid-nothing xs)
 
 beyond-nothing : (xs : List Element) → beyond xs (End []) ≡ End []
 beyond-nothing [] = refl
@@ -44,7 +44,7 @@ composed-nothing (Gap xs (Keep c) g) =
     ∙ (ap (λ f. Gap xs f (composed g (End []))) (kept-nothing c) ∙ ap (Gap xs (Keep c)) (composed-nothing g))))
 
 -- units inserted before the first gap form
-laid-append : (xs ys : List Element) (b : Gaps) → laid (xs ++ ys) b ≡ laid xs b ++ laid ys (beyond xs b)
+laid-append : (xs ys : List Element) (b : Gaps) → units_after (xs ++ ys) b ≡ units_after xs b ++ units_after ys (beyond xs b)
 laid-append [] ys b = refl
 laid-append (x ∷ xs) ys b =
     ap (λ l. inserts b ++ (fated (fate b) x ++ l)) (laid-append xs ys (tail b)) ∙ simp append_assoc
@@ -53,25 +53,25 @@ pub beyond-append : (xs ys : List Element) (b : Gaps) → beyond (xs ++ ys) b �
 beyond-append [] ys b = refl
 beyond-append (x ∷ xs) ys b = beyond-append xs ys (tail b)
 
-pub composed-front : (xs : List Element) (g b : Gaps) → composed (front xs g) b ≡ front (laid xs b) (composed g (beyond xs b))
+pub composed-front : (xs : List Element) (g b : Gaps) → composed (front xs g) b ≡ front (units_after xs b) (composed g (beyond xs b))
 composed-front xs (End ys) b =
     ap (λ l. front l (beyond (xs ++ ys) b)) (laid-append xs ys b)
-    ∙ (ap (front (laid xs b ++ laid ys (beyond xs b))) (beyond-append xs ys b)
-    ∙ sym (front-front (laid xs b) (laid ys (beyond xs b)) (beyond ys (beyond xs b))))
+    ∙ (ap (front (units_after xs b ++ units_after ys (beyond xs b))) (beyond-append xs ys b)
+    ∙ sym (front-front (units_after xs b) (units_after ys (beyond xs b)) (beyond ys (beyond xs b))))
 composed-front xs (Gap ys Del g) b =
     ap (λ l. front l (Gap [] Del (composed g (beyond (xs ++ ys) b)))) (laid-append xs ys b)
-    ∙ (ap (λ r. front (laid xs b ++ laid ys (beyond xs b)) (Gap [] Del (composed g r))) (beyond-append xs ys b)
-    ∙ sym (front-front (laid xs b) (laid ys (beyond xs b)) (Gap [] Del (composed g (beyond ys (beyond xs b))))))
+    ∙ (ap (λ r. front (units_after xs b ++ units_after ys (beyond xs b)) (Gap [] Del (composed g r))) (beyond-append xs ys b)
+    ∙ sym (front-front (units_after xs b) (units_after ys (beyond xs b)) (Gap [] Del (composed g (beyond ys (beyond xs b))))))
 composed-front xs (Gap ys (Keep c) g) b =
     let over : Gaps → Gaps = λ r. Gap (inserts r) (kept_then c (fate r)) (composed g (tail r)) in
     ap (λ l. front l (over (beyond (xs ++ ys) b))) (laid-append xs ys b)
-    ∙ (ap (λ r. front (laid xs b ++ laid ys (beyond xs b)) (over r)) (beyond-append xs ys b)
-    ∙ sym (front-front (laid xs b) (laid ys (beyond xs b)) (over (beyond ys (beyond xs b)))))
+    ∙ (ap (λ r. front (units_after xs b ++ units_after ys (beyond xs b)) (over r)) (beyond-append xs ys b)
+    ∙ sym (front-front (units_after xs b) (units_after ys (beyond xs b)) (over (beyond ys (beyond xs b)))))
 
 -- units that the second inserts first
-laid-front : (x : Element) (xs ys : List Element) (h : Gaps) → laid (x ∷ xs) (front ys h) ≡ ys ++ laid (x ∷ xs) h
-laid-front x xs ys (End zs) = append_assoc ys zs (fated (Keep empty) x ++ laid xs (End []))
-laid-front x xs ys (Gap zs f h) = append_assoc ys zs (fated f x ++ laid xs h)
+laid-front : (x : Element) (xs ys : List Element) (h : Gaps) → units_after (x ∷ xs) (front ys h) ≡ ys ++ units_after (x ∷ xs) h
+laid-front x xs ys (End zs) = append_assoc ys zs (fated (Keep empty) x ++ units_after xs (End []))
+laid-front x xs ys (Gap zs f h) = append_assoc ys zs (fated f x ++ units_after xs h)
 
 beyond-front : (x : Element) (xs ys : List Element) (h : Gaps) → beyond (x ∷ xs) (front ys h) ≡ beyond (x ∷ xs) h
 beyond-front x xs ys (End zs) = refl
@@ -82,7 +82,7 @@ composed-insert (End []) ys h = ap settled (front-nil (front ys h) ∙ ap (front
 composed-insert (End (x ∷ xs)) ys h =
     ap settled
     (ap (λ l. front l (beyond (x ∷ xs) (front ys h))) (laid-front x xs ys h)
-    ∙ (ap (front (ys ++ laid (x ∷ xs) h)) (beyond-front x xs ys h) ∙ sym (front-front ys (laid (x ∷ xs) h) (beyond (x ∷ xs) h))))
+    ∙ (ap (front (ys ++ units_after (x ∷ xs) h)) (beyond-front x xs ys h) ∙ sym (front-front ys (units_after (x ∷ xs) h) (beyond (x ∷ xs) h))))
 composed-insert (Gap [] Del g) ys h =
     ap (λ s. front [] (past Del s)) (composed-insert g ys h ∙ settled-front ys (composed g h))
     ∙ (ap (front []) (past-front ys (settled (composed g h)))
@@ -92,16 +92,16 @@ composed-insert (Gap [] Del g) ys h =
 composed-insert (Gap (x ∷ xs) Del g) ys h =
     ap settled
     (ap (λ l. front l (Gap [] Del (composed g (beyond (x ∷ xs) (front ys h))))) (laid-front x xs ys h)
-    ∙ (ap (λ r. front (ys ++ laid (x ∷ xs) h) (Gap [] Del (composed g r))) (beyond-front x xs ys h)
-    ∙ sym (front-front ys (laid (x ∷ xs) h) (Gap [] Del (composed g (beyond (x ∷ xs) h))))))
+    ∙ (ap (λ r. front (ys ++ units_after (x ∷ xs) h) (Gap [] Del (composed g r))) (beyond-front x xs ys h)
+    ∙ sym (front-front ys (units_after (x ∷ xs) h) (Gap [] Del (composed g (beyond (x ∷ xs) h))))))
 composed-insert (Gap [] (Keep c) g) ys (End zs) = refl
 composed-insert (Gap [] (Keep c) g) ys (Gap zs f h) = refl
 composed-insert (Gap (x ∷ xs) (Keep c) g) ys h =
     let over : Gaps → Gaps = λ r. Gap (inserts r) (kept_then c (fate r)) (composed g (tail r)) in
     ap settled
     (ap (λ l. front l (over (beyond (x ∷ xs) (front ys h)))) (laid-front x xs ys h)
-    ∙ (ap (λ r. front (ys ++ laid (x ∷ xs) h) (over r)) (beyond-front x xs ys h)
-    ∙ sym (front-front ys (laid (x ∷ xs) h) (over (beyond (x ∷ xs) h)))))
+    ∙ (ap (λ r. front (ys ++ units_after (x ∷ xs) h) (over r)) (beyond-front x xs ys h)
+    ∙ sym (front-front ys (units_after (x ∷ xs) h) (over (beyond (x ∷ xs) h)))))
 
 -- runs of units
 pub composed-deleted : (n : ℕ) (g b : Gaps) → composed (run n Del g) b ≡ run n Del (composed g b)
@@ -113,11 +113,11 @@ composed-kept zero c f g h = refl
 composed-kept (suc n) c f g h = ap (Gap [] (kept_then c f)) (composed-kept n c f g h)
 
 -- inserted letters under a run
-laid-kept : (us : List ℕ) (a : Attributes) (d : Changes) (h : Gaps) → laid (letters us a) (run (length us) (Keep d) h) ≡ letters us (changed a d)
+laid-kept : (us : List ℕ) (a : Attributes) (d : Changes) (h : Gaps) → units_after (letters us a) (run (length us) (Keep d) h) ≡ letters us (changed a d)
 laid-kept [] a d h = refl
 laid-kept (u ∷ us) a d h = ap (λ l. Rattle.delta.specs.Element.lettered u (changed a d) ∷ l) (laid-kept us a d h)
 
-laid-deleted : (us : List ℕ) (a : Attributes) (h : Gaps) → laid (letters us a) (run (length us) Del h) ≡ []
+laid-deleted : (us : List ℕ) (a : Attributes) (h : Gaps) → units_after (letters us a) (run (length us) Del h) ≡ []
 laid-deleted [] a h = refl
 laid-deleted (u ∷ us) a h = laid-deleted us a h
 

@@ -11,7 +11,7 @@ use Rattle.delta.specs.Gaps.{Gaps, End, Gap, Fate, Keep, Del, front, counted}
 use Rattle.delta.specs.Normal.{IsNormal, is_built}
 use Rattle.delta.proofs.Neighbours.{may_lead-retain, built-parts, is_apart_text}
 use Rattle.compose.specs.Places.{inserts}
-use Rattle.compose.specs.Cuts.{same_fate, parts}
+use Rattle.compose.specs.steps.PairTest.{same_fate, parts}
 use Rattle.compose.proofs.Pairs.{border}
 use Rattle.compose.proofs.CutPieces.{normal-parts}
 

@@ -12,7 +12,7 @@ use Rattle.delta.proofs.Normality.{IsNormal-nf}
 use Rattle.delta.proofs.Lengths.{length-apply_counted}
 use Rattle.delta.proofs.SameEffects.{same_effect_from}
 use Rattle.compose.specs.Places.{inserts, fate, tail}
-use Rattle.compose.specs.Composed.{laid, beyond, kept_then, composed}
+use Rattle.compose.specs.Composed.{units_after, beyond, kept_then, composed}
 use Rattle.compose.specs.Laws.{EffectOfComposed, ComposesByNormal, ComposesOnce}
 
 -- the first unit of a document under a gap form
@@ -21,7 +21,7 @@ apply-first x d (End ys) = ap (λ a. ys ++ record x { attributes = a } ∷ d) (s
 apply-first x d (Gap ys f h) = refl
 
 -- the first units of a document under a gap form
-pub apply-laid : (xs : List Element) (d : List Element) (b : Gaps) → apply (xs ++ d) b ≡ laid xs b ++ apply d (beyond xs b)
+pub apply-laid : (xs : List Element) (d : List Element) (b : Gaps) → apply (xs ++ d) b ≡ units_after xs b ++ apply d (beyond xs b)
 apply-laid [] d b = refl
 apply-laid (x ∷ xs) d b =
     apply-first x (xs ++ d) b
@@ -34,19 +34,19 @@ fated-kept c Del x = refl
 fated-kept c (Keep d) x = ap (λ a. record x { attributes = a } ∷ []) (sym (changed-changed x.attributes c d))
 
 pub apply-composed : EffectOfComposed
-apply-composed d (End xs) b long = apply-front d (laid xs b) (beyond xs b) ∙ sym (apply-laid xs d b)
+apply-composed d (End xs) b long = apply-front d (units_after xs b) (beyond xs b) ∙ sym (apply-laid xs d b)
 apply-composed [] (Gap xs f g) b long = absurd (omega (arith, long))
 apply-composed (x ∷ d) (Gap xs Del g) b long =
-    apply-front (x ∷ d) (laid xs b) (Gap [] Del (composed g (beyond xs b)))
-    ∙ (ap (λ l. laid xs b ++ l) (apply-composed d g (beyond xs b) (omega (arith, long)))
+    apply-front (x ∷ d) (units_after xs b) (Gap [] Del (composed g (beyond xs b)))
+    ∙ (ap (λ l. units_after xs b ++ l) (apply-composed d g (beyond xs b) (omega (arith, long)))
     ∙ sym (apply-laid xs (apply d g) b))
 apply-composed (x ∷ d) (Gap xs (Keep c) g) b long =
     let r : Gaps = beyond xs b in
     let y : Element = record x { attributes = changed x.attributes c } in
-    apply-front (x ∷ d) (laid xs b) (Gap (inserts r) (kept_then c (fate r)) (composed g (tail r)))
-    ∙ (ap (λ l. laid xs b ++ (inserts r ++ (l ++ apply d (composed g (tail r))))) (fated-kept c (fate r) x)
-    ∙ (ap (λ l. laid xs b ++ (inserts r ++ (fated (fate r) y ++ l))) (apply-composed d g (tail r) (omega (arith, long)))
-    ∙ (ap (λ l. laid xs b ++ l) (sym (apply-first y (apply d g) r))
+    apply-front (x ∷ d) (units_after xs b) (Gap (inserts r) (kept_then c (fate r)) (composed g (tail r)))
+    ∙ (ap (λ l. units_after xs b ++ (inserts r ++ (l ++ apply d (composed g (tail r))))) (fated-kept c (fate r) x)
+    ∙ (ap (λ l. units_after xs b ++ (inserts r ++ (fated (fate r) y ++ l))) (apply-composed d g (tail r) (omega (arith, long)))
+    ∙ (ap (λ l. units_after xs b ++ l) (sym (apply-first y (apply d g) r))
     ∙ sym (apply-laid xs (y ∷ apply d g) b))))
 
 pub composes_by_normal : ComposesByNormal

@@ -10,12 +10,12 @@ use Rattle.utf16.specs.Units.{units_of, units_of_chars}
 use Rattle.utf16.specs.Laws.{SameUnits}
 use Rattle.attributes.specs.Attributes.{Attributes}
 use Rattle.delta.specs.Element.{letters, lettered}
-use Rattle.delta.specs.Operation.{Operation, insert_text, insert_embed, retain, delete, op_len, op_base, base_of}
+use Rattle.delta.specs.Operation.{Operation, insert_text, insert_embed, retain, delete, op_len, op_base, op_out, base_of, out_of}
 use Rattle.delta.specs.Gaps.{Gaps, Gap, Fate, Keep, Del, front, run, counted}
 use Rattle.delta.specs.Normal.{IsNormal, is_built, ends_plain}
 use Rattle.delta.proofs.Joins.{front-front}
 use Rattle.delta.proofs.Neighbours.{may_lead, may_lead-text, may_lead-retain, may_lead-delete, built-parts, built-from}
-use Rattle.compose.specs.Pieces.{first_units, last_units, left_after}
+use Rattle.compose.specs.steps.Pieces.{first_units, last_units, left_after}
 
 -- what is left, in its two cases
 pub left_after-within : (n : ℕ) (op : Operation) (ops : List Operation) → n < op_len op → left_after n op ops ≡ last_units n op ∷ ops
@@ -163,4 +163,20 @@ base-cut n op ops within =
     let same : op_len op ≡ n = omega arith in
     ap (λ k. op_base (first_units k op) + base_of (left_after k op ops)) (sym same)
     ∙ (ap (λ o. op_base o + base_of (left_after (op_len op) op ops)) (first-whole op) ∙ ap (λ l. op_base op + base_of l) (left_after-whole op ops)))
+    (cases_lt n (op_len op))
+
+out-last : (n : ℕ) (op : Operation) → 0 < n → n < op_len op → op_out (first_units n op) + op_out (last_units n op) ≡ op_out op
+out-last n (insert_text us a) some within = omega (arith, length-take-le n us (omega arith), length-drop n us)
+out-last n (insert_embed key value a) some within = absurd (omega arith)
+out-last n (retain m c) some within = omega arith
+out-last n (delete m) some within = refl
+
+pub out-cut : (n : ℕ) (op : Operation) (ops : List Operation) → 0 < n → n ≤ op_len op → op_out (first_units n op) + out_of (left_after n op ops) ≡ op_out op + out_of ops
+out-cut n op ops some within =
+    ⊎_elim
+    (λ (less : n < op_len op). omega (arith, out-last n op some less, ap out_of (left_after-within n op ops less)))
+    (λ (whole : op_len op ≤ n).
+    let same : op_len op ≡ n = omega arith in
+    ap (λ k. op_out (first_units k op) + out_of (left_after k op ops)) (sym same)
+    ∙ (ap (λ o. op_out o + out_of (left_after (op_len op) op ops)) (first-whole op) ∙ ap (λ l. op_out op + out_of l) (left_after-whole op ops)))
     (cases_lt n (op_len op))

@@ -15,9 +15,15 @@ use Rattle.delta.proofs.Normality.{IsNormal-nf}
 use Rattle.delta.proofs.Spellings.{counted-spelled}
 use Rattle.document.specs.Pairs.{IsHighItem, IsLowItem, IsPair, IsPairAt}
 use Rattle.document.specs.Places.{IsDefined, Cuts, fate_at, inserted_at}
+use Rattle.refusal.specs.declared.Refusal.{Refusal}
+use Rattle.refusal.specs.declared.Refusal.TheVariants.{CutsPair, NoMemory}
+use Rattle.compose.specs.Composed.{beyond}
+use Rattle.compose.specs.Outcome.{IsInvertRefused}
+use Rattle.compose.specs.Laws.{CutsOfUnits, CutsOfInserted}
+use Rattle.compose.specs.Cuts.{CutsInserted, CutsText}
 use Rattle.compose.specs.Places.{inserts, fate, tail}
-use Rattle.compose.specs.Cuts.{are_high_and_low, is_pair, same_fate, is_nothing, parts, cuts_units, cuts}
-use Rattle.compose.specs.Undoing.{AllInsert, units_inserted}
+use Rattle.compose.specs.steps.PairTest.{are_high_and_low, is_pair, same_fate, is_nothing, parts, cuts_units, cuts}
+use Rattle.compose.specs.steps.SteppingBack.{AllInsert, units_inserted}
 
 -- the delta that makes a document inserts its units
 pub counted-made : (ops : List Operation) (d : List Element) → ops ≡ nf (End d) → counted ops ≡ End d
@@ -181,8 +187,47 @@ there-cut (x ∷ y ∷ d) g zero pair parted =
 there-cut (x ∷ y ∷ d) g (suc i) pair parted =
     or-right (is_pair x y && parts (fate g) (tail g)) (cuts_units (y ∷ d) (tail g)) (there-cut (y ∷ d) (tail g) i pair (rest-parted g i parted))
 
+pub units-cut : (d : List Element) (g : Gaps) → Cuts d g → cuts_units d g ≡ true
+units-cut d g cut = there-cut d g cut.0 cut.1 cut.2
+
+-- the test tells where the text that another inserts is cut
+pub cut-text : (a b : Gaps) → cuts a b ≡ true → CutsInserted a b
+cut-text (End xs) b e = cut-there xs b e
+cut-text (Gap xs Del g) b e =
+    elim (or-cases (cuts_units xs b) (cuts g (beyond xs b)) e) [
+      | inl here ↦ inl (cut-there xs b here)
+      | inr later ↦ inr (cut-text g (beyond xs b) later)
+    ]
+cut-text (Gap xs (Keep c) g) b e =
+    elim (or-cases (cuts_units xs b) (cuts g (tail (beyond xs b))) e) [
+      | inl here ↦ inl (cut-there xs b here)
+      | inr later ↦ inr (cut-text g (tail (beyond xs b)) later)
+    ]
+
+text-there : (a b : Gaps) → CutsInserted a b → cuts a b ≡ true
+text-there (End xs) b cut = units-cut xs b cut
+text-there (Gap xs Del g) b (inl here) = or-left (cuts_units xs b) (cuts g (beyond xs b)) (units-cut xs b here)
+text-there (Gap xs Del g) b (inr later) = or-right (cuts_units xs b) (cuts g (beyond xs b)) (text-there g (beyond xs b) later)
+text-there (Gap xs (Keep c) g) b (inl here) = or-left (cuts_units xs b) (cuts g (tail (beyond xs b))) (units-cut xs b here)
+text-there (Gap xs (Keep c) g) b (inr later) = or-right (cuts_units xs b) (cuts g (tail (beyond xs b))) (text-there g (tail (beyond xs b)) later)
+
+pub cuts_of_units : CutsOfUnits
+cuts_of_units d g = (cut-there d g, units-cut d g)
+
+pub cuts_of_inserted : CutsOfInserted
+cuts_of_inserted a b = (cut-text a b, text-there a b)
+
+pub text-cut : (first second : List Operation) → CutsText first second → cuts (counted first) (counted second) ≡ true
+text-cut first second cut = text-there (counted first) (counted second) cut
+
 pub cut-document : (ops delta : List Operation) (d : List Element) → ops ≡ nf (End d) → cuts (counted ops) (counted delta) ≡ true → Cuts d (counted delta)
 cut-document ops delta d is cut = cut-there d (counted delta) (ap (λ g. cuts g (counted delta)) (sym (counted-made ops d is)) ∙ cut)
 
 pub whole-document : (ops delta : List Operation) (d : List Element) → ops ≡ nf (End d) → ¬ (cuts (counted ops) (counted delta) ≡ true) → ¬ (Cuts d (counted delta))
 whole-document ops delta d is whole cut = whole (ap (λ g. cuts g (counted delta)) (counted-made ops d is) ∙ there-cut d (counted delta) cut.0 cut.1 cut.2)
+
+-- what inverting is refused for
+pub refused-back : (ops delta : List Operation) (d : List Element) (e : Refusal) → ops ≡ nf (End d) → IsDefined d (counted delta)
+    → (e ≡ CutsPair → cuts (counted ops) (counted delta) ≡ true) → (e ≡ CutsPair) ⊎ (e ≡ NoMemory) → IsInvertRefused d (counted delta) e
+refused-back ops delta d e is defined told (inl cut) = subst (IsInvertRefused d (counted delta)) (sym cut) (defined, cut-document ops delta d is (told cut))
+refused-back ops delta d e is defined told (inr memory) = subst (IsInvertRefused d (counted delta)) (sym memory) defined

@@ -6,14 +6,12 @@ pub mod CutPieces
 pub mod Borders
 pub mod Progress
 pub mod Meetings
+pub mod Lengths
 pub mod Trimmings
-pub mod HeldBack
 pub mod Outcomes
-pub mod Whole
+pub mod PartsComposed
 pub mod LaidOver
 pub mod ManyDeltas
 pub mod StepsBack
 pub mod WayBack
 pub mod DocumentCuts
-pub mod PlainForms
-pub mod PlainDeltas

@@ -1,17 +1,23 @@
 -- One delta for several, one after another.
-use Rattle.std.proofs.Common.{◌≡◌, ℕ, suc, ◌+◌, ◌≤◌, inr, List, [], ◌∷◌, ◌++◌, length, length-append, refl, sym, ap, subst, ◌∙◌, arith}
+use Rattle.std.proofs.lemmas.Bool.{cases_lt}
+use Rattle.std.proofs.Math.ListN.{get_or}
+use Rattle.std.proofs.Math.Seq.{drop-cons}
+use Rattle.std.proofs.Common.{◌≡◌, ℕ, suc, ◌+◌, ◌≤◌, ◌<◌, ◌^◌, inl, inr, ⊎_elim, List, [], ◌∷◌, ◌++◌, length, drop, length-append, refl, sym, ap, subst, ◌∙◌, arith}
 use Rattle.delta.specs.Element.{Element}
-use Rattle.delta.specs.Operation.{Operation, IsBounded}
+use Rattle.refusal.specs.declared.Refusal.{Refusal}
+use Rattle.refusal.specs.declared.Refusal.TheVariants.{BadOps}
+use Rattle.delta.specs.Operation.{Operation, base_of, out_of, IsBounded}
 use Rattle.delta.specs.Gaps.{Gaps, End, Gap, Del, Keep, fated, counted, apply, units_below}
 use Rattle.delta.specs.Normal.{IsNormal}
 use Rattle.delta.proofs.Joins.{units_below-counted, units_below-front}
 use Rattle.delta.proofs.Lengths.{base_of-nf}
 use Rattle.compose.specs.Places.{tail}
-use Rattle.compose.specs.Composed.{laid, beyond, composed}
+use Rattle.compose.specs.Composed.{units_after, beyond, composed, one_for}
 use Rattle.compose.specs.Composes.{IsDefined}
-use Rattle.compose.specs.Cuts.{Cuts}
-use Rattle.compose.specs.Many.{one_of, many_after, many, AreDefined, applied, ComposesAll, AreTaken, OneCuts, OnePasses}
+use Rattle.compose.specs.Many.{many_after, many, AreDefined, applied, ComposesAll, lengths_of}
+use Rattle.compose.specs.Outcome.{CanCompose, CanComposeAll, IsComposeRefused, IsComposeAllRefused}
 use Rattle.compose.proofs.Compositions.{composes_by_normal}
+use Rattle.compose.proofs.Lengths.{lengths-one}
 
 -- one gap form for two stands on no more units than are there
 units-tail : (b : Gaps) (n : ℕ) → units_below b ≤ suc n → units_below (tail b) ≤ n
@@ -24,7 +30,7 @@ units-beyond (x ∷ xs) b n le = units-beyond xs (tail b) n (units-tail b (lengt
 
 units-composed : (d : List Element) (a b : Gaps) → units_below a ≤ length d → units_below b ≤ length (apply d a) → units_below (composed a b) ≤ length d
 units-composed d (End xs) b long_a long_b =
-    omega (arith, units_below-front (laid xs b) (beyond xs b), units-beyond xs b (length d) (omega (arith, long_b, length-append xs d)))
+    omega (arith, units_below-front (units_after xs b) (beyond xs b), units-beyond xs b (length d) (omega (arith, long_b, length-append xs d)))
 units-composed [] (Gap xs f g) b long_a long_b = absurd (omega (arith, long_a))
 units-composed (x ∷ d) (Gap xs Del g) b long_a long_b =
     let rest = units-composed d g (beyond xs b) (omega (arith, long_a)) (units-beyond xs b (length (apply d g)) (omega (arith, long_b, length-append xs (apply d g)))) in
@@ -34,7 +40,7 @@ units-composed (x ∷ d) (Gap xs (Keep c) g) b long_a long_b =
     let rest = units-composed d g (tail (beyond xs b)) (omega (arith, long_a)) (units-tail (beyond xs b) (length (apply d g)) over) in
     omega (arith, rest)
 
-pub defined-one : (d : List Element) (a b : List Operation) → IsDefined d a → IsDefined (apply d (counted a)) b → IsDefined d (one_of a b)
+pub defined-one : (d : List Element) (a b : List Operation) → IsDefined d a → IsDefined (apply d (counted a)) b → IsDefined d (one_for a b)
 defined-one d a b long_a long_b =
     let rest = units-composed d (counted a) (counted b) (omega (arith, long_a, units_below-counted a)) (omega (arith, long_b, units_below-counted b)) in
     omega (arith, rest, base_of-nf (composed (counted a) (counted b)))
@@ -44,7 +50,7 @@ defined-many : (d : List Element) (first : List Operation) (others : List (List 
 defined-many d first [] long rest = long
 defined-many d first (next ∷ others) long rest =
     let one = composes_by_normal first next in
-    defined-many d (one_of first next) others (defined-one d first next long rest.0)
+    defined-many d (one_for first next) others (defined-one d first next long rest.0)
     (subst (λ e. AreDefined e others) (sym (one.effect d long rest.0)) rest.1)
 
 effect-many : (d : List Element) (first : List Operation) (others : List (List Operation)) → IsDefined d first → AreDefined (apply d (counted first)) others
@@ -52,13 +58,13 @@ effect-many : (d : List Element) (first : List Operation) (others : List (List O
 effect-many d first [] long rest = refl
 effect-many d first (next ∷ others) long rest =
     let one = composes_by_normal first next in
-    effect-many d (one_of first next) others (defined-one d first next long rest.0)
+    effect-many d (one_for first next) others (defined-one d first next long rest.0)
     (subst (λ e. AreDefined e others) (sym (one.effect d long rest.0)) rest.1)
     ∙ ap (λ e. applied e others) (one.effect d long rest.0)
 
 normal-many : (first : List Operation) (others : List (List Operation)) → IsNormal first → IsNormal (many_after first others)
 normal-many first [] normal = normal
-normal-many first (next ∷ others) normal = normal-many (one_of first next) others (composes_by_normal first next).normal
+normal-many first (next ∷ others) normal = normal-many (one_for first next) others (composes_by_normal first next).normal
 
 pub composes_all : (deltas : List (List Operation)) → ComposesAll (many deltas) deltas
 composes_all deltas = record {
@@ -70,21 +76,49 @@ composes_all deltas = record {
 -- how far they have been composed: what holds of the one with those that are left holds of all
 pub record AreComposed (deltas : List (List Operation)) (one : List Operation) (left : List (List Operation)) : Type 0 where
   pub same : many_after one left ≡ many deltas
-  pub taken : AreTaken one left → AreTaken [] deltas
-  pub cut : OneCuts one left → OneCuts [] deltas
-  pub passed : OnePasses one left → OnePasses [] deltas
+  pub accepted : CanComposeAll one left → CanComposeAll [] deltas
+  pub refused : (e : Refusal) → IsComposeAllRefused one left e → IsComposeAllRefused [] deltas e
+  pub lengths : (base_of one + out_of one) + lengths_of left ≤ lengths_of deltas
 
 pub composed-start : (deltas : List (List Operation)) (one : List Operation) → one ≡ [] → AreComposed deltas one deltas
 composed-start deltas one none =
-    subst (λ o. AreComposed deltas o deltas) (sym none) (record { same = refl; taken = λ h. h; cut = λ h. h; passed = λ h. h })
+    subst (λ o. AreComposed deltas o deltas) (sym none) (record { same = refl; accepted = λ h. h; refused = λ e h. h; lengths = omega arith })
 
 pub composed-step : (deltas : List (List Operation)) (one next made : List Operation) (others : List (List Operation)) → AreComposed deltas one (next ∷ others)
-    → made ≡ one_of one next → ¬ (Cuts (counted one) (counted next)) → IsBounded (one_of one next) → AreComposed deltas made others
-composed-step deltas one next made others so made_is whole bounded =
+    → made ≡ one_for one next → CanCompose one next → AreComposed deltas made others
+composed-step deltas one next made others so made_is can =
     subst (λ m. AreComposed deltas m others) (sym made_is)
     (record {
       same = so.same;
-      taken = λ h. so.taken (whole, bounded, h);
-      cut = λ h. so.cut (inr (whole, bounded, h));
-      passed = λ h. so.passed (inr (whole, bounded, h));
+      accepted = λ h. so.accepted (can, h);
+      refused = λ e h. so.refused e (inr (can, h));
+      lengths = omega (arith, so.lengths, lengths-one one next);
     })
+
+-- the one that can't be composed with those before it
+pub composed-refused : (deltas : List (List Operation)) (one next : List Operation) (others : List (List Operation)) (e : Refusal) → AreComposed deltas one (next ∷ others)
+    → IsComposeRefused one next e → IsComposeAllRefused [] deltas e
+composed-refused deltas one next others e so refused = so.refused e (inl refused)
+
+-- the bound is passed only by lengths that sum above it
+bounded-lengths : (a b : List Operation) → (base_of a + out_of a) + (base_of b + out_of b) ≤ 2 ^ 48 → IsBounded (one_for a b)
+bounded-lengths a b le =
+    let lengths = lengths-one a b in
+    record { base = omega (arith, le, lengths.0); out = omega (arith, le, lengths.1) }
+
+pub long-two : (a b : List Operation) → ¬ (IsBounded (one_for a b)) → 2 ^ 48 < lengths_of (a ∷ b ∷ [])
+long-two a b past =
+    ⊎_elim
+    (λ (long : 2 ^ 48 < lengths_of (a ∷ b ∷ [])). long)
+    (λ (le : lengths_of (a ∷ b ∷ []) ≤ 2 ^ 48). absurd (past (bounded-lengths a b (omega (arith, le)))))
+    (cases_lt (2 ^ 48) (lengths_of (a ∷ b ∷ [])))
+
+pub long-many : (deltas : List (List Operation)) (one next : List Operation) (others : List (List Operation)) → AreComposed deltas one (next ∷ others)
+    → IsComposeRefused one next BadOps → 2 ^ 48 < lengths_of deltas
+long-many deltas one next others so refused = omega (arith, so.lengths, long-two one next refused.1)
+
+-- the deltas from a place on
+pub drop-here : (deltas : List (List Operation)) (i : ℕ) (next : List Operation) → i < length deltas → next ≡ get_or deltas i next → drop i deltas ≡ next ∷ drop (i + 1) deltas
+drop-here deltas i next within is =
+    let more : suc i ≡ i + 1 = omega arith in
+    drop-cons deltas i next within ∙ (ap (λ x. x ∷ drop (suc i) deltas) (sym is) ∙ ap (λ j. next ∷ drop j deltas) more)

@@ -1,6 +1,6 @@
 -- Two operations on the same units, the second after the first: what they make, and what is left.
-use Rattle.std.proofs.Common.{◌≡◌, ℕ, suc, ◌+◌, ◌-◌, ◌<◌, ◌≤◌, min, Bool, true, false, List, [], ◌∷◌, ◌++◌, length, take, drop, refl, sym, ap, subst, ◌∙◌, ⊎_elim, arith}
-use Rattle.std.specs.Prelude.{◌&&◌, ◌||◌, slice_index}
+use Rattle.std.proofs.Common.{◌≡◌, ℕ, suc, ◌+◌, ◌-◌, ◌<◌, ◌≤◌, min, Bool, true, false, List, [], ◌∷◌, ◌++◌, length, take, drop, refl, sym, ap, subst, ◌∙◌, inr, ⊎_elim, arith}
+use Rattle.std.specs.Prelude.{IsTrue, ◌&&◌, ◌||◌, slice_index}
 use Rattle.std.specs.Char.Utf16.{is_high_surrogate, is_low_surrogate}
 use Rattle.std.proofs.lemmas.List.{append-nil}
 use Rattle.std.proofs.lemmas.Bool.{cases_lt}
@@ -8,7 +8,7 @@ use Rattle.std.proofs.Math.Seq.{take-length}
 use Rattle.attributes.specs.Map.{empty}
 use Rattle.attributes.specs.Attributes.{Attributes, Changes, changed}
 use Rattle.delta.specs.Element.{Element, letters, embedded}
-use Rattle.delta.specs.Operation.{Operation, insert_text, insert_embed, retain, delete, op_len, op_base, base_of, is_insert, is_delete, then_changed}
+use Rattle.delta.specs.Operation.{Operation, insert_text, insert_embed, retain, delete, op_len, op_base, op_out, base_of, out_of, is_insert, is_delete, then_changed}
 use Rattle.delta.specs.Gaps.{Gaps, End, Gap, Fate, Keep, Del, front, run, counted, joined}
 use Rattle.delta.specs.Normal.{IsNormal, settled}
 use Rattle.delta.proofs.Effects.{changed-empty}
@@ -16,12 +16,12 @@ use Rattle.delta.proofs.Joins.{front-nil, joined-run}
 use Rattle.delta.proofs.Neighbours.{may_lead-text, built-parts}
 use Rattle.compose.specs.Places.{inserts}
 use Rattle.compose.specs.Composed.{composed, kept_then}
-use Rattle.compose.specs.Cuts.{parts, cuts, Cuts}
-use Rattle.compose.specs.Pieces.{first_units, left_after, met, CutsText}
-use Rattle.compose.specs.Steps.{IsStep, IsStepBefore, IsShorter, AllSome}
+use Rattle.compose.specs.steps.PairTest.{parts, cuts}
+use Rattle.compose.specs.steps.Pieces.{first_units, left_after, met, CutsText}
+use Rattle.compose.specs.steps.Stepping.{IsStep, IsStepBefore, IsShorter, AllSome}
 use Rattle.compose.proofs.Alongside.{composed-empty, composed-front, composed-kept, composed-letters_kept, composed-letters_deleted}
 use Rattle.compose.proofs.Pairs.{border, cuts-border, cuts-kept}
-use Rattle.compose.proofs.CutPieces.{left_after-within, left_after-whole, left_after-beyond, left_after-append, normal-parts, normal-left, len-last, length-left, length-whole, counted-cut, len-first, base-cut}
+use Rattle.compose.proofs.CutPieces.{left_after-within, left_after-whole, left_after-beyond, left_after-append, normal-parts, normal-left, len-last, length-left, length-whole, counted-cut, len-first, base-cut, out-cut}
 use Rattle.compose.proofs.Borders.{inserts-front, fate_of, parts-next, border-apart, border-embed, border-within}
 
 -- the first operation inserts or keeps, the second keeps or deletes
@@ -197,23 +197,24 @@ base-met (insert_embed key value a) (delete n) = omega arith
 base-met (delete m) (retain n d) = omega arith
 base-met (delete m) (delete n) = omega arith
 
-some-met : (op next : Operation) → 0 < op_len op → AllSome (met op next)
-some-met (insert_text us a) (retain n d) some = (some, tt)
-some-met (insert_embed key value a) (retain n d) some = (some, tt)
-some-met (retain m c) (retain n d) some = (some, tt)
-some-met (retain m c) (delete n) some = (some, tt)
-some-met (insert_text us a) (insert_text vs b) some = tt
-some-met (insert_embed key value a) (insert_text vs b) some = tt
-some-met (retain m c) (insert_text vs b) some = tt
-some-met (delete m) (insert_text vs b) some = tt
-some-met (insert_text us a) (insert_embed other value b) some = tt
-some-met (insert_embed key value a) (insert_embed other w b) some = tt
-some-met (retain m c) (insert_embed other value b) some = tt
-some-met (delete m) (insert_embed other value b) some = tt
-some-met (insert_text us a) (delete n) some = tt
-some-met (insert_embed key value a) (delete n) some = tt
-some-met (delete m) (retain n d) some = tt
-some-met (delete m) (delete n) some = tt
+-- a text that is kept is as long as the retain over it
+out-met : (op next : Operation) → op_len op ≡ op_len next → out_of (met op next) ≤ op_out next
+out-met (insert_text us a) (retain n d) same = omega (arith, same)
+out-met (insert_embed key value a) (retain n d) same = omega (arith, same)
+out-met (retain m c) (retain n d) same = omega (arith, same)
+out-met (retain m c) (delete n) same = omega arith
+out-met (insert_text us a) (insert_text vs b) same = omega arith
+out-met (insert_text us a) (insert_embed other w b) same = omega arith
+out-met (insert_embed key value a) (insert_text vs b) same = omega arith
+out-met (insert_embed key value a) (insert_embed other w b) same = omega arith
+out-met (retain m c) (insert_text vs b) same = omega arith
+out-met (retain m c) (insert_embed other w b) same = omega arith
+out-met (delete m) (insert_text vs b) same = omega arith
+out-met (delete m) (insert_embed other w b) same = omega arith
+out-met (insert_text us a) (delete n) same = omega arith
+out-met (insert_embed key value a) (delete n) same = omega arith
+out-met (delete m) (retain n d) same = omega arith
+out-met (delete m) (delete n) same = omega arith
 
 pub some-first : (op : Operation) (ops : List Operation) → IsNormal (op ∷ ops) → 0 < op_len op
 some-first op ops normal = (built-parts op ops (normal-parts op ops normal).0).0
@@ -274,11 +275,14 @@ IsShorter-met op next ops rest n some second is_min =
     let in_next : n ≤ op_len next = omega arith in
     let part : Operation = first_units n op in
     let then : Operation = first_units n next in
+    let same : op_len part ≡ op_len then = len-first n op some_n in_op ∙ sym (len-first n next some_n in_next) in
     record {
-      made_some = some-met part then (omega (arith, len-first n op some_n in_op));
       first_some = some-left n op ops some;
       second_normal = normal-left n next rest in_next second;
-      base = omega (arith, base-met part then, base-cut n op ops in_op, base-cut n next rest in_next);
+      first_ended = λ e. absurd (cc);
+      second_ended = λ e. absurd (cc);
+      base = omega (arith, base-met part then, base-cut n op ops in_op);
+      out = inr (omega (arith, out-met part then same, out-cut n next rest some_n in_next));
       shorter = shorter-met op next ops rest n is_min;
     }
 
@@ -318,7 +322,7 @@ or-first true t e = refl
 or-first false t e = absurd (cc)
 
 pub pair_cut : (op next : Operation) (ops rest : List Operation) (n : ℕ) → is_delete op ≡ false → is_insert next ≡ false → IsNormal (op ∷ ops) → IsNormal (next ∷ rest)
-    → n ≡ min (op_len op) (op_len next) → CutsText n op → Cuts (counted (op ∷ ops)) (counted (next ∷ rest))
+    → n ≡ min (op_len op) (op_len next) → CutsText n op → IsTrue (cuts (counted (op ∷ ops)) (counted (next ∷ rest)))
 pair_cut op next ops rest n stays stands first second is_min cut =
     let some : 0 < n = some-min op next rest n (some-first op ops first) second is_min in
     let within : n < op_len op = cut.0 in

@@ -1,5 +1,5 @@
 -- What holds of an outcome, from what holds of it.
-use Rattle.std.proofs.Common.{◌≡◌, ◌⊎◌, inl, inr}
+use Rattle.std.proofs.Common.{◌≡◌, ◌⊎◌, inl, inr, refl, sym, subst}
 use Rattle.std.specs.Prelude.{Result, Ok, Err, IfOk, OnOk, IfErr}
 use Rattle.refusal.specs.declared.Refusal.{Refusal}
 use Rattle.refusal.specs.declared.Refusal.TheVariants.{PastEnd, CutsPair, NoMemory}
@@ -21,8 +21,19 @@ module _ {T E : Type 0} where
   map_ok (Ok x) f p = f x p
   map_ok (Err e) f p = tt
 
--- a call that parts a pair or lacks memory doesn't reach past the end
+-- what holds of a refusal that is handed on
 module _ {T : Type 0} where
+  pub handed_on : (P : Refusal → Type 0) (r : Result T Refusal) (e f : Refusal) → r ≡ Err e → e ≡ f → P f → IfErr r P
+  handed_on P r e f was from p = subst (λ o. IfErr o P) (sym was) (subst P (sym from) p)
+
+  pub each_err : {P R : Refusal → Type 0} (r : Result T Refusal) → ((e : Refusal) → r ≡ Err e → P e → R e) → IfErr r P → IfErr r R
+  each_err (Ok x) f p = tt
+  each_err (Err e) f p = f e refl p
+
+  pub refused_so : (P : Refusal → Type 0) (r : Result T Refusal) (e : Refusal) → r ≡ Err e → IfErr r P → P e
+  refused_so P r e is p = subst (λ o. IfErr o P) is p
+
+  -- a call that parts a pair or lacks memory doesn't reach past the end
   pub never_past_end : (r : Result T Refusal) → IfErr r (λ e. (e ≡ CutsPair) ⊎ (e ≡ NoMemory)) → ¬ (r ≡ Err PastEnd)
   never_past_end (Ok x) only past = absurd (cc)
   never_past_end (Err e) (inl cut) past = absurd (cc)

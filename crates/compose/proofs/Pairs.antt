@@ -6,7 +6,7 @@ use Rattle.delta.specs.Element.{Element}
 use Rattle.delta.specs.Gaps.{Gaps, End, Gap, Fate, Del, Keep, front, run}
 use Rattle.compose.specs.Places.{inserts, tail}
 use Rattle.compose.specs.Composed.{beyond}
-use Rattle.compose.specs.Cuts.{is_pair, same_fate, parts, cuts_units, cuts}
+use Rattle.compose.specs.steps.PairTest.{is_pair, same_fate, parts, cuts_units, cuts}
 
 and-false : (t : Bool) → (t && false) ≡ false
 and-false true = refl

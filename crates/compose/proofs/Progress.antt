@@ -1,18 +1,17 @@
 -- What one step along two lists of operations makes and leaves.
-use Rattle.std.proofs.Common.{◌≡◌, ◌⊎◌, inl, inr, true, List, [], ◌∷◌, ◌++◌, sym, ap, subst, ◌∙◌, arith}
+use Rattle.std.proofs.Common.{◌≡◌, ◌+◌, ◌≤◌, ◌⊎◌, inl, inr, true, List, [], ◌∷◌, ◌++◌, refl, sym, ap, subst, ◌∙◌, arith}
 use Rattle.std.proofs.lemmas.List.{append-nil}
 use Rattle.delta.specs.Element.{letters, embedded}
-use Rattle.delta.specs.Operation.{Operation, insert_text, insert_embed, retain, delete, is_insert, is_delete}
+use Rattle.delta.specs.Operation.{Operation, insert_text, insert_embed, retain, delete, op_base, out_of, is_insert, is_delete}
 use Rattle.delta.specs.Gaps.{End, Del, front, run, counted, joined}
 use Rattle.delta.specs.Normal.{IsNormal, settled}
 use Rattle.delta.proofs.Joins.{front-nil, joined-run, counted-append}
-use Rattle.delta.proofs.Neighbours.{built-parts}
 use Rattle.compose.specs.Composed.{composed}
-use Rattle.compose.specs.Cuts.{cuts}
-use Rattle.compose.specs.Steps.{IsStep, IsStepBefore, IsShorter, AllSome}
+use Rattle.compose.specs.steps.PairTest.{cuts}
+use Rattle.compose.specs.steps.Stepping.{IsStep, IsStepBefore, IsShorter, AllSome}
 use Rattle.compose.proofs.Alongside.{composed-nothing, composed-insert, composed-deleted}
 use Rattle.compose.proofs.Pairs.{cuts-nothing, cuts-insert, cuts-deleted}
-use Rattle.compose.proofs.CutPieces.{normal-parts, normal-rest}
+use Rattle.compose.proofs.CutPieces.{normal-rest}
 
 -- the first operation of the first list, where the second has ended or the operation deletes
 alone-effect : (op : Operation) (ops second : List Operation) → (second ≡ []) ⊎ (is_delete op ≡ true)
@@ -91,22 +90,45 @@ second_made first op made ops rest made_is rest_is alone normal =
     (subst (λ r. IsStep first (op ∷ ops) (op ∷ []) first r) (sym rest_is) (IsStep-second first op ops normal alone))
 
 -- and what is left is shorter
+out-alone : (op : Operation) (second : List Operation) → (second ≡ []) ⊎ (is_delete op ≡ true) → (second ≡ []) ⊎ (out_of (op ∷ []) + out_of second ≤ out_of second)
+out-alone op second (inl ended) = inl ended
+out-alone (delete n) second (inr deletes) = inr (omega arith)
+out-alone (insert_text us a) second (inr deletes) = absurd (cc)
+out-alone (insert_embed key value a) second (inr deletes) = absurd (cc)
+out-alone (retain n c) second (inr deletes) = absurd (cc)
+
 pub first_shorter : (op made : Operation) (ops second rest : List Operation) → made ≡ op → rest ≡ ops → AllSome (op ∷ ops) → IsNormal second
-    → IsShorter (op ∷ ops) second (made ∷ []) rest second
-first_shorter op made ops second rest made_is rest_is some normal =
+    → (second ≡ []) ⊎ (is_delete op ≡ true) → IsShorter (op ∷ ops) second (made ∷ []) rest second
+first_shorter op made ops second rest made_is rest_is some normal alone =
     subst (λ m. IsShorter (op ∷ ops) second (m ∷ []) rest second) (sym made_is)
     (subst (λ r. IsShorter (op ∷ ops) second (op ∷ []) r second) (sym rest_is)
-    (record { made_some = (some.0, tt); first_some = some.1; second_normal = normal; base = omega arith; shorter = omega arith }))
+    (record {
+      first_some = some.1;
+      second_normal = normal;
+      first_ended = λ e. absurd (cc);
+      second_ended = λ e. e;
+      base = omega arith;
+      out = out-alone op second alone;
+      shorter = omega arith;
+    }))
+
+base-insert : (op : Operation) → is_insert op ≡ true → op_base op ≡ 0
+base-insert (insert_text us a) inserts = refl
+base-insert (insert_embed key value a) inserts = refl
+base-insert (retain n c) inserts = absurd (cc)
+base-insert (delete n) inserts = absurd (cc)
 
 pub second_shorter : (first : List Operation) (op made : Operation) (ops rest : List Operation) → made ≡ op → rest ≡ ops → AllSome first → IsNormal (op ∷ ops)
-    → IsShorter first (op ∷ ops) (made ∷ []) first rest
-second_shorter first op made ops rest made_is rest_is some normal =
+    → is_insert op ≡ true → IsShorter first (op ∷ ops) (made ∷ []) first rest
+second_shorter first op made ops rest made_is rest_is some normal inserts =
     subst (λ m. IsShorter first (op ∷ ops) (m ∷ []) first rest) (sym made_is)
     (subst (λ r. IsShorter first (op ∷ ops) (op ∷ []) first r) (sym rest_is)
     (record {
-      made_some = ((built-parts op ops (normal-parts op ops normal).0).0, tt);
       first_some = some;
       second_normal = normal-rest op ops normal;
-      base = omega arith;
+      first_ended = λ e. e;
+      second_ended = λ e. absurd (cc);
+      base = omega (arith, base-insert op inserts);
+      out = inr (omega arith);
       shorter = omega arith;
     }))

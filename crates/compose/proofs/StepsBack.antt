@@ -1,6 +1,6 @@
 -- One step of the way back from a delta.
-use Rattle.std.proofs.Common.{◌≡◌, ℕ, suc, ◌+◌, ◌<◌, ◌≤◌, min, true, false, List, [], ◌∷◌, ◌++◌, length, refl, sym, ap, subst, ◌∙◌, ⊎_elim, inr, arith}
-use Rattle.std.proofs.lemmas.List.{length-drop, length-take-le, append-nil}
+use Rattle.std.proofs.Common.{◌≡◌, ℕ, suc, ◌<◌, ◌≤◌, min, true, false, List, [], ◌∷◌, ◌++◌, length, refl, sym, ap, subst, ◌∙◌, ⊎_elim, inr, arith}
+use Rattle.std.proofs.lemmas.List.{append-nil}
 use Rattle.std.proofs.lemmas.Bool.{cases_lt}
 use Rattle.attributes.specs.Attributes.{Attributes, Changes, reverted}
 use Rattle.delta.specs.Element.{Element, letters, lettered, embedded}
@@ -10,10 +10,9 @@ use Rattle.delta.specs.Normal.{IsNormal, settled}
 use Rattle.delta.proofs.Joins.{front-nil, front-front}
 use Rattle.compose.specs.Places.{inserts}
 use Rattle.compose.specs.Inverse.{inverse, unit_back}
-use Rattle.compose.specs.Pieces.{first_units, last_units, left_after, CutsText}
-use Rattle.compose.specs.Steps.{AllSome}
-use Rattle.compose.specs.Undoing.{AllInsert, units_inserted, turned_back, IsStepBack}
-use Rattle.compose.proofs.CutPieces.{normal-rest, normal-left, counted-cut, len-first, base-cut, left_after-within, left_after-whole, first-whole}
+use Rattle.compose.specs.steps.Pieces.{first_units, last_units, left_after, CutsText}
+use Rattle.compose.specs.steps.SteppingBack.{AllInsert, units_inserted, turned_back, IsStepBack}
+use Rattle.compose.proofs.CutPieces.{normal-rest, normal-left, counted-cut, len-first, base-cut, out-cut, left_after-within, left_after-whole}
 use Rattle.compose.proofs.Borders.{inserts-front}
 use Rattle.compose.proofs.Progress.{IsStep-second}
 use Rattle.compose.proofs.Meetings.{run-joined, IsStep-met, some-first, some-min, shorter-met}
@@ -67,9 +66,7 @@ IsStepBack-out base next ops normal_base normal inserted defined is =
     let lens = out-len next is in
     record {
       effect = ap settled (out-effect next ops (units_inserted base) is);
-      some = (some-first next ops normal, tt);
       cut = step.cut;
-      room = omega (arith, lens);
       shorter = omega arith;
       base_normal = normal_base;
       ops_normal = normal-rest next ops normal;
@@ -110,23 +107,7 @@ back-effect (insert_embed key value a) (delete k) ops rest is stands same =
     ap (λ n. inverse (run n Del (counted rest)) (units_inserted (insert_embed key value a ∷ ops))) same
     ∙ ap (inverse (Gap [] Del (counted rest))) (inserts-front (embedded key value a ∷ []) (counted ops))
 
--- lengths of the parts
-out-last : (n : ℕ) (op : Operation) → 0 < n → n < op_len op → op_out (first_units n op) + op_out (last_units n op) ≡ op_out op
-out-last n (insert_text us a) some within = omega (arith, length-take-le n us (omega arith), length-drop n us)
-out-last n (insert_embed key value a) some within = absurd (omega arith)
-out-last n (retain m c) some within = omega arith
-out-last n (delete m) some within = refl
-
-out-cut : (n : ℕ) (op : Operation) (ops : List Operation) → 0 < n → n ≤ op_len op → op_out (first_units n op) + out_of (left_after n op ops) ≡ op_out op + out_of ops
-out-cut n op ops some within =
-    ⊎_elim
-    (λ (less : n < op_len op). omega (arith, out-last n op some less, ap out_of (left_after-within n op ops less)))
-    (λ (whole : op_len op ≤ n).
-    let same : op_len op ≡ n = omega arith in
-    ap (λ k. op_out (first_units k op) + out_of (left_after k op ops)) (sym same)
-    ∙ (ap (λ o. op_out o + out_of (left_after (op_len op) op ops)) (first-whole op) ∙ ap (λ l. op_out op + out_of l) (left_after-whole op ops)))
-    (cases_lt n (op_len op))
-
+-- the parts insert, or don't, as the whole does
 insert-first : (n : ℕ) (op : Operation) → is_insert (first_units n op) ≡ is_insert op
 insert-first n (insert_text us a) = refl
 insert-first n (insert_embed key value a) = refl
@@ -153,30 +134,6 @@ base-stands (insert_text us a) is = absurd (cc)
 base-stands (insert_embed key value a) is = absurd (cc)
 base-stands (retain n c) is = refl
 base-stands (delete n) is = refl
-
-base-back : (op next : Operation) → base_of (turned_back op next) ≤ op_out next
-base-back (insert_text us a) (retain n c) = omega arith
-base-back (insert_text us a) (delete n) = omega arith
-base-back (insert_embed key value a) (retain n c) = omega arith
-base-back (insert_embed key value a) (delete n) = omega arith
-base-back (insert_text us a) (insert_text vs b) = omega arith
-base-back (insert_text us a) (insert_embed key value b) = omega arith
-base-back (insert_embed key value a) (insert_text vs b) = omega arith
-base-back (insert_embed key value a) (insert_embed other w b) = omega arith
-base-back (retain m d) next = omega arith
-base-back (delete m) next = omega arith
-
-some-back : (op next : Operation) → 0 < op_len op → op_len next ≡ op_len op → AllSome (turned_back op next)
-some-back (insert_text us a) (retain n c) some same = (omega (arith, some, same), tt)
-some-back (insert_text us a) (delete n) some same = (some, tt)
-some-back (insert_embed key value a) (retain n c) some same = (omega (arith, some, same), tt)
-some-back (insert_embed key value a) (delete n) some same = (some, tt)
-some-back (insert_text us a) (insert_text vs b) some same = tt
-some-back (insert_text us a) (insert_embed key value b) some same = tt
-some-back (insert_embed key value a) (insert_text vs b) some same = tt
-some-back (insert_embed key value a) (insert_embed other w b) some same = tt
-some-back (retain m d) next some same = tt
-some-back (delete m) next some same = tt
 
 pub stays : (op : Operation) → is_insert op ≡ true → is_delete op ≡ false
 stays (insert_text us a) is = refl
@@ -205,9 +162,7 @@ IsStepBack-met op next ops rest n first second inserted defined stands is_min wh
           (ap (λ g. inverse g (units_inserted (op ∷ ops))) (counted-cut n next rest some in_next)
           ∙ (ap (λ g. inverse (counted (then ∷ left_after n next rest)) (inserts g)) (counted-cut n op ops some in_op)
           ∙ back-effect part then (left_after n op ops) (left_after n next rest) part_inserts then_stands (len_then ∙ sym len_part)));
-      some = some-back part then (omega (arith, len_part, some)) (len_then ∙ sym len_part);
       cut = step.cut;
-      room = omega (arith, base-back part then, out-cut n next rest some in_next);
       shorter = shorter-met op next ops rest n is_min;
       base_normal = step.normal;
       ops_normal = normal-left n next rest in_next second;

@@ -1,16 +1,18 @@
 -- How much of operations is a last retain without attributes, and that nothing before the operation that follows is.
-use Rattle.std.proofs.Common.{◌≡◌, ℕ, zero, suc, ◌+◌, ◌≤◌, ◌<◌, ◌^◌, Bool, true, false, cond, List, [], ◌∷◌, ◌++◌, refl, sym, ap, ◌∙◌, arith}
-use Rattle.std.specs.Prelude.{◌&&◌}
+use Rattle.std.proofs.Common.{◌≡◌, ℕ, zero, suc, ◌+◌, ◌≤◌, ◌<◌, ◌^◌, Bool, true, false, cond, List, [], ◌∷◌, ◌++◌, refl, sym, ap, subst, ◌∙◌, arith}
+use Rattle.std.specs.Prelude.{not, ◌&&◌}
 use Rattle.std.proofs.Math.Bool.{and-false}
-use Rattle.std.proofs.lemmas.List.{append-nil}
+use Rattle.std.proofs.lemmas.List.{append_assoc, append-nil}
 use Rattle.attributes.specs.Map.{empty}
 use Rattle.attributes.specs.Attributes.{Changes, same_changes}
 use Rattle.delta.specs.Element.{Element, letters, lettered, embedded}
 use Rattle.delta.specs.Operation.{Operation, insert_text, insert_embed, retain, delete, op_len, op_base, op_out, base_of, out_of, is_plain, IsBounded}
 use Rattle.delta.specs.Gaps.{Gaps, End, Gap, Fate, Keep, Del, front, run, counted, joined, units_below}
-use Rattle.delta.specs.Normal.{past, settled, trim, trimmed, nf}
+use Rattle.delta.specs.Normal.{past, settled, trim, trimmed, nf, IsNormal}
 use Rattle.delta.proofs.Joins.{counted-append, units_below-counted}
 use Rattle.delta.proofs.Lengths.{base_of-append, out_of-append, base_of-spelled, lengths-nf}
+use Rattle.delta.proofs.Neighbours.{built-parts}
+use Rattle.compose.proofs.CutPieces.{normal-parts, normal-rest}
 
 -- nothing but kept units without a change
 abbrev is_bare : Gaps → Bool
@@ -161,3 +163,29 @@ bounded-before ops op more other some bounded =
     let base_bound = bounded.base in
     let out_bound = bounded.out in
     (omega (arith, base_all, base_more, plain, base_sum, base_bound), omega (arith, base_all, base_more, both_all, both_more, plain, base_sum, out_sum, out_bound))
+
+not-true : (t : Bool) → not t ≡ true → t ≡ false
+not-true true e = absurd (cc)
+not-true false e = refl
+
+-- operations in normal form end with such an operation, so all that stands before them counts in full too
+last-apart : (op : Operation) (ops : List Operation) → IsNormal (op ∷ ops)
+    → (before : List Operation) × (last : Operation) × ((op ∷ ops ≡ before ++ last ∷ []) × ((is_plain last ≡ false) × (0 < op_len last)))
+last-apart op [] normal =
+    let parts = normal-parts op [] normal in
+    ([], op, (refl, (not-true (is_plain op) parts.1, (built-parts op [] parts.0).0)))
+last-apart op (next ∷ ops) normal =
+    let rest = last-apart next ops (normal-rest op (next ∷ ops) normal) in
+    (op ∷ rest.0, rest.1, (ap (λ l. op ∷ l) rest.2.0, rest.2.1))
+
+pub bounded-all : (made : List Operation) (op : Operation) (ops : List Operation) → IsNormal (op ∷ ops) → IsBounded (nf (counted (made ++ op ∷ ops)))
+    → (base_of made + base_of (op ∷ ops) ≤ 2 ^ 48) × (out_of made + out_of (op ∷ ops) ≤ 2 ^ 48)
+bounded-all made op ops normal bounded =
+    let parts = last-apart op ops normal in
+    let before : List Operation = parts.0 in
+    let last : Operation = parts.1 in
+    let same : made ++ op ∷ ops ≡ (made ++ before) ++ last ∷ [] = ap (λ l. made ++ l) parts.2.0 ∙ sym (append_assoc made before (last ∷ [])) in
+    let within = bounded-before (made ++ before) last [] parts.2.1.0 parts.2.1.1 (subst (λ l. IsBounded (nf (counted l))) same bounded) in (
+      omega (arith, within.0, base_of-append made before, base_of-append before (last ∷ []), ap base_of parts.2.0),
+      omega (arith, within.1, out_of-append made before, out_of-append before (last ∷ []), ap out_of parts.2.0),
+    )

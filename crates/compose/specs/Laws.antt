@@ -1,12 +1,14 @@
 -- What holds of any two gap forms, and of any and its inverse.
-use Rattle.std.specs.Prelude.{◌≡◌, ◌≤◌, List, length}
+use Rattle.std.specs.Prelude.{◌≡◌, ◌≤◌, ◌↔◌, true, List, length}
 use Rattle.delta.specs.Element.{Element}
 use Rattle.delta.specs.Operation.{Operation}
-use Rattle.delta.specs.Gaps.{Gaps, units_below, counted, apply}
-use Rattle.delta.specs.Normal.{nf}
+use Rattle.delta.specs.Gaps.{Gaps, units_below, apply}
+use Rattle.document.specs.Places.{Cuts}
 use Rattle.compose.specs.Composes.{Composes}
-use Rattle.compose.specs.Composed.{composed}
+use Rattle.compose.specs.Composed.{composed, one_for}
+use Rattle.compose.specs.Cuts.{CutsInserted}
 use Rattle.compose.specs.Inverse.{inverse}
+use Rattle.compose.specs.steps.PairTest.{cuts_units, cuts}
 
 -- one gap form for two has the effect of the first, and then the second
 abbrev pub EffectOfComposed : Type 0
@@ -14,7 +16,7 @@ EffectOfComposed = (d : List Element) (a b : Gaps) → units_below a ≤ length 
 
 -- its normal form composes them
 abbrev pub ComposesByNormal : Type 0
-ComposesByNormal = (a b : List Operation) → Composes (nf (composed (counted a) (counted b))) a b
+ComposesByNormal = (a b : List Operation) → Composes (one_for a b) a b
 
 -- at most one list composes two
 abbrev pub ComposesOnce : Type 0
@@ -23,3 +25,11 @@ ComposesOnce = (c e a b : List Operation) → Composes c a b → Composes e a b 
 -- a gap form and then its inverse leave a document as it was, wherever the first is defined (and also where it isn't)
 abbrev pub Undone : Type 0
 Undone = (d : List Element) (g : Gaps) → apply (apply d g) (inverse g d) ≡ d
+
+-- the test of units tells just where a gap form cuts a pair of a document
+abbrev pub CutsOfUnits : Type 0
+CutsOfUnits = (d : List Element) (g : Gaps) → (cuts_units d g ≡ true) ↔ Cuts d g
+
+-- and the test of two gap forms where the second cuts a pair of what the first inserts
+abbrev pub CutsOfInserted : Type 0
+CutsOfInserted = (a b : Gaps) → (cuts a b ≡ true) ↔ CutsInserted a b

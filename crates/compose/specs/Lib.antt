@@ -3,12 +3,8 @@ pub mod Places
 pub mod Composed
 pub mod Inverse
 pub mod Cuts
-pub mod Pieces
-pub mod Steps
-pub mod Held
-pub mod SoFar
 pub mod Many
-pub mod Undoing
+pub mod Outcome
 pub mod Laws
-pub mod Plain
+pub mod steps
 mod Examples

@@ -1,15 +1,11 @@
 //! One delta for several.
-ghost use Rattle.std.specs.Prelude.{◌≡◌, ◌⊎◌, [], IfOk, OnOk, IfErr};
-ghost use Rattle.delta.specs.Operation.{IsBounded};
-ghost use Rattle.delta.specs.Gaps.{counted};
-ghost use Rattle.delta.specs.Normal.{nf};
+ghost use Rattle.std.specs.Prelude.{◌≡◌, ◌+◌, ◌<◌, ◌^◌, [], ◌∷◌, IfOk, OnOk, IfErr};
 ghost use Rattle.compose.specs.Composes.{Composes};
-ghost use Rattle.compose.specs.Composed.{composed};
-ghost use Rattle.compose.specs.Cuts.{Cuts};
-ghost use Rattle.compose.specs.Many.{many, ComposesAll, AreTaken, OneCuts, OnePasses};
+ghost use Rattle.compose.specs.Composed.{one_for};
+ghost use Rattle.compose.specs.Many.{many, ComposesAll, lengths_of};
+ghost use Rattle.compose.specs.Outcome.{CanCompose, CanComposeAll, IsComposeRefused, IsComposeAllRefused};
 
 use crate::laying::{end, lay, lay_over};
-use crate::output::Output;
 use crate::pieces::all;
 use delta::{Builder, Delta};
 use refusal::Refusal;
@@ -19,15 +15,13 @@ use std::alloc::Global;
 /// pair of the text that the first inserts, else as BadOps where the base length or the output length of the delta would
 /// pass 2^48, and as NoMemory. Its time is linear in the operations of both and in the text that it copies.
 pub fn compose(alloc: Global, first: &Delta, second: &Delta) -> Result<Delta, Refusal>
-    ensures one { IfOk result (λ one. one ≡ nf (composed (counted first.now) (counted second.now))) }
+    ensures one { IfOk result (λ one. one ≡ one_for first.now second.now) }
     ensures composes { IfOk result (λ one. Composes one first.now second.now) }
-    ensures whole { OnOk result (¬ (Cuts (counted first.now) (counted second.now))) }
-    ensures bounded { OnOk result (IsBounded (nf (composed (counted first.now) (counted second.now)))) }
-    ensures cut { result ≡ Err Refusal.CutsPair → Cuts (counted first.now) (counted second.now) }
-    ensures bad { result ≡ Err Refusal.BadOps → (¬ (Cuts (counted first.now) (counted second.now))) × (¬ (IsBounded (nf (composed (counted first.now) (counted second.now))))) }
-    ensures only { IfErr result (λ e. (e ≡ Refusal.CutsPair) ⊎ ((e ≡ Refusal.BadOps) ⊎ (e ≡ Refusal.NoMemory))) }
+    ensures accepted { OnOk result (CanCompose first.now second.now) }
+    ensures only { IfErr result (IsComposeRefused first.now second.now) }
+    ensures long { result ≡ Err Refusal.BadOps → 2 ^ 48 < lengths_of (first.now ∷ second.now ∷ []) }
 {
-    let mut out = Output::new(alloc);
+    let mut out = Builder::new(alloc);
     let rest = lay(alloc, all(first.ops()), all(second.ops()), &mut out)?;
     end(alloc, rest, out)
 }
@@ -40,10 +34,9 @@ pub fn compose(alloc: Global, first: &Delta, second: &Delta) -> Result<Delta, Re
 pub fn compose_many(alloc: Global, deltas: &[Delta]) -> Result<Delta, Refusal>
     ensures one { IfOk result (λ one. one ≡ many deltas.now) }
     ensures composes { IfOk result (λ one. ComposesAll one deltas.now) }
-    ensures taken { OnOk result (AreTaken [] deltas.now) }
-    ensures cut { result ≡ Err Refusal.CutsPair → OneCuts [] deltas.now }
-    ensures bad { result ≡ Err Refusal.BadOps → OnePasses [] deltas.now }
-    ensures only { IfErr result (λ e. (e ≡ Refusal.CutsPair) ⊎ ((e ≡ Refusal.BadOps) ⊎ (e ≡ Refusal.NoMemory))) }
+    ensures accepted { OnOk result (CanComposeAll [] deltas.now) }
+    ensures only { IfErr result (IsComposeAllRefused [] deltas.now) }
+    ensures long { result ≡ Err Refusal.BadOps → 2 ^ 48 < lengths_of deltas.now }
 {
     let mut one = Builder::new(alloc).finish();
     for delta in deltas {
@@ -54,14 +47,11 @@ pub fn compose_many(alloc: Global, deltas: &[Delta]) -> Result<Delta, Refusal>
 
 // the same as `compose` of both, where the first is used up: what the second leaves whole of it is moved
 fn compose_onto(alloc: Global, first: Delta, second: &Delta) -> Result<Delta, Refusal>
-    ensures one { IfOk result (λ one. one ≡ nf (composed (counted first) (counted second.now))) }
-    ensures whole { OnOk result (¬ (Cuts (counted first) (counted second.now))) }
-    ensures bounded { OnOk result (IsBounded (nf (composed (counted first) (counted second.now)))) }
-    ensures cut { result ≡ Err Refusal.CutsPair → Cuts (counted first) (counted second.now) }
-    ensures bad { result ≡ Err Refusal.BadOps → (¬ (Cuts (counted first) (counted second.now))) × (¬ (IsBounded (nf (composed (counted first) (counted second.now))))) }
-    ensures only { IfErr result (λ e. (e ≡ Refusal.CutsPair) ⊎ ((e ≡ Refusal.BadOps) ⊎ (e ≡ Refusal.NoMemory))) }
+    ensures one { IfOk result (λ one. one ≡ one_for first second.now) }
+    ensures accepted { OnOk result (CanCompose first second.now) }
+    ensures only { IfErr result (IsComposeRefused first second.now) }
 {
-    let mut out = Output::new(alloc);
+    let mut out = Builder::new(alloc);
     let mut rest = all(second.ops());
     for op in first.into_ops() {
         rest = lay_over(alloc, op, rest, &mut out)?;

@@ -1,9 +1,10 @@
 //! The delta that undoes one.
-ghost use Rattle.std.specs.Prelude.{◌≡◌, ◌↔◌, ◌⊎◌, IfOk, OnOk, IfErr};
+ghost use Rattle.std.specs.Prelude.{◌≡◌, ◌↔◌, IfOk, OnOk, IfErr};
 ghost use Rattle.delta.specs.Gaps.{counted, apply};
 ghost use Rattle.delta.specs.Normal.{nf};
-ghost use Rattle.document.specs.Places.{IsDefined, Cuts};
+ghost use Rattle.document.specs.Places.{IsDefined};
 ghost use Rattle.compose.specs.Inverse.{inverse};
+ghost use Rattle.compose.specs.Outcome.{CanInvert, IsInvertRefused};
 
 use crate::undoing::undo;
 use delta::Delta;
@@ -18,9 +19,8 @@ pub fn invert(alloc: Global, delta: &Delta, document: &Document) -> Result<Delta
     ensures one { IfOk result (λ back. back ≡ nf (inverse (counted delta.now) document.now)) }
     ensures undoes { IfOk result (λ back. apply (apply document.now (counted delta.now)) (counted back) ≡ document.now) }
     ensures past_end { (result ≡ Err Refusal.PastEnd) ↔ ¬ (IsDefined document.now (counted delta.now)) }
-    ensures whole { OnOk result (¬ (Cuts document.now (counted delta.now))) }
-    ensures cut { result ≡ Err Refusal.CutsPair → Cuts document.now (counted delta.now) }
-    ensures only { IfErr result (λ e. (e ≡ Refusal.PastEnd) ⊎ ((e ≡ Refusal.CutsPair) ⊎ (e ≡ Refusal.NoMemory))) }
+    ensures accepted { OnOk result (CanInvert document.now (counted delta.now)) }
+    ensures only { IfErr result (IsInvertRefused document.now (counted delta.now)) }
 {
     if delta.base_len() > document.len16() {
         return Err(Refusal::PastEnd);

@@ -1,5 +1,5 @@
 //! What holds of one delta for two and of the way back, as contracts to cite: each function does nothing and promises one law.
-ghost use Rattle.compose.specs.Laws.{EffectOfComposed, ComposesByNormal, ComposesOnce, Undone};
+ghost use Rattle.compose.specs.Laws.{EffectOfComposed, ComposesByNormal, ComposesOnce, Undone, CutsOfUnits, CutsOfInserted};
 
 /// One gap form for two has their effect.
 pub fn effect_of_composed()
@@ -19,4 +19,14 @@ pub fn composes_once()
 /// A delta and its inverse leave a document as it was.
 pub fn undone()
     ensures { Undone }
+{}
+
+/// The test of units tells where a pair of a document is cut.
+pub fn cuts_of_units()
+    ensures { CutsOfUnits }
+{}
+
+/// The test of two gap forms tells where a pair that the first inserts is cut.
+pub fn cuts_of_inserted()
+    ensures { CutsOfInserted }
 {}

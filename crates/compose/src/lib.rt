@@ -13,11 +13,8 @@ mod composing;
 mod inverting;
 pub mod laws;
 mod laying;
-mod output;
 mod pieces;
 mod stepping;
-#[cfg(test)]
-mod tests;
 mod undoing;
 
 pub use composing::{compose, compose_many};

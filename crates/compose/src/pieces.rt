@@ -4,7 +4,7 @@ ghost use Rattle.utf16.specs.Units.{units_of};
 ghost use Rattle.attributes.specs.Map.{empty};
 ghost use Rattle.delta.specs.Operation.{op_len, retain, is_insert, is_delete, is_plain};
 ghost use Rattle.delta.specs.Kind.{operation_of};
-ghost use Rattle.compose.specs.Pieces.{first_units, left_after, left, shown, CutsText};
+ghost use Rattle.compose.specs.steps.Pieces.{first_units, left_after, left, shown, CutsText};
 
 use delta::{Op, OpRef};
 use refusal::Refusal;

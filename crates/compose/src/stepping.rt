@@ -1,15 +1,15 @@
 //! One step along the operations of two deltas.
-ghost use Rattle.std.specs.Prelude.{◌≡◌, ◌⊎◌, ◌++◌, [], ◌∷◌, List, true, false, IfOk, IfErr, IsOkUnless};
+ghost use Rattle.std.specs.Prelude.{◌≡◌, ◌⊎◌, ◌++◌, [], ◌∷◌, List, true, false, IfOk, OnOk, IfErr, IsOkUnless};
 ghost use Rattle.delta.specs.Operation.{Operation, is_insert, is_delete};
+ghost use Rattle.delta.specs.Operation.{IsBounded};
 ghost use Rattle.delta.specs.Gaps.{counted};
-ghost use Rattle.delta.specs.Normal.{IsNormal};
+ghost use Rattle.delta.specs.Normal.{IsNormal, settled};
 ghost use Rattle.delta.specs.Kind.{operation_of};
-ghost use Rattle.compose.specs.Cuts.{Cuts};
-ghost use Rattle.compose.specs.Pieces.{left, met};
-ghost use Rattle.compose.specs.Steps.{IsStepBefore, IsShorter, AllSome, listed};
+ghost use Rattle.compose.specs.steps.Pieces.{left, met};
+ghost use Rattle.compose.specs.steps.Stepping.{IsStepOf, CutsBefore, AllSome, as_list};
 
 use crate::pieces::{Rest, all, common_len, copy_of, cut, is_delete, is_insert};
-use delta::{Op, OpRef};
+use delta::{Builder, Op, OpRef};
 use refusal::Refusal;
 use std::alloc::Global;
 
@@ -19,6 +19,18 @@ pub struct Step<'a, 'b> {
     pub made: Option<Op>,
     pub first: Rest<'a>,
     pub second: Rest<'b>,
+}
+
+/// Adds what a step has made.
+pub fn add(out: &mut Builder, made: Option<Op>) -> Result<(), Refusal>
+    ensures added { OnOk result (settled (counted out.new) ≡ settled (counted (out.old ++ as_list made))) }
+    ensures bad { result ≡ Err Refusal.BadOps → ¬ (IsBounded (out.old ++ as_list made)) }
+    ensures only { IfErr result (λ e. (e ≡ Refusal.BadOps) ⊎ (e ≡ Refusal.NoMemory)) }
+{
+    match made {
+        Some(op) => out.push(op),
+        None => Ok(()),
+    }
 }
 
 /// One step along two lists, the second over what the first leaves. The first list is given by its first operation and the
@@ -31,9 +43,8 @@ pub fn next_step<'a, 'b>(
 ) -> Result<Step<'a, 'b>, Refusal>
     requires first { AllSome (operation_of op ∷ tail.now) }
     requires second { IsNormal (left second) }
-    ensures made { IfOk result (λ s. IsStepBefore (operation_of op.entry ∷ tail.entry.now) (left second.entry) (listed s.made) (left s.first) (left s.second)) }
-    ensures shorter { IfOk result (λ s. IsShorter (operation_of op.entry ∷ tail.entry.now) (left second.entry) (listed s.made) (left s.first) (left s.second)) }
-    ensures cut { result ≡ Err Refusal.CutsPair → (more : List Operation) → IsNormal (operation_of op.entry ∷ tail.entry.now ++ more) → Cuts (counted (operation_of op.entry ∷ tail.entry.now ++ more)) (counted (left second.entry)) }
+    ensures step { IfOk result (IsStepOf (operation_of op.entry ∷ tail.entry.now) (left second.entry)) }
+    ensures cut { result ≡ Err Refusal.CutsPair → CutsBefore (operation_of op.entry ∷ tail.entry.now) (left second.entry) }
     ensures only { IfErr result (λ e. (e ≡ Refusal.CutsPair) ⊎ (e ≡ Refusal.NoMemory)) }
 {
     match second.head {
@@ -60,8 +71,7 @@ fn pass_first<'a, 'b>(
     requires first { AllSome (operation_of op ∷ tail.now) }
     requires second { IsNormal (left second) }
     requires alone { (left second ≡ []) ⊎ (is_delete (operation_of op) ≡ true) }
-    ensures made { IfOk result (λ s. IsStepBefore (operation_of op.entry ∷ tail.entry.now) (left second.entry) (listed s.made) (left s.first) (left s.second)) }
-    ensures shorter { IfOk result (λ s. IsShorter (operation_of op.entry ∷ tail.entry.now) (left second.entry) (listed s.made) (left s.first) (left s.second)) }
+    ensures step { IfOk result (IsStepOf (operation_of op.entry ∷ tail.entry.now) (left second.entry)) }
     ensures only { IsOkUnless result Refusal.NoMemory }
 {
     Ok(Step {
@@ -82,8 +92,7 @@ fn pass_second<'a, 'b>(
     requires first { AllSome (operation_of op ∷ tail.now) }
     requires second { IsNormal (operation_of next ∷ rest.now) }
     requires inserts { is_insert (operation_of next) ≡ true }
-    ensures made { IfOk result (λ s. IsStepBefore (operation_of op.entry ∷ tail.entry.now) (operation_of next.entry ∷ rest.entry.now) (listed s.made) (left s.first) (left s.second)) }
-    ensures shorter { IfOk result (λ s. IsShorter (operation_of op.entry ∷ tail.entry.now) (operation_of next.entry ∷ rest.entry.now) (listed s.made) (left s.first) (left s.second)) }
+    ensures step { IfOk result (IsStepOf (operation_of op.entry ∷ tail.entry.now) (operation_of next.entry ∷ rest.entry.now)) }
     ensures only { IsOkUnless result Refusal.NoMemory }
 {
     Ok(Step {
@@ -108,9 +117,8 @@ fn meet<'a, 'b>(
     requires second { IsNormal (operation_of next ∷ rest.now) }
     requires stays { is_delete (operation_of op) ≡ false }
     requires stands { is_insert (operation_of next) ≡ false }
-    ensures made { IfOk result (λ s. IsStepBefore (operation_of op.entry ∷ tail.entry.now) (operation_of next.entry ∷ rest.entry.now) (listed s.made) (left s.first) (left s.second)) }
-    ensures shorter { IfOk result (λ s. IsShorter (operation_of op.entry ∷ tail.entry.now) (operation_of next.entry ∷ rest.entry.now) (listed s.made) (left s.first) (left s.second)) }
-    ensures cut { result ≡ Err Refusal.CutsPair → (more : List Operation) → IsNormal (operation_of op.entry ∷ tail.entry.now ++ more) → Cuts (counted (operation_of op.entry ∷ tail.entry.now ++ more)) (counted (operation_of next.entry ∷ rest.entry.now)) }
+    ensures step { IfOk result (IsStepOf (operation_of op.entry ∷ tail.entry.now) (operation_of next.entry ∷ rest.entry.now)) }
+    ensures cut { result ≡ Err Refusal.CutsPair → CutsBefore (operation_of op.entry ∷ tail.entry.now) (operation_of next.entry ∷ rest.entry.now) }
     ensures only { IfErr result (λ e. (e ≡ Refusal.CutsPair) ⊎ (e ≡ Refusal.NoMemory)) }
 {
     let len = common_len(op, next);
@@ -129,7 +137,7 @@ fn meet<'a, 'b>(
 
 // the second operation after the first, on the same units
 fn both(alloc: Global, op: OpRef<'_>, next: OpRef<'_>) -> Result<Option<Op>, Refusal>
-    ensures made { IfOk result (λ made. listed made ≡ met (operation_of op.entry) (operation_of next.entry)) }
+    ensures made { IfOk result (λ made. as_list made ≡ met (operation_of op.entry) (operation_of next.entry)) }
     ensures only { IsOkUnless result Refusal.NoMemory }
 {
     match (op, next) {

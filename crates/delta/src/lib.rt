@@ -13,25 +13,26 @@
 //! A caller, with its contract, which is proved as it stands:
 //!
 //! ```text
-//! ghost use Rattle.std.specs.Prelude.{◌≡◌, [], ◌∷◌, IfOk};
+//! ghost use Rattle.std.specs.Prelude.{◌≡◌, [], ◌∷◌, string_bytes, IfOk};
 //! ghost use Rattle.utf16.specs.Units.{units_of};
 //! ghost use Rattle.attributes.specs.Map.{empty};
-//! ghost use Rattle.delta.specs.Operation.{insert_text};
+//! ghost use Rattle.delta.specs.Operation.{retain, insert_text};
 //! ghost use Rattle.delta.specs.Gaps.{counted};
 //! ghost use Rattle.delta.specs.Normal.{nf};
 //!
-//! use attributes::Attrs;
+//! use attributes::{Attrs, Change};
 //! use delta::{Builder, Delta, Op, laws};
 //! use refusal::Refusal;
 //! use std::alloc::Global;
 //!
-//! /// The delta that inserts a text at the beginning of a document.
-//! pub fn insertion(alloc: Global, text: &str) -> Result<Delta, Refusal>
-//!     ensures { IfOk result (λ delta. delta ≡ nf (counted (insert_text (units_of text.now) empty ∷ []))) }
+//! /// The delta that inserts a text behind so many code units.
+//! pub fn insert_behind(alloc: Global, kept: u64, text: String) -> Result<Delta, Refusal>
+//!     ensures { IfOk result (λ delta. delta ≡ nf (counted (retain kept empty ∷ insert_text (units_of (string_bytes text)) empty ∷ []))) }
 //! {
+//!     laws::built_in_pieces();
 //!     laws::normal_of_built();
-//!     let text = String::from_str(alloc, text)?;
 //!     let mut builder = Builder::new(alloc);
+//!     builder.push(Op::retain(kept, Change::new(alloc)))?;
 //!     builder.push(Op::text(text, Attrs::new(alloc)))?;
 //!     Ok(builder.finish())
 //! }
@@ -44,8 +45,6 @@ mod delta;
 pub mod laws;
 mod op;
 mod part;
-#[cfg(test)]
-mod tests;
 mod trimming;
 
 pub use builder::{Builder, MAX_LEN};

@@ -2,12 +2,9 @@
 use Rattle.std.proofs.Common.{◌≡◌, ◌⊎◌, inl, inr, ⊎_elim, ℕ, suc, zero, ◌+◌, ◌-◌, ◌≤◌, ◌<◌, List, [], ◌∷◌, ◌++◌, length, get_or, take, drop, refl, sym, ◌∙◌, ap, subst, arith, length-append, length-drop}
 use Rattle.std.specs.Prelude.{slice_range}
 use Rattle.std.proofs.lemmas.Bool.{cases_lt}
-use Rattle.std.proofs.lemmas.List.{take_at, drop_at, ext_get_or, get_or-take, get_or-drop, get_or_append_left, get_or-append_right, length-take, length-take-le, drop-drop}
-use Rattle.disk.specs.Device.{State, IsCovered, MayLeave, overwritten, SameOutside, Opens}
-
--- a place in a range
-abbrev pub IsWithin : ℕ → ℕ → ℕ → Type 0
-IsWithin at count place = (at ≤ place) × (place < at + count)
+use Rattle.std.proofs.lemmas.List.{take_at, drop_at, ext_get_or, get_or-take, get_or-drop, get_or_append_left, get_or-append_right, length-take, length-take-le, drop-drop, take-take}
+use Rattle.disk.specs.Device.{State, IsCovered, MayLeave, overwritten, SameOutside, IsWrite}
+use Rattle.disk.specs.Laws.{IsWithin}
 
 -- a place is before a range, in it or behind it
 pub sides : (at count place : ℕ) → (place < at) ⊎ (IsWithin at count place ⊎ (at + count ≤ place))
@@ -28,41 +25,41 @@ same_at at count old new same place outside = elim (sides at count place) [
       ∙ get_or-drop (at + count) old (place - (at + count)) 0 ∙ ap (λ k. get_or old k 0) here
 ]
 
-pub length-overwritten : (old : List ℕ) (at : ℕ) (bytes : List ℕ) → at + length bytes ≤ length old → length (overwritten old at bytes) ≡ length old
-length-overwritten old at bytes fits =
+pub length_overwritten : (old : List ℕ) (at : ℕ) (bytes : List ℕ) → at + length bytes ≤ length old → length (overwritten old at bytes) ≡ length old
+length_overwritten old at bytes fits =
     omega (arith, length-append (take at old) (bytes ++ drop (at + length bytes) old), length-append bytes (drop (at + length bytes) old), length-drop (at + length bytes) old, length-take-le at old (omega arith))
 
 -- the bytes before stay
-pub take-overwritten : (old : List ℕ) (at : ℕ) (bytes : List ℕ) → at ≤ length old → take at (overwritten old at bytes) ≡ take at old
-take-overwritten old at bytes fits = take_at (take at old) (bytes ++ drop (at + length bytes) old) at (length-take-le at old fits)
+pub take_overwritten : (old : List ℕ) (at : ℕ) (bytes : List ℕ) → at ≤ length old → take at (overwritten old at bytes) ≡ take at old
+take_overwritten old at bytes fits = take_at (take at old) (bytes ++ drop (at + length bytes) old) at (length-take-le at old fits)
 
 -- from the place on there are the bytes, and then the old ones
-pub drop-overwritten : (old : List ℕ) (at : ℕ) (bytes : List ℕ) → at ≤ length old → drop at (overwritten old at bytes) ≡ bytes ++ drop (at + length bytes) old
-drop-overwritten old at bytes fits = drop_at (take at old) (bytes ++ drop (at + length bytes) old) at (length-take-le at old fits)
+pub drop_overwritten : (old : List ℕ) (at : ℕ) (bytes : List ℕ) → at ≤ length old → drop at (overwritten old at bytes) ≡ bytes ++ drop (at + length bytes) old
+drop_overwritten old at bytes fits = drop_at (take at old) (bytes ++ drop (at + length bytes) old) at (length-take-le at old fits)
 
 -- the bytes behind stay
 pub rest-overwritten : (old : List ℕ) (at : ℕ) (bytes : List ℕ) → at ≤ length old → drop (at + length bytes) (overwritten old at bytes) ≡ drop (at + length bytes) old
 rest-overwritten old at bytes fits =
-    sym (drop-drop (length bytes) at (overwritten old at bytes)) ∙ ap (λ (l : List ℕ). drop (length bytes) l) (drop-overwritten old at bytes fits)
+    sym (drop-drop (length bytes) at (overwritten old at bytes)) ∙ ap (λ (l : List ℕ). drop (length bytes) l) (drop_overwritten old at bytes fits)
     ∙ drop_at bytes (drop (at + length bytes) old) (length bytes) refl
 
 -- the range holds the bytes
 pub slice_range-overwritten : (old : List ℕ) (at : ℕ) (bytes : List ℕ) → at ≤ length old → slice_range (overwritten old at bytes) at (at + length bytes) ≡ bytes
 slice_range-overwritten old at bytes fits =
     let long : at + length bytes - at ≡ length bytes = omega arith in
-    ap (λ (l : List ℕ). take (at + length bytes - at) l) (drop-overwritten old at bytes fits) ∙ take_at bytes (drop (at + length bytes) old) (at + length bytes - at) (sym long)
+    ap (λ (l : List ℕ). take (at + length bytes - at) l) (drop_overwritten old at bytes fits) ∙ take_at bytes (drop (at + length bytes) old) (at + length bytes - at) (sym long)
 
 -- a good write changes its range alone
 pub overwritten_same_outside : (old : List ℕ) (at : ℕ) (bytes : List ℕ) → at + length bytes ≤ length old → SameOutside at (length bytes) old (overwritten old at bytes)
 overwritten_same_outside old at bytes fits = record {
-  same_length = length-overwritten old at bytes fits;
-  before = take-overwritten old at bytes (omega arith);
+  same_length = length_overwritten old at bytes fits;
+  before = take_overwritten old at bytes (omega arith);
   after = rest-overwritten old at bytes (omega arith);
 }
 
 -- a place of the range holds the byte written there
-pub get_or-overwritten : (old : List ℕ) (at : ℕ) (bytes : List ℕ) (place : ℕ) → at ≤ length old → IsWithin at (length bytes) place → get_or (overwritten old at bytes) place 0 ≡ get_or bytes (place - at) 0
-get_or-overwritten old at bytes place fits within =
+pub byte_overwritten : (old : List ℕ) (at : ℕ) (bytes : List ℕ) (place : ℕ) → at ≤ length old → IsWithin at (length bytes) place → get_or (overwritten old at bytes) place 0 ≡ get_or bytes (place - at) 0
+byte_overwritten old at bytes place fits within =
     get_or-append_right (take at old) (bytes ++ drop (at + length bytes) old) at place 0 (length-take-le at old fits) within.0
     ∙ get_or_append_left bytes (drop (at + length bytes) old) 0 (place - at) (omega arith)
 
@@ -75,6 +72,26 @@ same_outside at count old new long agree = record {
       get_or-take at new place 0 here ∙ agree place (λ within. absurd (omega arith)) ∙ sym (get_or-take at old place 0 here));
   after = ext_get_or 0 (drop (at + count) new) (drop (at + count) old) (omega (arith, length-drop (at + count) new, length-drop (at + count) old)) (λ place inside.
       get_or-drop (at + count) new place 0 ∙ agree (at + count + place) (λ within. absurd (omega arith)) ∙ sym (get_or-drop (at + count) old place 0));
+}
+
+-- what agrees outside a range agrees outside a wider one
+pub same_outside_wider : (at size within count : ℕ) (old new : List ℕ) → at ≤ within → within + count ≤ at + size → SameOutside within count old new → SameOutside at size old new
+same_outside_wider at size within count old new from to same = record {
+  same_length = same.same_length;
+  before = sym (take-take at within new from) ∙ ap (λ (l : List ℕ). take at l) same.before ∙ take-take at within old from;
+  after =
+      let end : within + count + (at + size - (within + count)) ≡ at + size = omega arith in
+      ap (λ k. drop k new) (sym end) ∙ sym (drop-drop (at + size - (within + count)) (within + count) new)
+      ∙ ap (λ (l : List ℕ). drop (at + size - (within + count)) l) same.after
+      ∙ drop-drop (at + size - (within + count)) (within + count) old ∙ ap (λ k. drop k old) end;
+}
+
+-- one change in a range after another
+pub same_outside_then : (at size : ℕ) (a b c : List ℕ) → SameOutside at size a b → SameOutside at size b c → SameOutside at size a c
+same_outside_then at size a b c first second = record {
+  same_length = second.same_length ∙ first.same_length;
+  before = second.before ∙ first.before;
+  after = second.after ∙ first.after;
 }
 
 -- a range more covers its places
@@ -102,7 +119,7 @@ synced_leaves state content synced left =
     ext_get_or 0 content state.seen left.same_length (λ place inside. left.outside place (λ covered. not_covered place (subst (λ (ranges : List (ℕ × ℕ)). IsCovered ranges place) synced covered)))
 
 -- after a write, good or torn, a crash may leave what it might have left before, with any bytes in the range
-pub leaves_opened : (at count : ℕ) (old new : State) (content : List ℕ) → at + count ≤ length old.seen → Opens at count old new → MayLeave new content → (before : List ℕ) × MayLeave old before × SameOutside at count before content
+pub leaves_opened : (at count : ℕ) (old new : State) (content : List ℕ) → at + count ≤ length old.seen → IsWrite at count old new → MayLeave new content → (before : List ℕ) × MayLeave old before × SameOutside at count before content
 leaves_opened at count old new content fits opens left = (before, may, same)
   where
     bytes : List ℕ
@@ -125,7 +142,7 @@ leaves_opened at count old new content fits opens left = (before, may, same)
 
     here : (place : ℕ) → IsWithin at count place → get_or before place 0 ≡ get_or old.seen place 0
     here place within =
-        get_or-overwritten content at bytes place (omega (arith, size)) (within.0, omega (arith, within.1, long))
+        byte_overwritten content at bytes place (omega (arith, size)) (within.0, omega (arith, within.1, long))
         ∙ get_or-take (at + count - at) (drop at old.seen) (place - at) 0 (omega arith)
         ∙ get_or-drop at old.seen (place - at) 0 ∙ ap (λ k. get_or old.seen k 0) (omega arith)
 
@@ -146,7 +163,7 @@ leaves_opened at count old new content fits opens left = (before, may, same)
     }
 
 -- and nothing else
-pub opened_leaves : (at count : ℕ) (old new : State) (content before : List ℕ) → Opens at count old new → MayLeave old before → SameOutside at count before content → MayLeave new content
+pub opened_leaves : (at count : ℕ) (old new : State) (content before : List ℕ) → IsWrite at count old new → MayLeave old before → SameOutside at count before content → MayLeave new content
 opened_leaves at count old new content before opens left same = record {
   same_length = same.same_length ∙ left.same_length ∙ sym opens.seen.same_length;
   outside = λ place not_open.

@@ -1,3 +1,4 @@
+pub mod CallerLemmas
 pub mod Contents
 pub mod Moments
 mod Rewinding

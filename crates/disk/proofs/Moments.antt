@@ -2,7 +2,7 @@
 use Rattle.std.proofs.Common.{◌≡◌, ℕ, ◌+◌, ◌-◌, ◌≤◌, ◌<◌, List, [], ◌∷◌, ◌++◌, length, take, get_or, refl, sym, ◌∙◌, ap, subst, arith, append_assoc, length-append}
 use Rattle.std.proofs.lemmas.List.Elements.{All-nil, All-cons, All-append}
 use Rattle.std.proofs.lemmas.List.{take_at}
-use Rattle.disk.specs.Device.{State, History, MayLeave, overwritten, SameOutside, Opens, Closes, GoesOn, Stays, Steps}
+use Rattle.disk.specs.Device.{State, History, MayLeave, overwritten, SameOutside, IsWrite, IsSync, IsAtMostOneStep, NoStep, OneStep}
 use Rattle.disk.specs.Crash.{LeavesIn, Leaves, LeftSince}
 use Rattle.disk.proofs.Contents.{leaves_seen, synced_leaves, leaves_opened}
 
@@ -20,9 +20,9 @@ pub begins_anywhere : {P : List ℕ → Type 0} (at_start : History) → LeavesI
 begins_anywhere {P} at_start has = record { passed = []; since = refl; each = All-nil (LeavesIn P); last = has }
 
 -- a call more: nothing changed, or the state that it leaves keeps P
-goes_on : {P : List ℕ → Type 0} {Step : State → State → Type 0} {old mid new : History} → Leaves P old mid → GoesOn Step mid new → (Step mid.now new.now → LeavesIn P new.now) → Leaves P old new
-goes_on {P} {Step} {old} {mid} {new} so_far (Stays same) keeps = subst (λ (h : History). Leaves P old h) (sym same) so_far
-goes_on {P} {Step} {old} {mid} {new} so_far (Steps moved step) keeps = record {
+goes_on : {P : List ℕ → Type 0} {Step : State → State → Type 0} {old mid new : History} → Leaves P old mid → IsAtMostOneStep Step mid new → (Step mid.now new.now → LeavesIn P new.now) → Leaves P old new
+goes_on {P} {Step} {old} {mid} {new} so_far (NoStep same) keeps = subst (λ (h : History). Leaves P old h) (sym same) so_far
+goes_on {P} {Step} {old} {mid} {new} so_far (OneStep moved step) keeps = record {
   passed = mid.now ∷ so_far.passed;
   since = moved ∙ ap (λ (states : List State). mid.now ∷ states) so_far.since;
   each = All-cons (LeavesIn P) mid.now so_far.passed so_far.last so_far.each;
@@ -30,26 +30,26 @@ goes_on {P} {Step} {old} {mid} {new} so_far (Steps moved step) keeps = record {
 }
 
 -- A write, good or not: what might be left before it, with any bytes in its range, has P.
-pub goes_on_write : {P : List ℕ → Type 0} {old mid new : History} {at count : ℕ} → Leaves P old mid → GoesOn (Opens at count) mid new → at + count ≤ length mid.now.seen
+pub goes_on_write : {P : List ℕ → Type 0} {old mid new : History} {at count : ℕ} → Leaves P old mid → IsAtMostOneStep (IsWrite at count) mid new → at + count ≤ length mid.now.seen
     → ((before content : List ℕ) → MayLeave mid.now before → SameOutside at count before content → P content) → Leaves P old new
 goes_on_write {P} {old} {mid} {new} {at} {count} so_far time fits has = goes_on so_far time (λ opens content left.
     let was = leaves_opened at count mid.now new.now content fits opens left in
     has was.0 content was.1 was.2)
 
 -- A write elsewhere: what has the property keeps it, whatever stands in the range.
-pub goes_on_write_elsewhere : {P : List ℕ → Type 0} {old mid new : History} {at count : ℕ} → Leaves P old mid → GoesOn (Opens at count) mid new → at + count ≤ length mid.now.seen
+pub goes_on_write_elsewhere : {P : List ℕ → Type 0} {old mid new : History} {at count : ℕ} → Leaves P old mid → IsAtMostOneStep (IsWrite at count) mid new → at + count ≤ length mid.now.seen
     → ((before content : List ℕ) → P before → SameOutside at count before content → P content) → Leaves P old new
 goes_on_write_elsewhere {P} {old} {mid} {new} {at} {count} so_far time fits keeps = goes_on_write so_far time fits (λ before content left. keeps before content (so_far.last before left))
 
 -- The same from a synced state: there the bytes before the write are those that a read gives.
-pub goes_on_first_write : {P : List ℕ → Type 0} {old mid new : History} {at count : ℕ} → Leaves P old mid → mid.now.unsynced ≡ [] → GoesOn (Opens at count) mid new → at + count ≤ length mid.now.seen
+pub goes_on_first_write : {P : List ℕ → Type 0} {old mid new : History} {at count : ℕ} → Leaves P old mid → mid.now.unsynced ≡ [] → IsAtMostOneStep (IsWrite at count) mid new → at + count ≤ length mid.now.seen
     → ((content : List ℕ) → SameOutside at count mid.now.seen content → P content) → Leaves P old new
 goes_on_first_write {P} {old} {mid} {new} {at} {count} so_far synced time fits has =
     goes_on_write so_far time fits (λ before content left same.
     has content (subst (λ (bytes : List ℕ). SameOutside at count bytes content) (synced_leaves mid.now before synced left) same))
 
 -- A sync, good or not.
-pub goes_on_sync : {P : List ℕ → Type 0} {old mid new : History} → Leaves P old mid → GoesOn Closes mid new → Leaves P old new
+pub goes_on_sync : {P : List ℕ → Type 0} {old mid new : History} → Leaves P old mid → IsAtMostOneStep IsSync mid new → Leaves P old new
 goes_on_sync {P} {old} {mid} {new} so_far time = goes_on so_far time (λ closes content left.
     subst P (sym (synced_leaves new.now content closes.unsynced left ∙ closes.seen)) (so_far.last mid.now.seen (leaves_seen mid.now)))
 
@@ -94,29 +94,3 @@ leaves_since {P} {old} {new} run content left = each-state left.0 left.1 left.2 
         let in_passed : k < length (new.now ∷ run.passed) = omega (arith, ap length states) in
         let same : get_or (new.now ∷ run.passed) k state ≡ state = sym (ap (λ (l : List State). get_or l k state) states) ∙ is in
         all k state in_passed content (subst (λ (s : State). MayLeave s content) (sym same) may)
-
--- A run that has come to rest: a crash at any moment of it left P, a read gives these bytes, and no range is unsynced.
-pub record Rests (P : List ℕ → Type 0) (old new : History) (bytes : List ℕ) : Type 0 where
-  pub leaves : Leaves P old new
-  pub seen : new.now.seen ≡ bytes
-  pub synced : new.now.unsynced ≡ []
-
-pub rests_first : {P : List ℕ → Type 0} (at_start : History) → at_start.now.unsynced ≡ [] → P at_start.now.seen → Rests P at_start at_start at_start.now.seen
-rests_first at_start synced has = record { leaves = begins at_start synced has; seen = refl; synced = synced }
-
--- A write on what rests, good or not.
-pub rests_write : {P : List ℕ → Type 0} {old mid new : History} {bytes : List ℕ} {at count : ℕ} → Rests P old mid bytes → GoesOn (Opens at count) mid new → at + count ≤ length bytes
-    → ((content : List ℕ) → SameOutside at count bytes content → P content) → Leaves P old new
-rests_write {P} {old} {mid} {new} {bytes} {at} {count} rests time fits has =
-    goes_on_first_write rests.leaves rests.synced time (omega (arith, fits, ap (length {A = ℕ}) rests.seen)) (λ content same.
-    has content (subst (λ (l : List ℕ). SameOutside at count l content) rests.seen same))
-
--- A good sync after writes that were good.
-pub rests_sync : {P : List ℕ → Type 0} {old written new : History} (bytes : List ℕ) → Leaves P old written → written.now.seen ≡ bytes
-    → GoesOn Closes written new → new.now.seen ≡ written.now.seen → new.now.unsynced ≡ [] → Rests P old new bytes
-rests_sync bytes leaves wrote time seen synced = record { leaves = goes_on_sync leaves time; seen = seen ∙ wrote; synced = synced }
-
--- A good write on what rests, and a good sync.
-pub rests_next : {P : List ℕ → Type 0} {old mid written new : History} {bytes : List ℕ} (at : ℕ) (put : List ℕ) → Rests P old mid bytes → Leaves P old written → written.now.seen ≡ overwritten mid.now.seen at put
-    → GoesOn Closes written new → new.now.seen ≡ written.now.seen → new.now.unsynced ≡ [] → Rests P old new (overwritten bytes at put)
-rests_next {bytes = bytes} at put rests leaves wrote time seen synced = rests_sync (overwritten bytes at put) leaves (wrote ∙ ap (λ (l : List ℕ). overwritten l at put) rests.seen) time seen synced

@@ -8,7 +8,7 @@ use Rattle.std.proofs.lemmas.List.{length-take-le, length-replicate}
 use Rattle.std.proofs.lemmas.List.Folds.{list_all-append}
 use Rattle.std.proofs.lemmas.Grind.{reverse_onto}
 use Rattle.disk.specs.Device.{IsCovered, MayLeave, overwritten, SameOutside}
-use Rattle.disk.specs.Rewound.{open_ranges, is_within}
+use Rattle.disk.specs.Rewound.{unsynced_ranges, is_within}
 use Rattle.disk.specs.Left.{left_bytes, left_after}
 use Rattle.disk.specs.declared.memory.Call.{Call}
 use Rattle.disk.specs.declared.memory.Call.TheVariants.{Read, Write, Sync}
@@ -46,7 +46,7 @@ within-reverse size (call ∷ calls) within =
 -- The bytes keep their number, and stay where no range is open.
 record Keeps (calls : List Call) (old new : List ℕ) : Type 0 where
   same_length : length new ≡ length old
-  outside : (place : ℕ) → ¬ IsCovered (open_ranges calls) place → get_or new place 0 ≡ get_or old place 0
+  outside : (place : ℕ) → ¬ IsCovered (unsynced_ranges calls) place → get_or new place 0 ≡ get_or old place 0
 
 -- a write more, where the older calls keep what is not theirs
 keeps_write : (left : Left) (calls : List Call) (at : ℕ) (replaced : Vec ℕ Global) (bytes : List ℕ) → ((now : List ℕ) → AreWithin (length now) calls → Keeps calls now (left_after left calls now)) → AreWithin (length bytes) (Write at replaced ∷ calls)
@@ -54,8 +54,8 @@ keeps_write : (left : Left) (calls : List Call) (at : ℕ) (replaced : Vec ℕ G
 keeps_write left calls at replaced bytes older within = record {
   same_length = rest.same_length ∙ first.same_length;
   outside = λ place closed.
-      rest.outside place (λ covered. closed (covered_there (at, length replaced.items) place (open_ranges calls) covered))
-      ∙ same_at at (length replaced.items) bytes next first place (λ inside. closed (covered_here at (length replaced.items) place (open_ranges calls) inside));
+      rest.outside place (λ covered. closed (covered_there (at, length replaced.items) place (unsynced_ranges calls) covered))
+      ∙ same_at at (length replaced.items) bytes next first place (λ inside. closed (covered_here at (length replaced.items) place (unsynced_ranges calls) inside));
 }
   where
     parts : IsTrue (nat_le (at + length replaced.items) (length bytes)) × AreWithin (length bytes) calls
@@ -91,5 +91,5 @@ keeps left (Read at len ∷ calls) bytes within = let kept = keeps left calls by
 keeps left (Sync ∷ calls) bytes within = record { same_length = refl; outside = λ place closed. refl }
 keeps left (Write at replaced ∷ calls) bytes within = keeps_write left calls at replaced bytes (keeps left calls) within
 
-pub left_possible : (left : Left) (calls : List Call) (bytes : List ℕ) → AreWithin (length bytes) calls → MayLeave record { seen = bytes; unsynced = open_ranges calls } (left_after left calls bytes)
+pub left_possible : (left : Left) (calls : List Call) (bytes : List ℕ) → AreWithin (length bytes) calls → MayLeave record { seen = bytes; unsynced = unsynced_ranges calls } (left_after left calls bytes)
 left_possible left calls bytes within = let kept = keeps left calls bytes within in record { same_length = kept.same_length; outside = kept.outside }

@@ -36,19 +36,19 @@ pub record SameOutside (at count : ℕ) (old new : List ℕ) : Type 0 where
   pub after : drop (at + count) new ≡ drop (at + count) old
 
 -- a write, good or torn: some bytes stand in its range, which is unsynced from now on
-pub record Opens (at count : ℕ) (old new : State) : Type 0 where
+pub record IsWrite (at count : ℕ) (old new : State) : Type 0 where
   pub seen : SameOutside at count old.seen new.seen
   pub unsynced : new.unsynced ≡ (at, count) ∷ old.unsynced
 
 -- a good sync: no range is unsynced
-pub record Closes (old new : State) : Type 0 where
+pub record IsSync (old new : State) : Type 0 where
   pub seen : new.seen ≡ old.seen
   pub unsynced : new.unsynced ≡ []
 
 -- a call leaves all as it was, or its step comes and the old state is the newest of the past ones
-pub data GoesOn (Step : State → State → Type 0) (old new : History) : Type 0 where
-  Stays : new ≡ old → GoesOn Step old new
-  Steps : new.past ≡ old.now ∷ old.past → Step old.now new.now → GoesOn Step old new
+pub data IsAtMostOneStep (Step : State → State → Type 0) (old new : History) : Type 0 where
+  NoStep : new ≡ old → IsAtMostOneStep Step old new
+  OneStep : new.past ≡ old.now ∷ old.past → Step old.now new.now → IsAtMostOneStep Step old new
 
 -- the most failed calls that a device counts
 abbrev pub most_faults : ℕ

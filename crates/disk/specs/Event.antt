@@ -5,44 +5,44 @@ use Rattle.disk.specs.Device.{State, overwritten}
 -- a call of the system with its answer
 pub data Event : Type 0 where
   -- the bytes from this offset on, read while the file was opened
-  Loaded : (at : ℕ) → (bytes : List ℕ) → Event
+  Load : (at : ℕ) → (bytes : List ℕ) → Event
   -- a read gave these bytes, or failed
-  Gave : (at : ℕ) → (bytes : List ℕ) → Event
-  GaveNone : Event
+  Read : (at : ℕ) → (bytes : List ℕ) → Event
+  FailedRead : Event
   -- a write of these bytes was good, or one of so many bytes failed
-  Took : (at : ℕ) → (bytes : List ℕ) → Event
-  TookNone : (at : ℕ) → (count : ℕ) → Event
+  Write : (at : ℕ) → (bytes : List ℕ) → Event
+  FailedWrite : (at : ℕ) → (count : ℕ) → Event
   -- a sync was good, or failed
-  Synced : Event
-  SyncedNone : Event
+  Sync : Event
+  FailedSync : Event
 
 -- the bytes that were loaded, with what was written since
 abbrev pub content : List Event → List ℕ
 content [] = []
-content (Loaded at bytes ∷ events) = content events ++ bytes
-content (Took at bytes ∷ events) = overwritten (content events) at bytes
+content (Load at bytes ∷ events) = content events ++ bytes
+content (Write at bytes ∷ events) = overwritten (content events) at bytes
 content (event ∷ events) = content events
 
 -- the ranges that no good sync has followed: what is loaded is one
 abbrev pub ranges : List Event → List (ℕ × ℕ)
 ranges [] = []
-ranges (Loaded at bytes ∷ events) = (at, length bytes) ∷ ranges events
-ranges (Took at bytes ∷ events) = (at, length bytes) ∷ ranges events
-ranges (TookNone at count ∷ events) = (at, count) ∷ ranges events
-ranges (Synced ∷ events) = []
+ranges (Load at bytes ∷ events) = (at, length bytes) ∷ ranges events
+ranges (Write at bytes ∷ events) = (at, length bytes) ∷ ranges events
+ranges (FailedWrite at count ∷ events) = (at, count) ∷ ranges events
+ranges (Sync ∷ events) = []
 ranges (event ∷ events) = ranges events
 
 -- the states before each write and each good sync
 abbrev pub states : List Event → List State
 states [] = []
-states (Took at bytes ∷ events) = record { seen = content events; unsynced = ranges events } ∷ states events
-states (TookNone at count ∷ events) = record { seen = content events; unsynced = ranges events } ∷ states events
-states (Synced ∷ events) = record { seen = content events; unsynced = ranges events } ∷ states events
+states (Write at bytes ∷ events) = record { seen = content events; unsynced = ranges events } ∷ states events
+states (FailedWrite at count ∷ events) = record { seen = content events; unsynced = ranges events } ∷ states events
+states (Sync ∷ events) = record { seen = content events; unsynced = ranges events } ∷ states events
 states (event ∷ events) = states events
 
 -- each read gave what stood there, and the file was loaded from its first byte on
 abbrev pub IsHonest : List Event → Type 0
 IsHonest [] = Unit {0}
-IsHonest (Loaded at bytes ∷ events) = (at ≡ length (content events)) × IsHonest events
-IsHonest (Gave at bytes ∷ events) = (bytes ≡ slice_range (content events) at (at + length bytes)) × IsHonest events
+IsHonest (Load at bytes ∷ events) = (at ≡ length (content events)) × IsHonest events
+IsHonest (Read at bytes ∷ events) = (bytes ≡ slice_range (content events) at (at + length bytes)) × IsHonest events
 IsHonest (event ∷ events) = IsHonest events

@@ -1,5 +1,7 @@
 pub mod Device
 pub mod Crash
+pub mod Calls
+pub mod Laws
 pub mod Memory
 pub mod Rewound
 pub mod Event

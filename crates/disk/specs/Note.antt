@@ -1,16 +1,16 @@
 -- The event that numbers and bytes stand for in a record: a kind, an offset and a count.
 use Rattle.std.specs.Prelude.{ℕ, List, slice_index, ◌==◌, if◌then◌else◌}
-use Rattle.disk.specs.Event.{Event, Loaded, Gave, GaveNone, Took, TookNone, Synced, SyncedNone}
+use Rattle.disk.specs.Event.{Event, Load, Read, FailedRead, Write, FailedWrite, Sync, FailedSync}
 
 abbrev pub event_of : List ℕ → List ℕ → Event
 event_of numbers bytes =
     let kind = slice_index numbers 0 in
     let at = slice_index numbers 1 in
     let count = slice_index numbers 2 in
-    if kind == 0 then Loaded at bytes
-    else if kind == 1 then Gave at bytes
-    else if kind == 2 then GaveNone
-    else if kind == 3 then Took at bytes
-    else if kind == 4 then TookNone at count
-    else if kind == 5 then Synced
-    else SyncedNone
+    if kind == 0 then Load at bytes
+    else if kind == 1 then Read at bytes
+    else if kind == 2 then FailedRead
+    else if kind == 3 then Write at bytes
+    else if kind == 4 then FailedWrite at count
+    else if kind == 5 then Sync
+    else FailedSync

@@ -5,11 +5,11 @@ use Rattle.disk.specs.declared.memory.Call.{Call}
 use Rattle.disk.specs.declared.memory.Call.TheVariants.{Read, Write, Sync}
 
 -- the ranges written since the last sync
-abbrev pub open_ranges : List Call → List (ℕ × ℕ)
-open_ranges [] = []
-open_ranges (Read at len ∷ calls) = open_ranges calls
-open_ranges (Write at replaced ∷ calls) = (at, length replaced.items) ∷ open_ranges calls
-open_ranges (Sync ∷ calls) = []
+abbrev pub unsynced_ranges : List Call → List (ℕ × ℕ)
+unsynced_ranges [] = []
+unsynced_ranges (Read at len ∷ calls) = unsynced_ranges calls
+unsynced_ranges (Write at replaced ∷ calls) = (at, length replaced.items) ∷ unsynced_ranges calls
+unsynced_ranges (Sync ∷ calls) = []
 
 -- the states before each write and each sync, the newest of which led to these bytes
 abbrev pub states_before : List ℕ → List Call → List State
@@ -17,8 +17,8 @@ states_before bytes [] = []
 states_before bytes (Read at len ∷ calls) = states_before bytes calls
 states_before bytes (Write at replaced ∷ calls) =
     let before = overwritten bytes at replaced.items in
-    record { seen = before; unsynced = open_ranges calls } ∷ states_before before calls
-states_before bytes (Sync ∷ calls) = record { seen = bytes; unsynced = open_ranges calls } ∷ states_before bytes calls
+    record { seen = before; unsynced = unsynced_ranges calls } ∷ states_before before calls
+states_before bytes (Sync ∷ calls) = record { seen = bytes; unsynced = unsynced_ranges calls } ∷ states_before bytes calls
 
 -- a write lies within so many bytes
 abbrev pub is_within : ℕ → Call → Bool

@@ -4,15 +4,15 @@ use Rattle.disk.specs.Memory.{bytes_of, calls_of}
 use Rattle.disk.specs.Left.{left_after}
 use Rattle.disk.specs.declared.memory.MemDisk.{MemDisk}
 use Rattle.disk.specs.declared.faults.FaultDisk.{FaultDisk}
-use Rattle.disk.specs.declared.faults.Plan.{Plan}
+use Rattle.disk.specs.declared.faults.FaultPlan.{FaultPlan}
 
 -- the device below
 abbrev pub disk_of : FaultDisk → MemDisk
 disk_of faulty = faulty.disk
 
 -- where it goes wrong, how many calls it was asked for, and whether it has stopped
-abbrev pub plan_of : FaultDisk → Plan
-plan_of faulty = faulty.plan
+abbrev pub fault_plan_of : FaultDisk → FaultPlan
+fault_plan_of faulty = faulty.plan
 
 abbrev pub asked_of : FaultDisk → ℕ
 asked_of faulty = faulty.asked

@@ -1,7 +1,9 @@
 //! The device that everything above is written over.
-ghost use Rattle.std.specs.Prelude.{◌≡◌, ◌↔◌, ◌+◌, ◌-◌, ◌*◌, ◌≤◌, ◌<◌, min, [], ◌∷◌, List, ℕ, length, slice_range, OnOk, OnErr};
-ghost use Rattle.disk.specs.Device.{State, history, overwritten, Opens, Closes, GoesOn, most_faults};
+ghost use Rattle.std.specs.Prelude.{◌≡◌, ◌↔◌, ◌+◌, ◌≤◌, ◌<◌, min, [], ◌∷◌, List, ℕ, length, slice_range, OnOk, OnErr};
+ghost use Rattle.disk.specs.Device.{State, history, overwritten, IsWrite, IsSync, IsAtMostOneStep, most_faults};
+ghost use Rattle.refusal.specs.declared.Refusal.TheVariants as refusals;
 
+use refusal::Refusal;
 use std::alloc::AllocError;
 use std::io;
 use thiserror::Error;
@@ -20,6 +22,14 @@ impl From<io::Error> for Fault {
 impl From<AllocError> for Fault {
     fn from(_: AllocError) -> Fault {
         Fault
+    }
+}
+
+impl From<Fault> for Refusal {
+    ghost from_gives = { λ _ refusal. refusal ≡ refusals.Fault };
+
+    fn from(_: Fault) -> Self {
+        Refusal::Fault
     }
 }
 
@@ -72,7 +82,7 @@ pub trait Disk {
         ensures length { length (seen self.new) ≡ length (seen self.old) }
 
         // Good or not: nothing changed, or the range holds some bytes and is unsynced.
-        ensures time { GoesOn (Opens at (length bytes.now)) (history seen unsynced past self.old) (history seen unsynced past self.new) }
+        ensures time { IsAtMostOneStep (IsWrite at (length bytes.now)) (history seen unsynced past self.old) (history seen unsynced past self.new) }
         ensures honest { honest self.new ↔ honest self.old }
 
         ensures good { OnOk result ((faults self.new ≡ faults self.old) × (faults self.old < most_faults)) }
@@ -84,7 +94,7 @@ pub trait Disk {
         ensures closed { OnOk result (unsynced self.new ≡ []) }
         ensures open { OnErr result (unsynced self.new ≡ unsynced self.old) }
 
-        ensures time { GoesOn Closes (history seen unsynced past self.old) (history seen unsynced past self.new) }
+        ensures time { IsAtMostOneStep IsSync (history seen unsynced past self.old) (history seen unsynced past self.new) }
         ensures honest { honest self.new ↔ honest self.old }
 
         ensures good { OnOk result ((faults self.new ≡ faults self.old) × (faults self.old < most_faults)) }

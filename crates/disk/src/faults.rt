@@ -1,6 +1,6 @@
 //! A device in memory that fails or stops where it is told to.
-ghost use Rattle.std.specs.Prelude.{◌≡◌, ◌+◌, ◌-◌, ◌≤◌, ◌<◌, true, false, min, [], ◌∷◌, length, slice_range, IsTrue, IfOk, OnOk, OnErr, ◌↔◌, ◌&&◌, ◌||◌};
-ghost use Rattle.disk.specs.Device.{overwritten, most_faults, Opens, GoesOn};
+ghost use Rattle.std.specs.Prelude.{◌≡◌, ◌+◌, ◌≤◌, true, false, min, [], length, slice_range, IsTrue, IfOk, OnOk, ◌↔◌, ◌&&◌, ◌||◌};
+ghost use Rattle.disk.specs.Device.{overwritten, most_faults, IsWrite, IsAtMostOneStep};
 ghost use Rattle.disk.specs.Crash.{MayLeaveNow, history_of};
 ghost use Rattle.disk.specs.Left.{left_bytes};
 
@@ -23,7 +23,7 @@ pub enum Left {
 
 /// Where a device goes wrong.
 #[derive(Clone, Copy, Debug, PartialEq, Eq)]
-pub struct Plan {
+pub struct FaultPlan {
     /// The number of the call, from 0, over all calls that the device is asked for.
     pub call: u64,
     /// Each later call fails too, as if the machine had gone.
@@ -31,12 +31,12 @@ pub struct Plan {
     pub left: Left,
 }
 
-impl Plan {
+impl FaultPlan {
     /// One call fails.
-    pub fn fail(call: u64, left: Left) -> Plan
+    pub fn fail(call: u64, left: Left) -> FaultPlan
         ensures { result ≡ record { call = call; stops = false; left = left } }
     {
-        Plan {
+        FaultPlan {
             call,
             stops: false,
             left,
@@ -44,10 +44,10 @@ impl Plan {
     }
 
     /// From one call on each call fails.
-    pub fn stop(call: u64, left: Left) -> Plan
+    pub fn stop(call: u64, left: Left) -> FaultPlan
         ensures { result ≡ record { call = call; stops = true; left = left } }
     {
-        Plan {
+        FaultPlan {
             call,
             stops: true,
             left,
@@ -59,7 +59,7 @@ impl Plan {
 #[derive(Drop)]
 pub struct FaultDisk {
     disk: MemDisk,
-    plan: Plan,
+    plan: FaultPlan,
     asked: u64,
     has_stopped: bool,
 }
@@ -67,12 +67,12 @@ pub struct FaultDisk {
 impl FaultDisk {
     ghost use Rattle.std.specs.Prelude.{reverse};
     ghost use Rattle.disk.specs.Memory.{bytes_of, calls_of, failures_of};
-    ghost use Rattle.disk.specs.Stopped.{disk_of, plan_of, asked_of, has_stopped, bytes_left};
+    ghost use Rattle.disk.specs.Stopped.{disk_of, fault_plan_of, asked_of, has_stopped, bytes_left};
 
     /// The device goes on from where `disk` is.
-    pub fn new(disk: MemDisk, plan: Plan) -> FaultDisk
+    pub fn new(disk: MemDisk, plan: FaultPlan) -> FaultDisk
         ensures disk { disk_of result ≡ disk }
-        ensures plan { plan_of result ≡ plan }
+        ensures plan { fault_plan_of result ≡ plan }
         ensures start { (asked_of result ≡ 0) × (has_stopped result ≡ false) }
     {
         FaultDisk {
@@ -129,8 +129,8 @@ impl FaultDisk {
     // Counts a call that is asked for, and says whether it is to fail.
     fn is_due(&mut self) -> bool
         ensures disk { disk_of self.new ≡ disk_of self.old }
-        ensures due { IsTrue result ↔ (asked_of self.old ≡ (plan_of self.old).call) }
-        ensures stops { has_stopped self.new ≡ (has_stopped self.old || (result && (plan_of self.old).stops)) }
+        ensures due { IsTrue result ↔ (asked_of self.old ≡ (fault_plan_of self.old).call) }
+        ensures stops { has_stopped self.new ≡ (has_stopped self.old || (result && (fault_plan_of self.old).stops)) }
     {
         let is_due = self.asked == self.plan.call;
         self.asked = self.asked.saturating_add(1);
@@ -144,12 +144,12 @@ impl FaultDisk {
     fn tear(&mut self, at: u64, bytes: &[u8], left: Left) -> Fault
         requires { at + length bytes.now ≤ length (bytes_of (disk_of self.old)) }
         ensures length { length (bytes_of (disk_of self.new)) ≡ length (bytes_of (disk_of self.old)) }
-        ensures time { GoesOn (Opens at (length bytes.now)) (history_of ⟦<FaultDisk as Disk>⟧ self.old) (history_of ⟦<FaultDisk as Disk>⟧ self.new) }
+        ensures time { IsAtMostOneStep (IsWrite at (length bytes.now)) (history_of ⟦<FaultDisk as Disk>⟧ self.old) (history_of ⟦<FaultDisk as Disk>⟧ self.new) }
         ensures failed { failures_of (disk_of self.new) ≡ min (failures_of (disk_of self.old) + 1) most_faults }
     {
         let start = at as usize;
         let old = &self.disk.bytes()[start..start + bytes.len()];
-        let Ok(left) = torn(self.disk.alloc(), old, bytes, left) else {
+        let Ok(left) = torn_bytes(self.disk.alloc(), old, bytes, left) else {
             return self.disk.fail();
         };
         if self.disk.write_at(at, &left).is_ok() {
@@ -160,7 +160,7 @@ impl FaultDisk {
 }
 
 // What stands in a range where `new` was to replace `old`.
-fn torn(alloc: Global, old: &[u8], new: &[u8], left: Left) -> Result<Vec<u8>, AllocError>
+fn torn_bytes(alloc: Global, old: &[u8], new: &[u8], left: Left) -> Result<Vec<u8>, AllocError>
     requires { length old.now ≡ length new.now }
     ensures bytes { IfOk result (λ bytes. bytes.items ≡ left_bytes left old.now new.now) }
     ensures length { IfOk result (λ bytes. length bytes.items ≡ length new.now) }
@@ -192,7 +192,7 @@ fn leave(
     ensures length { length bytes.new.items ≡ length bytes.old.items }
 {
     let start = at as usize;
-    let left = torn(alloc, replaced, &bytes[start..start + replaced.len()], left)?;
+    let left = torn_bytes(alloc, replaced, &bytes[start..start + replaced.len()], left)?;
     overwrite(bytes, start, &left);
     Ok(())
 }
@@ -200,12 +200,12 @@ fn leave(
 impl Disk for FaultDisk {
     ghost use Rattle.std.specs.Prelude.{reverse};
     ghost use Rattle.disk.specs.Memory.{bytes_of, calls_of, failures_of};
-    ghost use Rattle.disk.specs.Rewound.{open_ranges, states_before};
+    ghost use Rattle.disk.specs.Rewound.{unsynced_ranges, states_before};
     ghost use Rattle.disk.specs.Stopped.{disk_of};
 
     ghost seen = { λ faulty. bytes_of (disk_of faulty) };
 
-    ghost unsynced = { λ faulty. open_ranges (reverse (calls_of (disk_of faulty))) };
+    ghost unsynced = { λ faulty. unsynced_ranges (reverse (calls_of (disk_of faulty))) };
 
     ghost past = { λ faulty. states_before (bytes_of (disk_of faulty)) (reverse (calls_of (disk_of faulty))) };
 

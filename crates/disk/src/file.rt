@@ -2,9 +2,9 @@
 //!
 //! All of it is proved, over any raw file. That a file of the operating system keeps the device's model is not:
 //! see `raw`.
-ghost use Rattle.std.specs.Prelude.{◌≡◌, ◌+◌, ◌-◌, ◌≤◌, ◌<◌, min, false, [], ◌∷◌, List, ℕ, length, IfOk, OnOk, OnErr};
+ghost use Rattle.std.specs.Prelude.{◌≡◌, ◌+◌, ◌-◌, ◌<◌, min, false, [], length, IfOk};
 ghost use Rattle.disk.specs.Device.{most_faults};
-ghost use Rattle.disk.specs.Event.{Event, content, ranges, states, IsHonest};
+ghost use Rattle.disk.specs.Event.{content, ranges, states, IsHonest};
 
 use crate::device::count_failure;
 use crate::raw::{HostFile, RawFile};

@@ -1,7 +1,7 @@
-//! What follows from the definitions, as contracts of functions that do nothing.
-ghost use Rattle.std.specs.Prelude.{◌≡◌, ◌↔◌, ◌+◌, ◌≤◌, [], List, ℕ, length};
-ghost use Rattle.disk.specs.Device.{State, History, MayLeave, SameOutside, Opens};
-ghost use Rattle.disk.specs.Crash.{Leaves, LeftSince};
+//! What follows from the definitions of a device, as contracts of functions that do nothing. The laws stand in
+//! specs/Laws.antt, and the proofs of the layers above cite them as proofs/CallerLemmas.antt has them.
+ghost use Rattle.std.specs.Prelude.{List, ℕ};
+ghost use Rattle.disk.specs.Laws as law;
 
 /// A property of the contents of a device.
 pub trait Property {
@@ -10,17 +10,51 @@ pub trait Property {
 
 /// What a read gives is one of the contents that a crash may leave, and where no range is unsynced the only one.
 pub fn crash_at_rest()
-    ensures seen { (state : State) → MayLeave state state.seen }
-    ensures only { (state : State) (content : List ℕ) → state.unsynced ≡ [] → MayLeave state content → content ≡ state.seen }
+    ensures seen { law.SeenMayBeLeft }
+    ensures only { law.SyncedLeaves }
 {}
 
 /// After a write a crash may leave just what it might have left before, with any bytes in the range of the write.
 pub fn crash_after_write()
-    ensures { (at count : ℕ) (old new : State) (content : List ℕ) → at + count ≤ length old.seen → Opens at count old new
-        → (MayLeave new content ↔ ((before : List ℕ) × MayLeave old before × SameOutside at count before content)) }
+    ensures { law.LeftByWrite }
+{}
+
+/// What stands where after bytes were put over others.
+pub fn bytes_after_write()
+    ensures length { law.LengthOverwritten }
+    ensures before { law.TakeOverwritten }
+    ensures from { law.DropOverwritten }
+    ensures among { law.ByteOverwritten }
+    ensures outside { law.OverwrittenSameOutside }
+{}
+
+/// Contents that are the same outside a range.
+pub fn same_outside()
+    ensures places { law.SameAt }
+    ensures wider { law.SameOutsideWider }
+    ensures then { law.SameOutsideThen }
+{}
+
+/// How a promise for a run begins.
+pub fn run_begins<P: Property>()
+    ensures synced { law.Begins P.holds }
+    ensures anywhere { law.BeginsAnywhere P.holds }
+{}
+
+/// How a promise for a run goes on over a call, good or not, and over another run.
+pub fn run_goes_on<P: Property>()
+    ensures write { law.GoesOnWrite P.holds }
+    ensures first_write { law.GoesOnFirstWrite P.holds }
+    ensures sync { law.GoesOnSync P.holds }
+    ensures run { law.GoesOnRun P.holds }
+{}
+
+/// A promise for a run with a property is one with each property that follows from it.
+pub fn run_implies<P: Property, Q: Property>()
+    ensures { law.LeavesMap P.holds Q.holds }
 {}
 
 /// A promise for a run is one by the clock: whatever a crash from its first moment on might have left has the property.
 pub fn crash_since<P: Property>()
-    ensures { (old new : History) (content : List ℕ) → Leaves P.holds old new → LeftSince new (length old.past) content → P.holds content }
+    ensures { law.LeavesSince P.holds }
 {}

@@ -1,5 +1,5 @@
 //! A device in memory. It keeps a record of its calls, from which its past is read off.
-ghost use Rattle.std.specs.Prelude.{◌≡◌, ◌+◌, ◌-◌, ◌<◌, ◌≤◌, min, [], ◌∷◌, ◌++◌, length, replicate, IsTrue, IfOk, OnOk, OnErr};
+ghost use Rattle.std.specs.Prelude.{◌≡◌, ◌+◌, ◌<◌, ◌≤◌, min, [], ◌∷◌, ◌++◌, length, replicate, IsTrue, IfOk, OnOk, OnErr};
 ghost use Rattle.std.specs.List.{list_all};
 ghost use Rattle.disk.specs.Device.{overwritten, most_faults};
 ghost use Rattle.disk.specs.Rewound.{is_within};
@@ -110,11 +110,11 @@ pub(crate) fn overwrite(bytes: &mut [u8], at: usize, new: &[u8])
 impl Disk for MemDisk {
     ghost use Rattle.std.specs.Prelude.{reverse};
     ghost use Rattle.disk.specs.Memory.{bytes_of, calls_of, failures_of};
-    ghost use Rattle.disk.specs.Rewound.{open_ranges, states_before};
+    ghost use Rattle.disk.specs.Rewound.{unsynced_ranges, states_before};
 
     ghost seen = { bytes_of };
 
-    ghost unsynced = { λ disk. open_ranges (reverse (calls_of disk)) };
+    ghost unsynced = { λ disk. unsynced_ranges (reverse (calls_of disk)) };
 
     ghost past = { λ disk. states_before (bytes_of disk) (reverse (calls_of disk)) };
 

@@ -6,7 +6,7 @@
 //! succeed only the ranges written in between can be lost, and a sync that succeeds has made them last.
 //! So the few lines of `HostFile` are to be read.
 ghost use Rattle.std.specs.Prelude.{◌≡◌, ◌∷◌, [], List, length, OnOk, OnErr};
-ghost use Rattle.disk.specs.Event.{Event, Loaded, Gave, GaveNone, Took, TookNone, Synced, SyncedNone};
+ghost use Rattle.disk.specs.Event.{Event, Load, Read, FailedRead, Write, FailedWrite, Sync, FailedSync};
 
 use crate::Fault;
 use crate::record::Record;
@@ -20,20 +20,20 @@ pub trait RawFile: Drop {
 
     /// Reads the next bytes of a file that is being opened.
     fn load(&mut self, at: u64, out: &mut [u8]) -> Result<(), Fault>
-        ensures good { OnOk result (events self.new ≡ Loaded at out.new ∷ events self.old) }
-        ensures failed { OnErr result (events self.new ≡ GaveNone ∷ events self.old) };
+        ensures good { OnOk result (events self.new ≡ Load at out.new ∷ events self.old) }
+        ensures failed { OnErr result (events self.new ≡ FailedRead ∷ events self.old) };
 
     fn read_at(&mut self, at: u64, out: &mut [u8]) -> Result<(), Fault>
-        ensures good { OnOk result (events self.new ≡ Gave at out.new ∷ events self.old) }
-        ensures failed { OnErr result (events self.new ≡ GaveNone ∷ events self.old) };
+        ensures good { OnOk result (events self.new ≡ Read at out.new ∷ events self.old) }
+        ensures failed { OnErr result (events self.new ≡ FailedRead ∷ events self.old) };
 
     fn write_at(&mut self, at: u64, bytes: &[u8]) -> Result<(), Fault>
-        ensures good { OnOk result (events self.new ≡ Took at bytes.now ∷ events self.old) }
-        ensures failed { OnErr result (events self.new ≡ TookNone at (length bytes.now) ∷ events self.old) };
+        ensures good { OnOk result (events self.new ≡ Write at bytes.now ∷ events self.old) }
+        ensures failed { OnErr result (events self.new ≡ FailedWrite at (length bytes.now) ∷ events self.old) };
 
     fn sync(&mut self) -> Result<(), Fault>
-        ensures good { OnOk result (events self.new ≡ Synced ∷ events self.old) }
-        ensures failed { OnErr result (events self.new ≡ SyncedNone ∷ events self.old) };
+        ensures good { OnOk result (events self.new ≡ Sync ∷ events self.old) }
+        ensures failed { OnErr result (events self.new ≡ FailedSync ∷ events self.old) };
 }
 
 /// A file of the operating system.
@@ -65,11 +65,11 @@ impl RawFile for HostFile {
     fn load(&mut self, at: u64, out: &mut [u8]) -> Result<(), Fault> {
         match self.file.read_exact_at(out, at) {
             Ok(()) => {
-                self.record.loaded(at, out);
+                self.record.note_load(at, out);
                 Ok(())
             }
             Err(_) => {
-                self.record.gave_none();
+                self.record.note_failed_read();
                 Err(Fault)
             }
         }
@@ -78,11 +78,11 @@ impl RawFile for HostFile {
     fn read_at(&mut self, at: u64, out: &mut [u8]) -> Result<(), Fault> {
         match self.file.read_exact_at(out, at) {
             Ok(()) => {
-                self.record.gave(at, out);
+                self.record.note_read(at, out);
                 Ok(())
             }
             Err(_) => {
-                self.record.gave_none();
+                self.record.note_failed_read();
                 Err(Fault)
             }
         }
@@ -91,11 +91,11 @@ impl RawFile for HostFile {
     fn write_at(&mut self, at: u64, bytes: &[u8]) -> Result<(), Fault> {
         match self.file.write_all_at(bytes, at) {
             Ok(()) => {
-                self.record.took(at, bytes);
+                self.record.note_write(at, bytes);
                 Ok(())
             }
             Err(_) => {
-                self.record.took_none(at, bytes.len() as u64);
+                self.record.note_failed_write(at, bytes.len() as u64);
                 Err(Fault)
             }
         }
@@ -104,11 +104,11 @@ impl RawFile for HostFile {
     fn sync(&mut self) -> Result<(), Fault> {
         match self.file.sync_all() {
             Ok(()) => {
-                self.record.synced();
+                self.record.note_sync();
                 Ok(())
             }
             Err(_) => {
-                self.record.synced_none();
+                self.record.note_failed_sync();
                 Err(Fault)
             }
         }

@@ -1,24 +1,24 @@
 //! The calls of a file and their answers, kept where only clauses read them.
-ghost use Rattle.std.specs.Prelude.{◌≡◌, List, [], ◌∷◌, length};
+ghost use Rattle.std.specs.Prelude.{◌≡◌, List, [], ◌∷◌};
 ghost use Rattle.std.specs.Borrow.{ftrue};
-ghost use Rattle.disk.specs.Event.{Event, Loaded, Gave, GaveNone, Took, TookNone, Synced, SyncedNone};
+ghost use Rattle.disk.specs.Event.{Event, Load, Read, FailedRead, Write, FailedWrite, Sync, FailedSync};
 ghost use Rattle.disk.specs.Note.{event_of};
 
 use std::marker::{Model, PhantomData};
 
-const LOADED: u64 = 0;
+const LOAD: u64 = 0;
 
-const GAVE: u64 = 1;
+const READ: u64 = 1;
 
-const GAVE_NONE: u64 = 2;
+const FAILED_READ: u64 = 2;
 
-const TOOK: u64 = 3;
+const WRITE: u64 = 3;
 
-const TOOK_NONE: u64 = 4;
+const FAILED_WRITE: u64 = 4;
 
-const SYNCED: u64 = 5;
+const SYNC: u64 = 5;
 
-const SYNCED_NONE: u64 = 6;
+const FAILED_SYNC: u64 = 6;
 
 /// A list of events, newest first. It takes no memory.
 #[derive(Drop)]
@@ -40,46 +40,46 @@ impl Record {
         }
     }
 
-    pub(crate) fn loaded(&mut self, at: u64, bytes: &[u8])
-        ensures { self.new.events ≡ Loaded at bytes.now ∷ self.old.events }
+    pub(crate) fn note_load(&mut self, at: u64, bytes: &[u8])
+        ensures { self.new.events ≡ Load at bytes.now ∷ self.old.events }
     {
-        self.note(&[LOADED, at, 0], bytes);
+        self.note(&[LOAD, at, 0], bytes);
     }
 
-    pub(crate) fn gave(&mut self, at: u64, bytes: &[u8])
-        ensures { self.new.events ≡ Gave at bytes.now ∷ self.old.events }
+    pub(crate) fn note_read(&mut self, at: u64, bytes: &[u8])
+        ensures { self.new.events ≡ Read at bytes.now ∷ self.old.events }
     {
-        self.note(&[GAVE, at, 0], bytes);
+        self.note(&[READ, at, 0], bytes);
     }
 
-    pub(crate) fn gave_none(&mut self)
-        ensures { self.new.events ≡ GaveNone ∷ self.old.events }
+    pub(crate) fn note_failed_read(&mut self)
+        ensures { self.new.events ≡ FailedRead ∷ self.old.events }
     {
-        self.note(&[GAVE_NONE, 0, 0], &[]);
+        self.note(&[FAILED_READ, 0, 0], &[]);
     }
 
-    pub(crate) fn took(&mut self, at: u64, bytes: &[u8])
-        ensures { self.new.events ≡ Took at bytes.now ∷ self.old.events }
+    pub(crate) fn note_write(&mut self, at: u64, bytes: &[u8])
+        ensures { self.new.events ≡ Write at bytes.now ∷ self.old.events }
     {
-        self.note(&[TOOK, at, 0], bytes);
+        self.note(&[WRITE, at, 0], bytes);
     }
 
-    pub(crate) fn took_none(&mut self, at: u64, count: u64)
-        ensures { self.new.events ≡ TookNone at count ∷ self.old.events }
+    pub(crate) fn note_failed_write(&mut self, at: u64, count: u64)
+        ensures { self.new.events ≡ FailedWrite at count ∷ self.old.events }
     {
-        self.note(&[TOOK_NONE, at, count], &[]);
+        self.note(&[FAILED_WRITE, at, count], &[]);
     }
 
-    pub(crate) fn synced(&mut self)
-        ensures { self.new.events ≡ Synced ∷ self.old.events }
+    pub(crate) fn note_sync(&mut self)
+        ensures { self.new.events ≡ Sync ∷ self.old.events }
     {
-        self.note(&[SYNCED, 0, 0], &[]);
+        self.note(&[SYNC, 0, 0], &[]);
     }
 
-    pub(crate) fn synced_none(&mut self)
-        ensures { self.new.events ≡ SyncedNone ∷ self.old.events }
+    pub(crate) fn note_failed_sync(&mut self)
+        ensures { self.new.events ≡ FailedSync ∷ self.old.events }
     {
-        self.note(&[SYNCED_NONE, 0, 0], &[]);
+        self.note(&[FAILED_SYNC, 0, 0], &[]);
     }
 
     // Its proof is by hand, since it sets what no memory holds. The numbers are those above, an offset and a count.

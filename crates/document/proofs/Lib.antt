@@ -11,5 +11,4 @@ pub mod Parting
 pub mod Deciding
 pub mod Weighing
 pub mod Inserting
-pub mod Units
 pub mod Making

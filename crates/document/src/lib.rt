@@ -11,24 +11,22 @@
 //! A caller, with its contract, which is proved as it stands:
 //!
 //! ```text
-//! ghost use Rattle.std.specs.Prelude.{◌≡◌, IfOk};
+//! ghost use Rattle.std.specs.Prelude.{◌≡◌, length, IfOk, OnOk, OnErr};
 //! ghost use Rattle.delta.specs.Gaps.{counted, apply};
-//! ghost use Rattle.document.specs.Making.{document_from};
-//! ghost use Rattle.document.specs.Pairs.{IsWellFormed};
 //!
 //! use delta::Delta;
 //! use document::Document;
 //! use refusal::Refusal;
 //! use std::alloc::Global;
 //!
-//! /// The document that the first delta makes, after the second.
-//! pub fn after_both(alloc: Global, first: &Delta, second: &Delta) -> Result<Document, Refusal>
-//!     ensures units { IfOk result (λ document. document ≡ apply (document_from first.now) (counted second.now)) }
-//!     ensures well_formed { IfOk result (λ document. IsWellFormed document) }
+//! /// Applies a delta, and gives the document's new length. Refused, the document is as it was.
+//! pub fn edit(alloc: Global, document: &mut Document, delta: &Delta) -> Result<u64, Refusal>
+//!     ensures document { OnOk result (document.new ≡ apply document.old (counted delta.now)) }
+//!     ensures len { IfOk result (λ len. len ≡ length (apply document.old (counted delta.now))) }
+//!     ensures err { OnErr result (document.new ≡ document.old) }
 //! {
-//!     let mut document = Document::from_delta(alloc, first)?;
-//!     document.apply(alloc, second)?;
-//!     Ok(document)
+//!     document.apply(alloc, delta)?;
+//!     Ok(document.len16())
 //! }
 //! ```
 #![tactic(auto)]
@@ -39,8 +37,6 @@ mod document;
 pub mod laws;
 mod run;
 mod runs;
-#[cfg(test)]
-mod tests;
 mod walk;
 
 pub use document::Document;

@@ -6,28 +6,8 @@ use Rattle.std.proofs.lemmas.List.{drop_more, take-take, take_at, drop_at, drop-
 use Rattle.std.proofs.lemmas.List.Concat.{flat_map-append}
 use Rattle.std.proofs.Math.Seq.{take-append-add}
 use Rattle.disk.specs.Device.{overwritten, SameOutside}
-use Rattle.disk.proofs.Contents.{length-overwritten, take-overwritten, drop-overwritten, overwritten_same_outside}
-use Rattle.journal.specs.Area.{open_gate, framed, entry, entries, IsBody, HoldsBodies, Place, area_bytes, Stands, IsGated, IsBeforeOrAfter, IsAfter}
-
--- what agrees outside a range agrees outside a wider one
-pub same_outside_wider : (at size within count : ℕ) (old new : List ℕ) → at ≤ within → within + count ≤ at + size → SameOutside within count old new → SameOutside at size old new
-same_outside_wider at size within count old new from to same = record {
-  same_length = same.same_length;
-  before = sym (take-take at within new from) ∙ ap (λ (l : List ℕ). take at l) same.before ∙ take-take at within old from;
-  after =
-      let end : within + count + (at + size - (within + count)) ≡ at + size = omega arith in
-      ap (λ k. drop k new) (sym end) ∙ sym (drop-drop (at + size - (within + count)) (within + count) new)
-      ∙ ap (λ (l : List ℕ). drop (at + size - (within + count)) l) same.after
-      ∙ drop-drop (at + size - (within + count)) (within + count) old ∙ ap (λ k. drop k old) end;
-}
-
--- one change in a range after another
-pub same_outside_then : (at size : ℕ) (a b c : List ℕ) → SameOutside at size a b → SameOutside at size b c → SameOutside at size a c
-same_outside_then at size a b c first second = record {
-  same_length = second.same_length ∙ first.same_length;
-  before = second.before ∙ first.before;
-  after = second.after ∙ first.after;
-}
+use Rattle.disk.proofs.CallerLemmas.{length_overwritten, take_overwritten, drop_overwritten, overwritten_same_outside, same_outside_wider, same_outside_then}
+use Rattle.journal.specs.Area.{open_gate, frame, entry, entries, IsBody, HoldsBodies, Place, area_bytes, Stands, IsGated, IsLeftByAppend, IsAppended}
 
 pub AllByRecursion-push : {X : Type 0} (P : X → Type 0) (xs : List X) (x : X) → AllByRecursion P xs → P x → AllByRecursion P (xs ++ x ∷ [])
 AllByRecursion-push P [] x all has = (has, tt)
@@ -36,8 +16,8 @@ AllByRecursion-push P (y ∷ xs) x all has = (all.0, AllByRecursion-push P xs x 
 pub entries-push : (bodies : List (List ℕ)) (body : List ℕ) → entries (bodies ++ body ∷ []) ≡ entries bodies ++ entry body
 entries-push bodies body = flat_map-append entry bodies (body ∷ []) ∙ ap (λ (l : List ℕ). entries bodies ++ l) (append-nil (entry body))
 
-pub length-framed : (body : List ℕ) → length (framed body) ≡ 4 + length body
-length-framed body = omega arith
+pub length-frame : (body : List ℕ) → length (frame body) ≡ 4 + length body
+length-frame body = omega arith
 
 module _ (old : List ℕ) (place : Place) (bodies : List (List ℕ)) (stands : Stands old place bodies) (inside : place.next < place.size) (within : place.at + place.size ≤ length old) where
   -- the gate of the next record, on the device
@@ -97,10 +77,10 @@ module _ (old : List ℕ) (place : Place) (bodies : List (List ℕ)) (stands : S
   module _ (body : List ℕ) (some : 0 < length body) (short : length body < 2 ^ 32) (room : place.next + 6 + length body ≤ place.size) where
     -- what is written behind the gate
     abbrev record_bytes : List ℕ
-    record_bytes = framed body ++ 0 ∷ []
+    record_bytes = frame body ++ 0 ∷ []
 
     record_long : length record_bytes ≡ length body + 5
-    record_long = omega (arith, length-append (framed body) (0 ∷ []), length-framed body)
+    record_long = omega (arith, length-append (frame body) (0 ∷ []), length-frame body)
 
     fits : gate + 1 + length record_bytes ≤ length old
     fits = omega (arith, record_long)
@@ -113,22 +93,22 @@ module _ (old : List ℕ) (place : Place) (bodies : List (List ℕ)) (stands : S
     gated value = overwritten staged gate (value ∷ [])
 
     staged_long : length staged ≡ length old
-    staged_long = length-overwritten old (gate + 1) record_bytes fits
+    staged_long = length_overwritten old (gate + 1) record_bytes fits
 
     gated_long : (value : ℕ) → length (gated value) ≡ length old
-    gated_long value = length-overwritten staged gate (value ∷ []) (omega (arith, staged_long, fits)) ∙ staged_long
+    gated_long value = length_overwritten staged gate (value ∷ []) (omega (arith, staged_long, fits)) ∙ staged_long
 
     gated_front : (value : ℕ) → take gate (gated value) ≡ take gate old
     gated_front value =
-        take-overwritten staged gate (value ∷ []) (omega (arith, staged_long, fits))
+        take_overwritten staged gate (value ∷ []) (omega (arith, staged_long, fits))
         ∙ sym (take-take gate (gate + 1) staged (omega arith))
-        ∙ ap (λ (l : List ℕ). take gate l) (take-overwritten old (gate + 1) record_bytes (omega (arith, fits)))
+        ∙ ap (λ (l : List ℕ). take gate l) (take_overwritten old (gate + 1) record_bytes (omega (arith, fits)))
         ∙ take-take gate (gate + 1) old (omega arith)
 
     gated_back : (value : ℕ) → drop gate (gated value) ≡ value ∷ (record_bytes ++ drop (gate + 1 + length record_bytes) old)
     gated_back value =
-        drop-overwritten staged gate (value ∷ []) (omega (arith, staged_long, fits))
-        ∙ ap (λ (l : List ℕ). value ∷ l) (drop-overwritten old (gate + 1) record_bytes (omega (arith, fits)))
+        drop_overwritten staged gate (value ∷ []) (omega (arith, staged_long, fits))
+        ∙ ap (λ (l : List ℕ). value ∷ l) (drop_overwritten old (gate + 1) record_bytes (omega (arith, fits)))
 
     pub gated_outside : (value : ℕ) → SameOutside place.at place.size old (gated value)
     gated_outside value = same_outside_then place.at place.size old staged (gated value)
@@ -170,11 +150,11 @@ module _ (old : List ℕ) (place : Place) (bodies : List (List ℕ)) (stands : S
             ap (λ k. get_or (gated v) k 0) (omega arith) ∙ sym (get_or-drop gate (gated v) 0 0) ∙ ap (λ (l : List ℕ). get_or l 0 0) (gated_back v)
 
     -- before the first call
-    pub before : IsBeforeOrAfter old place bodies body old
+    pub before : IsLeftByAppend old place bodies body old
     before = record { outside = record { same_length = refl; before = refl; after = refl }; holds = inl stands.holds }
 
     -- a crash within the write behind the gate, or within the gate's own
-    pub before_or_after : (content : List ℕ) → IsGated gate record_bytes old content → IsBeforeOrAfter old place bodies body content
+    pub before_or_after : (content : List ℕ) → IsGated gate record_bytes old content → IsLeftByAppend old place bodies body content
     before_or_after content (inl same) = record {
       outside = same_outside_wider place.at place.size (gate + 1) (length record_bytes) old content (omega arith) (omega (arith, record_long)) same;
       holds =
@@ -184,14 +164,14 @@ module _ (old : List ℕ) (place : Place) (bodies : List (List ℕ)) (stands : S
           sym (get_or-take (gate + 1) content gate 0 (omega arith)) ∙ ap (λ (l : List ℕ). get_or l gate 0) same.before ∙ get_or-take (gate + 1) old gate 0 (omega arith) in
           inl (holds_closed content fronts same.same_length (λ is. gate_closed (sym gates ∙ is)));
     }
-    before_or_after content (inr (value, is)) = subst (IsBeforeOrAfter old place bodies body) (sym is) (record { outside = gated_outside value; holds = holds_gated value })
+    before_or_after content (inr (value, is)) = subst (IsLeftByAppend old place bodies body) (sym is) (record { outside = gated_outside value; holds = holds_gated value })
 
     -- an append that is done
-    pub after : (new : List ℕ) (next : ℕ) → new ≡ gated open_gate → next ≡ place.next + 5 + length body → IsAfter old place bodies body new (record place { next = next })
-    after new next is moved = subst (λ (l : List ℕ). IsAfter old place bodies body l (record place { next = next })) (sym is) (record {
+    pub after : (new : List ℕ) (next : ℕ) → new ≡ gated open_gate → next ≡ place.next + 5 + length body → IsAppended old place bodies body new (record place { next = next })
+    after new next is moved = subst (λ (l : List ℕ). IsAppended old place bodies body l (record place { next = next })) (sym is) (record {
       outside = gated_outside open_gate;
       stands = record {
         holds = holds_open;
-        next = omega (arith, moved, stands.next, ap length (entries-push bodies body), length-append (entries bodies) (entry body), length-framed body);
+        next = omega (arith, moved, stands.next, ap length (entries-push bodies body), length-append (entries bodies) (entry body), length-frame body);
       };
     })

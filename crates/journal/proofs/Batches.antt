@@ -215,5 +215,5 @@ unfolding whole_at
 whole_again commands is = ap whole_at (sym (append-nil (batch commands))) ∙ rw (batch_again commands [] is) refl
 
 -- spellings that begin one list are of one batch
-pub batch-append_same : (a b : List Taken) (x y : List ℕ) → IsBatch a → IsBatch b → batch a ++ x ≡ batch b ++ y → (a ≡ b) × (x ≡ y)
-batch-append_same a b x y is_a is_b same = some_pair_parts a b x y (sym (batch_again a x is_a) ∙ ap batch_at same ∙ batch_again b y is_b)
+pub one_spelling : (a b : List Taken) (x y : List ℕ) → IsBatch a → IsBatch b → batch a ++ x ≡ batch b ++ y → (a ≡ b) × (x ≡ y)
+one_spelling a b x y is_a is_b same = some_pair_parts a b x y (sym (batch_again a x is_a) ∙ ap batch_at same ∙ batch_again b y is_b)

@@ -1,3 +1,4 @@
+pub mod CallerLemmas
 pub mod Gated
 pub mod Areas
 pub mod Records

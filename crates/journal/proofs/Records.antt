@@ -5,7 +5,7 @@ use Rattle.std.specs.Int.{w32, from_le_bytes}
 use Rattle.std.proofs.lemmas.Nat.{from_le_bytes-to_le_bytes_4}
 use Rattle.std.proofs.lemmas.List.{take_at, drop_at}
 use Rattle.journal.specs.Area.{open_gate, entry, entries, IsBody, HoldsBodies}
-use Rattle.journal.proofs.Areas.{length-framed}
+use Rattle.journal.proofs.Areas.{length-frame}
 
 -- the first body, and bytes that hold the others
 pub record HoldsFirst (body : List ℕ) (others : List (List ℕ)) (bytes : List ℕ) : Type 0 where
@@ -62,7 +62,7 @@ module _ (bytes : List ℕ) (is_open : get_or bytes 0 0 ≡ open_gate) where
   not_short short [] holds = holds_none bytes is_open holds
   not_short short (body ∷ others) holds =
       let first = holds_first body others bytes holds in
-      absurd (omega (arith, short, ap length first.split, length-append (entry body) first.rest, length-framed body))
+      absurd (omega (arith, short, ap length first.split, length-append (entry body) first.rest, length-frame body))
 
 -- No record begins another.
 pub entry_same : (p b x y : List ℕ) → IsBody p → IsBody b → entry p ++ x ≡ entry b ++ y → (p ≡ b) × (x ≡ y)
@@ -86,17 +86,17 @@ holds_behind (p ∷ front) (b ∷ bodies) rest each holds =
     holds_behind front bodies rest each.1 (subst (HoldsBodies bodies) (sym same.1) first.holds)
 
 -- Bytes hold one list of bodies at most.
-pub holds_same : (a b : List (List ℕ)) (bytes : List ℕ) → HoldsBodies a bytes → HoldsBodies b bytes → a ≡ b
-holds_same [] [] bytes x y = refl
-holds_same [] (b ∷ bs) bytes x y =
+pub one_list : (a b : List (List ℕ)) (bytes : List ℕ) → HoldsBodies a bytes → HoldsBodies b bytes → a ≡ b
+one_list [] [] bytes x y = refl
+one_list [] (b ∷ bs) bytes x y =
     let first = holds_first b bs bytes y in
     absurd (holds_none bytes (ap (λ (l : List ℕ). get_or l 0 0) first.split) x)
-holds_same (a ∷ more) [] bytes x y =
+one_list (a ∷ more) [] bytes x y =
     let first = holds_first a more bytes x in
     absurd (holds_none bytes (ap (λ (l : List ℕ). get_or l 0 0) first.split) y)
-holds_same (a ∷ more) (b ∷ bs) bytes x y =
+one_list (a ∷ more) (b ∷ bs) bytes x y =
     let first = holds_first a more bytes x in
     let second = holds_first b bs bytes y in
     let same = entry_same a b first.rest second.rest first.is_body second.is_body (sym first.split ∙ second.split) in
-    let others : more ≡ bs = holds_same more bs first.rest first.holds (subst (HoldsBodies bs) (sym same.1) second.holds) in
+    let others : more ≡ bs = one_list more bs first.rest first.holds (subst (HoldsBodies bs) (sym same.1) second.holds) in
     cc

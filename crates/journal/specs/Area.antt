@@ -9,12 +9,12 @@ abbrev pub open_gate : ℕ
 open_gate = 165
 
 -- what stands behind a gate: the length in four bytes, and the body
-abbrev pub framed : List ℕ → List ℕ
-framed body = to_le_bytes w32 (length body) ++ body
+abbrev pub frame : List ℕ → List ℕ
+frame body = to_le_bytes w32 (length body) ++ body
 
 -- an open record: its gate, the length, the body
 abbrev pub entry : List ℕ → List ℕ
-entry body = open_gate ∷ framed body
+entry body = open_gate ∷ frame body
 
 -- open records of these bodies, one behind another
 abbrev pub entries : List (List ℕ) → List ℕ
@@ -57,11 +57,11 @@ pub record Stands (content : List ℕ) (place : Place) (bodies : List (List ℕ)
 
 -- The content after an append, or after a crash in it: the area holds the bodies with the new one or without it, and
 -- outside the area nothing has changed.
-pub record IsBeforeOrAfter (old : List ℕ) (place : Place) (bodies : List (List ℕ)) (body : List ℕ) (content : List ℕ) : Type 0 where
+pub record IsLeftByAppend (old : List ℕ) (place : Place) (bodies : List (List ℕ)) (body : List ℕ) (content : List ℕ) : Type 0 where
   pub outside : SameOutside place.at place.size old content
   pub holds : HoldsBodies bodies (area_bytes place content) ⊎ HoldsBodies (bodies ++ body ∷ []) (area_bytes place content)
 
 -- an append that is done
-pub record IsAfter (old : List ℕ) (place : Place) (bodies : List (List ℕ)) (body : List ℕ) (new : List ℕ) (after : Place) : Type 0 where
+pub record IsAppended (old : List ℕ) (place : Place) (bodies : List (List ℕ)) (body : List ℕ) (new : List ℕ) (after : Place) : Type 0 where
   pub outside : SameOutside place.at place.size old new
   pub stands : Stands new after (bodies ++ body ∷ [])

@@ -1,8 +1,8 @@
 //! An area of a device that holds records, one behind another.
-ghost use Rattle.std.specs.Prelude.{◌≡◌, ◌⊎◌, ◌↔◌, ◌+◌, ◌^◌, ◌<◌, ◌≤◌, ℕ, List, [], ◌∷◌, ◌++◌, length, OnOk, OnErr, IfOk, IfErr, IsErrOf, IsTrue, Err};
-ghost use Rattle.disk.specs.Device.{Rose};
+ghost use Rattle.std.specs.Prelude.{◌≡◌, ◌⊎◌, ◌↔◌, ◌+◌, ◌^◌, ◌<◌, ◌≤◌, ℕ, List, [], ◌∷◌, ◌++◌, length, OnOk, OnErr, IfOk, IsErrOf, IsTrue, Err};
 ghost use Rattle.disk.specs.Crash.{LeavesOnly};
-ghost use Rattle.journal.specs.Area.{Stands, IsBeforeOrAfter, IsAfter, framed};
+ghost use Rattle.disk.specs.Calls.{HasOnlyWritten, CountsFaultsAs};
+ghost use Rattle.journal.specs.Area.{Stands, IsLeftByAppend, IsAppended, frame};
 ghost use Rattle.journal.specs.declared.area.AppendError.TheVariants.{NoMemory, Fault};
 
 use crate::gate::{CLOSED, write_gated};
@@ -125,23 +125,21 @@ impl Area {
 
         // Whatever bodies the area stood for: a crash at any moment leaves them with the new one or without.
         ensures any_moment { (bodies : List (List ℕ)) → D.unsynced disk.old ≡ [] → Stands (D.seen disk.old) self.old bodies
-            → LeavesOnly ⟦<D as Disk>⟧ (IsBeforeOrAfter (D.seen disk.old) self.old bodies body.now) disk.old disk.new }
+            → LeavesOnly ⟦<D as Disk>⟧ (IsLeftByAppend (D.seen disk.old) self.old bodies body.now) disk.old disk.new }
         ensures done { OnOk result ((bodies : List (List ℕ)) → Stands (D.seen disk.old) self.old bodies
-            → IsAfter (D.seen disk.old) self.old bodies body.now (D.seen disk.new) self.new) }
+            → IsAppended (D.seen disk.old) self.old bodies body.now (D.seen disk.new) self.new) }
         ensures synced { OnOk result (D.unsynced disk.new ≡ []) }
 
         // Four calls of the device at most.
         ensures calls { length (D.past disk.new) ≤ length (D.past disk.old) + 4 }
-        ensures length { length (D.seen disk.new) ≡ length (D.seen disk.old) }
-        ensures honest { D.honest disk.new ↔ D.honest disk.old }
-        ensures good { OnOk result (D.faults disk.new ≡ D.faults disk.old) }
-        ensures failed { IsErrOf result AppendError.Fault → Rose (D.faults disk.old) (D.faults disk.new) }
+        ensures only_written { HasOnlyWritten ⟦<D as Disk>⟧ disk.old disk.new }
+        ensures faults { CountsFaultsAs ⟦<D as Disk>⟧ AppendError.Fault result disk.old disk.new }
     {
         let len = body.len() as u64;
         if !self.has_room(len) {
             return Err(AppendError::NoRoom);
         }
-        let record = framed(alloc, body)?;
+        let record = record_behind_gate(alloc, body)?;
         write_gated(disk, self.at + self.next, &record)?;
         self.next += 5 + len;
         Ok(())
@@ -149,9 +147,9 @@ impl Area {
 }
 
 // What is written behind a record's gate: the length, the body, and the closed gate of the next record.
-fn framed(alloc: Global, body: &[u8]) -> Result<Vec<u8>, AllocError>
+fn record_behind_gate(alloc: Global, body: &[u8]) -> Result<Vec<u8>, AllocError>
     requires { length body.now < 2 ^ 32 }
-    ensures bytes { IfOk result (λ v. v.items ≡ framed body.now ++ 0 ∷ []) }
+    ensures bytes { IfOk result (λ v. v.items ≡ frame body.now ++ 0 ∷ []) }
     ensures length { IfOk result (λ v. length v.items ≡ length body.now + 5) }
 {
     let mut record = Vec::with_capacity(alloc, body.len() + 5)?;

@@ -9,8 +9,3 @@ mod writing;
 
 pub use reading::{decode_batch, read_delta};
 pub use writing::{encode_batch, write_delta};
-
-#[cfg(test)]
-mod delta_tests;
-#[cfg(test)]
-mod tests;

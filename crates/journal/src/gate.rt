@@ -1,7 +1,8 @@
 //! Writes behind a gate: a byte that stands open where it is 0xA5.
-ghost use Rattle.std.specs.Prelude.{◌≡◌, ◌↔◌, ◌+◌, ◌^◌, ◌<◌, ◌≤◌, [], ◌∷◌, length, OnOk, OnErr};
-ghost use Rattle.disk.specs.Device.{overwritten, Rose};
+ghost use Rattle.std.specs.Prelude.{◌≡◌, ◌+◌, ◌^◌, ◌<◌, ◌≤◌, [], ◌∷◌, length, OnOk};
+ghost use Rattle.disk.specs.Device.{overwritten};
 ghost use Rattle.disk.specs.Crash.{LeavesOnly};
+ghost use Rattle.disk.specs.Calls.{HasOnlyWritten, CountsFaults};
 ghost use Rattle.journal.specs.Area.{open_gate, IsGated};
 
 use disk::{Disk, Fault};
@@ -22,13 +23,11 @@ pub fn write_gated<D: Disk>(disk: &mut D, gate: u64, bytes: &[u8]) -> Result<(),
     ensures any_moment { D.unsynced disk.old ≡ [] → LeavesOnly ⟦<D as Disk>⟧ (IsGated gate bytes.now (D.seen disk.old)) disk.old disk.new }
     ensures seen { OnOk result (D.seen disk.new ≡ overwritten (overwritten (D.seen disk.old) (gate + 1) bytes.now) gate (open_gate ∷ [])) }
     ensures synced { OnOk result (D.unsynced disk.new ≡ []) }
-    ensures length { length (D.seen disk.new) ≡ length (D.seen disk.old) }
-    ensures honest { D.honest disk.new ↔ D.honest disk.old }
+    ensures only_written { HasOnlyWritten ⟦<D as Disk>⟧ disk.old disk.new }
 
     // Four calls of the device at most.
     ensures calls { length (D.past disk.new) ≤ length (D.past disk.old) + 4 }
-    ensures good { OnOk result (D.faults disk.new ≡ D.faults disk.old) }
-    ensures failed { OnErr result (Rose (D.faults disk.old) (D.faults disk.new)) }
+    ensures faults { CountsFaults ⟦<D as Disk>⟧ result disk.old disk.new }
 {
     disk.write_at(gate + 1, bytes)?;
     disk.sync()?;

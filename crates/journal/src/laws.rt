@@ -1,6 +1,7 @@
 //! Laws of the spelling of deltas and batches, for the layers above. Each is a function that does nothing: its contract is the law.
 ghost use Rattle.std.specs.Prelude.{◌≡◌, ℕ, ◌++◌, List, length};
 ghost use Rattle.revision.specs.Command.{Taken, width_of};
+ghost use Rattle.journal.specs.Area.{HoldsBodies};
 ghost use Rattle.journal.specs.BatchSpelling as spelling;
 ghost use Rattle.delta.specs.Operation.{Operation};
 ghost use Rattle.journal.specs.DeltaSpelling as deltas;
@@ -11,6 +12,11 @@ ghost use Rattle.revision.specs.Width as wide;
 pub fn one_spelling()
     ensures { (a b : List Taken) (x y : List ℕ) → spelling.IsBatch a → spelling.IsBatch b
         → spelling.batch a ++ x ≡ spelling.batch b ++ y → (a ≡ b) × (x ≡ y) }
+{}
+
+/// The bytes of an area hold one list of bodies at most.
+pub fn one_list()
+    ensures { (a b : List (List ℕ)) (bytes : List ℕ) → HoldsBodies a bytes → HoldsBodies b bytes → a ≡ b }
 {}
 
 /// A command's spelling is as wide as the rule of acceptance counts it, and a batch's is four bytes wider than its commands.

@@ -1,7 +1,6 @@
 //! Reading back the records of an area.
-ghost use Rattle.std.specs.Prelude.{◌≡◌, ◌≢◌, ◌↔◌, ◌+◌, ◌^◌, ◌<◌, ◌≤◌, ℕ, List, [], ◌∷◌, ◌++◌, length, take, drop, Some, None, Ok, OnOk, OnErr, IfOk, IfErr, IfSome, IsErrOf};
-ghost use Rattle.disk.specs.Device.{Rose};
-ghost use Rattle.disk.specs.Crash.{history_of};
+ghost use Rattle.std.specs.Prelude.{◌≡◌, ◌≢◌, ◌+◌, ◌^◌, ◌<◌, ◌≤◌, ℕ, List, [], ◌++◌, length, take, drop, Some, None, Ok, IfOk, IfErr, IfSome};
+ghost use Rattle.disk.specs.Calls.{HasOnlyRead, CountsFaultsAs};
 ghost use Rattle.journal.specs.Area.{IsBody, HoldsBodies, Stands, entry, entries};
 ghost use Rattle.journal.specs.Scan.{items_of, BeginsClosed};
 ghost use Rattle.journal.specs.declared.scan.ScanError.TheVariants.{NoMemory, Fault};
@@ -124,10 +123,8 @@ impl Area {
         ensures damaged { IfErr result (λ e. e ≡ ScanError.Damaged → D.honest disk.new
             → (bodies : List (List ℕ)) → ¬ HoldsBodies bodies (take size (drop at (D.seen disk.old)))) }
 
-        ensures stays { history_of ⟦<D as Disk>⟧ disk.new ≡ history_of ⟦<D as Disk>⟧ disk.old }
-        ensures honest { D.honest disk.new → D.honest disk.old }
-        ensures good { OnOk result (D.faults disk.new ≡ D.faults disk.old) }
-        ensures failed { IsErrOf result ScanError.Fault → Rose (D.faults disk.old) (D.faults disk.new) }
+        ensures only_read { HasOnlyRead ⟦<D as Disk>⟧ disk.old disk.new }
+        ensures faults { CountsFaultsAs ⟦<D as Disk>⟧ ScanError.Fault result disk.old disk.new }
     {
         let bytes = read_range(alloc, disk, at, size)?;
         let (bodies, next) = records_of(alloc, &bytes)?;
@@ -149,10 +146,8 @@ fn read_range<D: Disk>(
     ensures bytes { IfOk result (λ v. D.honest disk.new → v.items ≡ take size (drop at (D.seen disk.old))) }
     ensures length { IfOk result (λ v. length v.items ≡ size) }
     ensures not_damaged { IfErr result (λ e. e ≢ ScanError.Damaged) }
-    ensures stays { history_of ⟦<D as Disk>⟧ disk.new ≡ history_of ⟦<D as Disk>⟧ disk.old }
-    ensures honest { D.honest disk.new → D.honest disk.old }
-    ensures good { OnOk result (D.faults disk.new ≡ D.faults disk.old) }
-    ensures failed { IsErrOf result ScanError.Fault → Rose (D.faults disk.old) (D.faults disk.new) }
+    ensures only_read { HasOnlyRead ⟦<D as Disk>⟧ disk.old disk.new }
+    ensures faults { CountsFaultsAs ⟦<D as Disk>⟧ ScanError.Fault result disk.old disk.new }
 {
     let mut bytes = vec![in alloc; 0u8; size as usize]?;
     disk.read(at, &mut bytes)?;

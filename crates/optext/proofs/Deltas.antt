@@ -13,7 +13,7 @@ use Rattle.delta.specs.Operation.{Operation, base_of, out_of, IsBounded}
 use Rattle.delta.specs.Gaps.{counted}
 use Rattle.delta.specs.Normal.{nf, built}
 use Rattle.delta.specs.Laws.{BuiltInPieces, NormalOfBuilt, LengthsOfBuilt}
-use Rattle.optext.specs.Answer.{IsDue, IsRead}
+use Rattle.optext.specs.Answer.{IsAnswer, IsRead}
 use Rattle.optext.specs.Described.{operation_of, operations_of, delta_by, delta_of, is_bounded}
 
 pub delta_of-many : (vs : List Value) → 1024 < length vs → delta_of (items_view vs) ≡ Err TooManyOps
@@ -133,7 +133,7 @@ left-all vs i done over bounded due =
 -- a value is refused: what is due for the array
 pub refused_op : (vs : List Value) (i : ℕ) (v : Value) → i < length vs → v ≡ get_or vs i v → (done : List Operation)
     → delta_by (operations_of (items_view vs)) ≡ delta_with done (operations_of (items_view (drop i vs)))
-    → (e : Refusal) → IsRead {X = Operation} (operation_of (view v)) (Err e) → IsDue (delta_by (operations_of (items_view vs))) (Err e)
+    → (e : Refusal) → IsRead {X = Operation} (operation_of (view v)) (Err e) → IsAnswer (delta_by (operations_of (items_view vs))) (Err e)
 refused_op vs i v inside is done due e (inl memory) = inr (ap Err memory)
 refused_op vs i v inside is done due e (inr bad) = inl (ap Err bad.0 ∙ sym (left-none vs i v inside is done due bad.1))
 
@@ -142,7 +142,7 @@ pub refused_push : (vs : List Value) (i : ℕ) (v : Value) → i < length vs →
     → delta_by (operations_of (items_view vs)) ≡ delta_with done (operations_of (items_view (drop i vs)))
     → (op : Operation) (e : Refusal) → operation_of (view v) ≡ Some op
     → ((◌≡◌ {A = Result (Unit {0}) Refusal} (Err e) (Err BadOps)) ↔ ¬ (IsBounded (done ++ op ∷ []))) → ((e ≡ BadOps) ⊎ (e ≡ NoMemory))
-    → IsDue (delta_by (operations_of (items_view vs))) (Err e)
+    → IsAnswer (delta_by (operations_of (items_view vs))) (Err e)
 refused_push vs i v inside is done due op e read bad (inl refused) =
     inl (ap Err refused ∙ sym (left-over vs i v inside is done due op read (bad.0 (ap Err refused))))
 refused_push vs i v inside is done due op e read bad (inr memory) = inr (ap Err memory)

@@ -1,18 +1,25 @@
 -- The members that print entries, one after another.
-use Rattle.std.proofs.Common.{◌≡◌, ◌+◌, ◌<◌, ℕ, true, List, [], ◌∷◌, ◌++◌, length, take, get_or, refl, sym, ap, subst, ◌∙◌, Less, Greater, String}
+use Rattle.std.proofs.Common.{◌≡◌, ◌+◌, ◌<◌, ℕ, Bool, true, false, List, [], ◌∷◌, ◌++◌, length, take, get_or, refl, sym, ap, subst, ◌∙◌, Ordering, Less, Equal, Greater, String}
 use Rattle.std.proofs.lemmas.List.{take_more}
-use Rattle.std.specs.Prelude.{T, codes}
+use Rattle.std.specs.Prelude.{T, ◌&&◌, codes}
 use Rattle.std.specs.Cmp.Lexicographic.{nat_list_cmp_total}
 use Rattle.std.specs.FinMap.Entries.{is_sorted, below_all}
 use Rattle.std.specs.Ordering.{is_lt, ordering_reverse}
 use Rattle.std.specs.declared.alloc.Global.{Global}
-use Rattle.attributes.specs.Map.{Map, by_bytes}
-use Rattle.attributes.proofs.Maps.{T_parts, less_from}
-use Rattle.attributes.proofs.Prefixes.{sorted_prefix}
+use Rattle.attributes.specs.Map.{by_bytes}
 use Rattle.serde_json.specs.Data.{Data, object, Members, no_members, member, put}
 use Rattle.serde_json.specs.View.{members_view}
 use Rattle.serde_json.specs.declared.value.Value.{Value}
 use Rattle.optext.specs.Printed.{printed_entries, attributes_member}
+
+T_parts : (a b : Bool) → T (a && b) → T a × T b
+T_parts true b h = (tt, h)
+T_parts false b h = absurd h
+
+less_from : (r : Ordering) → T (is_lt r) → r ≡ Less
+less_from Less h = refl
+less_from Equal h = absurd h
+less_from Greater h = absurd h
 
 below_last : {X : Type 0} (name : List ℕ) (done : List (List ℕ × X)) (e : List ℕ × X) → T (below_all by_bytes name (done ++ e ∷ [])) → by_bytes name e.0 ≡ Less
 below_last name [] e below = less_from (by_bytes name e.0) (T_parts (is_lt (by_bytes name e.0)) true below).0
@@ -28,13 +35,13 @@ put_last p (f ∷ done) e sorted =
     rw above (ap (member f.0 (p f.1)) (put_last p done e parts.1))
 
 -- one entry more
-pub printed-more : {X : Type 0} (p : X → Data) (m : Map X) (i : ℕ) (e : List ℕ × X) → i < length m.entries → e ≡ get_or m.entries i e
-    → (name : List ℕ) (value : Data) (done : Members) → name ≡ e.0 → value ≡ p e.1 → done ≡ printed_entries p (take i m.entries)
-    → put name value done ≡ printed_entries p (take (i + 1) m.entries)
-printed-more {X = X} p m i e inside is name value done name_is value_is done_is =
-    let one_more : take (i + 1) m.entries ≡ take i m.entries ++ e ∷ [] = take_more m.entries i e inside ∙ ap (λ (y : List ℕ × X). take i m.entries ++ y ∷ []) (sym is) in
-    let sorted : T (is_sorted by_bytes (take i m.entries ++ e ∷ [])) = subst (λ (l : List (List ℕ × X)). T (is_sorted by_bytes l)) one_more (sorted_prefix m (i + 1)) in
-    rw (name_is, value_is, done_is) (put_last p (take i m.entries) e sorted ∙ ap (printed_entries p) (sym one_more))
+pub printed-more : {X : Type 0} (p : X → Data) (es : List (List ℕ × X)) (i : ℕ) (e : List ℕ × X) → T (is_sorted by_bytes (take (i + 1) es)) → i < length es → e ≡ get_or es i e
+    → (name : List ℕ) (value : Data) (done : Members) → name ≡ e.0 → value ≡ p e.1 → done ≡ printed_entries p (take i es)
+    → put name value done ≡ printed_entries p (take (i + 1) es)
+printed-more {X = X} p es i e ascending inside is name value done name_is value_is done_is =
+    let one_more : take (i + 1) es ≡ take i es ++ e ∷ [] = take_more es i e inside ∙ ap (λ (y : List ℕ × X). take i es ++ y ∷ []) (sym is) in
+    let sorted : T (is_sorted by_bytes (take i es ++ e ∷ [])) = subst (λ (l : List (List ℕ × X)). T (is_sorted by_bytes l)) one_more ascending in
+    rw (name_is, value_is, done_is) (put_last p (take i es) e sorted ∙ ap (printed_entries p) (sym one_more))
 
 -- attributes, where there are any
 abbrev Entry : Type 0

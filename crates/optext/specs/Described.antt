@@ -1,39 +1,38 @@
--- Which operation a JSON value describes, and which delta an array of them (quill-delta's README, "Operations": an object with
--- one of `insert`, `retain` and `delete`, and with `attributes` or not on the first two).
-use Rattle.std.specs.Prelude.{ℕ, ℤ, ◌+◌, ◌^◌, ◌==◌, ◌&&◌, Bool, nat_lt, nat_le, nat_abs, if◌then◌else◌, List, [], ◌∷◌, length, codes, Option, Some, None, option_map, option_and_then, Result, Ok, Err}
+-- Which operation a JSON value describes, and which delta an array of them (quill-delta's README, "Operations": an
+-- object with one of `insert`, `retain` and `delete`, and with `attributes` or not on the first two).
+use Rattle.std.specs.Prelude.{ℕ, ℤ, ◌+◌, ◌^◌, ◌==◌, ◌&&◌, Bool, nat_lt, nat_le, if◌then◌else◌, List, [], ◌∷◌, codes, Option, Some, None, option_map, option_and_then, Result, Ok, Err}
 use Rattle.serde_json.specs.Data.{Num, unsigned, Data, null, boolean, number, string, object, Items, no_items, item, Members, no_members, member}
 use Rattle.serde_json.specs.Find.{get, as_integer, as_object}
 use Rattle.serde_json.specs.Events.{items_len, members_len}
+use Rattle.serde_json.specs.View.{view}
+use Rattle.serde_json.specs.declared.value.Value.{Value}
+use denote.Ref.{Bor}
 use Rattle.refusal.specs.declared.Refusal.{Refusal}
 use Rattle.refusal.specs.declared.Refusal.TheVariants.{BadOps, TooManyOps}
 use Rattle.utf16.specs.Units.{units_of}
-use Rattle.attributes.specs.Scalar.{Scalar, text_scalar, whole_scalar, flag_scalar}
+use Rattle.attributes.specs.Scalar.{Scalar, text_scalar, whole_scalar, flag_scalar, is_exact}
 use Rattle.attributes.specs.Map.{Map, empty, insert}
-use Rattle.attributes.specs.Attributes.{Attributes, Changes}
+use Rattle.attributes.specs.Attributes.{Attributes, Changes, is_key}
 use Rattle.delta.specs.Operation.{Operation, insert_text, insert_embed, retain, delete, base_of, out_of}
 use Rattle.delta.specs.Gaps.{counted}
 use Rattle.delta.specs.Normal.{nf}
-
--- a name of an attribute or an embed has 1 to 64 bytes of UTF-8
-abbrev pub is_key : List ℕ → Bool
-is_key name = nat_le 1 (length name) && nat_le (length name) 64
 
 -- the name that a text is, where it is one
 abbrev pub key_of : List ℕ → Option (List ℕ)
 key_of name = if is_key name then Some name else None
 
--- a whole number of a magnitude below 2^53
-abbrev pub exact : ℤ → Option Scalar
-exact n = if nat_lt (nat_abs n) (2 ^ 53) then Some (whole_scalar n) else None
+-- the value that a whole number is, where its magnitude is below 2^53
+abbrev pub scalar_of_whole : ℤ → Option Scalar
+scalar_of_whole n = if is_exact n then Some (whole_scalar n) else None
 
--- a number is one where it is whole
-abbrev pub whole_of : Num → Option Scalar
-whole_of n = option_and_then exact (as_integer n)
+-- and a number, where it is whole
+abbrev pub scalar_of_number : Num → Option Scalar
+scalar_of_number n = option_and_then scalar_of_whole (as_integer n)
 
 -- a value of an attribute or an embed: text, a whole number of a magnitude below 2^53, true or false
 abbrev pub scalar_of : Data → Option Scalar
 scalar_of (string text) = Some (text_scalar text)
-scalar_of (number n) = whole_of n
+scalar_of (number n) = scalar_of_number n
 scalar_of (boolean flag) = Some (flag_scalar flag)
 scalar_of _ = None
 
@@ -43,15 +42,17 @@ change_of null = Some None
 change_of value = option_map Some (scalar_of value)
 
 -- a map with an object's members, each of which must have a name and a value that may stand there
-abbrev pub filled : {X : Type 0} → (Data → Option X) → Map X → Members → Option (Map X)
-filled value_of m no_members = Some m
-filled value_of m (member name value others) =
-    option_and_then (λ key. option_and_then (λ x. filled value_of (insert m key x) others) (value_of value)) (key_of name)
+abbrev pub with_members : {X : Type 0} → (Data → Option X) → Map X → Members → Option (Map X)
+with_members value_of m no_members = Some m
+with_members value_of m (member name value others) =
+    option_and_then
+    (λ key. option_and_then (λ x. with_members value_of (insert m key x) others) (value_of value))
+    (key_of name)
 
 -- what `attributes` describes: an object, or none where it is left out
 abbrev pub described_by : {X : Type 0} → (Data → Option X) → Option Data → Option (Map X)
 described_by value_of None = Some empty
-described_by value_of (Some (object members)) = filled value_of empty members
+described_by value_of (Some (object members)) = with_members value_of empty members
 described_by value_of (Some _) = None
 
 -- attributes of an insert, on which null describes nothing, and a change of a retain
@@ -73,14 +74,14 @@ embed_of (member name value no_members) a =
 embed_of _ a = None
 
 -- what is inserted with attributes: text, or an embed
-abbrev pub inserted : Data → Attributes → Option Operation
-inserted (string text) a = Some (insert_text (units_of text) a)
-inserted (object members) a = embed_of members a
-inserted _ a = None
+abbrev pub insertion_of : Data → Attributes → Option Operation
+insertion_of (string text) a = Some (insert_text (units_of text) a)
+insertion_of (object members) a = embed_of members a
+insertion_of _ a = None
 
 -- an insert, a retain and a delete by the values of their members
 abbrev pub insert_of : Data → Option Data → Option Operation
-insert_of what attributes = option_and_then (inserted what) (attributes_of attributes)
+insert_of what attributes = option_and_then (insertion_of what) (attributes_of attributes)
 
 abbrev pub retain_of : Data → Option Data → Option Operation
 retain_of len attributes = option_and_then (λ n. option_map (retain n) (changes_of attributes)) (length_of len)
@@ -88,8 +89,12 @@ retain_of len attributes = option_and_then (λ n. option_map (retain n) (changes
 abbrev pub delete_of : Data → Option Operation
 delete_of len = option_map delete (length_of len)
 
--- the operation by the members insert, retain, delete and attributes: exactly one of the first three is there, and attributes
--- or not on the first two
+-- the value of a member that is there or not
+abbrev pub data_of : Option (Bor Value) → Option Data
+data_of found = option_map (λ value. view value.now) found
+
+-- the operation by the members insert, retain, delete and attributes: exactly one of the first three is there, and
+-- attributes or not on the first two
 abbrev pub operation_by : Option Data → Option Data → Option Data → Option Data → Option Operation
 operation_by (Some what) None None attributes = insert_of what attributes
 operation_by None (Some len) None attributes = retain_of len attributes
@@ -109,7 +114,7 @@ members_counted (Some members) = members_len members
 abbrev pub member_count : Data → ℕ
 member_count value = members_counted (as_object value)
 
--- the operation that a value describes: an object that has, besides attributes where it is there, one member and no other
+-- the operation that a value describes: an object that has one member, and attributes beside it or not
 abbrev pub operation_of : Data → Option Operation
 operation_of value =
     let attributes = get (codes "attributes") value in
@@ -120,7 +125,8 @@ operation_of value =
 -- the operations that an array's items describe; none where one of them describes none
 abbrev pub operations_of : Items → Option (List Operation)
 operations_of no_items = Some []
-operations_of (item first others) = option_and_then (λ op. option_map (λ ops. op ∷ ops) (operations_of others)) (operation_of first)
+operations_of (item first others) =
+    option_and_then (λ op. option_map (λ ops. op ∷ ops) (operations_of others)) (operation_of first)
 
 -- the base length and the output length are each at most 2^48
 abbrev pub is_bounded : List Operation → Bool

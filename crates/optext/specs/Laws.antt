@@ -19,35 +19,33 @@ IsAttributeChange e = IsKey e.0 × IfSome e.1 IsExactScalar
 abbrev pub IsText : List ℕ → Type 0
 IsText units = units_of (utf8_of units) ≡ units
 
--- an operation that a message can spell: its text is a text, its names have 1 to 64 bytes, its whole numbers are exact, and
--- its length is below 2^32
-abbrev pub IsSpelled : Operation → Type 0
-IsSpelled (insert_text units a) = IsText units × All IsAttribute a.entries
-IsSpelled (insert_embed name value a) = IsKey name × IsExactScalar value × All IsAttribute a.entries
-IsSpelled (retain n c) = (n < 2 ^ 32) × All IsAttributeChange c.entries
-IsSpelled (delete n) = n < 2 ^ 32
+-- what an operation inserts or changes is what a message can spell: its text is a text, its names have 1 to 64 bytes,
+-- and its whole numbers are exact. Every operation of the program has such a content.
+abbrev pub HasSpellableContent : Operation → Type 0
+HasSpellableContent (insert_text units a) = IsText units × All IsAttribute a.entries
+HasSpellableContent (insert_embed name value a) = IsKey name × IsExactScalar value × All IsAttribute a.entries
+HasSpellableContent (retain n c) = All IsAttributeChange c.entries
+HasSpellableContent (delete n) = Unit {0}
 
--- what every operation of the program keeps, whatever its length: a text, names of 1 to 64 bytes, and exact whole numbers
-abbrev pub IsKept : Operation → Type 0
-IsKept (insert_text units a) = IsText units × All IsAttribute a.entries
-IsKept (insert_embed name value a) = IsKey name × IsExactScalar value × All IsAttribute a.entries
-IsKept (retain n c) = All IsAttributeChange c.entries
-IsKept (delete n) = Unit {0}
+-- and its length is one that a message can spell
+abbrev pub HasSpellableLength : Operation → Type 0
+HasSpellableLength (retain n c) = n < 2 ^ 32
+HasSpellableLength (delete n) = n < 2 ^ 32
+HasSpellableLength _ = Unit {0}
 
--- a length that a message can spell
-abbrev pub IsShort : Operation → Type 0
-IsShort (retain n c) = n < 2 ^ 32
-IsShort (delete n) = n < 2 ^ 32
-IsShort _ = Unit {0}
+abbrev pub IsSpellable : Operation → Type 0
+IsSpellable op = HasSpellableContent op × HasSpellableLength op
 
 -- such an operation, printed, describes itself
 abbrev pub OperationReadsBack : Type 0
-OperationReadsBack = (op : Operation) → IsSpelled op → operation_of (printed_operation op) ≡ Some op
+OperationReadsBack = (op : Operation) → IsSpellable op → operation_of (printed_operation op) ≡ Some op
 
 -- and a delta of at most 1,024 of them
 abbrev pub DeltaReadsBack : Type 0
-DeltaReadsBack = (ops : List Operation) → IsNormal ops → IsBounded ops → length ops ≤ 1024 → All IsSpelled ops → delta_of (printed ops) ≡ Ok ops
+DeltaReadsBack =
+    (ops : List Operation) → IsNormal ops → IsBounded ops → length ops ≤ 1024 → All IsSpellable ops
+    → delta_of (printed ops) ≡ Ok ops
 
 -- a delta that is read as itself, printed, where it has at most 1,024 operations and no length of 2^32 or more
 abbrev pub IsReadBack : List Operation → Type 0
-IsReadBack ops = length ops ≤ 1024 → All IsShort ops → delta_of (printed ops) ≡ Ok ops
+IsReadBack ops = length ops ≤ 1024 → All HasSpellableLength ops → delta_of (printed ops) ≡ Ok ops

@@ -1,5 +1,5 @@
--- How operations are printed as JSON: members in ascending order, so that `attributes` stands before `delete`, `insert` and
--- `retain`, and is left out where there are none.
+-- How operations are printed as JSON: members in ascending order, so that `attributes` stands before `delete`, `insert`
+-- and `retain`, and is left out where there are none.
 use Rattle.std.specs.Prelude.{ℕ, List, [], ◌∷◌, map, codes, Option, Some, None}
 use Rattle.serde_json.specs.Data.{Data, null, boolean, number, string, object, unsigned, Items, Members, no_members, member}
 use Rattle.serde_json.specs.Find.{of_integer}
@@ -35,17 +35,28 @@ abbrev pub then_member : Members → List ℕ → Data → Members
 then_member no_members name value = member name value no_members
 then_member (member first x others) name value = member first x (then_member others name value)
 
+-- attributes, and a change of them
+abbrev pub printed_attributes : Attributes → Members
+printed_attributes a = printed_entries printed_scalar a.entries
+
+abbrev pub printed_changes : Changes → Members
+printed_changes c = printed_entries printed_change c.entries
+
+-- an embed
+abbrev pub printed_embed : List ℕ → Scalar → Data
+printed_embed name value = object (member name (printed_scalar value) no_members)
+
 -- an insert of a printed text or embed, and a retain
 abbrev pub printed_insert : Attributes → Data → Data
-printed_insert a what = object (then_member (attributes_member (printed_entries printed_scalar a.entries)) (codes "insert") what)
+printed_insert a what = object (then_member (attributes_member (printed_attributes a)) (codes "insert") what)
 
 abbrev pub printed_retain : Changes → ℕ → Data
-printed_retain c n = object (then_member (attributes_member (printed_entries printed_change c.entries)) (codes "retain") (number (unsigned n)))
+printed_retain c n = object (then_member (attributes_member (printed_changes c)) (codes "retain") (number (unsigned n)))
 
 -- an operation: its text is the one whose code units it inserts
 abbrev pub printed_operation : Operation → Data
 printed_operation (insert_text units a) = printed_insert a (string (utf8_of units))
-printed_operation (insert_embed name value a) = printed_insert a (object (member name (printed_scalar value) no_members))
+printed_operation (insert_embed name value a) = printed_insert a (printed_embed name value)
 printed_operation (retain n c) = printed_retain c n
 printed_operation (delete n) = object (member (codes "delete") (number (unsigned n)) no_members)
 

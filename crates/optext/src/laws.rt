@@ -4,11 +4,14 @@ ghost use Rattle.optext.specs.Laws.{OperationReadsBack, DeltaReadsBack};
 /// An operation that a message can spell, printed, describes itself.
 pub fn operation_reads_back()
     ensures { OperationReadsBack }
-{}
+{
+    attributes::laws::entries_make_map();
+}
 
 /// A delta of at most 1,024 such operations, printed, is read as itself.
 pub fn delta_reads_back()
     ensures { DeltaReadsBack }
 {
+    attributes::laws::entries_make_map();
     delta::laws::normal_is_kept();
 }

@@ -18,6 +18,3 @@ mod writing;
 pub use reading::{MAX_OPERATIONS, read_ops};
 pub use text::{member_count, read_json};
 pub use writing::write_ops;
-
-#[cfg(test)]
-mod tests;

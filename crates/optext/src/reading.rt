@@ -1,6 +1,6 @@
 //! The delta that an array of operations describes.
 ghost use Rattle.serde_json.specs.View.{items_view};
-ghost use Rattle.optext.specs.Answer.{IsDue};
+ghost use Rattle.optext.specs.Answer.{IsAnswer};
 ghost use Rattle.optext.specs.Described.{delta_of};
 
 mod maps;
@@ -20,7 +20,7 @@ pub const MAX_OPERATIONS: usize = 1024;
 /// where one of the values describes no operation or the delta's base length or output length would pass 2^48 code
 /// units, and as NoMemory.
 pub fn read_ops(alloc: Global, operations: &[Json]) -> Result<Delta, Refusal>
-    ensures { IsDue (delta_of (items_view operations.now)) result }
+    ensures { IsAnswer (delta_of (items_view operations.now)) result }
 {
     if operations.len() > MAX_OPERATIONS {
         return Err(Refusal::TooManyOps);

@@ -2,13 +2,14 @@
 ghost use Rattle.std.specs.Prelude.{◌≡◌, All, IfOk, IfSome, IsOkUnless, OnOk};
 ghost use Rattle.attributes.specs.Attributes.{IsKey};
 ghost use Rattle.attributes.specs.Scalar.{IsExactScalar};
-ghost use Rattle.serde_json.specs.Data.{array, string, object, member, no_members};
+ghost use Rattle.serde_json.specs.Data.{array, string};
 ghost use Rattle.serde_json.specs.View.{view, members_view};
 ghost use Rattle.utf16.specs.Units.{units_of, utf8_of};
-ghost use Rattle.optext.specs.Laws.{IsText, IsAttribute, IsAttributeChange, IsKept, IsReadBack};
-ghost use Rattle.optext.specs.Printed.{printed, printed_operation, printed_insert, printed_retain, printed_entries, printed_scalar, printed_change, attributes_member};
+ghost use Rattle.optext.specs.Laws.{IsText, IsAttribute, IsAttributeChange, HasSpellableContent, IsReadBack};
+ghost use Rattle.optext.specs.Printed.{printed, printed_operation, printed_insert, printed_retain, printed_attributes, printed_changes, printed_embed, printed_scalar, printed_change, attributes_member};
 
 use crate::laws::delta_reads_back;
+use attributes::laws::first_entries_ascend;
 use attributes::{Attrs, Change, Key, Value, ValueRef};
 use delta::{Delta, Op, OpRef};
 use refusal::Refusal;
@@ -35,7 +36,7 @@ pub fn write_ops(alloc: Global, delta: &Delta) -> Result<Json, Refusal>
 
 fn write_op(alloc: Global, op: &Op) -> Result<Json, Refusal>
     ensures printed { IfOk result (λ value. view value ≡ printed_operation op.now) }
-    ensures kept { OnOk result (IsKept op.now) }
+    ensures kept { OnOk result (HasSpellableContent op.now) }
     ensures only { IsOkUnless result Refusal.NoMemory }
 {
     match op.get() {
@@ -62,7 +63,7 @@ fn write_text(alloc: Global, text: &str) -> Result<Json, Refusal>
 }
 
 fn write_embed(alloc: Global, name: &Key, value: &Value) -> Result<Json, Refusal>
-    ensures embed { IfOk result (λ embed. view embed ≡ object (member name.now (printed_scalar value.now) no_members)) }
+    ensures embed { IfOk result (λ embed. view embed ≡ printed_embed name.now value.now) }
     ensures kept { OnOk result (IsKey name.now × IsExactScalar value.now) }
     ensures only { IsOkUnless result Refusal.NoMemory }
 {
@@ -96,7 +97,8 @@ fn write_retain(alloc: Global, len: u64, change: &Change) -> Result<Json, Refusa
 
 // an object's members with the attributes, where there are any
 fn begin(alloc: Global, attributes: Map<String, Json>) -> Result<Map<String, Json>, Refusal>
-    ensures begun { IfOk result (λ members. members_view members.entries ≡ attributes_member (members_view attributes.entries)) }
+    ensures begun { IfOk result (λ members.
+        members_view members.entries ≡ attributes_member (members_view attributes.entries)) }
     ensures only { IsOkUnless result Refusal.NoMemory }
 {
     let mut members = Map::new(alloc);
@@ -108,10 +110,11 @@ fn begin(alloc: Global, attributes: Map<String, Json>) -> Result<Map<String, Jso
 }
 
 fn write_attributes(alloc: Global, attrs: &Attrs) -> Result<Map<String, Json>, Refusal>
-    ensures printed { IfOk result (λ members. members_view members.entries ≡ printed_entries printed_scalar attrs.now.entries) }
+    ensures printed { IfOk result (λ members. members_view members.entries ≡ printed_attributes attrs.now) }
     ensures kept { OnOk result (All IsAttribute attrs.now.entries) }
     ensures only { IsOkUnless result Refusal.NoMemory }
 {
+    first_entries_ascend();
     let mut members = Map::new(alloc);
     for (name, value) in attrs.entries() {
         let value = write_value(alloc, value)?;
@@ -121,10 +124,11 @@ fn write_attributes(alloc: Global, attrs: &Attrs) -> Result<Map<String, Json>, R
 }
 
 fn write_change(alloc: Global, change: &Change) -> Result<Map<String, Json>, Refusal>
-    ensures printed { IfOk result (λ members. members_view members.entries ≡ printed_entries printed_change change.now.entries) }
+    ensures printed { IfOk result (λ members. members_view members.entries ≡ printed_changes change.now) }
     ensures kept { OnOk result (All IsAttributeChange change.now.entries) }
     ensures only { IsOkUnless result Refusal.NoMemory }
 {
+    first_entries_ascend();
     let mut members = Map::new(alloc);
     for (name, value) in change.entries() {
         let value = write_change_value(alloc, value)?;

@@ -11,7 +11,7 @@ use Rattle.recovery.specs.Shape.{slot_place}
 use Rattle.recovery.specs.Slot.{Segment, HoldsSlot, bodies_of}
 use Rattle.recovery.specs.Layout.{IsLaidOut}
 use Rattle.recovery.specs.Found.{StandFor, FoundAs}
-use Rattle.recovery.specs.Ring.{HasBeforeOrAfter, HasAfter, HasKept}
+use Rattle.recovery.specs.Ring.{IsSlotLeftByAppend, IsSlotAppended, IsSlotKept}
 use Rattle.recovery.specs.Open.{IsWithOrWithout}
 use Rattle.recovery.proofs.Layouts.{laid_out_again}
 use Rattle.recovery.proofs.Folds.{stand_more}
@@ -42,7 +42,7 @@ module _ (old : List ℕ) (shape : Shape) (ring : Ring) (slot : Option Segment) 
     more_bodies now kept = subst (λ (b : List (List ℕ)). StandFor shape b (batches ++ commands ∷ []) (folded state commands)) (sym kept) (stand_more shape (bodies_of slot) batches state commands stand is_batch grow)
 
     -- a crash within the append
-    pub with_or_without : (content : List ℕ) → HasBeforeOrAfter ring.at ring.size old (bodies_of slot) (batch commands) content → IsWithOrWithout state commands content
+    pub with_or_without : (content : List ℕ) → IsSlotLeftByAppend ring.at ring.size old (bodies_of slot) (batch commands) content → IsWithOrWithout state commands content
     with_or_without content left =
         let there = again content left.slot left.outside left.holds in
         ⊎_elim (λ kept. inl (record { there = state; found = record { shape = shape; slot = left.slot; batches = batches; laid_out = there; stand = same_bodies left.slot kept }; agrees = agrees state }))
@@ -53,13 +53,13 @@ module _ (old : List ℕ) (shape : Shape) (ring : Ring) (slot : Option Segment) 
     added_bodies now added = more_bodies now added
 
     -- the layout after an append that is done
-    pub laid_out_after : (new : List ℕ) (later : Ring) → later.at ≡ ring.at → later.size ≡ ring.size → (after : HasAfter old ring (bodies_of slot) (batch commands) new later) → IsLaidOut new shape after.slot
+    pub laid_out_after : (new : List ℕ) (later : Ring) → later.at ≡ ring.at → later.size ≡ ring.size → (after : IsSlotAppended old ring (bodies_of slot) (batch commands) new later) → IsLaidOut new shape after.slot
     laid_out_after new later at_same size_same after =
         again new after.slot after.outside
         (subst (λ n. HoldsSlot n ring.size new after.slot) at_same (subst (λ n. HoldsSlot later.at n new after.slot) size_same after.fits.holds))
 
   -- and after one that was given up
-  pub laid_out_kept : (bodies : List (List ℕ)) (new : List ℕ) (later : Ring) → later.at ≡ ring.at → later.size ≡ ring.size → (kept : HasKept old ring bodies new later) → IsLaidOut new shape kept.slot
+  pub laid_out_kept : (bodies : List (List ℕ)) (new : List ℕ) (later : Ring) → later.at ≡ ring.at → later.size ≡ ring.size → (kept : IsSlotKept old ring bodies new later) → IsLaidOut new shape kept.slot
   laid_out_kept bodies new later at_same size_same kept =
       again new kept.slot kept.outside
       (subst (λ n. HoldsSlot n ring.size new kept.slot) at_same (subst (λ n. HoldsSlot later.at n new kept.slot) size_same kept.fits.holds))

@@ -4,10 +4,9 @@ use Rattle.std.proofs.Math.Nat.{mul-le-mul_left}
 use Rattle.std.proofs.lemmas.Bool.{cases_eq}
 use Rattle.std.proofs.lemmas.List.{take_at}
 use Rattle.std.proofs.lemmas.List.Elements.{All-nil}
-use Rattle.disk.specs.Device.{History, overwritten, SameOutside, Opens, Closes, GoesOn, Stays}
+use Rattle.disk.specs.Device.{History, overwritten, SameOutside, IsWrite, IsSync, IsAtMostOneStep, NoStep}
 use Rattle.disk.specs.Crash.{Leaves}
-use Rattle.disk.proofs.Contents.{same_at, drop-overwritten, overwritten_same_outside, get_or-overwritten}
-use Rattle.disk.proofs.Moments.{begins, goes_on_write, goes_on_first_write, goes_on_sync, goes_on_run, leaves_map}
+use Rattle.disk.proofs.CallerLemmas.{same_at, drop_overwritten, overwritten_same_outside, byte_overwritten, begins, goes_on_write, goes_on_first_write, goes_on_sync, goes_on_run, leaves_map}
 use Rattle.journal.specs.Area.{open_gate}
 use Rattle.journal.specs.BatchSpelling.{IsBatch}
 use Rattle.recovery.specs.declared.shape.Shape.{Shape}
@@ -21,7 +20,7 @@ use Rattle.recovery.proofs.Superblocks.{ranges_of}
 pub closed_at : (old : List ℕ) (at : ℕ) → at + 1 ≤ length old → IsClosed (overwritten old at (0 ∷ [])) at
 closed_at old at fits is_open =
     let start : at - at ≡ 0 = omega arith in
-    let here : get_or (overwritten old at (0 ∷ [])) at 0 ≡ 0 = get_or-overwritten old at (0 ∷ []) at (omega arith) (omega arith, omega arith) ∙ ap (λ k. get_or (0 ∷ []) k 0) start in
+    let here : get_or (overwritten old at (0 ∷ [])) at 0 ≡ 0 = byte_overwritten old at (0 ∷ []) at (omega arith) (omega arith, omega arith) ∙ ap (λ k. get_or (0 ∷ []) k 0) start in
     absurd (omega (arith, here, is_open))
 
 pub stays_closed : (old : List ℕ) (at : ℕ) → at + 1 ≤ length old → (place : ℕ) → IsClosed old place → IsClosed (overwritten old at (0 ∷ [])) place
@@ -32,7 +31,7 @@ stays_closed old at fits place closed = elim (cases_eq place at) [
 ]
 
 -- a write behind the superblock's gate leaves that closed
-pub stays_unformatted : {old mid new : History} {at count : ℕ} → Leaves IsUnformatted old mid → GoesOn (Opens at count) mid new → at + count ≤ length mid.now.seen → 1 ≤ at → Leaves IsUnformatted old new
+pub stays_unformatted : {old mid new : History} {at count : ℕ} → Leaves IsUnformatted old mid → IsAtMostOneStep (IsWrite at count) mid new → at + count ≤ length mid.now.seen → 1 ≤ at → Leaves IsUnformatted old new
 stays_unformatted {old} {mid} {new} {at} {count} so_far time fits behind =
     goes_on_write so_far time fits (λ before content left same is_open.
     so_far.last before left (sym (same_at at count before content same 0 (λ within. absurd (omega arith))) ∙ is_open))
@@ -48,7 +47,7 @@ pub prepared : (shape : Shape) (old : List ℕ) → layout_length shape ≤ leng
     → ((k : ℕ) → k < 2 * shape.docs → IsClosed old (cell_place shape k)) → ((s : ℕ) → s < shape.slots → IsClosed old (slot_place shape s))
     → IsPrepared shape (overwritten old 1 (superblock shape))
 prepared shape old long fits cells slots = record {
-  named = ap (λ (l : List ℕ). take 32 l) (drop-overwritten old 1 (superblock shape) (omega arith)) ∙ take_at (superblock shape) (drop (1 + length (superblock shape)) old) 32 refl;
+  named = ap (λ (l : List ℕ). take 32 l) (drop_overwritten old 1 (superblock shape) (omega arith)) ∙ take_at (superblock shape) (drop (1 + length (superblock shape)) old) 32 refl;
   long = omega (arith, same.same_length);
   cells = λ k inside is_open. cells k inside (sym (same_at 1 32 old (overwritten old 1 (superblock shape)) same (cell_place shape k) (λ within. absurd (omega arith))) ∙ is_open);
   slots = λ s inside is_open. slots s inside (sym (same_at 1 32 old (overwritten old 1 (superblock shape)) same (slot_place shape s) (λ within. absurd (omega arith))) ∙ is_open);
@@ -98,10 +97,10 @@ unformatted_or_empty shape old in_range is content same = elim (cases_eq (get_or
 ]
 
 -- the last steps: a sync of what is prepared, and a write into the superblock's gate
-pub sync_prepared : {shape : Shape} {old mid new : History} → Leaves IsUnformatted old mid → GoesOn Closes mid new → Leaves (IsUnformattedOrEmpty shape) old new
+pub sync_prepared : {shape : Shape} {old mid new : History} → Leaves IsUnformatted old mid → IsAtMostOneStep IsSync mid new → Leaves (IsUnformattedOrEmpty shape) old new
 sync_prepared {shape} {old} {mid} {new} so_far time = leaves_map {Q = IsUnformattedOrEmpty shape} (λ content closed. inl closed) (goes_on_sync so_far time)
 
-pub write_gate : {shape : Shape} {old mid new : History} → Leaves (IsUnformattedOrEmpty shape) old mid → mid.now.unsynced ≡ [] → is_in_range shape ≡ true → IsPrepared shape mid.now.seen → GoesOn (Opens 0 1) mid new → Leaves (IsUnformattedOrEmpty shape) old new
+pub write_gate : {shape : Shape} {old mid new : History} → Leaves (IsUnformattedOrEmpty shape) old mid → mid.now.unsynced ≡ [] → is_in_range shape ≡ true → IsPrepared shape mid.now.seen → IsAtMostOneStep (IsWrite 0 1) mid new → Leaves (IsUnformattedOrEmpty shape) old new
 write_gate {shape} {old} {mid} {new} so_far synced in_range is time =
     goes_on_first_write so_far synced time (omega (arith, is.long)) (λ content same. unformatted_or_empty shape mid.now.seen in_range is content same)
 
@@ -110,7 +109,7 @@ pub opened : (shape : Shape) (old : List ℕ) → is_in_range shape ≡ true →
 opened shape old in_range is =
     let fits : 0 + 1 ≤ length old = omega (arith, is.long) in
     empty_store shape (overwritten old 0 (open_gate ∷ [])) in_range (still_prepared shape old (overwritten old 0 (open_gate ∷ [])) is (overwritten_same_outside old 0 (open_gate ∷ []) fits))
-    (get_or-overwritten old 0 (open_gate ∷ []) 0 (omega arith) (omega arith, omega arith))
+    (byte_overwritten old 0 (open_gate ∷ []) 0 (omega arith) (omega arith, omega arith))
 
 -- a read changes nothing of that
 pub still_synced : {old mid new : History} → IsOnlySynced old mid → new.now.seen ≡ mid.now.seen → new.now.unsynced ≡ mid.now.unsynced → new.past ≡ mid.past → IsOnlySynced old new
@@ -119,7 +118,7 @@ still_synced {old} {mid} {new} synced seen unsynced past =
     subst (λ (h : History). IsOnlySynced old h) same synced
 
 pub nothing_done : (at_start : History) → IsOnlySynced at_start at_start
-nothing_done at_start = record { seen = refl; time = Stays refl }
+nothing_done at_start = record { seen = refl; time = NoStep refl }
 
 -- a run that is nothing but that
 pub just_synced : {P : List ℕ → Type 0} {old new : History} → IsOnlySynced old new → LeavesFromSync P old new

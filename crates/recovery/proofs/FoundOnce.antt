@@ -2,7 +2,7 @@
 use Rattle.std.proofs.Common.{◌≡◌, ℕ, Option, Some, None, List, sym, subst}
 use Rattle.revision.specs.Command.{Taken}
 use Rattle.revision.specs.State.{State}
-use Rattle.journal.proofs.Records.{holds_same}
+use Rattle.journal.proofs.CallerLemmas.{one_list}
 use Rattle.recovery.specs.declared.shape.Shape.{Shape}
 use Rattle.recovery.specs.Shape.{slot_place}
 use Rattle.recovery.specs.Slot.{Segment, HoldsSlot, bodies_of}
@@ -18,7 +18,7 @@ pub slot_same : (at size : ℕ) (content : List ℕ) (a b : Option Segment) → 
 slot_same at size content None None is_a is_b = cc
 slot_same at size content None (Some b) is_a is_b = absurd (is_a is_b.gate)
 slot_same at size content (Some a) None is_a is_b = absurd (is_b is_a.gate)
-slot_same at size content (Some a) (Some b) is_a is_b = holds_same a.bodies b.bodies _ is_a.bodies is_b.bodies
+slot_same at size content (Some a) (Some b) is_a is_b = one_list a.bodies b.bodies _ is_a.bodies is_b.bodies
 
 pub names_of : (content : List ℕ) (shape : Shape) (slot : Option Segment) → IsLaidOut content shape slot → Names content shape
 names_of content shape slot laid_out = record { formatted = laid_out.formatted; named = laid_out.named; in_range = laid_out.in_range; long = laid_out.long }
@@ -43,8 +43,8 @@ found_leads content shape slot state names holds found =
     let here = found_at content shape state names found in
     subst (λ (bodies : List (List ℕ)). Leads (empty_state shape) bodies state) (slot_same (slot_place shape 0) shape.slot content here.slot slot here.laid_out.first holds) here.leads
 
-pub found_same : (content : List ℕ) (a b : State) → Found content a → Found content b → a ≡ b
-found_same content a b is_a is_b =
+pub found_once : (content : List ℕ) (a b : State) → Found content a → Found content b → a ≡ b
+found_once content a b is_a is_b =
     leads_same (empty_state is_a.shape) (bodies_of is_a.slot) a b
     (stand_leads is_a.shape (bodies_of is_a.slot) is_a.batches a is_a.stand)
     (found_leads content is_a.shape is_a.slot b (names_of content is_a.shape is_a.slot is_a.laid_out) is_a.laid_out.first is_b)

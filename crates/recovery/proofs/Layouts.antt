@@ -3,7 +3,7 @@ use Rattle.std.proofs.Common.{◌≡◌, ℕ, ◌+◌, ◌*◌, ◌≤◌, ◌<�
 use Rattle.std.proofs.lemmas.List.{take-take, drop-take}
 use Rattle.std.proofs.Math.Nat.{mul-le-mul_right}
 use Rattle.disk.specs.Device.{SameOutside}
-use Rattle.disk.proofs.Contents.{same_at}
+use Rattle.disk.proofs.CallerLemmas.{same_at}
 use Rattle.recovery.specs.declared.shape.Shape.{Shape}
 use Rattle.recovery.specs.Shape.{cell_place, slot_place}
 use Rattle.recovery.specs.Slot.{Segment, HoldsSlot}

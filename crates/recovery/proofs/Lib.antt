@@ -1,3 +1,4 @@
+pub mod CallerLemmas
 pub mod EmptyStores
 pub mod Superblocks
 pub mod Slots

@@ -8,7 +8,7 @@ use Rattle.revision.specs.Command.{Taken}
 use Rattle.journal.specs.Scan.{items_of}
 use Rattle.journal.specs.BatchSpelling.{IsBatch, batch}
 use Rattle.revision.specs.State.{State, folded, all_grow}
-use Rattle.journal.proofs.Batches.{batch-append_same}
+use Rattle.journal.proofs.CallerLemmas.{one_spelling}
 use Rattle.recovery.specs.declared.shape.Shape.{Shape}
 use Rattle.recovery.specs.Found.{StandFor, empty_state, commands_of}
 use Rattle.recovery.specs.Reading.{Continues}
@@ -31,7 +31,7 @@ and_parts false y is = absurd cc
 
 -- no spelling is that of two batches
 pub batch_same : (a b : List Taken) → IsBatch a → IsBatch b → batch a ≡ batch b → a ≡ b
-batch_same a b is_a is_b same = (batch-append_same a b [] [] is_a is_b (ap (λ (l : List ℕ). l ++ []) same)).0
+batch_same a b is_a is_b same = (one_spelling a b [] [] is_a is_b (ap (λ (l : List ℕ). l ++ []) same)).0
 
 -- where there is no body, all stays as it is
 pub leads_none : (state : State) → Leads state [] state

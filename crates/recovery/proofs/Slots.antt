@@ -5,9 +5,8 @@ use Rattle.std.proofs.lemmas.Bool.Decides.{nat_tests}
 use Rattle.std.proofs.lemmas.Bool.{cases_eq}
 use Rattle.std.proofs.lemmas.List.{drop-take, drop-drop, get_or-take, get_or-drop}
 use Rattle.disk.specs.Device.{overwritten, SameOutside}
-use Rattle.disk.proofs.Contents.{length-overwritten, drop-overwritten, overwritten_same_outside}
-use Rattle.journal.specs.Area.{open_gate, HoldsBodies, Place, area_bytes, entries, Stands, IsGated, IsBeforeOrAfter, IsAfter}
-use Rattle.journal.proofs.Areas.{same_outside_wider, same_outside_then}
+use Rattle.disk.proofs.CallerLemmas.{length_overwritten, drop_overwritten, overwritten_same_outside, same_outside_wider, same_outside_then}
+use Rattle.journal.specs.Area.{open_gate, HoldsBodies, Place, area_bytes, entries, Stands, IsGated, IsLeftByAppend, IsAppended}
 use Rattle.refusal.specs.declared.Refusal.TheVariants.{JournalFull, NoMemory}
 use Rattle.journal.specs.declared.area.AppendError.{AppendError}
 use Rattle.journal.specs.declared.area.AppendError.TheVariants as append_errors
@@ -15,7 +14,7 @@ use Rattle.journal.specs.Refusals.{refusal_of_append}
 use Rattle.recovery.specs.declared.segments.Ring.{Ring}
 use Rattle.recovery.specs.Slot.{Segment, HoldsSegment, HoldsSlot, bodies_of}
 use Rattle.recovery.specs.Room.{has_room_for}
-use Rattle.recovery.specs.Ring.{KnowsNext, FitsSlot, HasBeforeOrAfter, HasAfter, HasKept, HasSame, IsReady}
+use Rattle.recovery.specs.Ring.{KnowsNext, FitsSlot, IsSlotLeftByAppend, IsSlotAppended, IsSlotKept, IsSlotLeftByOpening, IsSlotReady}
 
 -- the number of the first segment, and the closed gate of its first record
 abbrev pub first_head : List ℕ
@@ -36,7 +35,7 @@ module _ (at size : ℕ) (old : List ℕ) (large : 256 ≤ size) (within : at + 
   headed value = overwritten (overwritten old (at + 1) first_head) at (value ∷ [])
 
   staged_long : length (overwritten old (at + 1) first_head) ≡ length old
-  staged_long = length-overwritten old (at + 1) first_head (omega arith)
+  staged_long = length_overwritten old (at + 1) first_head (omega arith)
 
   headed_outside : (value : ℕ) → SameOutside at size old (headed value)
   headed_outside value = same_outside_then at size old (overwritten old (at + 1) first_head) (headed value)
@@ -45,8 +44,8 @@ module _ (at size : ℕ) (old : List ℕ) (large : 256 ≤ size) (within : at + 
 
   headed_back : (value : ℕ) → drop at (headed value) ≡ value ∷ (first_head ++ drop (at + 1 + 9) old)
   headed_back value =
-      drop-overwritten (overwritten old (at + 1) first_head) at (value ∷ []) (omega (arith, staged_long))
-      ∙ ap (λ (l : List ℕ). value ∷ l) (drop-overwritten old (at + 1) first_head (omega arith))
+      drop_overwritten (overwritten old (at + 1) first_head) at (value ∷ []) (omega (arith, staged_long))
+      ∙ ap (λ (l : List ℕ). value ∷ l) (drop_overwritten old (at + 1) first_head (omega arith))
 
   headed_gate : (value : ℕ) → get_or (headed value) at 0 ≡ value
   headed_gate value = ap (λ k. get_or (headed value) k 0) (omega arith) ∙ sym (get_or-drop at (headed value) 0 0) ∙ ap (λ (l : List ℕ). get_or l 0 0) (headed_back value)
@@ -71,25 +70,25 @@ module _ (at size : ℕ) (old : List ℕ) (large : 256 ≤ size) (within : at + 
         };
       }
 
-  headed_same : (value : ℕ) → HasSame at size old [] (headed value)
+  headed_same : (value : ℕ) → IsSlotLeftByOpening at size old [] (headed value)
   headed_same value = elim (cases_eq value open_gate) [
-    | inl is ↦ subst (λ v. HasSame at size old [] (headed v)) (sym is) (record { outside = headed_outside open_gate; slot = Some first_segment; holds = headed_holds; kept = refl })
+    | inl is ↦ subst (λ v. IsSlotLeftByOpening at size old [] (headed v)) (sym is) (record { outside = headed_outside open_gate; slot = Some first_segment; holds = headed_holds; kept = refl })
     | inr shut ↦ record { outside = headed_outside value; slot = None; holds = λ is. shut (sym (headed_gate value) ∙ is); kept = refl }
   ]
 
   -- at any moment of the slot's opening it holds no bodies
-  pub opening : (content : List ℕ) → IsGated at first_head old content → HasSame at size old [] content
+  pub opening : (content : List ℕ) → IsGated at first_head old content → IsSlotLeftByOpening at size old [] content
   opening content (inl same) = record {
     outside = same_outside_wider at size (at + 1) 9 old content (omega arith) (omega arith) same;
     slot = None;
     holds = λ is. closed (sym (before_range (at + 1) 9 at old content (omega arith) same) ∙ is);
     kept = refl;
   }
-  opening content (inr (value, is)) = subst (HasSame at size old []) (sym is) (headed_same value)
+  opening content (inr (value, is)) = subst (IsSlotLeftByOpening at size old []) (sym is) (headed_same value)
 
   -- and then the first segment
-  pub opened : (new : List ℕ) → new ≡ headed open_gate → IsReady at size old [] new 0
-  opened new is = subst (λ (l : List ℕ). IsReady at size old [] l 0) (sym is) (record { outside = headed_outside open_gate; segment = first_segment; holds = headed_holds; kept = refl; behind = refl })
+  pub opened : (new : List ℕ) → new ≡ headed open_gate → IsSlotReady at size old [] new 0
+  opened new is = subst (λ (l : List ℕ). IsSlotReady at size old [] l 0) (sym is) (record { outside = headed_outside open_gate; segment = first_segment; holds = headed_holds; kept = refl; behind = refl })
 
 -- a segment stays when its area alone changes
 pub holds_again : (at size : ℕ) (old new : List ℕ) (segment : Segment) (bodies : List (List ℕ)) → 256 ≤ size → HoldsSegment at size old segment → SameOutside (at + 9) (size - 9) old new
@@ -104,7 +103,7 @@ holds_again at size old new segment bodies large holds same there = record {
   bodies = there;
 }
 
-module _ (at size : ℕ) (old mid : List ℕ) (place : Place) (bodies : List (List ℕ)) (body : List ℕ) (large : 256 ≤ size) (ready : IsReady at size old bodies mid place.next)
+module _ (at size : ℕ) (old mid : List ℕ) (place : Place) (bodies : List (List ℕ)) (body : List ℕ) (large : 256 ≤ size) (ready : IsSlotReady at size old bodies mid place.next)
     (area_at : place.at ≡ at + 9) (area_size : place.size ≡ size - 9) where
   ready_bytes : (content : List ℕ) → area_bytes place content ≡ take (size - 9) (drop (at + 9) content)
   ready_bytes content = ap (λ n. take n (drop place.at content)) area_size ∙ ap (λ n. take (size - 9) (drop n content)) area_at
@@ -126,18 +125,18 @@ module _ (at size : ℕ) (old mid : List ℕ) (place : Place) (bodies : List (Li
   again content now same there = holds_again at size mid content ready.segment now large ready.holds (area_outside content same) (subst (HoldsBodies now) (ready_bytes content) there)
 
   -- a crash within the area's append
-  pub appending : (content : List ℕ) → IsBeforeOrAfter mid place bodies body content → HasBeforeOrAfter at size old bodies body content
+  pub appending : (content : List ℕ) → IsLeftByAppend mid place bodies body content → IsSlotLeftByAppend at size old bodies body content
   appending content left = ⊎_elim
       (λ there. record { outside = outside content left.outside; slot = Some (record ready.segment { bodies = bodies }); holds = again content bodies left.outside there; kept = inl refl })
       (λ there. record { outside = outside content left.outside; slot = Some (record ready.segment { bodies = bodies ++ body ∷ [] }); holds = again content (bodies ++ body ∷ []) left.outside there; kept = inr refl })
       left.holds
 
 -- what holds the same bodies is before the append
-pub same_before : (at size : ℕ) (old : List ℕ) (bodies : List (List ℕ)) (body content : List ℕ) → HasSame at size old bodies content → HasBeforeOrAfter at size old bodies body content
+pub same_before : (at size : ℕ) (old : List ℕ) (bodies : List (List ℕ)) (body content : List ℕ) → IsSlotLeftByOpening at size old bodies content → IsSlotLeftByAppend at size old bodies body content
 same_before at size old bodies body content same = record { outside = same.outside; slot = same.slot; holds = same.holds; kept = inl same.kept }
 
 -- nothing has changed
-pub unchanged : (at size : ℕ) (old : List ℕ) (slot : Option Segment) → HoldsSlot at size old slot → HasSame at size old (bodies_of slot) old
+pub unchanged : (at size : ℕ) (old : List ℕ) (slot : Option Segment) → HoldsSlot at size old slot → IsSlotLeftByOpening at size old (bodies_of slot) old
 unchanged at size old slot holds = record { outside = record { same_length = refl; before = refl; after = refl }; slot = slot; holds = holds; kept = refl }
 
 -- a ring with no segment is that of a slot whose gate is closed
@@ -156,10 +155,10 @@ has_room newest area size len (inr (none, fresh)) area_size room =
     let fits : len + 15 ≤ size = grind (arith, nat_tests) in
     omega arith
 
-module _ (old : List ℕ) (ring : Ring) (mid new : List ℕ) (place after : Place) (bodies : List (List ℕ)) (body : List ℕ) (ready : IsReady ring.at ring.size old bodies mid place.next)
-    (area_at : place.at ≡ ring.at + 9) (area_size : place.size ≡ ring.size - 9) (done : IsAfter mid place bodies body new after) (same_at : after.at ≡ place.at) (same_size : after.size ≡ place.size) where
+module _ (old : List ℕ) (ring : Ring) (mid new : List ℕ) (place after : Place) (bodies : List (List ℕ)) (body : List ℕ) (ready : IsSlotReady ring.at ring.size old bodies mid place.next)
+    (area_at : place.at ≡ ring.at + 9) (area_size : place.size ≡ ring.size - 9) (done : IsAppended mid place bodies body new after) (same_at : after.at ≡ place.at) (same_size : after.size ≡ place.size) where
   -- an append that is done
-  pub appended : (later : Ring) → later.at ≡ ring.at → later.size ≡ ring.size → later.newest ≡ Some after → HasAfter old ring bodies body new later
+  pub appended : (later : Ring) → later.at ≡ ring.at → later.size ≡ ring.size → later.newest ≡ Some after → IsSlotAppended old ring bodies body new later
   appended later at size newest =
       let there : HoldsBodies (bodies ++ body ∷ []) (area_bytes place new) = subst (λ n. HoldsBodies (bodies ++ body ∷ []) (take n (drop place.at new))) same_size (subst (λ n. HoldsBodies (bodies ++ body ∷ []) (take after.size (drop n new))) same_at done.stands.holds) in
       let segment : Segment = record ready.segment { bodies = bodies ++ body ∷ [] } in
@@ -186,8 +185,8 @@ no_memory_of append_errors.NoMemory is = refl
 no_memory_of append_errors.Fault is = absurd cc
 
 -- what is ready for an append, and stays so
-pub kept_ready : (old : List ℕ) (ring : Ring) (bodies : List (List ℕ)) (new : List ℕ) (area : Place) (after : Ring) → IsReady ring.at ring.size old bodies new area.next
-    → after.at ≡ ring.at → after.size ≡ ring.size → after.newest ≡ Some area → HasKept old ring bodies new after
+pub kept_ready : (old : List ℕ) (ring : Ring) (bodies : List (List ℕ)) (new : List ℕ) (area : Place) (after : Ring) → IsSlotReady ring.at ring.size old bodies new area.next
+    → after.at ≡ ring.at → after.size ≡ ring.size → after.newest ≡ Some area → IsSlotKept old ring bodies new after
 kept_ready old ring bodies new area after ready at size newest = record {
   outside = ready.outside;
   slot = Some ready.segment;

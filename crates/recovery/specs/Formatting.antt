@@ -1,6 +1,6 @@
 -- What formatting leaves of a device.
 use Rattle.std.specs.Prelude.{◌≡◌, ◌⊎◌, ℕ, ◌*◌, ◌<◌, ◌≤◌, true, None, List, [], length, take, drop}
-use Rattle.disk.specs.Device.{History, Closes, GoesOn}
+use Rattle.disk.specs.Device.{History, IsSync, IsAtMostOneStep}
 use Rattle.disk.specs.Crash.{Leaves}
 use Rattle.recovery.specs.declared.shape.Shape.{Shape}
 use Rattle.recovery.specs.Shape.{is_in_range, layout_length, cell_place, slot_place, superblock}
@@ -35,7 +35,7 @@ pub record IsPrepared (shape : Shape) (content : List ℕ) : Type 0 where
 -- nothing but a sync was done, good or not, or not even that
 pub record IsOnlySynced (old new : History) : Type 0 where
   pub seen : new.now.seen ≡ old.now.seen
-  pub time : GoesOn Closes old new
+  pub time : IsAtMostOneStep IsSync old new
 
 -- A run that begins with a sync: nothing follows it, or it left no range unsynced, and a crash at any moment from then
 -- on leaves a content that has P.

@@ -5,7 +5,7 @@ use Rattle.journal.specs.BatchSpelling.{IsBatch, batch}
 use Rattle.revision.specs.State.{State, folded, all_grow}
 use Rattle.recovery.specs.declared.shape.Shape.{Shape}
 use Rattle.recovery.specs.declared.segments.Ring.{Ring}
-use Rattle.recovery.specs.declared.reading.Parts.{Parts}
+use Rattle.recovery.specs.declared.reading.RecoveredStore.{RecoveredStore}
 use Rattle.recovery.specs.Shape.{is_in_range, cell_place, slot_place, layout_length, superblock}
 use Rattle.recovery.specs.Slot.{Segment, bodies_of}
 use Rattle.recovery.specs.Layout.{IsFormatted, IsClosed, IsLaidOut}
@@ -42,10 +42,10 @@ pub record Continues (state : State) (body : List ℕ) (new : State) : Type 0 wh
   pub grow : all_grow state commands ≡ true
   pub fold : new ≡ folded state commands
 
--- A content was read as these parts: it has this shape, it stands for this state, and the ring fits its first slot.
-pub record IsReadAs (content : List ℕ) (parts : Parts) : Type 0 where
+-- A content was read so: it has this shape, it stands for this state, and the ring fits its first slot.
+pub record IsReadAs (content : List ℕ) (recovered : RecoveredStore) : Type 0 where
   pub slot : Option Segment
   pub batches : List (List Taken)
-  pub laid_out : IsLaidOut content parts.shape slot
-  pub fits : FitsSlot content parts.ring slot
-  pub stand : StandFor parts.shape (bodies_of slot) batches parts.state
+  pub laid_out : IsLaidOut content recovered.shape slot
+  pub fits : FitsSlot content recovered.ring slot
+  pub stand : StandFor recovered.shape (bodies_of slot) batches recovered.state

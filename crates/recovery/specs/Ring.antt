@@ -19,28 +19,28 @@ pub record FitsSlot (content : List ℕ) (ring : Ring) (slot : Option Segment) :
 
 -- The content after an append, or after a crash in it: the slot holds the bodies with the new one or without it, and
 -- outside the slot nothing has changed.
-pub record HasBeforeOrAfter (at size : ℕ) (old : List ℕ) (bodies : List (List ℕ)) (body : List ℕ) (content : List ℕ) : Type 0 where
+pub record IsSlotLeftByAppend (at size : ℕ) (old : List ℕ) (bodies : List (List ℕ)) (body : List ℕ) (content : List ℕ) : Type 0 where
   pub outside : SameOutside at size old content
   pub slot : Option Segment
   pub holds : HoldsSlot at size content slot
   pub kept : (bodies_of slot ≡ bodies) ⊎ (bodies_of slot ≡ bodies ++ body ∷ [])
 
 -- an append that is done
-pub record HasAfter (old : List ℕ) (before : Ring) (bodies : List (List ℕ)) (body : List ℕ) (new : List ℕ) (after : Ring) : Type 0 where
+pub record IsSlotAppended (old : List ℕ) (before : Ring) (bodies : List (List ℕ)) (body : List ℕ) (new : List ℕ) (after : Ring) : Type 0 where
   pub outside : SameOutside before.at before.size old new
   pub slot : Option Segment
   pub fits : FitsSlot new after slot
   pub kept : bodies_of slot ≡ bodies ++ body ∷ []
 
 -- The content after a slot was opened where none was, or after a crash in that: the slot holds the same bodies.
-pub record HasSame (at size : ℕ) (old : List ℕ) (bodies : List (List ℕ)) (content : List ℕ) : Type 0 where
+pub record IsSlotLeftByOpening (at size : ℕ) (old : List ℕ) (bodies : List (List ℕ)) (content : List ℕ) : Type 0 where
   pub outside : SameOutside at size old content
   pub slot : Option Segment
   pub holds : HoldsSlot at size content slot
   pub kept : bodies_of slot ≡ bodies
 
 -- the slot holds a segment of these bodies, behind which the next record goes
-pub record IsReady (at size : ℕ) (old : List ℕ) (bodies : List (List ℕ)) (new : List ℕ) (next : ℕ) : Type 0 where
+pub record IsSlotReady (at size : ℕ) (old : List ℕ) (bodies : List (List ℕ)) (new : List ℕ) (next : ℕ) : Type 0 where
   pub outside : SameOutside at size old new
   pub segment : Segment
   pub holds : HoldsSegment at size new segment
@@ -48,7 +48,7 @@ pub record IsReady (at size : ℕ) (old : List ℕ) (bodies : List (List ℕ)) (
   pub behind : next ≡ length (entries segment.bodies)
 
 -- An append that was given up before its first write: the slot holds the same bodies, though it may have been opened.
-pub record HasKept (old : List ℕ) (before : Ring) (bodies : List (List ℕ)) (new : List ℕ) (after : Ring) : Type 0 where
+pub record IsSlotKept (old : List ℕ) (before : Ring) (bodies : List (List ℕ)) (new : List ℕ) (after : Ring) : Type 0 where
   pub outside : SameOutside before.at before.size old new
   pub slot : Option Segment
   pub fits : FitsSlot new after slot

@@ -2,6 +2,7 @@
 ghost use Rattle.std.specs.Prelude.{◌≡◌, ◌⊎◌, ◌↔◌, ◌+◌, ◌*◌, ◌<◌, ◌≤◌, ◌^◌, ℕ, [], length, IsTrue, Err, OnOk, OnErr, IfOk, IfErr, slice_index};
 ghost use Rattle.disk.specs.Device.{Rose};
 ghost use Rattle.disk.specs.Crash.{LeavesIn, LeavesOnly, history_of};
+ghost use Rattle.disk.specs.Calls.{HasOnlyWritten, CountsFaults};
 ghost use Rattle.journal.specs.Area.{open_gate};
 ghost use Rattle.recovery.specs.Shape.{superblock};
 ghost use Rattle.recovery.specs.Layout.{IsClosed, IsFormatted};
@@ -54,9 +55,7 @@ pub fn format_device<D: Disk>(alloc: Global, disk: &mut D, shape: Shape) -> Resu
     if disk.len() < SUPERBLOCK_LEN {
         return Err(Refusal::BadShape);
     }
-    let Ok(is_open) = reads_open_gate(disk) else {
-        return Err(Refusal::Fault);
-    };
+    let is_open = reads_open_gate(disk)?;
     if is_open {
         return Err(Refusal::AlreadyFormatted);
     }
@@ -64,9 +63,7 @@ pub fn format_device<D: Disk>(alloc: Global, disk: &mut D, shape: Shape) -> Resu
         return Err(Refusal::BadShape);
     }
     let body = write_superblock(alloc, &shape)?;
-    let Ok(()) = write_all(disk, &shape, &body) else {
-        return Err(Refusal::Fault);
-    };
+    write_all(disk, &shape, &body)?;
     Ok(())
 }
 
@@ -77,8 +74,7 @@ fn reads_open_gate<D: Disk>(disk: &mut D) -> Result<bool, Fault>
     ensures only_synced { IsOnlySynced (history_of ⟦<D as Disk>⟧ disk.old) (history_of ⟦<D as Disk>⟧ disk.new) }
     ensures synced { OnOk result (D.unsynced disk.new ≡ []) }
     ensures honest { D.honest disk.new → D.honest disk.old }
-    ensures good { OnOk result (D.faults disk.new ≡ D.faults disk.old) }
-    ensures failed { OnErr result (Rose (D.faults disk.old) (D.faults disk.new)) }
+    ensures faults { CountsFaults ⟦<D as Disk>⟧ result disk.old disk.new }
 {
     disk.sync()?;
     let mut gate = [0u8];
@@ -94,10 +90,8 @@ fn write_all<D: Disk>(disk: &mut D, shape: &Shape, body: &[u8]) -> Result<(), Fa
         → LeavesOnly ⟦<D as Disk>⟧ (IsUnformattedOrEmpty shape.now) disk.old disk.new }
     ensures done { OnOk result (IsEmptyStore shape.now (D.seen disk.new)) }
     ensures synced { OnOk result (D.unsynced disk.new ≡ []) }
-    ensures length { length (D.seen disk.new) ≡ length (D.seen disk.old) }
-    ensures honest { D.honest disk.new ↔ D.honest disk.old }
-    ensures good { OnOk result (D.faults disk.new ≡ D.faults disk.old) }
-    ensures failed { OnErr result (Rose (D.faults disk.old) (D.faults disk.new)) }
+    ensures only_written { HasOnlyWritten ⟦<D as Disk>⟧ disk.old disk.new }
+    ensures faults { CountsFaults ⟦<D as Disk>⟧ result disk.old disk.new }
 {
     prepare(disk, shape, body)?;
     disk.sync()?;
@@ -112,10 +106,8 @@ fn prepare<D: Disk>(disk: &mut D, shape: &Shape, body: &[u8]) -> Result<(), Faul
     ensures any_moment { LeavesIn IsUnformatted (history_of ⟦<D as Disk>⟧ disk.old).now
         → LeavesOnly ⟦<D as Disk>⟧ IsUnformatted disk.old disk.new }
     ensures prepared { OnOk result (IsPrepared shape.now (D.seen disk.new)) }
-    ensures length { length (D.seen disk.new) ≡ length (D.seen disk.old) }
-    ensures honest { D.honest disk.new ↔ D.honest disk.old }
-    ensures good { OnOk result (D.faults disk.new ≡ D.faults disk.old) }
-    ensures failed { OnErr result (Rose (D.faults disk.old) (D.faults disk.new)) }
+    ensures only_written { HasOnlyWritten ⟦<D as Disk>⟧ disk.old disk.new }
+    ensures faults { CountsFaults ⟦<D as Disk>⟧ result disk.old disk.new }
 {
     let docs = u64::from(shape.docs);
     let cell = u64::from(shape.cell);
@@ -135,39 +127,11 @@ fn close_gates<D: Disk>(disk: &mut D, at: u64, size: u64, count: u64) -> Result<
         → LeavesOnly ⟦<D as Disk>⟧ IsUnformatted disk.old disk.new }
     ensures closed { OnOk result ((k : ℕ) → k < count → IsClosed (D.seen disk.new) (at + k * size)) }
     ensures others { OnOk result ((place : ℕ) → IsClosed (D.seen disk.old) place → IsClosed (D.seen disk.new) place) }
-    ensures length { length (D.seen disk.new) ≡ length (D.seen disk.old) }
-    ensures honest { D.honest disk.new ↔ D.honest disk.old }
-    ensures good { OnOk result (D.faults disk.new ≡ D.faults disk.old) }
-    ensures failed { OnErr result (Rose (D.faults disk.old) (D.faults disk.new)) }
+    ensures only_written { HasOnlyWritten ⟦<D as Disk>⟧ disk.old disk.new }
+    ensures faults { CountsFaults ⟦<D as Disk>⟧ result disk.old disk.new }
 {
     for k in 0..count {
         disk.write_at(at + k * size, &[CLOSED])?;
     }
     Ok(())
-}
-
-#[cfg(test)]
-mod tests {
-    use super::*;
-    use disk::MemDisk;
-    use std::test::Fail;
-
-    // With ample memory a device is formatted, and then no more.
-    #[test]
-    fn formats_once(rt: HostRuntime) -> Result<(), Fail> {
-        let shape = Shape {
-            slots: 2,
-            slot: 256,
-            docs: 1,
-            cell: 256,
-            sources: 1,
-            keep: 1,
-        };
-        let mut disk = MemDisk::new(rt.alloc(), 1_088)?;
-        let first = format_device(rt.alloc(), &mut disk, shape);
-        assert_eq!(rt; first, Ok(()));
-        let second = format_device(rt.alloc(), &mut disk, shape);
-        assert_eq!(rt; second, Err(Refusal::AlreadyFormatted));
-        Ok(())
-    }
 }

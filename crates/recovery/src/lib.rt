@@ -4,6 +4,29 @@
 //! the first alone is used. To the layer above the crate promises which state the content of a device stands for, and
 //! what a crash at any moment of a call leaves of it. It stands on `journal` and `disk`. The ring of slots
 //! (`segments`) is a module of this crate until it is a crate of its own.
+//!
+//! A caller, with its contract, which is proved as it stands:
+//!
+//! ```text
+//! ghost use Rattle.std.specs.Prelude.{◌≡◌, [], ◌∷◌, false, OnOk};
+//! ghost use Rattle.disk.specs.Crash.{LeavesOnly};
+//! ghost use Rattle.recovery.specs.Open.{IsOpen, IsWithOrWithout, device_of, state_of, has_failed};
+//!
+//! use disk::Disk;
+//! use recovery::Store;
+//! use refusal::Refusal;
+//! use revision::Taken;
+//! use std::alloc::Global;
+//!
+//! /// Commits one command. A crash at any moment leaves the state without it or with it, and at Ok the store goes on.
+//! pub fn commit_one<D: Disk>(alloc: Global, store: &mut Store<D>, taken: Taken) -> Result<(), Refusal>
+//!     ensures any_moment { has_failed store.old ≡ false → IsOpen store.old
+//!         → LeavesOnly ⟦<D as Disk>⟧ (IsWithOrWithout (state_of store.old) (taken ∷ [])) (device_of store.old) (device_of store.new) }
+//!     ensures done { OnOk result (IsOpen store.old → IsOpen store.new) }
+//! {
+//!     store.commit(alloc, &[taken])
+//! }
+//! ```
 #![tactic(auto)]
 
 mod formatting;
@@ -19,6 +42,3 @@ pub use formatting::format_device;
 pub use run::{Stop, StoreStep};
 pub use shape::Shape;
 pub use store::{OpenFault, Store};
-
-#[cfg(test)]
-mod tests;

@@ -1,6 +1,7 @@
 //! Reading the content of a device: the superblock, the gates, and the batches of the first slot.
-ghost use Rattle.std.specs.Prelude.{◌≡◌, ◌⊎◌, ◌↔◌, ◌≤◌, true, [], length, IsTrue, OnOk, OnErr, IfOk, IfErr, IsErrOf};
-ghost use Rattle.disk.specs.Device.{Closes, GoesOn, Rose};
+ghost use Rattle.std.specs.Prelude.{◌≡◌, ◌⊎◌, ◌↔◌, ◌≤◌, true, [], length, IsTrue, OnOk, IfOk, IfErr};
+ghost use Rattle.disk.specs.Device.{IsSync, IsAtMostOneStep};
+ghost use Rattle.disk.specs.Calls.{HasOnlyRead, CountsFaults, CountsFaultsAs};
 ghost use Rattle.disk.specs.Crash.{history_of};
 ghost use Rattle.revision.specs.State.{State as StateValue};
 ghost use Rattle.recovery.specs.declared.shape.Shape.{Shape as ShapeValue};
@@ -20,13 +21,13 @@ use disk::Disk;
 use first_slot::read_first_slot;
 use gates::{are_others_closed, is_open, read_at};
 use refusal::Refusal;
-use replay::replayed;
+use replay::replay_bodies;
 use revision::State;
 use std::alloc::Global;
 
-/// What a device stands for, and where its next batch goes.
+/// What was read of a device: its shape, the state that it stands for, and where its next batch goes.
 #[derive(Drop)]
-pub struct Parts {
+pub struct RecoveredStore {
     pub shape: Shape,
     pub ring: Ring,
     pub state: State,
@@ -34,11 +35,11 @@ pub struct Parts {
 
 /// Reads a device after a sync of it, and writes nothing. `NotFormatted` comes where the superblock's gate is closed or
 /// the device has less than 64 bytes, and `Damaged` where it is formatted and its content stands for no state.
-pub fn read_store<D: Disk>(alloc: Global, disk: &mut D) -> Result<Parts, Refusal>
-    ensures read { IfOk result (λ parts. D.honest disk.new → IsReadAs (D.seen disk.old) parts) }
-    ensures place { IfOk result (λ parts. (parts.ring.at ≡ slot_place parts.shape 0) × (parts.ring.size ≡ parts.shape.slot)) }
-    ensures in_range { IfOk result (λ parts. is_in_range parts.shape ≡ true) }
-    ensures within { IfOk result (λ parts. layout_length parts.shape ≤ length (D.seen disk.old)) }
+pub fn read_store<D: Disk>(alloc: Global, disk: &mut D) -> Result<RecoveredStore, Refusal>
+    ensures read { IfOk result (λ recovered. D.honest disk.new → IsReadAs (D.seen disk.old) recovered) }
+    ensures place { IfOk result (λ recovered. (recovered.ring.at ≡ slot_place recovered.shape 0) × (recovered.ring.size ≡ recovered.shape.slot)) }
+    ensures in_range { IfOk result (λ recovered. is_in_range recovered.shape ≡ true) }
+    ensures within { IfOk result (λ recovered. layout_length recovered.shape ≤ length (D.seen disk.old)) }
 
     ensures not_formatted { IfErr result (λ e. e ≡ Refusal.NotFormatted → D.honest disk.new → ¬ IsFormatted (D.seen disk.old)) }
     ensures formatted { IfErr result (λ e. e ≡ Refusal.Damaged → D.honest disk.new → IsFormatted (D.seen disk.old)) }
@@ -48,37 +49,34 @@ pub fn read_store<D: Disk>(alloc: Global, disk: &mut D) -> Result<Parts, Refusal
     // The sync alone moves the device on.
     ensures seen { D.seen disk.new ≡ D.seen disk.old }
     ensures synced { OnOk result (D.unsynced disk.new ≡ []) }
-    ensures time { GoesOn Closes (history_of ⟦<D as Disk>⟧ disk.old) (history_of ⟦<D as Disk>⟧ disk.new) }
+    ensures time { IsAtMostOneStep IsSync (history_of ⟦<D as Disk>⟧ disk.old) (history_of ⟦<D as Disk>⟧ disk.new) }
     ensures honest { D.honest disk.new → D.honest disk.old }
-    ensures good { OnOk result (D.faults disk.new ≡ D.faults disk.old) }
-    ensures failed { IsErrOf result Refusal.Fault → Rose (D.faults disk.old) (D.faults disk.new) }
+    ensures faults { CountsFaultsAs ⟦<D as Disk>⟧ Refusal.Fault result disk.old disk.new }
 {
-    disk.sync().map_err(|_| Refusal::Fault)?;
+    disk.sync()?;
     read_content(alloc, disk)
 }
 
 // Reads what stands on the device. No call of it moves the device on.
-fn read_content<D: Disk>(alloc: Global, disk: &mut D) -> Result<Parts, Refusal>
-    ensures read { IfOk result (λ parts. D.honest disk.new → IsReadAs (D.seen disk.old) parts) }
-    ensures place { IfOk result (λ parts. (parts.ring.at ≡ slot_place parts.shape 0) × (parts.ring.size ≡ parts.shape.slot)) }
-    ensures in_range { IfOk result (λ parts. is_in_range parts.shape ≡ true) }
-    ensures within { IfOk result (λ parts. layout_length parts.shape ≤ length (D.seen disk.old)) }
+fn read_content<D: Disk>(alloc: Global, disk: &mut D) -> Result<RecoveredStore, Refusal>
+    ensures read { IfOk result (λ recovered. D.honest disk.new → IsReadAs (D.seen disk.old) recovered) }
+    ensures place { IfOk result (λ recovered. (recovered.ring.at ≡ slot_place recovered.shape 0) × (recovered.ring.size ≡ recovered.shape.slot)) }
+    ensures in_range { IfOk result (λ recovered. is_in_range recovered.shape ≡ true) }
+    ensures within { IfOk result (λ recovered. layout_length recovered.shape ≤ length (D.seen disk.old)) }
     ensures not_formatted { IfErr result (λ e. e ≡ Refusal.NotFormatted → D.honest disk.new → ¬ IsFormatted (D.seen disk.old)) }
     ensures formatted { IfErr result (λ e. e ≡ Refusal.Damaged → D.honest disk.new → IsFormatted (D.seen disk.old)) }
     ensures damaged { IfErr result (λ e. e ≡ Refusal.Damaged → D.honest disk.new → (found : StateValue) → ¬ Found (D.seen disk.old) found) }
     ensures only { IfErr result (λ e. (e ≡ Refusal.NotFormatted) ⊎ ((e ≡ Refusal.Damaged) ⊎ ((e ≡ Refusal.NoMemory) ⊎ (e ≡ Refusal.Fault)))) }
-    ensures stays { history_of ⟦<D as Disk>⟧ disk.new ≡ history_of ⟦<D as Disk>⟧ disk.old }
-    ensures honest { D.honest disk.new → D.honest disk.old }
-    ensures good { OnOk result (D.faults disk.new ≡ D.faults disk.old) }
-    ensures failed { IsErrOf result Refusal.Fault → Rose (D.faults disk.old) (D.faults disk.new) }
+    ensures only_read { HasOnlyRead ⟦<D as Disk>⟧ disk.old disk.new }
+    ensures faults { CountsFaultsAs ⟦<D as Disk>⟧ Refusal.Fault result disk.old disk.new }
 {
     let shape = read_shape(disk)?;
     if !are_others_closed(disk, &shape)? {
         return Err(Refusal::Damaged);
     }
     let (ring, bodies) = read_first_slot(alloc, disk, &shape)?;
-    let state = replayed(alloc, &shape, &bodies)?;
-    Ok(Parts { shape, ring, state })
+    let state = replay_bodies(alloc, &shape, &bodies)?;
+    Ok(RecoveredStore { shape, ring, state })
 }
 
 // The shape that the superblock names.
@@ -90,10 +88,8 @@ fn read_shape<D: Disk>(disk: &mut D) -> Result<Shape, Refusal>
     ensures formatted { IfErr result (λ e. e ≡ Refusal.Damaged → D.honest disk.new → IsFormatted (D.seen disk.old)) }
     ensures damaged { IfErr result (λ e. e ≡ Refusal.Damaged → D.honest disk.new → (shape : ShapeValue) → ¬ Names (D.seen disk.old) shape) }
     ensures only { IfErr result (λ e. (e ≡ Refusal.NotFormatted) ⊎ ((e ≡ Refusal.Damaged) ⊎ (e ≡ Refusal.Fault))) }
-    ensures stays { history_of ⟦<D as Disk>⟧ disk.new ≡ history_of ⟦<D as Disk>⟧ disk.old }
-    ensures honest { D.honest disk.new → D.honest disk.old }
-    ensures good { OnOk result (D.faults disk.new ≡ D.faults disk.old) }
-    ensures failed { IsErrOf result Refusal.Fault → Rose (D.faults disk.old) (D.faults disk.new) }
+    ensures only_read { HasOnlyRead ⟦<D as Disk>⟧ disk.old disk.new }
+    ensures faults { CountsFaultsAs ⟦<D as Disk>⟧ Refusal.Fault result disk.old disk.new }
 {
     if !is_formatted(disk)? {
         return Err(Refusal::NotFormatted);
@@ -114,10 +110,8 @@ fn is_formatted<D: Disk>(disk: &mut D) -> Result<bool, Refusal>
     ensures formatted { IfOk result (λ b. D.honest disk.new → (IsTrue b ↔ IsFormatted (D.seen disk.old))) }
     ensures long { IfOk result (λ b. IsTrue b → 64 ≤ length (D.seen disk.old)) }
     ensures only { IfErr result (λ e. e ≡ Refusal.Fault) }
-    ensures stays { history_of ⟦<D as Disk>⟧ disk.new ≡ history_of ⟦<D as Disk>⟧ disk.old }
-    ensures honest { D.honest disk.new → D.honest disk.old }
-    ensures good { OnOk result (D.faults disk.new ≡ D.faults disk.old) }
-    ensures failed { OnErr result (Rose (D.faults disk.old) (D.faults disk.new)) }
+    ensures only_read { HasOnlyRead ⟦<D as Disk>⟧ disk.old disk.new }
+    ensures faults { CountsFaults ⟦<D as Disk>⟧ result disk.old disk.new }
 {
     if disk.len() < SUPERBLOCK_LEN {
         return Ok(false);

@@ -1,7 +1,7 @@
 //! The ring of slots that the journal's segments lie in. So far its first slot alone is used.
-ghost use Rattle.std.specs.Prelude.{◌≡◌, ◌⊎◌, ◌↔◌, ◌+◌, ◌-◌, ◌^◌, ◌<◌, ◌≤◌, List, ℕ, Option, Some, None, [], true, false, length, OnOk, OnErr, IsErrOf, IfErr, IfOk};
+ghost use Rattle.std.specs.Prelude.{◌≡◌, ◌⊎◌, ◌↔◌, ◌+◌, ◌-◌, ◌^◌, ◌<◌, ◌≤◌, Option, Some, None, [], false, length, OnOk, OnErr, IsErrOf, IfErr, IfOk};
 ghost use Rattle.std.specs.Option.{ForSome};
-ghost use Rattle.disk.specs.Device.{Rose};
+ghost use Rattle.disk.specs.Calls.{HasOnlyWritten, CountsFaults, CountsFaultsAs};
 
 use disk::Disk;
 use journal::{Area, CLOSED, write_gated};
@@ -32,7 +32,7 @@ impl Ring {
     ghost use Rattle.journal.specs.Area.{Place};
     ghost use Rattle.recovery.specs.Slot.{Segment, bodies_of};
     ghost use Rattle.recovery.specs.Room.{has_room_for};
-    ghost use Rattle.recovery.specs.Ring.{FitsSlot, HasBeforeOrAfter, HasAfter, HasKept, HasSame, IsReady};
+    ghost use Rattle.recovery.specs.Ring.{FitsSlot, IsSlotLeftByAppend, IsSlotAppended, IsSlotKept, IsSlotLeftByOpening, IsSlotReady};
 
     /// Whether a batch of so many bytes fits: into the newest segment, or into a slot that is free.
     pub fn has_room(&self, len: u64) -> bool
@@ -64,20 +64,18 @@ impl Ring {
 
         // Whatever bodies the slot held: a crash at any moment leaves them with the new one or without.
         ensures any_moment { (slot : Option Segment) → D.unsynced disk.old ≡ [] → FitsSlot (D.seen disk.old) self.old slot
-            → LeavesOnly ⟦<D as Disk>⟧ (HasBeforeOrAfter self.old.at self.old.size (D.seen disk.old) (bodies_of slot) body.now) disk.old disk.new }
+            → LeavesOnly ⟦<D as Disk>⟧ (IsSlotLeftByAppend self.old.at self.old.size (D.seen disk.old) (bodies_of slot) body.now) disk.old disk.new }
         ensures done { OnOk result ((slot : Option Segment) → FitsSlot (D.seen disk.old) self.old slot
-            → HasAfter (D.seen disk.old) self.old (bodies_of slot) body.now (D.seen disk.new) self.new) }
+            → IsSlotAppended (D.seen disk.old) self.old (bodies_of slot) body.now (D.seen disk.new) self.new) }
         ensures synced { OnOk result (D.unsynced disk.new ≡ []) }
         ensures given_up { IsErrOf result Refusal.NoMemory → (slot : Option Segment) → D.unsynced disk.old ≡ [] → FitsSlot (D.seen disk.old) self.old slot
-            → HasKept (D.seen disk.old) self.old (bodies_of slot) (D.seen disk.new) self.new × (D.unsynced disk.new ≡ []) }
+            → IsSlotKept (D.seen disk.old) self.old (bodies_of slot) (D.seen disk.new) self.new × (D.unsynced disk.new ≡ []) }
 
         // Four calls of the device at most, and four more where a slot is opened.
         ensures calls { length (D.past disk.new) ≤ length (D.past disk.old) + 8 }
         ensures calls_in_open { (area : Place) → self.old.newest ≡ Some area → length (D.past disk.new) ≤ length (D.past disk.old) + 4 }
-        ensures length { length (D.seen disk.new) ≡ length (D.seen disk.old) }
-        ensures honest { D.honest disk.new ↔ D.honest disk.old }
-        ensures good { OnOk result (D.faults disk.new ≡ D.faults disk.old) }
-        ensures failed { IsErrOf result Refusal.Fault → Rose (D.faults disk.old) (D.faults disk.new) }
+        ensures only_written { HasOnlyWritten ⟦<D as Disk>⟧ disk.old disk.new }
+        ensures faults { CountsFaultsAs ⟦<D as Disk>⟧ Refusal.Fault result disk.old disk.new }
     {
         if !self.has_room(body.len() as u64) {
             return Err(Refusal::JournalFull);
@@ -99,21 +97,19 @@ impl Ring {
         ensures only { IfErr result (λ e. e ≡ Refusal.Fault) }
 
         ensures any_moment { (slot : Option Segment) → D.unsynced disk.old ≡ [] → FitsSlot (D.seen disk.old) self.old slot
-            → LeavesOnly ⟦<D as Disk>⟧ (HasSame self.old.at self.old.size (D.seen disk.old) (bodies_of slot)) disk.old disk.new }
+            → LeavesOnly ⟦<D as Disk>⟧ (IsSlotLeftByOpening self.old.at self.old.size (D.seen disk.old) (bodies_of slot)) disk.old disk.new }
         ensures done { IfOk result (λ area. (slot : Option Segment) → FitsSlot (D.seen disk.old) self.old slot
-            → IsReady self.old.at self.old.size (D.seen disk.old) (bodies_of slot) (D.seen disk.new) area.next) }
+            → IsSlotReady self.old.at self.old.size (D.seen disk.old) (bodies_of slot) (D.seen disk.new) area.next) }
         ensures synced { OnOk result (D.unsynced disk.old ≡ [] → D.unsynced disk.new ≡ []) }
 
         ensures calls { length (D.past disk.new) ≤ length (D.past disk.old) + 4 }
-        ensures length { length (D.seen disk.new) ≡ length (D.seen disk.old) }
-        ensures honest { D.honest disk.new ↔ D.honest disk.old }
-        ensures good { OnOk result (D.faults disk.new ≡ D.faults disk.old) }
-        ensures failed { OnErr result (Rose (D.faults disk.old) (D.faults disk.new)) }
+        ensures only_written { HasOnlyWritten ⟦<D as Disk>⟧ disk.old disk.new }
+        ensures faults { CountsFaults ⟦<D as Disk>⟧ result disk.old disk.new }
     {
         match self.newest {
             Some(area) => Ok(area),
             None => {
-                write_gated(disk, self.at, &FIRST_HEAD).map_err(|_| Refusal::Fault)?;
+                write_gated(disk, self.at, &FIRST_HEAD)?;
                 let area = Area::empty(self.at + HEAD_LEN, self.size - HEAD_LEN);
                 self.newest = Some(area);
                 Ok(area)

@@ -1,6 +1,6 @@
 //! The numbers that a store is made with, and where its parts lie on the device.
-ghost use Rattle.std.specs.Prelude.{◌≡◌, ◌+◌, ◌*◌, ◌<◌, ◌≤◌, ◌^◌, true, IfSome, IfNone, IfOk};
-ghost use Rattle.recovery.specs.Shape.{is_between, is_in_range, layout_length, cell_place, slot_place, superblock};
+ghost use Rattle.std.specs.Prelude.{◌≡◌, ◌+◌, ◌*◌, ◌<◌, ◌^◌, true};
+ghost use Rattle.recovery.specs.Shape.{is_between, is_in_range, layout_length};
 ghost use Rattle.recovery.specs.Found.{limits_of};
 
 use revision::Limits;

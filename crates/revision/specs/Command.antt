@@ -1,5 +1,5 @@
 -- What a source asks for, and what is taken of it.
-use Rattle.std.specs.Prelude.{ℕ, ◌≡◌, ◌<◌, ◌≤◌, ◌^◌, ◌+◌, ◌==◌, ◌&&◌, nat_le, nat_lt, Bool, true, false, Option, Some, None, List, length}
+use Rattle.std.specs.Prelude.{ℕ, ◌≡◌, ◌<◌, ◌≤◌, ◌^◌, ◌+◌, ◌==◌, ◌&&◌, nat_le, nat_lt, Bool, true, Option, Some, None, List, length}
 use Rattle.delta.specs.Operation.{Operation, base_of, out_of}
 use Rattle.revision.specs.Name.{is_document_name, is_source_name}
 use Rattle.revision.specs.Spellable.{IsSpellable}

@@ -11,6 +11,9 @@ pub mod Planned
 pub mod Late
 pub mod Past
 pub mod Parting
+pub mod Sources
 pub mod Whole
+pub mod Agreement
+pub mod Invariants
 mod Examples
 mod WholeExamples

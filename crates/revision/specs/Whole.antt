@@ -1,29 +1,106 @@
--- The whole rule of acceptance, with edits, undo and the past that is held. No code stands on these definitions yet: State.antt
+-- The whole rule of acceptance, with edits, undo and the past of a document. No code stands on these definitions yet: State.antt
 -- and Acceptance.antt have what the program does so far, which is creations. Here are the same words with all their cases.
-use Rattle.std.specs.Prelude.{ℕ, ◌+◌, ◌-◌, ◌^◌, ◌≡◌, ◌≤◌, ◌<◌, ◌==◌, ◌&&◌, ◌||◌, not, nat_lt, nat_le, bytes_eq, if◌then◌else◌, max, Bool, true, false, Option, Some, None, is_none, Result, Ok, Err, List, [], ◌∷◌, ◌++◌, length}
+use Rattle.std.specs.Prelude.{ℕ, zero, suc, ◌+◌, ◌-◌, ◌^◌, ◌≡◌, ◌≤◌, ◌<◌, ◌==◌, ◌&&◌, ◌||◌, not, nat_lt, nat_le, bytes_eq, if◌then◌else◌, max, Bool, true, false, Option, Some, None, is_none, Result, Ok, Err, List, [], ◌∷◌, ◌++◌, length, take, drop, map, slice_get}
 use Rattle.refusal.specs.declared.Refusal.{Refusal}
 use Rattle.refusal.specs.declared.Refusal.TheVariants.{NoDocument, Exists, Gap, OldNumber, TooManySources, Future, TooOld, PastEnd, CutsPair, TooHeavy, TooWide, RevisionsSpent, NothingToUndo, TooManyDocuments}
+use Rattle.attributes.specs.Map.{empty}
 use Rattle.delta.specs.Element.{Element}
 use Rattle.delta.specs.Operation.{Operation}
 use Rattle.delta.specs.Gaps.{counted, apply}
-use Rattle.revision.specs.declared.state.Limits.{Limits}
-use Rattle.revision.specs.declared.state.SourceEntry.{SourceEntry}
 use Rattle.revision.specs.Command.{Taken, width_of}
-use Rattle.revision.specs.State.{last_of, reaches_past, weight_of}
+use Rattle.revision.specs.State.{reaches_past, weight_of}
+use Rattle.revision.specs.Sources.{LastTaken, Sources, last_of, count_of, with_last}
 use Rattle.revision.specs.Parting.{parts_pair}
 use Rattle.revision.specs.Late.{late}
 use Rattle.revision.specs.Past.{units_at, deltas_since, undo_of}
 
--- A record of a document: its name, its units at its revision, and of its past the floor, the units there, and the deltas of the
--- revisions after it; for each source its last number with the revision that came of it.
+-- How much a state may hold: documents, sources of a document, a document's weight, the bytes of a command's entry in the journal,
+-- and how many revisions below the newest one are held.
+pub record Limits : Type 0 where
+  pub docs : ℕ
+  pub sources : ℕ
+  pub weight : ℕ
+  pub width : ℕ
+  pub keep : ℕ
+
+-- what stands in a document at a revision
+pub record Content : Type 0 where
+  pub units : List Element
+
+-- A change of a document that was taken: its source, the source's number for it, and the delta from the revision before.
+pub record Change : Type 0 where
+  pub source : List ℕ
+  pub number : ℕ
+  pub delta : List Operation
+
+-- A document's past, as far back as it is held: the floor, which is the lowest revision that is held, the content and the sources
+-- there, and the changes of the revisions after it, in order.
+pub record Past : Type 0 where
+  pub floor : ℕ
+  pub content : Content
+  pub sources : Sources
+  pub changes : List Change
+
+-- the past of a document that nothing was taken of yet
+abbrev pub empty_past : Past
+empty_past = record { floor = 0; content = record { units = [] }; sources = empty; changes = [] }
+
+-- the newest revision
+abbrev pub newest : Past → ℕ
+newest past = past.floor + length past.changes
+
+-- the deltas of the revisions above the floor
+abbrev pub deltas_of : Past → List (List Operation)
+deltas_of past = map (λ (change : Change). change.delta) past.changes
+
+-- the sources after changes, the first of which is that of the revision after this one
+abbrev pub sources_after : ℕ → Sources → List Change → Sources
+sources_after revision sources [] = sources
+sources_after revision sources (first ∷ others) =
+    sources_after (revision + 1) (with_last first.source first.number (revision + 1) sources) others
+
+-- the content, and the sources, at a revision that is held
+abbrev pub content_at : Past → ℕ → Content
+content_at past revision = record past.content { units = units_at past.floor past.content.units (deltas_of past) revision }
+
+abbrev pub sources_at : Past → ℕ → Sources
+sources_at past revision = sources_after past.floor past.sources (take (revision - past.floor) past.changes)
+
+-- the deltas of the revisions after one that is held
+abbrev pub deltas_above : Past → ℕ → List (List Operation)
+deltas_above past revision = deltas_since past.floor (deltas_of past) revision
+
+-- the past from a revision on that is held
+abbrev pub from_floor : Past → ℕ → Past
+from_floor past floor = record {
+  floor = floor;
+  content = content_at past floor;
+  sources = sources_at past floor;
+  changes = drop (floor - past.floor) past.changes;
+}
+
+-- One revision more: the floor rises to `keep` below it where it is lower.
+abbrev pub with_change : ℕ → Past → Change → Past
+with_change keep past change =
+    from_floor (record past { changes = past.changes ++ change ∷ [] }) (max past.floor (newest past + 1 - keep))
+
+-- A record of a document: its name, and its past, from which all else comes.
 pub record DocumentRecord : Type 0 where
   pub name : List ℕ
-  pub units : List Element
-  pub revision : ℕ
-  pub floor : ℕ
-  pub floor_units : List Element
-  pub deltas : List (List Operation)
-  pub sources : List SourceEntry
+  pub past : Past
+
+-- the document's newest revision, with its content, its units and its sources there
+abbrev pub revision_of : DocumentRecord → ℕ
+revision_of document = newest document.past
+
+abbrev pub content_of : DocumentRecord → Content
+content_of document = content_at document.past (revision_of document)
+
+abbrev pub units_of : DocumentRecord → List Element
+units_of document = (content_of document).units
+
+abbrev pub sources_of : DocumentRecord → Sources
+sources_of document = sources_at document.past (revision_of document)
 
 -- the records in order of creation, with the limits
 pub record State : Type 0 where
@@ -50,14 +127,6 @@ abbrev pub find : List ℕ → ℕ → List DocumentRecord → Option (ℕ × Do
 find name number [] = None
 find name number (first ∷ others) = if bytes_eq first.name name then Some (number, first) else find name (number + 1) others
 
--- how many sources there are with this one
-abbrev pub sources_with : ℕ → List SourceEntry → ℕ
-sources_with last sources = if last == 0 then length sources + 1 else length sources
-
--- a source has its place in a document: it is there, or there is room for one more
-abbrev pub has_place : Limits → ℕ → List SourceEntry → Bool
-has_place limits last sources = not (last == 0) || nat_lt (length sources) limits.sources
-
 -- the last revision and the last number
 abbrev pub last_of_all : ℕ
 last_of_all = 2 ^ 53 - 1
@@ -69,72 +138,86 @@ pub data Answer : Type 0 where
   Repeats : ℕ → Answer
   Refuses : Refusal → Answer
 
--- A delta to be taken on these units, which may then weigh so much with so many sources, in an entry that is so wide: the
--- units have to be there, no pair may be parted, and the limits have to be kept.
-abbrev pub take_delta : Limits → List Element → ℕ → Taken → Answer
-take_delta limits units sources taken =
+-- the weight of a document after a command of units and sources before it
+abbrev pub weight_after : List Element → Sources → Taken → ℕ
+weight_after units sources taken =
+    weight_of (apply units (counted taken.delta)) (count_of (with_last taken.source taken.number taken.revision sources))
+
+-- A command to be taken on these units and sources: the units that its delta speaks of have to be there, no pair may be parted, and
+-- the limits have to be kept.
+abbrev pub take_on : Limits → List Element → Sources → Taken → Answer
+take_on limits units sources taken =
     if reaches_past taken.delta units then Refuses PastEnd
     else if parts_pair taken.delta units then Refuses CutsPair
-    else if nat_lt limits.weight (weight_of (apply units (counted taken.delta)) sources) then Refuses TooHeavy
+    else if nat_lt limits.weight (weight_after units sources taken) then Refuses TooHeavy
     else if nat_lt limits.width (width_of taken) then Refuses TooWide
     else Takes taken
 
 -- a creation of a document that is there: the source's last number sent again, or one document too many of that name
 abbrev pub create_existing : DocumentRecord → Command → Answer
 create_existing found command =
-    let last = last_of command.source found.sources in
-    if nat_lt 0 last.0 && (command.number == last.0) then Repeats last.1 else Refuses Exists
+    let last = last_of command.source (sources_of found) in
+    if nat_lt 0 last.number && (command.number == last.number) then Repeats last.revision else Refuses Exists
+
+-- what is added where a document is created
+abbrev pub creation : State → Command → List Operation → Taken
+creation state command delta = record {
+  document = length state.documents;
+  name = Some command.name;
+  revision = 1;
+  source = command.source;
+  number = 1;
+  delta = delta;
+}
 
 abbrev pub create_new : State → Command → List Operation → Answer
 create_new state command delta =
     if nat_lt 1 command.number then Refuses Gap
     else if nat_le state.limits.docs (length state.documents) then Refuses TooManyDocuments
-    else take_delta state.limits [] 1 (record {
-      document = length state.documents;
-      name = Some command.name;
-      revision = 1;
-      source = command.source;
-      number = 1;
-      delta = delta;
-    })
+    else take_on state.limits [] empty (creation state command delta)
 
--- the change of a document by a delta, to its next revision
+-- what is added where the document of this number is changed by a delta
+abbrev pub next_revision : ℕ → DocumentRecord → Command → List Operation → Taken
+next_revision number found command delta = record {
+  document = number;
+  name = None;
+  revision = revision_of found + 1;
+  source = command.source;
+  number = command.number;
+  delta = delta;
+}
+
 abbrev pub change : State → ℕ → DocumentRecord → Command → List Operation → Answer
 change state number found command delta =
-    let last = last_of command.source found.sources in
-    if found.revision == last_of_all then Refuses RevisionsSpent
-    else take_delta state.limits found.units (sources_with last.0 found.sources) (record {
-      document = number;
-      name = None;
-      revision = found.revision + 1;
-      source = command.source;
-      number = command.number;
-      delta = delta;
-    })
+    if revision_of found == last_of_all then Refuses RevisionsSpent
+    else take_on state.limits (units_of found) (sources_of found) (next_revision number found command delta)
+
+-- a source has its place in a document: it is there, or there is room for one more
+abbrev pub has_place : Limits → List ℕ → Sources → Bool
+has_place limits source sources = not ((last_of source sources).number == 0) || nat_lt (count_of sources) limits.sources
 
 -- an edit: late past what was taken since its base, which has to be a revision that is held
 abbrev pub edit : State → ℕ → DocumentRecord → Command → ℕ → List Operation → Answer
 edit state number found command base delta =
-    let last = last_of command.source found.sources in
-    if (last.0 == 0) && nat_le state.limits.sources (length found.sources) then Refuses TooManySources
-    else if nat_lt found.revision base then Refuses Future
-    else if nat_lt base found.floor then Refuses TooOld
-    else change state number found command (late delta (deltas_since found.floor found.deltas base))
+    if not (has_place state.limits command.source (sources_of found)) then Refuses TooManySources
+    else if nat_lt (revision_of found) base then Refuses Future
+    else if nat_lt base found.past.floor then Refuses TooOld
+    else change state number found command (late delta (deltas_above found.past base))
 
 -- an undo of the source's last change, whose revision has to be held with the one before it
 abbrev pub undo : State → ℕ → DocumentRecord → Command → Answer
 undo state number found command =
-    let last = last_of command.source found.sources in
-    if last.0 == 0 then Refuses NothingToUndo
-    else if nat_le last.1 found.floor then Refuses TooOld
-    else change state number found command (undo_of found.floor found.floor_units found.deltas last.1)
+    let last = last_of command.source (sources_of found) in
+    if last.number == 0 then Refuses NothingToUndo
+    else if nat_le last.revision found.past.floor then Refuses TooOld
+    else change state number found command (undo_of found.past.floor found.past.content.units (deltas_of found.past) last.revision)
 
 -- the number alone decides whether a command is a retry, and whether it is the source's next one
-abbrev pub by_number : ℕ × ℕ → ℕ → Answer → Answer
+abbrev pub by_number : LastTaken → ℕ → Answer → Answer
 by_number last number next =
-    if nat_lt 0 last.0 && (number == last.0) then Repeats last.1
-    else if nat_lt number last.0 then Refuses OldNumber
-    else if nat_lt (last.0 + 1) number then Refuses Gap
+    if nat_lt 0 last.number && (number == last.number) then Repeats last.revision
+    else if nat_lt number last.number then Refuses OldNumber
+    else if nat_lt (last.number + 1) number then Refuses Gap
     else next
 
 -- the first case that holds
@@ -143,154 +226,156 @@ answer_to state command (Create delta) None = create_new state command delta
 answer_to state command (Create delta) (Some found) = create_existing found.1 command
 answer_to state command (Edit base delta) None = Refuses NoDocument
 answer_to state command (Edit base delta) (Some found) =
-    by_number (last_of command.source found.1.sources) command.number (edit state found.0 found.1 command base delta)
+    by_number (last_of command.source (sources_of found.1)) command.number (edit state found.0 found.1 command base delta)
 answer_to state command Undo None = Refuses NoDocument
 answer_to state command Undo (Some found) =
-    by_number (last_of command.source found.1.sources) command.number (undo state found.0 found.1 command)
+    by_number (last_of command.source (sources_of found.1)) command.number (undo state found.0 found.1 command)
 
+-- the answer to a command
 abbrev pub answer : State → Command → Answer
 answer state command = answer_to state command command.action (find command.name 0 state.documents)
 
--- a source's last number and revision set, in its place or at the end
-abbrev pub noted : SourceEntry → List SourceEntry → List SourceEntry
-noted entry [] = entry ∷ []
-noted entry (first ∷ others) = if bytes_eq first.source entry.source then entry ∷ others else first ∷ noted entry others
-
-abbrev pub entry_of : Taken → SourceEntry
-entry_of taken = record { source = taken.source; number = taken.number; revision = taken.revision }
-
--- the record of a document as it is made
-abbrev pub created : Taken → List ℕ → DocumentRecord
-created taken name = record {
-  name = name;
-  units = apply [] (counted taken.delta);
-  revision = 1;
-  floor = 0;
-  floor_units = [];
-  deltas = taken.delta ∷ [];
-  sources = entry_of taken ∷ [];
-}
-
--- A record with one revision more: the floor rises to `keep` below it where it is lower, and what is held begins there.
-abbrev pub next_record : ℕ → DocumentRecord → Taken → DocumentRecord
-next_record keep found taken =
-    let floor = max found.floor (taken.revision - keep) in
-    let deltas = found.deltas ++ taken.delta ∷ [] in
-    record found {
-      units = apply found.units (counted taken.delta);
-      revision = taken.revision;
-      floor = floor;
-      floor_units = units_at found.floor found.floor_units deltas floor;
-      deltas = deltas_since found.floor deltas floor;
-      sources = noted (entry_of taken) found.sources;
-    }
-
--- the state with a command added; a document that isn't there isn't changed
-abbrev pub changed_at : ℕ → ℕ → Taken → List DocumentRecord → List DocumentRecord
-changed_at keep number taken [] = []
-changed_at keep number taken (first ∷ others) =
-    if number == taken.document then next_record keep first taken ∷ others else first ∷ changed_at keep (number + 1) taken others
-
-abbrev pub grown_by_name : State → Taken → Option (List ℕ) → State
-grown_by_name state taken None = record state { documents = changed_at state.limits.keep 0 taken state.documents }
-grown_by_name state taken (Some name) = record state { documents = state.documents ++ created taken name ∷ [] }
-
-abbrev pub grown : State → Taken → State
-grown state taken = grown_by_name state taken taken.name
-
--- what a delta keeps that continues a state: it is defined, parts no pair, and the limits are kept
-abbrev pub keeps : Limits → List Element → ℕ → Taken → Bool
+-- what a delta keeps that is taken on these units and sources: it is defined, parts no pair, and the limits are kept
+abbrev pub keeps : Limits → List Element → Sources → Taken → Bool
 keeps limits units sources taken =
     not (reaches_past taken.delta units) && not (parts_pair taken.delta units)
-    && nat_le (weight_of (apply units (counted taken.delta)) sources) limits.weight && nat_le (width_of taken) limits.width
+    && nat_le (weight_after units sources taken) limits.weight && nat_le (width_of taken) limits.width
 
--- a creation continues the state: the next document, of a new name, by its source's first command
-abbrev pub creates : State → Taken → List ℕ → Bool
-creates state taken name =
-    (taken.revision == 1) && (taken.number == 1) && (taken.document == length state.documents)
-    && is_none (find name 0 state.documents) && nat_lt (length state.documents) state.limits.docs
-    && keeps state.limits [] 1 taken
+-- A creation begins a document: it is revision 1, by its source's first command.
+abbrev pub begins : Limits → Taken → Bool
+begins limits taken = (taken.revision == 1) && (taken.number == 1) && keeps limits [] empty taken
 
--- a change continues the record: its next revision, and its source's next number
-abbrev pub changes : Limits → DocumentRecord → Taken → Bool
-changes limits found taken =
-    let last = last_of taken.source found.sources in
-    (taken.revision == found.revision + 1) && not (found.revision == last_of_all)
-    && (taken.number == last.0 + 1) && nat_le taken.number last_of_all && has_place limits last.0 found.sources
-    && keeps limits found.units (sources_with last.0 found.sources) taken
+-- a change follows the newest revision of a document: it is the next one, and has its source's next number
+abbrev pub follows : Limits → DocumentRecord → Taken → Bool
+follows limits found taken =
+    (taken.revision == revision_of found + 1) && not (revision_of found == last_of_all)
+    && (taken.number == (last_of taken.source (sources_of found)).number + 1) && nat_le taken.number last_of_all
+    && has_place limits taken.source (sources_of found)
+    && keeps limits (units_of found) (sources_of found) taken
 
-abbrev pub changes_at : Limits → ℕ → Taken → List DocumentRecord → Bool
-changes_at limits number taken [] = false
-changes_at limits number taken (first ∷ others) =
-    if number == taken.document then changes limits first taken else changes_at limits (number + 1) taken others
+-- A command continues a document: it creates it where it isn't there, and changes it where it is.
+abbrev pub continues_by_name : Limits → Option DocumentRecord → Taken → Option (List ℕ) → Bool
+continues_by_name limits None taken None = false
+continues_by_name limits None taken (Some name) = begins limits taken
+continues_by_name limits (Some found) taken None = follows limits found taken
+continues_by_name limits (Some found) taken (Some name) = false
 
-abbrev pub grows_by_name : State → Taken → Option (List ℕ) → Bool
-grows_by_name state taken None = changes_at state.limits 0 taken state.documents
-grows_by_name state taken (Some name) = creates state taken name
+abbrev pub continues : Limits → Option DocumentRecord → Taken → Bool
+continues limits found taken = continues_by_name limits found taken taken.name
 
--- a command that was taken continues the state
+-- the change that a command makes
+abbrev pub change_of : Taken → Change
+change_of taken = record { source = taken.source; number = taken.number; delta = taken.delta }
+
+-- the document after a command
+abbrev pub record_by_name : ℕ → Option DocumentRecord → Taken → Option (List ℕ) → Option DocumentRecord
+record_by_name keep None taken None = None
+record_by_name keep None taken (Some name) = Some (record { name = name; past = with_change keep empty_past (change_of taken) })
+record_by_name keep (Some found) taken name = Some (record found { past = with_change keep found.past (change_of taken) })
+
+abbrev pub record_after : ℕ → Option DocumentRecord → Taken → Option DocumentRecord
+record_after keep found taken = record_by_name keep found taken taken.name
+
+-- commands of one document in order: each continues it as those before have left it; and the document after them all
+abbrev pub all_continue : Limits → Option DocumentRecord → List Taken → Bool
+all_continue limits found [] = true
+all_continue limits found (first ∷ others) =
+    continues limits found first && all_continue limits (record_after limits.keep found first) others
+
+abbrev pub record_after_all : ℕ → Option DocumentRecord → List Taken → Option DocumentRecord
+record_after_all keep found [] = found
+record_after_all keep found (first ∷ others) = record_after_all keep (record_after keep found first) others
+
+-- There is room for a new document, which has the next number and a name that isn't there.
+abbrev pub has_room : State → ℕ → Option (List ℕ) → Bool
+has_room state number None = true
+has_room state number (Some name) =
+    (number == length state.documents) && nat_lt (length state.documents) state.limits.docs && is_none (find name 0 state.documents)
+
+-- A command that was taken continues the state: it continues the document of its number, and has room where it is a creation.
 abbrev pub grows : State → Taken → Bool
-grows state taken = grows_by_name state taken taken.name
+grows state taken = has_room state taken.document taken.name && continues state.limits (slice_get state.documents taken.document) taken
 
--- a command's reply, and the state after it
+-- the documents with the one of this number set, which is there or is the next one
+abbrev pub set_document : ℕ → Option DocumentRecord → List DocumentRecord → List DocumentRecord
+set_document number None documents = documents
+set_document zero (Some document) [] = document ∷ []
+set_document (suc number) (Some document) [] = []
+set_document zero (Some document) (first ∷ others) = document ∷ others
+set_document (suc number) (Some document) (first ∷ others) = first ∷ set_document number (Some document) others
+
+-- the state with the command added
+abbrev pub grown : State → Taken → State
+grown state taken = record state {
+  documents = set_document taken.document (record_after state.limits.keep (slice_get state.documents taken.document) taken) state.documents;
+}
+
+-- commands in order: each continues the state that those before have made; and the state with them all added
+abbrev pub all_grow : State → List Taken → Bool
+all_grow state [] = true
+all_grow state (first ∷ others) = grows state first && all_grow (grown state first) others
+
+abbrev pub fold : State → List Taken → State
+fold state [] = state
+fold state (first ∷ others) = fold (grown state first) others
+
+-- a command's reply
 pub data Reply : Type 0 where
   TakenAt : ℕ → Reply
   AgainAt : ℕ → Reply
   Refused : Refusal → Reply
 
-abbrev pub decided : State → Answer → Reply × State
-decided state (Takes taken) = (TakenAt taken.revision, grown state taken)
-decided state (Repeats revision) = (AgainAt revision, state)
-decided state (Refuses refusal) = (Refused refusal, state)
+-- the reply of an answer, and the state after it
+abbrev pub reply_and_state : State → Answer → Reply × State
+reply_and_state state (Takes taken) = (TakenAt taken.revision, grown state taken)
+reply_and_state state (Repeats revision) = (AgainAt revision, state)
+reply_and_state state (Refuses refusal) = (Refused refusal, state)
 
 abbrev pub decide : State → Command → Reply × State
-decide state command = decided state (answer state command)
+decide state command = reply_and_state state (answer state command)
 
--- a document and its past at a revision that is held
-abbrev pub held : {X : Type 0} → ℕ → Option (ℕ × DocumentRecord) → (DocumentRecord → X) → Result X Refusal
-held revision None f = Err NoDocument
-held revision (Some found) f =
-    if nat_lt found.1.revision revision then Err Future
-    else if nat_lt revision found.1.floor then Err TooOld
-    else Ok (f found.1)
+-- what is asked of a document's past at a revision: the document has to be there, and the revision held
+abbrev pub at_revision : {X : Type 0} → ℕ → Option (ℕ × DocumentRecord) → (Past → X) → Result X Refusal
+at_revision revision None ask = Err NoDocument
+at_revision revision (Some found) ask =
+    if nat_lt (revision_of found.1) revision then Err Future
+    else if nat_lt revision found.1.past.floor then Err TooOld
+    else Ok (ask found.1.past)
 
+-- the units of a document at a revision
 abbrev pub document_at : State → List ℕ → ℕ → Result (List Element) Refusal
-document_at state name revision =
-    held revision (find name 0 state.documents) (λ d. units_at d.floor d.floor_units d.deltas revision)
+document_at state name revision = at_revision revision (find name 0 state.documents) (λ past. (content_at past revision).units)
 
+-- the deltas that were taken since a revision
 abbrev pub taken_since : State → List ℕ → ℕ → Result (List (List Operation)) Refusal
-taken_since state name revision = held revision (find name 0 state.documents) (λ d. deltas_since d.floor d.deltas revision)
+taken_since state name revision = at_revision revision (find name 0 state.documents) (λ past. deltas_above past revision)
 
--- an entry of a document at a revision: a number, with a revision that it may have come to
-abbrev pub is_entry : ℕ → SourceEntry → Bool
-is_entry revision entry =
-    nat_le 1 entry.number && nat_le entry.number last_of_all && nat_le 1 entry.revision && nat_le entry.revision revision
+-- what a source may have in a document at a revision: a number, with a revision that it may have come to
+abbrev pub is_last_taken : ℕ → LastTaken → Bool
+is_last_taken revision last =
+    nat_le 1 last.number && nat_le last.number last_of_all && nat_le 1 last.revision && nat_le last.revision revision
 
-abbrev pub all_entries : ℕ → List SourceEntry → Bool
-all_entries revision [] = true
-all_entries revision (first ∷ others) = is_entry revision first && all_entries revision others
+abbrev pub are_sources : ℕ → List (List ℕ × LastTaken) → Bool
+are_sources revision [] = true
+are_sources revision (first ∷ others) = is_last_taken revision first.1 && are_sources revision others
 
--- A document may be added at a revision, without its past, with its sources: the limits are kept, its name is new, and the
--- revision and the entries are such as can be.
-abbrev pub adopts : State → List ℕ → List Element → ℕ → List SourceEntry → Bool
-adopts state name units revision sources =
+-- A document may be added at a revision, without the past before it, with its sources: the limits are kept, its name is new, and
+-- the revision and the sources are such as can be.
+abbrev pub adopts : State → List ℕ → Content → ℕ → Sources → Bool
+adopts state name content revision sources =
     nat_lt (length state.documents) state.limits.docs && is_none (find name 0 state.documents)
     && nat_le 1 revision && nat_le revision last_of_all
-    && nat_le (length sources) state.limits.sources && all_entries revision sources
-    && nat_le (weight_of units (length sources)) state.limits.weight
+    && nat_le (count_of sources) state.limits.sources && are_sources revision sources.entries
+    && nat_le (weight_of content.units (count_of sources)) state.limits.weight
 
-abbrev pub adopted : State → List ℕ → List Element → ℕ → List SourceEntry → State
-adopted state name units revision sources = record state {
-  documents = state.documents ++ record {
-    name = name;
-    units = units;
-    revision = revision;
-    floor = revision;
-    floor_units = units;
-    deltas = [];
-    sources = sources;
-  } ∷ [];
-}
+-- a document whose past begins at a revision
+abbrev pub record_at : List ℕ → Content → ℕ → Sources → DocumentRecord
+record_at name content revision sources =
+    record { name = name; past = record { floor = revision; content = content; sources = sources; changes = [] } }
+
+abbrev pub adopted : State → List ℕ → Content → ℕ → Sources → State
+adopted state name content revision sources =
+    record state { documents = state.documents ++ record_at name content revision sources ∷ [] }
 
 -- what is taken of a command continues the state
 abbrev pub TakenGrows : Type 0

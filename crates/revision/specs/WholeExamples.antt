@@ -8,8 +8,8 @@ use Rattle.attributes.specs.Attributes.{Changes, changed_by, reverted_by}
 use Rattle.attributes.specs.Scalar.{flag_scalar}
 use Rattle.delta.specs.Element.{Element, letters}
 use Rattle.delta.specs.Operation.{Operation, insert_text, retain, delete}
-use Rattle.revision.specs.declared.state.SourceEntry.{SourceEntry}
-use Rattle.revision.specs.Whole.{DocumentRecord, State, Action, Create, Edit, Undo, Command, Reply, TakenAt, AgainAt, Refused, decide, document_at, taken_since, adopts, adopted}
+use Rattle.revision.specs.Sources.{Sources, with_last}
+use Rattle.revision.specs.Whole.{DocumentRecord, Content, State, Action, Create, Edit, Undo, Command, Reply, TakenAt, AgainAt, Refused, decide, document_at, taken_since, adopts, adopted}
 
 abbrev ins : List ℕ → Operation
 ins us = insert_text us empty
@@ -54,11 +54,11 @@ abbrev abcd : List Command
 abcd = ask ann 1 (Create (ins (codes "abcd") ∷ [])) ∷ []
 
 nothing_is_taken : reply_after small abcd (ask ann 2 (Edit 1 [])) ≡ TakenAt 2
-unfolding utf16_chars encode_utf8
+unfolding utf16_chars encode_utf8 insert
 nothing_is_taken = refl
 
 past_the_end : reply_after small abcd (ask ann 2 (Edit 1 (ret 5 ∷ ins (codes "x") ∷ []))) ≡ Refused PastEnd
-unfolding utf16_chars encode_utf8
+unfolding utf16_chars encode_utf8 insert
 past_the_end = refl
 
 -- "z" at 1, [ret 1, ins "x"] at 2, [del 1] at 3; an edit [ins "y"] of base 1 gives "yx" at 4
@@ -66,11 +66,11 @@ abbrev z_to_x : List Command
 z_to_x = ask ann 1 (Create (ins (codes "z") ∷ [])) ∷ ask ann 2 (Edit 1 (ret 1 ∷ ins (codes "x") ∷ [])) ∷ ask ann 3 (Edit 2 (delete 1 ∷ [])) ∷ []
 
 y_is_taken : reply_after roomy z_to_x (ask bob 1 (Edit 1 (ins (codes "y") ∷ []))) ≡ TakenAt 4
-unfolding utf16_chars encode_utf8 changed_by
+unfolding utf16_chars encode_utf8 changed_by insert
 y_is_taken = refl
 
 y_before_x : document_at (after_all roomy (z_to_x ++ ask bob 1 (Edit 1 (ins (codes "y") ∷ [])) ∷ [])) (100 ∷ []) 4 ≡ Ok (text (codes "yx"))
-unfolding utf16_chars encode_utf8 changed_by
+unfolding utf16_chars encode_utf8 changed_by insert
 y_before_x = refl
 
 -- [ret 1 {bold: true}] was taken; [ret 1 {bold: null, italic: true}] of the same base is taken as [ret 1 {italic: true}]
@@ -96,18 +96,23 @@ abbrev edited : List Command
 edited = ask ann 1 (Create []) ∷ ask ann 2 (Edit 1 []) ∷ []
 
 first_is_taken : reply_after small [] (ask ann 1 (Create [])) ≡ TakenAt 1
+unfolding insert
 first_is_taken = refl
 
 second_is_taken : reply_after small created (ask ann 2 (Edit 1 [])) ≡ TakenAt 2
+unfolding insert
 second_is_taken = refl
 
 second_again : reply_after small edited (ask ann 2 (Edit 1 [])) ≡ AgainAt 2
+unfolding insert
 second_again = refl
 
 first_is_old : reply_after small edited (ask ann 1 (Edit 1 [])) ≡ Refused OldNumber
+unfolding insert
 first_is_old = refl
 
 fourth_leaves_a_gap : reply_after small edited (ask ann 4 (Edit 1 [])) ≡ Refused Gap
+unfolding insert
 fourth_leaves_a_gap = refl
 
 -- keep 2, revision 4, floor 2: base 5 is yet to come, base 1 is too old, base 2 is taken as 5 and the floor becomes 3
@@ -115,30 +120,35 @@ abbrev four : List Command
 four = edited ++ (ask ann 3 (Edit 2 []) ∷ ask ann 4 (Edit 3 []) ∷ [])
 
 abbrev floors : State → List ℕ
-floors state = map (λ (d : DocumentRecord). d.floor) state.documents
+floors state = map (λ (d : DocumentRecord). d.past.floor) state.documents
 
 floor_of_four : floors (after_all small four) ≡ 2 ∷ []
+unfolding insert
 floor_of_four = refl
 
 base_to_come : reply_after small four (ask bob 1 (Edit 5 [])) ≡ Refused Future
+unfolding insert
 base_to_come = refl
 
 base_too_old : reply_after small four (ask bob 1 (Edit 1 [])) ≡ Refused TooOld
+unfolding insert
 base_too_old = refl
 
 base_is_held : reply_after small four (ask bob 1 (Edit 2 [])) ≡ TakenAt 5
+unfolding insert
 base_is_held = refl
 
 floor_of_five : floors (after_all small (four ++ ask bob 1 (Edit 2 []) ∷ [])) ≡ 3 ∷ []
+unfolding insert
 floor_of_five = refl
 
 -- "abcde" weighs 124 and is taken; "abcdef" weighs 136
 five_letters : reply_after small [] (ask ann 1 (Create (ins (codes "abcde") ∷ []))) ≡ TakenAt 1
-unfolding utf16_chars encode_utf8
+unfolding utf16_chars encode_utf8 insert
 five_letters = refl
 
 six_letters : reply_after small [] (ask ann 1 (Create (ins (codes "abcdef") ∷ []))) ≡ Refused TooHeavy
-unfolding utf16_chars encode_utf8
+unfolding utf16_chars encode_utf8 insert
 six_letters = refl
 
 -- ann creates "ab" (1), and edits [ret 1, del 1] (2); bob edits [ins "q"] of base 2 (3); ann's undo 3 gives "qab" (4), her
@@ -148,31 +158,33 @@ undone = ask ann 1 (Create (ins (codes "ab") ∷ [])) ∷ ask ann 2 (Edit 1 (ret
     ∷ ask ann 3 Undo ∷ []
 
 undo_is_taken : document_at (after_all roomy undone) (100 ∷ []) 4 ≡ Ok (text (codes "qab"))
-unfolding utf16_chars encode_utf8 changed_by reverted_by
+unfolding utf16_chars encode_utf8 changed_by reverted_by insert
 undo_is_taken = refl
 
 undo_is_undone : document_at (after_all roomy (undone ++ ask ann 4 Undo ∷ [])) (100 ∷ []) 5 ≡ Ok (text (codes "qa"))
-unfolding utf16_chars encode_utf8 changed_by reverted_by
+unfolding utf16_chars encode_utf8 changed_by reverted_by insert
 undo_is_undone = refl
 
 nothing_to_undo : reply_after roomy undone (ask carl 1 Undo) ≡ Refused NothingToUndo
-unfolding utf16_chars encode_utf8 changed_by reverted_by
+unfolding utf16_chars encode_utf8 changed_by reverted_by insert
 nothing_to_undo = refl
 
 -- what was taken since, while it is held
 since_2 : taken_since (after_all roomy undone) (100 ∷ []) 2 ≡ Ok ((ins (codes "q") ∷ []) ∷ (ret 2 ∷ ins (codes "b") ∷ []) ∷ [])
-unfolding utf16_chars encode_utf8 changed_by reverted_by
+unfolding utf16_chars encode_utf8 changed_by reverted_by insert
 since_2 = refl
 
 since_1 : taken_since (after_all roomy undone) (100 ∷ []) 1 ≡ Err TooOld
-unfolding utf16_chars encode_utf8 changed_by reverted_by
+unfolding utf16_chars encode_utf8 changed_by reverted_by insert
 since_1 = refl
 
 -- ann's creation sent again, her last number there being 1, is again 1; bob's creation of the document comes too late
 creation_again : reply_after small created (ask ann 1 (Create [])) ≡ AgainAt 1
+unfolding insert
 creation_again = refl
 
 created_by_another : reply_after small created (ask bob 1 (Create [])) ≡ Refused Exists
+unfolding insert
 created_by_another = refl
 
 -- an edit [ret 1] with 15 removals of names of ten bytes has an entry of 236 bytes; with 16 of them it has 249
@@ -193,29 +205,39 @@ sixteen_removals = refl
 
 -- what a document's past says of revisions that aren't held
 no_document : document_at small (100 ∷ []) 0 ≡ Err NoDocument
+unfolding insert
 no_document = refl
 
 revision_to_come : document_at (after_all small four) (100 ∷ []) 5 ≡ Err Future
+unfolding insert
 revision_to_come = refl
 
 -- a document with two sources is added at revision 7, without its past
-abbrev sevens : List SourceEntry
-sevens = record { source = ann ∷ []; number = 3; revision = 7 } ∷ record { source = bob ∷ []; number = 1; revision = 2 } ∷ []
+abbrev sevens : Sources
+sevens = with_last (ann ∷ []) 3 7 (with_last (bob ∷ []) 1 2 empty)
+
+abbrev no_units : Content
+no_units = record { units = [] }
 
 abbrev after_adoption : State
-after_adoption = adopted small (100 ∷ []) [] 7 sevens
+after_adoption = adopted small (100 ∷ []) no_units 7 sevens
 
-is_adopted : adopts small (100 ∷ []) [] 7 sevens ≡ true
+is_adopted : adopts small (100 ∷ []) no_units 7 sevens ≡ true
+unfolding insert
 is_adopted = refl
 
-too_late_an_entry : adopts small (100 ∷ []) [] 6 sevens ≡ false
+too_late_an_entry : adopts small (100 ∷ []) no_units 6 sevens ≡ false
+unfolding insert
 too_late_an_entry = refl
 
-same_name : adopts after_adoption (100 ∷ []) [] 7 [] ≡ false
+same_name : adopts after_adoption (100 ∷ []) no_units 7 empty ≡ false
+unfolding insert
 same_name = refl
 
 taken_after_adoption : reply_after after_adoption [] (ask ann 4 (Edit 7 [])) ≡ TakenAt 8
+unfolding insert
 taken_after_adoption = refl
 
 undo_after_adoption : reply_after after_adoption [] (ask ann 4 Undo) ≡ Refused TooOld
+unfolding insert
 undo_after_adoption = refl

@@ -18,6 +18,7 @@ pub mod laws;
 mod name;
 mod past;
 mod planning;
+mod sources;
 mod state;
 mod taken;
 #[cfg(test)]
@@ -28,6 +29,7 @@ mod widths;
 pub use command::{Action, Command};
 pub use name::Name;
 pub use planning::Plan;
+pub use sources::{LastTaken, Sources};
 pub use state::{DocState, Limits, SourceEntry, State};
 pub use taken::Taken;
 pub use widths::delta_width;

@@ -41,6 +41,14 @@ impl<D: Disk> StoreDesk<D> {
         self.failed
     }
 
+    /// Gives the store back.
+    pub fn into_store(self) -> Store<D>
+        ensures { result ≡ store_of self }
+    {
+        let StoreDesk { store, failed: _ } = self;
+        store
+    }
+
     // Commits what the store's state takes, and answers its revision.
     fn commit(&mut self, alloc: Global, taken: Taken) -> Result<Reply, Refusal>
         requires works { has_failed self.old ≡ false }
@@ -87,6 +95,3 @@ impl<D: Disk> Desk for StoreDesk<D> {
         }
     }
 }
-
-#[cfg(test)]
-mod stops;

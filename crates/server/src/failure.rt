@@ -1,8 +1,9 @@
 //! Why a program ends before its end.
 ghost use Rattle.std.specs.Prelude.{◌≡◌};
 ghost use Rattle.server.specs.declared.failure.Failure.TheVariants.{Refused};
-ghost use Rattle.refusal.specs.declared.Refusal.TheVariants.{NoMemory};
+ghost use Rattle.refusal.specs.declared.Refusal.TheVariants as refusal;
 
+use disk::Fault;
 use refusal::Refusal;
 use std::alloc::AllocError;
 
@@ -24,9 +25,17 @@ impl From<Refusal> for Failure {
 }
 
 impl From<AllocError> for Failure {
-    ghost from_gives = { λ _ failure. failure ≡ Refused NoMemory };
+    ghost from_gives = { λ _ failure. failure ≡ Refused refusal.NoMemory };
 
     fn from(_error: AllocError) -> Failure {
         Failure::Refused(Refusal::NoMemory)
+    }
+}
+
+impl From<Fault> for Failure {
+    ghost from_gives = { λ _ failure. failure ≡ Refused refusal.Fault };
+
+    fn from(_fault: Fault) -> Failure {
+        Failure::Refused(Refusal::Fault)
     }
 }

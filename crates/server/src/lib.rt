@@ -11,17 +11,15 @@
 #![tactic(auto)]
 
 mod deltas;
-mod desk;
-mod dump;
+pub mod desk;
+pub mod dump;
 mod failure;
 pub mod laws;
 mod operations;
 mod program;
-mod serve;
+pub mod serve;
 mod session;
-mod words;
 
+pub use failure::Failure;
 pub use program::run;
-
-#[cfg(test)]
-mod tests;
+pub use session::{Desk, Reply};

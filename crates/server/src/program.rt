@@ -6,9 +6,8 @@ use crate::desk::StoreDesk;
 use crate::dump::dump;
 use crate::failure::Failure;
 use crate::serve::serve;
-use crate::words::Invocation;
 use clap::error::ErrorKind;
-use disk::FileDisk;
+use disk::{Fault, FileDisk};
 use recovery::{OpenFault, Shape, Store};
 use refusal::Refusal;
 use std::alloc::Global;
@@ -16,6 +15,7 @@ use std::convert::AsStr;
 use std::fs::{self, File};
 use std::io::{Read, Write};
 use std::rt::Files;
+use words::{Invocation, ShapeOptions};
 
 /// Runs the program, and answers its status: 0 for success, 1 for a refusal or a standard stream that failed, 2 for
 /// words that it can't use. The first word is the program's path.
@@ -50,6 +50,7 @@ fn invoke<R: Files<File = File> + AllocGlobal, I: Read, O: Write>(
 ) -> Result<(), Failure> {
     match invocation {
         Invocation::Format { path, shape } => {
+            let shape = shape_of(shape);
             let mut disk = disk_for(rt, path, shape)?;
             recovery::format_device(rt.alloc(), &mut disk, shape)?;
             Ok(())
@@ -63,28 +64,45 @@ fn invoke<R: Files<File = File> + AllocGlobal, I: Read, O: Write>(
     }
 }
 
+// The numbers that the words leave out have their defaults.
+fn shape_of(given: ShapeOptions) -> Shape {
+    Shape {
+        slots: given.slots.unwrap_or(Shape::DEFAULT.slots),
+        slot: given.slot.unwrap_or(Shape::DEFAULT.slot),
+        docs: given.docs.unwrap_or(Shape::DEFAULT.docs),
+        cell: given.cell.unwrap_or(Shape::DEFAULT.cell),
+        sources: given.sources.unwrap_or(Shape::DEFAULT.sources),
+        keep: given.keep.unwrap_or(Shape::DEFAULT.keep),
+    }
+}
+
 // A file that is there is used as it is, a missing one is made.
 fn disk_for<R: Files<File = File> + AllocGlobal>(
     rt: &R,
     path: &str,
     shape: Shape,
-) -> Result<FileDisk, Refusal> {
-    match fs::exists(rt, path) {
-        Ok(true) => FileDisk::open(rt, path).map_err(|_| Refusal::Fault),
-        Ok(false) if !shape.is_in_range() => Err(Refusal::BadShape),
-        Ok(false) => FileDisk::create(rt, path, shape.device_len()).map_err(|_| Refusal::Fault),
-        Err(_) => Err(Refusal::Fault),
+) -> Result<FileDisk, Failure> {
+    if is_there(rt, path)? {
+        return Ok(FileDisk::open(rt, path)?);
     }
+    if !shape.is_in_range() {
+        return Err(Failure::Refused(Refusal::BadShape));
+    }
+    Ok(FileDisk::create(rt, path, shape.device_len())?)
+}
+
+fn is_there<R: Files<File = File> + AllocGlobal>(rt: &R, path: &str) -> Result<bool, Fault> {
+    Ok(fs::exists(rt, path)?)
 }
 
 fn open<R: Files<File = File> + AllocGlobal>(
     rt: &R,
     path: &str,
-) -> Result<Store<FileDisk>, Refusal> {
-    let disk = FileDisk::open(rt, path).map_err(|_| Refusal::Fault)?;
+) -> Result<Store<FileDisk>, Failure> {
+    let disk = FileDisk::open(rt, path)?;
     match Store::open(rt.alloc(), disk) {
         Ok(store) => Ok(store),
-        Err(OpenFault { disk: _, refusal }) => Err(refusal),
+        Err(OpenFault { disk: _, refusal }) => Err(Failure::Refused(refusal)),
     }
 }
 

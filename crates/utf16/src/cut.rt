@@ -36,17 +36,3 @@ pub fn split_at16(text: &str, at: u64) -> Result<(&str, &str), Cut>
         Err(Cut::PastEnd)
     }
 }
-
-#[cfg(test)]
-mod tests {
-    use super::*;
-
-    #[test]
-    fn cuts_beside_a_pair(rt: HostRuntime) {
-        assert_eq!(rt; split_at16("a😀b", 1), Ok(("a", "😀b")));
-        assert_eq!(rt; split_at16("a😀b", 2), Err(Cut::InPair));
-        assert_eq!(rt; split_at16("a😀b", 3), Ok(("a😀", "b")));
-        assert_eq!(rt; split_at16("a😀b", 4), Ok(("a😀b", "")));
-        assert_eq!(rt; split_at16("a😀b", 5), Err(Cut::PastEnd));
-    }
-}

@@ -9,19 +9,17 @@
 //! A caller, with its contract, which is proved as it stands:
 //!
 //! ```text
-//! ghost use Rattle.std.specs.Prelude.{◌≡◌, take, IfSome};
+//! ghost use Rattle.std.specs.Prelude.{◌≡◌, take, IfOk};
 //! ghost use Rattle.utf16.specs.Units.{units_of};
 //!
-//! use utf16::split_at16;
+//! use utf16::{Cut, split_at16};
 //!
-//! /// The first code units of a text; None where it has fewer, or a pair would be parted.
-//! pub fn first_units(text: &str, n: u64) -> Option<&str>
-//!     ensures { IfSome result (λ first. units_of first.now ≡ take n (units_of text.now)) }
+//! /// The first code units of a text; refused where the text is shorter, or where a pair would be parted.
+//! pub fn first_units(text: &str, count: u64) -> Result<&str, Cut>
+//!     ensures { IfOk result (λ front. units_of front.now ≡ take count (units_of text.now)) }
 //! {
-//!     match split_at16(text, n) {
-//!         Ok((first, _)) => Some(first),
-//!         Err(_) => None,
-//!     }
+//!     let (front, _) = split_at16(text, count)?;
+//!     Ok(front)
 //! }
 //! ```
 #![tactic(auto)]

@@ -3,14 +3,14 @@ use Rattle.std.proofs.Common.{◌≡◌, ◌+◌, Bool, true, false, not, List, 
 use Rattle.std.proofs.lemmas.List.{append_assoc, length-append}
 use Rattle.attributes.specs.Attributes.{Attributes, Changes, changed, transformed}
 use Rattle.attributes.specs.Map.{empty}
-use Rattle.attributes.proofs.AtEachName.{changed-changed, changed-transformed}
+use Rattle.attributes.proofs.CallerLemmas.{changed-changed, changed-transformed}
 use Rattle.delta.specs.Element.{Element}
 use Rattle.delta.specs.Gaps.{Gaps, End, Gap, Fate, Del, Keep, front, run, fated, apply, units_below}
-use Rattle.delta.proofs.Joins.{units_below-front, units_below-run}
-use Rattle.delta.proofs.Effects.{apply-front, changed-empty}
-use Rattle.xform.specs.Both.{in_turn, changes_of_both, fate_of_both, both}
+use Rattle.delta.proofs.CallerLemmas.{units_below-front, units_below-run, apply-front, changed-empty}
+use Rattle.xform.specs.Both.{in_turn, changes_of_both, fate_of_both, both_at_once}
 use Rattle.xform.specs.After.{beside, left_of, after}
-use Rattle.xform.specs.Laws.{IsLongEnough, BothWays, DefinedAfter}
+use Rattle.delta.specs.Places.{IsDefined}
+use Rattle.xform.specs.Laws.{BothWays, DefinedAfter}
 
 -- units that are kept
 pub apply-kept : (xs d : List Element) (g : Gaps) → apply (xs ++ d) (run (length xs) (Keep empty) g) ≡ xs ++ apply d g
@@ -44,7 +44,7 @@ apply-gap xs f g [] = refl
 apply-gap xs f g (x ∷ d) = refl
 
 -- the first and then the second after it
-pub apply-after : (d : List Element) (a b : Gaps) (priority : Bool) → IsLongEnough d a → apply (apply d a) (after a b priority) ≡ apply d (both a b priority)
+pub apply-after : (d : List Element) (a b : Gaps) (priority : Bool) → IsDefined d a → apply (apply d a) (after a b priority) ≡ apply d (both_at_once a b priority)
 apply-after d (End xs) (End ys) priority long = apply-beside xs ys d priority (End [])
 apply-after d (End xs) (Gap ys e h) priority long =
     apply-beside xs ys d priority (Gap [] e h) ∙ apply-gap (in_turn xs ys priority) e h d
@@ -68,20 +68,20 @@ fate_of_both-turned (Keep c) Del priority = refl
 fate_of_both-turned (Keep c) (Keep e) true = refl
 fate_of_both-turned (Keep c) (Keep e) false = refl
 
-pub both-turned : (a b : Gaps) (priority : Bool) → both b a (not priority) ≡ both a b priority
-both-turned (End xs) (End ys) priority = ap End (in_turn-turned xs ys priority)
-both-turned (End xs) (Gap ys e h) priority = ap (λ l. Gap l e h) (in_turn-turned xs ys priority)
-both-turned (Gap xs f g) (End ys) priority = ap (λ l. Gap l f g) (in_turn-turned xs ys priority)
-both-turned (Gap xs f g) (Gap ys e h) priority =
+pub both_at_once-turned : (a b : Gaps) (priority : Bool) → both_at_once b a (not priority) ≡ both_at_once a b priority
+both_at_once-turned (End xs) (End ys) priority = ap End (in_turn-turned xs ys priority)
+both_at_once-turned (End xs) (Gap ys e h) priority = ap (λ l. Gap l e h) (in_turn-turned xs ys priority)
+both_at_once-turned (Gap xs f g) (End ys) priority = ap (λ l. Gap l f g) (in_turn-turned xs ys priority)
+both_at_once-turned (Gap xs f g) (Gap ys e h) priority =
     let inserts = in_turn-turned xs ys priority in
     let fate = fate_of_both-turned f e priority in
-    let rest = both-turned g h priority in
+    let rest = both_at_once-turned g h priority in
     λ i. Gap (inserts i) (fate i) (rest i)
 
 pub both_ways : BothWays
 both_ways d a b priority long_a long_b = record {
   first_then_second = apply-after d a b priority long_a;
-  second_then_first = apply-after d b a (not priority) long_b ∙ ap (apply d) (both-turned a b priority);
+  second_then_first = apply-after d b a (not priority) long_b ∙ ap (apply d) (both_at_once-turned a b priority);
 }
 
 -- how many units it speaks of

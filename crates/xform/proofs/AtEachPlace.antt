@@ -5,10 +5,11 @@ use Rattle.attributes.specs.Attributes.{Changes}
 use Rattle.attributes.specs.Laws.{first_of}
 use Rattle.attributes.specs.Map.{empty, get, insert_all, overwritten}
 use Rattle.attributes.specs.Scalar.{Scalar}
-use Rattle.attributes.proofs.Maps.{same_map, get-overwritten}
+use Rattle.attributes.proofs.CallerLemmas.{same_changes_map, get-composed}
 use Rattle.delta.specs.Element.{Element}
 use Rattle.delta.specs.Gaps.{Gaps, End, Gap, Fate, Del, Keep, units_below}
-use Rattle.xform.specs.Both.{in_turn, changes_of_both, fate_of_both, both, inserts_at, fate_at}
+use Rattle.delta.specs.Places.{inserted_at, fate_at}
+use Rattle.xform.specs.Both.{in_turn, changes_of_both, fate_of_both, both_at_once}
 use Rattle.xform.specs.Laws.{BothAtEachPlace}
 
 -- where one inserts nothing
@@ -30,7 +31,7 @@ only (Some x) = refl
 only None = refl
 
 nothing-overwritten : (c : Changes) → overwritten empty c ≡ c
-nothing-overwritten c = same_map (overwritten empty c) c (λ name. get-overwritten empty c name ∙ only (get c name))
+nothing-overwritten c = same_changes_map (overwritten empty c) c (λ name. get-composed empty c name ∙ only (get c name))
 
 changes-first : (c : Changes) (priority : Bool) → c ≡ changes_of_both c empty priority
 changes-first c true = sym (nothing-overwritten c)
@@ -48,26 +49,26 @@ fate-second : (e : Fate) (priority : Bool) → e ≡ fate_of_both (Keep empty) e
 fate-second Del priority = refl
 fate-second (Keep e) priority = ap Keep (changes-second e priority)
 
-inserts-both : (a b : Gaps) (priority : Bool) (i : ℕ) → inserts_at i (both a b priority) ≡ in_turn (inserts_at i a) (inserts_at i b) priority
+inserts-both : (a b : Gaps) (priority : Bool) (i : ℕ) → inserted_at (both_at_once a b priority) i ≡ in_turn (inserted_at a i) (inserted_at b i) priority
 inserts-both (End xs) (End ys) priority zero = refl
 inserts-both (End xs) (End ys) priority (suc i) = turn-first [] priority
 inserts-both (End xs) (Gap ys e h) priority zero = refl
-inserts-both (End xs) (Gap ys e h) priority (suc i) = turn-second (inserts_at i h) priority
+inserts-both (End xs) (Gap ys e h) priority (suc i) = turn-second (inserted_at h i) priority
 inserts-both (Gap xs f g) (End ys) priority zero = refl
-inserts-both (Gap xs f g) (End ys) priority (suc i) = turn-first (inserts_at i g) priority
+inserts-both (Gap xs f g) (End ys) priority (suc i) = turn-first (inserted_at g i) priority
 inserts-both (Gap xs f g) (Gap ys e h) priority zero = refl
 inserts-both (Gap xs f g) (Gap ys e h) priority (suc i) = inserts-both g h priority i
 
-fate-both : (a b : Gaps) (priority : Bool) (i : ℕ) → fate_at i (both a b priority) ≡ fate_of_both (fate_at i a) (fate_at i b) priority
+fate-both : (a b : Gaps) (priority : Bool) (i : ℕ) → fate_at (both_at_once a b priority) i ≡ fate_of_both (fate_at a i) (fate_at b i) priority
 fate-both (End xs) (End ys) priority i = fate-first (Keep empty) priority
 fate-both (End xs) (Gap ys e h) priority zero = fate-second e priority
-fate-both (End xs) (Gap ys e h) priority (suc i) = fate-second (fate_at i h) priority
+fate-both (End xs) (Gap ys e h) priority (suc i) = fate-second (fate_at h i) priority
 fate-both (Gap xs f g) (End ys) priority zero = fate-first f priority
-fate-both (Gap xs f g) (End ys) priority (suc i) = fate-first (fate_at i g) priority
+fate-both (Gap xs f g) (End ys) priority (suc i) = fate-first (fate_at g i) priority
 fate-both (Gap xs f g) (Gap ys e h) priority zero = refl
 fate-both (Gap xs f g) (Gap ys e h) priority (suc i) = fate-both g h priority i
 
-units_below-both : (a b : Gaps) (priority : Bool) → units_below (both a b priority) ≡ max (units_below a) (units_below b)
+units_below-both : (a b : Gaps) (priority : Bool) → units_below (both_at_once a b priority) ≡ max (units_below a) (units_below b)
 units_below-both (End xs) (End ys) priority = refl
 units_below-both (End xs) (Gap ys e h) priority = omega arith
 units_below-both (Gap xs f g) (End ys) priority = omega arith

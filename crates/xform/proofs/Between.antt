@@ -2,8 +2,8 @@
 use Rattle.std.proofs.Common.{◌≡◌, Bool, true, false, List, [], ◌∷◌, ◌++◌, length, refl, sym, ap, ◌∙◌, arith}
 use Rattle.std.proofs.lemmas.List.{append-nil, append_assoc, length-append}
 use Rattle.delta.specs.Element.{Element}
-use Rattle.delta.specs.Gaps.{Gaps, End, Gap, Fate, Del, Keep, fated, apply}
-use Rattle.xform.specs.Place.{units_left, place, up_to, onward}
+use Rattle.delta.specs.Gaps.{Gaps, End, Gap, Fate, Del, Keep, units_kept, fated, apply}
+use Rattle.xform.specs.Place.{place, up_to, onward}
 use Rattle.xform.specs.Laws.{PlaceBetween}
 
 -- what is inserted just there
@@ -24,7 +24,7 @@ parts (x ∷ d) e (Gap xs f g) priority =
     ap (λ l. xs ++ (fated f x ++ l)) (parts d e g priority)
     ∙ (ap (λ l. xs ++ l) (sym (append_assoc (fated f x) before behind)) ∙ sym (append_assoc xs (fated f x ++ before) behind))
 
-length-fated : (f : Fate) (x : Element) → length (fated f x) ≡ units_left f
+length-fated : (f : Fate) (x : Element) → length (fated f x) ≡ units_kept f
 length-fated Del x = refl
 length-fated (Keep c) x = refl
 

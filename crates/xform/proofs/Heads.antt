@@ -1,29 +1,13 @@
 -- The first of a delta after another: inserts, and units that neither inserts.
-use Rattle.std.proofs.Common.{◌≡◌, ℕ, zero, suc, ◌+◌, ◌-◌, ◌≤◌, ◌⊎◌, ⊎_elim, inl, inr, Bool, true, false, List, [], ◌∷◌, ◌++◌, length, refl, sym, ap, ◌∙◌, arith}
+use Rattle.std.proofs.Common.{◌≡◌, ℕ, zero, suc, ◌+◌, ◌⊎◌, ⊎_elim, inl, inr, Bool, true, false, List, [], ◌∷◌, ◌++◌, length, refl, sym, ap, ◌∙◌}
 use Rattle.std.proofs.lemmas.List.{append-nil, length-append}
 use Rattle.attributes.specs.Attributes.{Changes}
 use Rattle.attributes.specs.Map.{empty}
 use Rattle.delta.specs.Element.{Element}
 use Rattle.delta.specs.Gaps.{Gaps, End, Gap, Fate, Del, Keep, front, run}
-use Rattle.delta.proofs.Joins.{front-nil, front-front}
-use Rattle.delta.proofs.Settling.{IsBare}
+use Rattle.delta.proofs.CallerLemmas.{front-nil, front-front, run-parts}
+use Rattle.delta.specs.Places.{IsBare}
 use Rattle.xform.specs.After.{beside, fate_after, left_of, after}
-
--- units of one fate, in two runs
-pub run-add : (m n : ℕ) (f : Fate) (g : Gaps) → run (m + n) f g ≡ run m f (run n f g)
-run-add zero n f g = ap (λ k. run k f g) (nothing n)
-  where
-    nothing : (k : ℕ) → 0 + k ≡ k
-    nothing k = omega arith
-run-add (suc m) n f g = ap (λ k. run k f g) (one_more m n) ∙ ap (Gap [] f) (run-add m n f g)
-  where
-    one_more : (i k : ℕ) → suc i + k ≡ suc (i + k)
-    one_more i k = omega arith
-
-pub run-cut : (n k : ℕ) (f : Fate) (g : Gaps) → k ≤ n → run n f g ≡ run k f (run (n - k) f g)
-run-cut n k f g h =
-    let parts : n ≡ k + (n - k) = omega arith in
-    ap (λ m. run m f g) parts ∙ run-add k (n - k) f g
 
 -- at a place where one of them inserts nothing
 beside-nothing : (priority : Bool) (g : Gaps) → beside [] [] priority g ≡ g
@@ -36,7 +20,7 @@ beside-only ys false g = refl
 
 -- the first inserts before the rest: its units are kept
 kept-append : (xs zs : List Element) (g : Gaps) → run (length (xs ++ zs)) (Keep empty) g ≡ run (length xs) (Keep empty) (run (length zs) (Keep empty) g)
-kept-append xs zs g = ap (λ n. run n (Keep empty) g) (length-append xs zs) ∙ run-add (length xs) (length zs) (Keep empty) g
+kept-append xs zs g = ap (λ n. run n (Keep empty) g) (length-append xs zs) ∙ run-parts (length xs + length zs) (length xs) (length zs) (Keep empty) g refl
 
 -- the first goes first, or the other inserts nothing there
 abbrev pub MayGoFirst : Bool → Gaps → Type 0

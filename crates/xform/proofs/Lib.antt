@@ -3,7 +3,6 @@ pub mod AtEachPlace
 pub mod Between
 pub mod Places
 pub mod Heads
-pub mod Trimming
-pub mod Cuts
-pub mod Merges
-pub mod Plain
+pub mod Steps
+pub mod Partly
+pub mod CallerLemmas

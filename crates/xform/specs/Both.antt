@@ -1,7 +1,7 @@
 -- Two deltas of one document at once.
-use Rattle.std.specs.Prelude.{ℕ, zero, suc, Bool, List, [], ◌++◌, if◌then◌else◌}
+use Rattle.std.specs.Prelude.{Bool, List, ◌++◌, if◌then◌else◌}
 use Rattle.attributes.specs.Attributes.{Changes}
-use Rattle.attributes.specs.Map.{empty, overwritten}
+use Rattle.attributes.specs.Map.{overwritten}
 use Rattle.delta.specs.Element.{Element}
 use Rattle.delta.specs.Gaps.{Gaps, End, Gap, Fate, Del, Keep}
 
@@ -20,20 +20,9 @@ fate_of_both (Keep c) Del priority = Del
 fate_of_both (Keep c) (Keep e) priority = Keep (changes_of_both c e priority)
 
 -- both at once, on one document. Past the last unit that one speaks of, the other's fates stand.
-abbrev pub both : Gaps → Gaps → Bool → Gaps
-both (End xs) (End ys) priority = End (in_turn xs ys priority)
-both (End xs) (Gap ys e h) priority = Gap (in_turn xs ys priority) e h
-both (Gap xs f g) (End ys) priority = Gap (in_turn xs ys priority) f g
-both (Gap xs f g) (Gap ys e h) priority = Gap (in_turn xs ys priority) (fate_of_both f e priority) (both g h priority)
-
--- what is inserted before the unit at a place, and what becomes of that unit; past the last unit nothing, and it is kept
-abbrev pub inserts_at : ℕ → Gaps → List Element
-inserts_at zero (End xs) = xs
-inserts_at (suc i) (End xs) = []
-inserts_at zero (Gap xs f g) = xs
-inserts_at (suc i) (Gap xs f g) = inserts_at i g
-
-abbrev pub fate_at : ℕ → Gaps → Fate
-fate_at i (End xs) = Keep empty
-fate_at zero (Gap xs f g) = f
-fate_at (suc i) (Gap xs f g) = fate_at i g
+abbrev pub both_at_once : Gaps → Gaps → Bool → Gaps
+both_at_once (End xs) (End ys) priority = End (in_turn xs ys priority)
+both_at_once (End xs) (Gap ys e h) priority = Gap (in_turn xs ys priority) e h
+both_at_once (Gap xs f g) (End ys) priority = Gap (in_turn xs ys priority) f g
+both_at_once (Gap xs f g) (Gap ys e h) priority =
+    Gap (in_turn xs ys priority) (fate_of_both f e priority) (both_at_once g h priority)

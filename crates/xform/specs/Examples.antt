@@ -7,7 +7,7 @@ use Rattle.delta.specs.Element.{Element, letters}
 use Rattle.delta.specs.Operation.{Operation, insert_text, retain, delete}
 use Rattle.delta.specs.Gaps.{counted, apply}
 use Rattle.delta.specs.Normal.{nf}
-use Rattle.xform.specs.Both.{both}
+use Rattle.xform.specs.Both.{both_at_once}
 use Rattle.xform.specs.After.{after}
 use Rattle.xform.specs.Place.{place}
 
@@ -56,8 +56,8 @@ across_then_cut : apply (apply (text (codes "abcdef")) (counted across)) (after 
 unfolding changed_by
 across_then_cut = refl
 
-both_at_once : apply (text (codes "abcdef")) (both (counted cutting) (counted across) true) ≡ text (codes "xf")
-both_at_once = refl
+cut_and_across : apply (text (codes "abcdef")) (both_at_once (counted cutting) (counted across) true) ≡ text (codes "xf")
+cut_and_across = refl
 
 -- ret 5, ins "a" moves what stands after it, and a place just there without priority
 before_insert : place (counted (ret 5 ∷ one)) 4 false ≡ 4

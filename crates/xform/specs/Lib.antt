@@ -1,8 +1,7 @@
 pub mod Both
 pub mod After
+pub mod Outcome
 pub mod Place
 pub mod Laws
-pub mod Cursor
-pub mod Merging
-pub mod Plain
+pub mod steps
 mod Examples

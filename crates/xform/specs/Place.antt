@@ -1,12 +1,7 @@
 -- Where a place of a document is after a delta (quill-delta's README, "transformPosition()").
 use Rattle.std.specs.Prelude.{ℕ, zero, suc, ◌+◌, Bool, List, [], length, if◌then◌else◌}
 use Rattle.delta.specs.Element.{Element}
-use Rattle.delta.specs.Gaps.{Gaps, End, Gap, Fate, Del, Keep}
-
--- how many units are left of one
-abbrev pub units_left : Fate → ℕ
-units_left Del = 0
-units_left (Keep c) = 1
+use Rattle.delta.specs.Gaps.{Gaps, End, Gap, units_kept}
 
 -- how far what is inserted just at the place moves it: not at all where the place has priority
 abbrev pub moved_by : List Element → Bool → ℕ
@@ -17,9 +12,10 @@ abbrev pub place : Gaps → ℕ → Bool → ℕ
 place (End xs) zero priority = moved_by xs priority
 place (End xs) (suc i) priority = length xs + suc i
 place (Gap xs f g) zero priority = moved_by xs priority
-place (Gap xs f g) (suc i) priority = length xs + (units_left f + place g i priority)
+place (Gap xs f g) (suc i) priority = length xs + (units_kept f + place g i priority)
 
--- the delta up to a place, and from there on: what is inserted just there stands before it, but where the place has priority
+-- the delta up to a place, and from there on: what is inserted just there stands before it, but where the place has
+-- priority
 abbrev pub up_to : Gaps → ℕ → Bool → Gaps
 up_to (End xs) zero priority = End (if priority then [] else xs)
 up_to (End xs) (suc i) priority = End xs

@@ -1,12 +1,11 @@
 //! Reading: each part of the spelling has one function, which answers what it read and the bytes behind it.
-ghost use Rattle.std.specs.Prelude.{◌≡◌, ◌<◌, ◌≤◌, ◌^◌, List, true, length, IfOk, IfErr, IfSome, IfNone};
+ghost use Rattle.std.specs.Prelude.{◌≡◌, ◌<◌, ◌≤◌, ◌^◌, List, true, length, IfOk, IfSome, IfNone};
 ghost use Rattle.std.specs.Int.{w16, w32, w64};
 ghost use Rattle.revision.specs.Name.{is_source_name, is_document_name};
 ghost use Rattle.revision.specs.Command as command;
 ghost use Rattle.journal.specs.BatchSpelling as spelling;
 ghost use Rattle.journal.specs.Reading.{Gives, part_at, number_at, fixed_at, within_at, byte_at, utf8_at, text_at, name_at};
 ghost use Rattle.journal.specs.BatchReading.{creation_at, edit_at, entry_behind, entry_at, entries_at, batch_at, whole_at};
-ghost use Rattle.journal.specs.DeltaReading.{delta_at};
 
 mod deltas;
 mod normal_form;

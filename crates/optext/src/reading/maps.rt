@@ -1,9 +1,8 @@
 //! Attributes, and changes of attributes.
-ghost use Rattle.std.specs.Prelude.{◌≡◌, option_map};
-ghost use Rattle.serde_json.specs.View.{view, members_view};
+ghost use Rattle.serde_json.specs.View.{members_view};
 ghost use Rattle.attributes.specs.Map.{empty};
 ghost use Rattle.optext.specs.Answer.{IsRead};
-ghost use Rattle.optext.specs.Described.{attributes_of, changes_of, filled, scalar_of, change_of};
+ghost use Rattle.optext.specs.Described.{data_of, attributes_of, changes_of, with_members, scalar_of, change_of};
 
 use crate::reading::values::{read_change_value, read_key, read_value};
 use attributes::{Attrs, Change};
@@ -13,7 +12,7 @@ use std::alloc::Global;
 
 /// The attributes of an insert; none where they are left out.
 pub(crate) fn read_attributes(alloc: Global, attributes: Option<&Json>) -> Result<Attrs, Refusal>
-    ensures { IsRead (attributes_of (option_map (λ v. view v.now) attributes.entry)) result }
+    ensures { IsRead (attributes_of (data_of attributes.entry)) result }
 {
     match attributes {
         None => Ok(Attrs::new(alloc)),
@@ -23,7 +22,7 @@ pub(crate) fn read_attributes(alloc: Global, attributes: Option<&Json>) -> Resul
 }
 
 fn read_attrs(alloc: Global, members: &Map<String, Json>) -> Result<Attrs, Refusal>
-    ensures { IsRead (filled scalar_of empty (members_view members.now.entries)) result }
+    ensures { IsRead (with_members scalar_of empty (members_view members.now.entries)) result }
 {
     let mut attrs = Attrs::new(alloc);
     for (name, value) in members {
@@ -36,7 +35,7 @@ fn read_attrs(alloc: Global, members: &Map<String, Json>) -> Result<Attrs, Refus
 
 /// The change of attributes of a retain; none where it is left out.
 pub(crate) fn read_changes(alloc: Global, attributes: Option<&Json>) -> Result<Change, Refusal>
-    ensures { IsRead (changes_of (option_map (λ v. view v.now) attributes.entry)) result }
+    ensures { IsRead (changes_of (data_of attributes.entry)) result }
 {
     match attributes {
         None => Ok(Change::new(alloc)),
@@ -46,7 +45,7 @@ pub(crate) fn read_changes(alloc: Global, attributes: Option<&Json>) -> Result<C
 }
 
 fn read_change(alloc: Global, members: &Map<String, Json>) -> Result<Change, Refusal>
-    ensures { IsRead (filled change_of empty (members_view members.now.entries)) result }
+    ensures { IsRead (with_members change_of empty (members_view members.now.entries)) result }
 {
     let mut change = Change::new(alloc);
     for (name, value) in members {

@@ -1,8 +1,7 @@
 //! One operation.
-ghost use Rattle.std.specs.Prelude.{◌≡◌, option_map};
 ghost use Rattle.serde_json.specs.View.{view, members_view};
 ghost use Rattle.optext.specs.Answer.{IsRead};
-ghost use Rattle.optext.specs.Described.{operation_of, operation_by, insert_of, inserted, embed_of, retain_of, delete_of, length_of};
+ghost use Rattle.optext.specs.Described.{data_of, operation_of, operation_by, insert_of, insertion_of, embed_of, retain_of, delete_of, length_of};
 
 use crate::reading::maps::{read_attributes, read_changes};
 use crate::reading::values::read_value;
@@ -39,7 +38,9 @@ fn read_one_of(
     delete: Option<&Json>,
     attributes: Option<&Json>,
 ) -> Result<Op, Refusal>
-    ensures { IsRead (operation_by (option_map (λ v. view v.now) insert.entry) (option_map (λ v. view v.now) retain.entry) (option_map (λ v. view v.now) delete.entry) (option_map (λ v. view v.now) attributes.entry)) result }
+    ensures { IsRead
+        (operation_by (data_of insert.entry) (data_of retain.entry) (data_of delete.entry) (data_of attributes.entry))
+        result }
 {
     match (insert, retain, delete, attributes) {
         (Some(what), None, None, attributes) => read_insert(alloc, what, attributes),
@@ -50,7 +51,7 @@ fn read_one_of(
 }
 
 fn read_insert(alloc: Global, what: &Json, attributes: Option<&Json>) -> Result<Op, Refusal>
-    ensures { IsRead (insert_of (view what.now) (option_map (λ v. view v.now) attributes.entry)) result }
+    ensures { IsRead (insert_of (view what.now) (data_of attributes.entry)) result }
 {
     let attrs = read_attributes(alloc, attributes)?;
     match what {
@@ -76,7 +77,7 @@ fn read_embed(alloc: Global, members: &Map<String, Json>, attrs: Attrs) -> Resul
 }
 
 fn read_retain(alloc: Global, len: &Json, attributes: Option<&Json>) -> Result<Op, Refusal>
-    ensures { IsRead (retain_of (view len.now) (option_map (λ v. view v.now) attributes.entry)) result }
+    ensures { IsRead (retain_of (view len.now) (data_of attributes.entry)) result }
 {
     let len = read_len(len)?;
     let change = read_changes(alloc, attributes)?;

@@ -3,7 +3,7 @@ ghost use Rattle.std.specs.Prelude.{◌≡◌, option_map};
 ghost use Rattle.serde_json.specs.View.{view, number_view};
 ghost use Rattle.serde_json.specs.Find.{as_integer};
 ghost use Rattle.optext.specs.Answer.{IsRead};
-ghost use Rattle.optext.specs.Described.{key_of, scalar_of, change_of, whole_of};
+ghost use Rattle.optext.specs.Described.{key_of, scalar_of, change_of, scalar_of_number};
 
 use attributes::{Key, Value};
 use refusal::Refusal;
@@ -30,7 +30,7 @@ pub(crate) fn read_value(alloc: Global, value: &Json) -> Result<Value, Refusal>
 }
 
 fn read_whole(number: &Number) -> Result<Value, Refusal>
-    ensures { IsRead (whole_of (number_view number.now)) result }
+    ensures { IsRead (scalar_of_number (number_view number.now)) result }
 {
     match number.as_i64() {
         Some(whole) => Value::whole(whole),

@@ -1,8 +1,7 @@
 //! Reading the first slot.
-ghost use Rattle.std.specs.Prelude.{◌≡◌, ◌⊎◌, ◌+◌, ◌-◌, ◌<◌, ◌≤◌, ◌^◌, true, Option, length, slice_index, OnOk, IfOk, IfErr, IsErrOf};
+ghost use Rattle.std.specs.Prelude.{◌≡◌, ◌⊎◌, ◌+◌, ◌-◌, ◌<◌, ◌≤◌, ◌^◌, true, Option, length, slice_index, IfOk, IfErr};
 ghost use Rattle.std.specs.Int.{w64, to_le_bytes};
-ghost use Rattle.disk.specs.Device.{Rose};
-ghost use Rattle.disk.specs.Crash.{history_of};
+ghost use Rattle.disk.specs.Calls.{HasOnlyRead, CountsFaultsAs};
 ghost use Rattle.journal.specs.Area.{open_gate, entries};
 ghost use Rattle.journal.specs.Scan.{items_of};
 ghost use Rattle.recovery.specs.Shape.{is_in_range, layout_length, slot_place};
@@ -32,10 +31,8 @@ pub(super) fn read_first_slot<D: Disk>(
     ensures damaged { IfErr result (λ e. e ≡ Refusal.Damaged → D.honest disk.new
         → (slot : Option Segment) → ¬ HoldsSlot (slot_place shape.now 0) shape.now.slot (D.seen disk.old) slot) }
     ensures only { IfErr result (λ e. (e ≡ Refusal.Damaged) ⊎ ((e ≡ Refusal.NoMemory) ⊎ (e ≡ Refusal.Fault))) }
-    ensures stays { history_of ⟦<D as Disk>⟧ disk.new ≡ history_of ⟦<D as Disk>⟧ disk.old }
-    ensures honest { D.honest disk.new → D.honest disk.old }
-    ensures good { OnOk result (D.faults disk.new ≡ D.faults disk.old) }
-    ensures failed { IsErrOf result Refusal.Fault → Rose (D.faults disk.old) (D.faults disk.new) }
+    ensures only_read { HasOnlyRead ⟦<D as Disk>⟧ disk.old disk.new }
+    ensures faults { CountsFaultsAs ⟦<D as Disk>⟧ Refusal.Fault result disk.old disk.new }
 {
     let at = SUPERBLOCK_LEN + 2 * u64::from(shape.docs) * u64::from(shape.cell);
     let size = u64::from(shape.slot);
@@ -69,10 +66,8 @@ fn read_segment<D: Disk>(alloc: Global, disk: &mut D, at: u64, size: u64) -> Res
     ensures damaged { IfErr result (λ e. e ≡ Refusal.Damaged → D.honest disk.new
         → (segment : Segment) → ¬ HoldsSegment at size (D.seen disk.old) segment) }
     ensures only { IfErr result (λ e. (e ≡ Refusal.Damaged) ⊎ ((e ≡ Refusal.NoMemory) ⊎ (e ≡ Refusal.Fault))) }
-    ensures stays { history_of ⟦<D as Disk>⟧ disk.new ≡ history_of ⟦<D as Disk>⟧ disk.old }
-    ensures honest { D.honest disk.new → D.honest disk.old }
-    ensures good { OnOk result (D.faults disk.new ≡ D.faults disk.old) }
-    ensures failed { IsErrOf result Refusal.Fault → Rose (D.faults disk.old) (D.faults disk.new) }
+    ensures only_read { HasOnlyRead ⟦<D as Disk>⟧ disk.old disk.new }
+    ensures faults { CountsFaultsAs ⟦<D as Disk>⟧ Refusal.Fault result disk.old disk.new }
 {
     let mut number = [0u8; 8];
     read_at(disk, at + 1, &mut number)?;

@@ -1,7 +1,6 @@
 //! Reading gates.
-ghost use Rattle.std.specs.Prelude.{◌≡◌, ◌↔◌, ◌+◌, ◌*◌, ◌<◌, ◌≤◌, ◌^◌, true, length, take, drop, slice_index, IsTrue, OnOk, OnErr, IfOk, IfErr};
-ghost use Rattle.disk.specs.Device.{Rose};
-ghost use Rattle.disk.specs.Crash.{history_of};
+ghost use Rattle.std.specs.Prelude.{◌≡◌, ◌↔◌, ◌+◌, ◌*◌, ◌<◌, ◌≤◌, ◌^◌, true, length, take, drop, slice_index, IsTrue, OnOk, IfOk, IfErr};
+ghost use Rattle.disk.specs.Calls.{HasOnlyRead, CountsFaults};
 ghost use Rattle.journal.specs.Area.{open_gate};
 ghost use Rattle.recovery.specs.Shape.{is_in_range, layout_length};
 ghost use Rattle.recovery.specs.Reading.{AreClosed, OthersClosed};
@@ -17,12 +16,11 @@ pub(super) fn read_at<D: Disk>(disk: &mut D, at: u64, out: &mut [u8]) -> Result<
     requires { at + length out.old ≤ length (D.seen disk.old) }
     ensures bytes { OnOk result (D.honest disk.new → out.new ≡ take (length out.old) (drop at (D.seen disk.old))) }
     ensures only { IfErr result (λ e. e ≡ Refusal.Fault) }
-    ensures stays { history_of ⟦<D as Disk>⟧ disk.new ≡ history_of ⟦<D as Disk>⟧ disk.old }
-    ensures honest { D.honest disk.new → D.honest disk.old }
-    ensures good { OnOk result (D.faults disk.new ≡ D.faults disk.old) }
-    ensures failed { OnErr result (Rose (D.faults disk.old) (D.faults disk.new)) }
+    ensures only_read { HasOnlyRead ⟦<D as Disk>⟧ disk.old disk.new }
+    ensures faults { CountsFaults ⟦<D as Disk>⟧ result disk.old disk.new }
 {
-    disk.read(at, out).map_err(|_| Refusal::Fault)
+    disk.read(at, out)?;
+    Ok(())
 }
 
 /// Whether the gate at this place is open.
@@ -30,10 +28,8 @@ pub(super) fn is_open<D: Disk>(disk: &mut D, at: u64) -> Result<bool, Refusal>
     requires { at + 1 ≤ length (D.seen disk.old) }
     ensures gate { IfOk result (λ b. D.honest disk.new → (IsTrue b ↔ (slice_index (D.seen disk.old) at ≡ open_gate))) }
     ensures only { IfErr result (λ e. e ≡ Refusal.Fault) }
-    ensures stays { history_of ⟦<D as Disk>⟧ disk.new ≡ history_of ⟦<D as Disk>⟧ disk.old }
-    ensures honest { D.honest disk.new → D.honest disk.old }
-    ensures good { OnOk result (D.faults disk.new ≡ D.faults disk.old) }
-    ensures failed { OnErr result (Rose (D.faults disk.old) (D.faults disk.new)) }
+    ensures only_read { HasOnlyRead ⟦<D as Disk>⟧ disk.old disk.new }
+    ensures faults { CountsFaults ⟦<D as Disk>⟧ result disk.old disk.new }
 {
     let mut gate = [0u8];
     read_at(disk, at, &mut gate)?;
@@ -46,10 +42,8 @@ pub(super) fn are_others_closed<D: Disk>(disk: &mut D, shape: &Shape) -> Result<
     requires within { layout_length shape.now ≤ length (D.seen disk.old) }
     ensures closed { IfOk result (λ b. D.honest disk.new → (IsTrue b ↔ OthersClosed (D.seen disk.old) shape.now)) }
     ensures only { IfErr result (λ e. e ≡ Refusal.Fault) }
-    ensures stays { history_of ⟦<D as Disk>⟧ disk.new ≡ history_of ⟦<D as Disk>⟧ disk.old }
-    ensures honest { D.honest disk.new → D.honest disk.old }
-    ensures good { OnOk result (D.faults disk.new ≡ D.faults disk.old) }
-    ensures failed { OnErr result (Rose (D.faults disk.old) (D.faults disk.new)) }
+    ensures only_read { HasOnlyRead ⟦<D as Disk>⟧ disk.old disk.new }
+    ensures faults { CountsFaults ⟦<D as Disk>⟧ result disk.old disk.new }
 {
     let cells = 2 * u64::from(shape.docs);
     let cell = u64::from(shape.cell);
@@ -68,10 +62,8 @@ fn are_closed<D: Disk>(disk: &mut D, at: u64, size: u64, count: u64) -> Result<b
     requires bound { at + count * size < 2 ^ 63 }
     ensures closed { IfOk result (λ b. D.honest disk.new → (IsTrue b ↔ AreClosed (D.seen disk.old) at size count)) }
     ensures only { IfErr result (λ e. e ≡ Refusal.Fault) }
-    ensures stays { history_of ⟦<D as Disk>⟧ disk.new ≡ history_of ⟦<D as Disk>⟧ disk.old }
-    ensures honest { D.honest disk.new → D.honest disk.old }
-    ensures good { OnOk result (D.faults disk.new ≡ D.faults disk.old) }
-    ensures failed { OnErr result (Rose (D.faults disk.old) (D.faults disk.new)) }
+    ensures only_read { HasOnlyRead ⟦<D as Disk>⟧ disk.old disk.new }
+    ensures faults { CountsFaults ⟦<D as Disk>⟧ result disk.old disk.new }
 {
     for k in 0..count {
         if is_open(disk, at + k * size)? {

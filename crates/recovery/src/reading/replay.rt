@@ -14,7 +14,11 @@ use revision::State;
 use std::alloc::Global;
 
 /// The state that the bodies stand for. `Damaged` comes just where they stand for none.
-pub(super) fn replayed(alloc: Global, shape: &Shape, bodies: &[Vec<u8>]) -> Result<State, Refusal>
+pub(super) fn replay_bodies(
+    alloc: Global,
+    shape: &Shape,
+    bodies: &[Vec<u8>],
+) -> Result<State, Refusal>
     requires { is_in_range shape.now ≡ true }
     ensures stand { IfOk result (λ found. (batches : List (List Taken)) × StandFor shape.now (items_of bodies.now) batches found) }
     ensures damaged { IfErr result (λ e. e ≡ Refusal.Damaged
@@ -23,13 +27,13 @@ pub(super) fn replayed(alloc: Global, shape: &Shape, bodies: &[Vec<u8>]) -> Resu
 {
     let mut state = State::new(alloc, shape.limits());
     for body in bodies {
-        replay(alloc, &mut state, body)?;
+        replay_body(alloc, &mut state, body)?;
     }
     Ok(state)
 }
 
 // Adds the commands of the batch that a body spells.
-fn replay(alloc: Global, state: &mut State, body: &[u8]) -> Result<(), Refusal>
+fn replay_body(alloc: Global, state: &mut State, body: &[u8]) -> Result<(), Refusal>
     ensures continues { OnOk result (Continues state.old body.now state.new) }
     ensures damaged { IfErr result (λ e. e ≡ Refusal.Damaged → (new : StateValue) → ¬ Continues state.old body.now new) }
     ensures only { IfErr result (λ e. (e ≡ Refusal.Damaged) ⊎ (e ≡ Refusal.NoMemory)) }

@@ -1,4 +1,4 @@
-use Rattle.std.proofs.Common.{◌∙◌}
+use Rattle.std.proofs.Common.{refl, ◌∙◌}
 use Rattle.attributes.proofs.Places.{read_at}
 use Rattle.attributes.proofs.Prefixes.{overwritten-none, overwritten-more, insert-same}
 use Rattle.attributes.proofs.changing.compose.Goals as goal
@@ -9,6 +9,6 @@ loop-key-init c = c.in_ok-both.ensures.same ∙ overwritten-none c.args.first.no
 pub loop-key-preserved : goal.loop-key-preserved
 loop-key-preserved c =
     let read = read_at _ c.args.second.now.entries c.loop-key.key-index c.loop-key-item.result c.entries-key-items.ensures c.loop-key-test.true c.loop-key-item.is in
-    c.in_ok-set.ensures.ok
-    ∙ (insert-same c.loop-key.invariant c.in_ok-copy.ensures.same c.in_ok-copy_value.ensures.same
+    c.in_ok-set_copy.ensures.ok
+    ∙ (insert-same c.loop-key.invariant refl refl
     ∙ overwritten-more c.args.second.now c.loop-key.key-index c.loop-key-item.result read.0 read.1 c.args.first.now)

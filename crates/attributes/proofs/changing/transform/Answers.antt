@@ -1,10 +1,10 @@
-use Rattle.std.proofs.Common.{◌≡◌, ◌∙◌, Bool, cond, sym, ap}
+use Rattle.std.proofs.Common.{◌≡◌, ◌∙◌, Bool, cond, refl, sym, ap}
 use Rattle.attributes.specs.Map.{contains, insert, without}
 use Rattle.attributes.specs.Attributes.{transformed}
 use Rattle.attributes.proofs.Places.{read_at}
 use Rattle.attributes.proofs.Prefixes.{prefix, prefix-over, without-none, without-more, insert-same}
 use Rattle.attributes.proofs.changing.transform.Goals as goal
-use Rattle.attributes.proofs.changing.transform.Goals.{then-not-contains+in_ok-copy+in_ok-copy_value+in_ok-set, else-not-contains}
+use Rattle.attributes.proofs.changing.transform.Goals.{then-not-contains+in_ok-set_copy, else-not-contains}
 
 pub loop-key-init : goal.loop-key-init
 loop-key-init c = c.new-after.ensures ∙ without-none c.args.second.now c.args.first.now
@@ -17,8 +17,8 @@ loop-key-preserved c =
     let choice = λ (b : Bool). cond b kept (insert kept c.loop-key-item.result.0 c.loop-key-item.result.1) in
     let known : c.contains.result ≡ contains c.args.first.now c.loop-key-item.result.0 = c.contains.ensures ∙ ap (contains c.args.first.now) c.as_str.ensures.text in
     elim c.if-not-contains.branch [
-      | then-not-contains+in_ok-copy+in_ok-copy_value+in_ok-set w ↦
-          w.after-is ∙ (w.in_ok-set.ensures.ok ∙ (insert-same c.loop-key.invariant w.in_ok-copy.ensures.same w.in_ok-copy_value.ensures.same ∙ (ap choice (sym w.if-not-contains.true ∙ known) ∙ more)))
+      | then-not-contains+in_ok-set_copy w ↦
+          w.after-is ∙ (w.in_ok-set_copy.ensures.ok ∙ (insert-same c.loop-key.invariant refl refl ∙ (ap choice (sym w.if-not-contains.true ∙ known) ∙ more)))
       | else-not-contains w ↦ w.after-is ∙ (c.loop-key.invariant ∙ (ap choice (sym w.if-not-contains.false ∙ known) ∙ more))
     ]
 

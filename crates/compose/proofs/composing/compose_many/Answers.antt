@@ -1,8 +1,30 @@
-use Rattle.std.proofs.Common.{◌∙◌, sym, ap, subst}
+use Rattle.std.proofs.Common.{List, ◌∙◌, ◌+◌, drop, sym, ap, subst}
 use Rattle.std.proofs.Math.ListN.{drop_of_length-le}
+use Rattle.std.proofs.lemmas.Result.{err_from_is_err_and}
+use Rattle.refusal.specs.declared.Refusal.TheVariants.{BadOps}
+use Rattle.delta.specs.Operation.{Operation}
 use Rattle.compose.specs.Many.{many_after, ComposesAll}
-use Rattle.compose.proofs.ManyDeltas.{composes_all}
+use Rattle.compose.specs.Outcome.{IsComposeRefused}
+use Rattle.compose.proofs.ManyDeltas.{AreComposed, drop-here, composes_all, composed-step, long-many}
+use Rattle.compose.proofs.Outcomes.{handed_on, refused_so}
 use Rattle.compose.proofs.composing.compose_many.Goals as goal
+
+pub returns-in_err-one-clause-long : goal.returns-in_err-one-clause-long
+returns-in_err-one-clause-long c =
+    λ bad.
+    let here = drop-here c.args.deltas.now c.loop-delta.delta-index c.delta-item.result c.loop-delta-test.true c.delta-item.is in
+    let p = err_from_is_err_and c.from_residual.result c.from_residual.ensures.1 in
+    let refused = handed_on (IsComposeRefused c.loop-delta.one c.delta-item.result) c.from_residual.result p.0 c.in_err-one.field-0.0 p.1 p.2 c.in_err-one.ensures.only in
+    long-many c.args.deltas.now c.loop-delta.one c.delta-item.result (drop (c.loop-delta.delta-index + 1) c.args.deltas.now)
+    (subst (λ (l : List (List Operation)). AreComposed c.args.deltas.now c.loop-delta.one l) here c.loop-delta.invariant)
+    (refused_so (IsComposeRefused c.loop-delta.one c.delta-item.result) c.from_residual.result BadOps bad refused)
+
+pub loop-delta-preserved : goal.loop-delta-preserved
+loop-delta-preserved c =
+    let here = drop-here c.args.deltas.now c.loop-delta.delta-index c.delta-item.result c.loop-delta-test.true c.delta-item.is in
+    composed-step c.args.deltas.now c.loop-delta.one c.delta-item.result c.in_ok-one.one (drop (c.loop-delta.delta-index + 1) c.args.deltas.now)
+    (subst (λ (l : List (List Operation)). AreComposed c.args.deltas.now c.loop-delta.one l) here c.loop-delta.invariant)
+    c.in_ok-one.ensures.one c.in_ok-one.ensures.accepted
 
 pub returns-clause-composes : goal.returns-clause-composes
 returns-clause-composes c =

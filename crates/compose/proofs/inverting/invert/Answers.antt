@@ -1,10 +1,12 @@
-use Rattle.std.proofs.Common.{◌∙◌, ap, refl}
+use Rattle.std.proofs.Common.{◌∙◌, ap, refl, sym, subst}
+use Rattle.std.specs.Prelude.{Err}
 use Rattle.delta.specs.Gaps.{counted}
 use Rattle.delta.specs.Normal.{nf}
 use Rattle.compose.specs.Inverse.{inverse}
+use Rattle.compose.specs.Outcome.{IsInvertRefused}
 use Rattle.compose.proofs.Inverses.{undone_by}
-use Rattle.compose.proofs.Outcomes.{map_ok, on_ok, never_past_end}
-use Rattle.compose.proofs.DocumentCuts.{units-made, inserts-made, defined-made, past-end, not-past, cut-document, whole-document}
+use Rattle.compose.proofs.Outcomes.{map_ok, on_ok, each_err, never_past_end}
+use Rattle.compose.proofs.DocumentCuts.{units-made, inserts-made, defined-made, past-end, not-past, whole-document, refused-back}
 use Rattle.compose.proofs.inverting.invert.Goals as goal
 
 pub returns-then-base_len-len16-clause-past_end : goal.returns-then-base_len-len16-clause-past_end
@@ -45,9 +47,22 @@ returns-clause-past_end c = (
   λ past. absurd (past (not-past c.args.delta.now c.args.document.now c.base_len.result c.len16.result c.base_len.ensures c.len16.ensures.len c.if-base_len-len16.false)),
 )
 
-pub returns-clause-whole : goal.returns-clause-whole
-returns-clause-whole c =
-    on_ok c.undo.result (λ whole. whole-document c.in-Ok.base c.args.delta.now c.args.document.now c.in-Ok.ensures.delta whole) c.undo.ensures.whole
+pub returns-clause-accepted : goal.returns-clause-accepted
+returns-clause-accepted c =
+    let defined = not-past c.args.delta.now c.args.document.now c.base_len.result c.len16.result c.base_len.ensures c.len16.ensures.len c.if-base_len-len16.false in
+    on_ok c.undo.result (λ whole. (defined, whole-document c.in-Ok.base c.args.delta.now c.args.document.now c.in-Ok.ensures.delta whole)) c.undo.ensures.whole
 
-pub returns-clause-cut : goal.returns-clause-cut
-returns-clause-cut c = λ e. cut-document c.in-Ok.base c.args.delta.now c.args.document.now c.in-Ok.ensures.delta (c.undo.ensures.cut e)
+pub returns-then-base_len-len16-clause-only : goal.returns-then-base_len-len16-clause-only
+returns-then-base_len-len16-clause-only c = past-end c.args.delta.now c.args.document.now c.base_len.result c.len16.result c.base_len.ensures c.len16.ensures.len c.if-base_len-len16.true
+
+pub returns-in-Err-clause-only : goal.returns-in-Err-clause-only
+returns-in-Err-clause-only c =
+    subst (IsInvertRefused c.args.document.now (counted c.args.delta.now)) (sym c.in-Err.ensures.only)
+    (not-past c.args.delta.now c.args.document.now c.base_len.result c.len16.result c.base_len.ensures c.len16.ensures.len c.if-base_len-len16.false)
+
+pub returns-clause-only : goal.returns-clause-only
+returns-clause-only c =
+    let defined = not-past c.args.delta.now c.args.document.now c.base_len.result c.len16.result c.base_len.ensures c.len16.ensures.len c.if-base_len-len16.false in
+    each_err c.undo.result
+    (λ e is only. refused-back c.in-Ok.base c.args.delta.now c.args.document.now e c.in-Ok.ensures.delta defined (λ cut. c.undo.ensures.cut (is ∙ ap Err cut)) only)
+    c.undo.ensures.only

@@ -1,5 +1,5 @@
 use Rattle.std.proofs.Common.{◌+◌, length}
-use Rattle.compose.specs.Pieces.{left}
+use Rattle.compose.specs.steps.Pieces.{left}
 use Rattle.compose.proofs.LaidOver.{IsLaid}
 use Rattle.compose.proofs.laying.lay.Given as goal
 

@@ -1,5 +1,5 @@
 use Rattle.std.proofs.Common.{length}
-use Rattle.compose.specs.Pieces.{left}
+use Rattle.compose.specs.steps.Pieces.{left}
 use Rattle.compose.proofs.LaidOver.{IsPassed}
 use Rattle.compose.proofs.laying.pass_inserts.Given as goal
 

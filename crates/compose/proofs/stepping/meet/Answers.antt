@@ -1,7 +1,7 @@
 use Rattle.std.proofs.Common.{◌++◌}
 use Rattle.delta.specs.Kind.{operation_of}
-use Rattle.compose.specs.Pieces.{left}
-use Rattle.compose.specs.Steps.{listed}
+use Rattle.compose.specs.steps.Pieces.{left}
+use Rattle.compose.specs.steps.Stepping.{as_list}
 use Rattle.compose.proofs.Meetings.{some-min, met_made, met_shorter, pair_cut}
 use Rattle.compose.proofs.stepping.meet.Goals as goal
 
@@ -16,16 +16,14 @@ returns-in-None-clause-cut c =
     c.common_len-len.ensures
     c.in-None.ensures.cut
 
-pub returns-in_ok-both-in-Some-cut-clause-made : goal.returns-in_ok-both-in-Some-cut-clause-made
-returns-in_ok-both-in-Some-cut-clause-made c =
-    met_made (operation_of c.args.op) (operation_of c.args.next) (operation_of c.in-Some.part) (operation_of c.in-Some-cut.then) c.args.tail.now c.args.rest.now (listed c.in_ok-both-in-Some-cut.field-0) (left c.in-Some.first) (left c.in-Some-cut.second) c.common_len-len.result
-    c.requires.stays c.requires.stands c.requires.second
-    c.common_len-len.ensures
-    c.in-Some.ensures.cut c.in-Some.ensures.first c.in-Some-cut.ensures.first c.in_ok-both-in-Some-cut.ensures.made c.in-Some.ensures.rest c.in-Some-cut.ensures.rest
-
-pub returns-in_ok-both-in-Some-cut-clause-shorter : goal.returns-in_ok-both-in-Some-cut-clause-shorter
-returns-in_ok-both-in-Some-cut-clause-shorter c =
-    met_shorter (operation_of c.args.op) (operation_of c.args.next) (operation_of c.in-Some.part) (operation_of c.in-Some-cut.then) c.args.tail.now c.args.rest.now (listed c.in_ok-both-in-Some-cut.field-0) (left c.in-Some.first) (left c.in-Some-cut.second) c.common_len-len.result
-    c.requires.first c.requires.second
-    c.common_len-len.ensures
-    c.in-Some.ensures.first c.in-Some-cut.ensures.first c.in_ok-both-in-Some-cut.ensures.made c.in-Some.ensures.rest c.in-Some-cut.ensures.rest
+pub returns-in_ok-both-in-Some-cut-clause-step : goal.returns-in_ok-both-in-Some-cut-clause-step
+returns-in_ok-both-in-Some-cut-clause-step c = record {
+  step = met_made (operation_of c.args.op) (operation_of c.args.next) (operation_of c.in-Some.part) (operation_of c.in-Some-cut.then) c.args.tail.now c.args.rest.now (as_list c.in_ok-both-in-Some-cut.field-0) (left c.in-Some.first) (left c.in-Some-cut.second) c.common_len-len.result
+      c.requires.stays c.requires.stands c.requires.second
+      c.common_len-len.ensures
+      c.in-Some.ensures.cut c.in-Some.ensures.first c.in-Some-cut.ensures.first c.in_ok-both-in-Some-cut.ensures.made c.in-Some.ensures.rest c.in-Some-cut.ensures.rest;
+  shorter = met_shorter (operation_of c.args.op) (operation_of c.args.next) (operation_of c.in-Some.part) (operation_of c.in-Some-cut.then) c.args.tail.now c.args.rest.now (as_list c.in_ok-both-in-Some-cut.field-0) (left c.in-Some.first) (left c.in-Some-cut.second) c.common_len-len.result
+      c.requires.first c.requires.second
+      c.common_len-len.ensures
+      c.in-Some.ensures.first c.in-Some-cut.ensures.first c.in_ok-both-in-Some-cut.ensures.made c.in-Some.ensures.rest c.in-Some-cut.ensures.rest;
+}

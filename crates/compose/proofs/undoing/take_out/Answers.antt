@@ -1,5 +1,5 @@
 use Rattle.delta.specs.Kind.{operation_of}
-use Rattle.compose.specs.Pieces.{left}
+use Rattle.compose.specs.steps.Pieces.{left}
 use Rattle.compose.proofs.StepsBack.{taken_out}
 use Rattle.compose.proofs.undoing.take_out.Goals as goal
 

@@ -1,6 +1,6 @@
 use Rattle.std.proofs.Common.{refl, arith}
 use Rattle.disk.specs.Crash.{history_of}
-use Rattle.disk.proofs.Moments.{goes_on_sync}
+use Rattle.disk.proofs.CallerLemmas.{goes_on_sync}
 use Rattle.journal.proofs.Gated.{behind, kept, opened, one_more}
 use Rattle.journal.proofs.gate.write_gated.Goals as goal
 

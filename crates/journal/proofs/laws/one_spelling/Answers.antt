@@ -1,5 +1,5 @@
-use Rattle.journal.proofs.Batches.{batch-append_same}
+use Rattle.journal.proofs.Batches.{one_spelling}
 use Rattle.journal.proofs.laws.one_spelling.Goals as goal
 
 pub returns : goal.returns
-returns c = batch-append_same
+returns c = one_spelling

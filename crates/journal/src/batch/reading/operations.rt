@@ -1,5 +1,5 @@
 //! Reading of operations.
-ghost use Rattle.std.specs.Prelude.{◌≡◌, []};
+ghost use Rattle.std.specs.Prelude.{[]};
 ghost use Rattle.journal.specs.Reading.{Gives};
 ghost use Rattle.journal.specs.DeltaReading.{text_insert_at, embed_insert_at, retain_at, delete_at, operation_behind, operation_at, operations_at};
 

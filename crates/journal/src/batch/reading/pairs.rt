@@ -41,8 +41,8 @@ fn attribute_pairs(alloc: Global, count: u32, bytes: &[u8]) -> Result<(Attrs, &[
     let mut last = "";
     let mut rest = bytes;
     for _ in 0..count {
-        let (name, value, after) = attribute(alloc, last, rest)?;
-        put_attribute(alloc, &mut attrs, name, value)?;
+        let (name, value, after) = attribute_pair(alloc, last, rest)?;
+        set_attribute(alloc, &mut attrs, name, value)?;
         last = name;
         rest = after;
     }
@@ -56,8 +56,8 @@ fn change_pairs(alloc: Global, count: u32, bytes: &[u8]) -> Result<(Change, &[u8
     let mut last = "";
     let mut rest = bytes;
     for _ in 0..count {
-        let (name, value, after) = changed(alloc, last, rest)?;
-        put_changed(alloc, &mut change, name, value)?;
+        let (name, value, after) = change_pair(alloc, last, rest)?;
+        set_change(alloc, &mut change, name, value)?;
         last = name;
         rest = after;
     }
@@ -65,7 +65,7 @@ fn change_pairs(alloc: Global, count: u32, bytes: &[u8]) -> Result<(Change, &[u8
 }
 
 #[tactic(auto, unfolding(crate::specs::DeltaReading::pair_at))]
-fn attribute<'a>(
+fn attribute_pair<'a>(
     alloc: Global,
     last: &str,
     bytes: &'a [u8],
@@ -79,7 +79,7 @@ fn attribute<'a>(
 }
 
 #[tactic(auto, unfolding(crate::specs::DeltaReading::pair_at))]
-fn changed<'a>(
+fn change_pair<'a>(
     alloc: Global,
     last: &str,
     bytes: &'a [u8],
@@ -92,7 +92,7 @@ fn changed<'a>(
     Ok((name, value, rest))
 }
 
-fn put_attribute(alloc: Global, attrs: &mut Attrs, name: &str, value: Value) -> Result<(), Unread>
+fn set_attribute(alloc: Global, attrs: &mut Attrs, name: &str, value: Value) -> Result<(), Unread>
     requires { IsKey name.now }
     ensures ok { OnOk result (attrs.new ≡ insert attrs.old name.now value) }
     ensures only { IfErr result (λ e. e ≡ Unread.NoMemory) }
@@ -104,7 +104,7 @@ fn put_attribute(alloc: Global, attrs: &mut Attrs, name: &str, value: Value) -> 
     }
 }
 
-fn put_changed(
+fn set_change(
     alloc: Global,
     change: &mut Change,
     name: &str,

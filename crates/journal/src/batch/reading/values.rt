@@ -1,5 +1,4 @@
 //! Reading of values, and of what a change makes of a name.
-ghost use Rattle.std.specs.Prelude.{◌≡◌};
 ghost use Rattle.journal.specs.Reading.{Gives};
 ghost use Rattle.journal.specs.DeltaReading.{whole_at, text_value_at, value_behind, value_at, new_value_behind, new_value_at};
 

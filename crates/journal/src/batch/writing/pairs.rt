@@ -18,7 +18,7 @@ pub(super) fn put_attributes(out: &mut Vec<u8>, attrs: &Attrs) -> Result<(), All
     let entries = attrs.entries();
     put_number32(out, entries.len() as u32)?;
     for entry in entries {
-        put_attribute(out, entry)?;
+        put_attribute_pair(out, entry)?;
     }
     Ok(())
 }
@@ -32,13 +32,13 @@ pub(super) fn put_change(out: &mut Vec<u8>, change: &Change) -> Result<(), Alloc
     let entries = change.entries();
     put_number32(out, entries.len() as u32)?;
     for entry in entries {
-        put_changed(out, entry)?;
+        put_change_pair(out, entry)?;
     }
     Ok(())
 }
 
 #[tactic(auto, unfolding(crate::specs::DeltaSpelling::pair))]
-fn put_attribute(out: &mut Vec<u8>, entry: &(Key, Value)) -> Result<(), AllocError>
+fn put_attribute_pair(out: &mut Vec<u8>, entry: &(Key, Value)) -> Result<(), AllocError>
     requires { IsPair IsValue entry.now }
     ensures { OnOk result (out.new.items ≡ out.old.items ++ spelling.pair spelling.value entry.now) }
 {
@@ -48,7 +48,7 @@ fn put_attribute(out: &mut Vec<u8>, entry: &(Key, Value)) -> Result<(), AllocErr
 }
 
 #[tactic(auto, unfolding(crate::specs::DeltaSpelling::pair))]
-fn put_changed(out: &mut Vec<u8>, entry: &(Key, Option<Value>)) -> Result<(), AllocError>
+fn put_change_pair(out: &mut Vec<u8>, entry: &(Key, Option<Value>)) -> Result<(), AllocError>
     requires { IsPair IsNewValue entry.now }
     ensures { OnOk result (out.new.items ≡ out.old.items ++ spelling.pair spelling.new_value entry.now) }
 {

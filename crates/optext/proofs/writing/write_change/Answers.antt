@@ -1,6 +1,6 @@
-use Rattle.std.proofs.Common.{◌∙◌, subst}
+use Rattle.std.proofs.Common.{◌≡◌, ◌+◌, ◌<◌, ◌∙◌, ℕ, List, length, get_or, Option, subst}
 use Rattle.std.proofs.lemmas.List.Elements.{All-more}
-use Rattle.attributes.proofs.Places.{read_at}
+use Rattle.attributes.specs.Scalar.{Scalar}
 use Rattle.optext.specs.Laws.{IsAttributeChange}
 use Rattle.optext.specs.Printed.{printed_change}
 use Rattle.optext.proofs.Members.{printed-more}
@@ -8,11 +8,13 @@ use Rattle.optext.proofs.writing.write_change.Goals as goal
 
 pub loop-name-preserved : goal.loop-name-preserved
 loop-name-preserved c =
-    let read = read_at _ c.args.change.now.entries c.loop-name.name-index c.loop-name-item.result c.entries-name-items.ensures c.loop-name-test.true c.loop-name-item.is in
+    let entries : List (List ℕ × Option Scalar) = c.args.change.now.entries in
+    let read : (c.loop-name.name-index < length entries) × (c.loop-name-item.result ≡ get_or entries c.loop-name.name-index c.loop-name-item.result) =
+    subst (λ es. (c.loop-name.name-index < length es) × (c.loop-name-item.result ≡ get_or es c.loop-name.name-index c.loop-name-item.result)) c.entries-name-items.ensures (c.loop-name-test.true, c.loop-name-item.is) in
     record {
       printed =
           c.in_ok-put.ensures.ok
-          ∙ printed-more printed_change c.args.change.now c.loop-name.name-index c.loop-name-item.result read.0 read.1 _ _ _ c.as_str.ensures.text c.in_ok-value.ensures.printed c.loop-name.invariant.printed;
+          ∙ printed-more printed_change entries c.loop-name.name-index c.loop-name-item.result (c.first_entries_ascend.ensures.of_changes c.args.change.now (c.loop-name.name-index + 1)) read.0 read.1 _ _ _ c.as_str.ensures.text c.in_ok-value.ensures.printed c.loop-name.invariant.printed;
       kept =
           All-more IsAttributeChange c.args.change.now.entries c.loop-name.name-index c.loop-name-item.result read.0 c.loop-name.invariant.kept
           (subst IsAttributeChange read.1 (c.as_str.ensures.kept, c.in_ok-value.ensures.kept));

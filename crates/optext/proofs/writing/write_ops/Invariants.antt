@@ -1,7 +1,7 @@
 use Rattle.std.proofs.Common.{◌≡◌, map, take}
 use Rattle.std.specs.Prelude.{All}
 use Rattle.serde_json.specs.View.{view}
-use Rattle.optext.specs.Laws.{IsKept}
+use Rattle.optext.specs.Laws.{HasSpellableContent}
 use Rattle.optext.specs.Printed.{printed_operation}
 use Rattle.optext.proofs.writing.write_ops.Given as goal
 
@@ -9,5 +9,5 @@ use Rattle.optext.proofs.writing.write_ops.Given as goal
 abbrev pub invariant-loop-op : goal.invariant-loop-op
 invariant-loop-op l = record {
   printed : map view l.items.items ≡ map printed_operation (take l.op-index l.ops);
-  kept : All IsKept (take l.op-index l.ops);
+  kept : All HasSpellableContent (take l.op-index l.ops);
 }

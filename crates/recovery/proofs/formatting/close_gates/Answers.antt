@@ -1,7 +1,7 @@
 use Rattle.std.proofs.Common.{◌≡◌, ◌+◌, ◌*◌, ◌≤◌, length, refl, ◌∙◌, arith, below_more, subst, sym, [], ◌∷◌, List, ℕ}
 use Rattle.disk.specs.Device.{overwritten}
 use Rattle.disk.specs.Crash.{history_of}
-use Rattle.disk.proofs.Moments.{begins_anywhere}
+use Rattle.disk.proofs.CallerLemmas.{begins_anywhere}
 use Rattle.recovery.specs.Layout.{IsClosed}
 use Rattle.recovery.proofs.EmptyStores.{closed_at, stays_closed, stays_unformatted, gate_fits}
 use Rattle.recovery.proofs.formatting.close_gates.Goals as goal

@@ -6,8 +6,8 @@ use Rattle.recovery.proofs.formatting.format_device.Goals as goal
 pub returns-then-len-lt-SUPERBLOCK_LEN-clause-from_sync : goal.returns-then-len-lt-SUPERBLOCK_LEN-clause-from_sync
 returns-then-len-lt-SUPERBLOCK_LEN-clause-from_sync g c unformatted = just_synced (nothing_done (history_of g.D.Disk c.args.disk.now))
 
-pub returns-in_default-clause-any_moment : goal.returns-in_default-clause-any_moment
-returns-in_default-clause-any_moment g c synced unformatted = from_sync (just_synced c.reads_open_gate.ensures.only_synced) synced (inl unformatted)
+pub returns-in_err-is_open-clause-any_moment : goal.returns-in_err-is_open-clause-any_moment
+returns-in_err-is_open-clause-any_moment g c synced unformatted = from_sync (just_synced c.reads_open_gate.ensures.only_synced) synced (inl unformatted)
 
 pub returns-then-is_open-clause-any_moment : goal.returns-then-is_open-clause-any_moment
 returns-then-is_open-clause-any_moment g c synced unformatted = from_sync (just_synced c.reads_open_gate.ensures.only_synced) synced (inl unformatted)
@@ -19,13 +19,13 @@ pub returns-in_err-body-clause-any_moment : goal.returns-in_err-body-clause-any_
 returns-in_err-body-clause-any_moment g c synced unformatted = from_sync (just_synced c.reads_open_gate.ensures.only_synced) synced (inl unformatted)
 
 -- after the writes
-pub returns-in_default-write_all-clause-any_moment : goal.returns-in_default-write_all-clause-any_moment
-returns-in_default-write_all-clause-any_moment g c synced unformatted =
-    from_sync (synced_and_written c.reads_open_gate.ensures.only_synced c.in-Ok.ensures.synced unformatted c.write_all.ensures.any_moment) synced (inl unformatted)
+pub returns-in_err-write_all-clause-any_moment : goal.returns-in_err-write_all-clause-any_moment
+returns-in_err-write_all-clause-any_moment g c synced unformatted =
+    from_sync (synced_and_written c.reads_open_gate.ensures.only_synced c.in_ok-is_open.ensures.synced unformatted c.write_all.ensures.any_moment) synced (inl unformatted)
 
 pub returns-clause-any_moment : goal.returns-clause-any_moment
 returns-clause-any_moment g c synced unformatted =
-    from_sync (synced_and_written c.reads_open_gate.ensures.only_synced c.in-Ok.ensures.synced unformatted c.write_all.ensures.any_moment) synced (inl unformatted)
+    from_sync (synced_and_written c.reads_open_gate.ensures.only_synced c.in_ok-is_open.ensures.synced unformatted c.write_all.ensures.any_moment) synced (inl unformatted)
 
 pub returns-clause-from_sync : goal.returns-clause-from_sync
-returns-clause-from_sync g c unformatted = synced_and_written c.reads_open_gate.ensures.only_synced c.in-Ok.ensures.synced unformatted c.write_all.ensures.any_moment
+returns-clause-from_sync g c unformatted = synced_and_written c.reads_open_gate.ensures.only_synced c.in_ok-is_open.ensures.synced unformatted c.write_all.ensures.any_moment

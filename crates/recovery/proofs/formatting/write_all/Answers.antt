@@ -1,7 +1,7 @@
 use Rattle.std.proofs.Common.{◌∙◌, sym, subst}
 use Rattle.std.proofs.lemmas.Result.{on_ok_weaker}
 use Rattle.disk.specs.Crash.{history_of}
-use Rattle.disk.proofs.Moments.{begins, goes_on_sync}
+use Rattle.disk.proofs.CallerLemmas.{begins, goes_on_sync}
 use Rattle.recovery.specs.Formatting.{IsUnformatted, IsPrepared, IsEmptyStore}
 use Rattle.recovery.proofs.EmptyStores.{sync_prepared, write_gate, opened}
 use Rattle.recovery.proofs.formatting.write_all.Goals as goal

@@ -1,8 +1,11 @@
-use Rattle.xform.specs.Merging.{IsUnderWay, ops_left}
+use Rattle.std.proofs.Common.{◌+◌, length}
+use Rattle.delta.specs.Cursor.{operations_left}
+use Rattle.xform.specs.steps.Stepping.{IsPartlyMade}
 use Rattle.xform.proofs.transforming.transform.Given as goal
 
-abbrev pub invariant-loop-one : goal.invariant-loop-one
-invariant-loop-one l = IsUnderWay l.one l.two l.priority l.at l.out
+-- what was made, and what is left of both, stand for the second after the first
+abbrev pub invariant-loop-part : goal.invariant-loop-part
+invariant-loop-part l = IsPartlyMade l.first l.second l.priority (operations_left l.one) (operations_left l.two) l.out
 
-abbrev pub decreases-loop-one : goal.decreases-loop-one
-decreases-loop-one l = ops_left l.one l.two l.at
+abbrev pub decreases-loop-part : goal.decreases-loop-part
+decreases-loop-part l = length (operations_left l.one) + length (operations_left l.two)

@@ -1,4 +1,4 @@
-use Rattle.std.proofs.Common.{◌∙◌}
+use Rattle.std.proofs.Common.{refl, ◌∙◌}
 use Rattle.attributes.proofs.Places.{read_at}
 use Rattle.attributes.proofs.Prefixes.{prefix-over, insert-prefix, insert-same}
 use Rattle.attributes.proofs.change.Change.copy.Goals as goal
@@ -6,8 +6,8 @@ use Rattle.attributes.proofs.change.Change.copy.Goals as goal
 pub loop-key-preserved : goal.loop-key-preserved
 loop-key-preserved c =
     let read = read_at _ c.args.self.now.entries c.loop-key.key-index c.loop-key-item.result c.entries-key-items.ensures c.loop-key-test.true c.loop-key-item.is in
-    c.in_ok-set.ensures.ok
-    ∙ (insert-same c.loop-key.invariant c.in_ok-copy.ensures.same c.in_ok-copy_value.ensures.same
+    c.in_ok-set_copy.ensures.ok
+    ∙ (insert-same c.loop-key.invariant refl refl
     ∙ insert-prefix c.args.self.now c.loop-key.key-index c.loop-key-item.result read.0 read.1)
 
 pub returns-clause-same : goal.returns-clause-same

@@ -1,8 +1,8 @@
 use Rattle.std.proofs.Common.{◌≡◌, ◌≤◌, ◌+◌, ◌++◌, ◌∷◌, [], List, ℕ, length, inl, refl, sym, ap, ◌∙◌, subst, arith, rules, ◌<◌, ◌^◌}
 use Rattle.disk.specs.Device.{overwritten}
 use Rattle.disk.specs.Crash.{history_of}
-use Rattle.disk.proofs.Moments.{begins, leaves_map}
-use Rattle.journal.specs.Area.{Place, IsAfter, IsGated, framed, open_gate}
+use Rattle.disk.proofs.CallerLemmas.{begins, leaves_map}
+use Rattle.journal.specs.Area.{Place, IsAppended, IsGated, frame, open_gate}
 use Rattle.journal.proofs.Areas.{before_or_after, after}
 use Rattle.journal.proofs.area.Area.append.Goals as goal
 
@@ -20,7 +20,7 @@ returns-in_err-write_gated-clause-any_moment g c bodies synced stands =
     let old = g.D.Disk.seen c.args.disk.now in
     let place = c.args.self.now in
     let gate : c.self.inside.at + c.self.inside.next ≡ place.at + place.next = ap (λ (p : Place). p.at + p.next) c.self.view_is in
-    let bytes : c.deref.result.now ≡ framed c.args.body.now ++ 0 ∷ [] = c.deref.ensures.value ∙ c.in_ok-record.ensures.bytes in
+    let bytes : c.deref.result.now ≡ frame c.args.body.now ++ 0 ∷ [] = c.deref.ensures.value ∙ c.in_ok-record.ensures.bytes in
     let room : place.next + 6 + length c.args.body.now ≤ place.size = search rules in
     let sizes : c.self.inside.size ≡ place.size = ap (λ (p : Place). p.size) c.self.view_is in
     let short : length c.args.body.now < 2 ^ 32 = omega arith in
@@ -35,7 +35,7 @@ returns-clause-any_moment g c bodies synced stands =
     let old = g.D.Disk.seen c.args.disk.now in
     let place = c.args.self.now in
     let gate : c.self.inside.at + c.self.inside.next ≡ place.at + place.next = ap (λ (p : Place). p.at + p.next) c.self.view_is in
-    let bytes : c.deref.result.now ≡ framed c.args.body.now ++ 0 ∷ [] = c.deref.ensures.value ∙ c.in_ok-record.ensures.bytes in
+    let bytes : c.deref.result.now ≡ frame c.args.body.now ++ 0 ∷ [] = c.deref.ensures.value ∙ c.in_ok-record.ensures.bytes in
     let room : place.next + 6 + length c.args.body.now ≤ place.size = search rules in
     let sizes : c.self.inside.size ≡ place.size = ap (λ (p : Place). p.size) c.self.view_is in
     let short : length c.args.body.now < 2 ^ 32 = omega arith in
@@ -50,15 +50,15 @@ returns-clause-done g c bodies stands =
     let old = g.D.Disk.seen c.args.disk.now in
     let place = c.args.self.now in
     let gate : c.self.inside.at + c.self.inside.next ≡ place.at + place.next = ap (λ (p : Place). p.at + p.next) c.self.view_is in
-    let bytes : c.deref.result.now ≡ framed c.args.body.now ++ 0 ∷ [] = c.deref.ensures.value ∙ c.in_ok-record.ensures.bytes in
+    let bytes : c.deref.result.now ≡ frame c.args.body.now ++ 0 ∷ [] = c.deref.ensures.value ∙ c.in_ok-record.ensures.bytes in
     let room : place.next + 6 + length c.args.body.now ≤ place.size = search rules in
     let sizes : c.self.inside.size ≡ place.size = ap (λ (p : Place). p.size) c.self.view_is in
     let short : length c.args.body.now < 2 ^ 32 = omega arith in
     let inside : place.next < place.size = omega arith in
     let next : c.self.inside.next + (5 + length c.args.body.now) ≡ place.next + 5 + length c.args.body.now = omega (arith, ap (λ (p : Place). p.next) c.self.view_is) in
-    let seen : g.D.Disk.seen c.write_gated.new.disk ≡ overwritten (overwritten old (place.at + place.next + 1) (framed c.args.body.now ++ 0 ∷ [])) (place.at + place.next) (open_gate ∷ []) =
+    let seen : g.D.Disk.seen c.write_gated.new.disk ≡ overwritten (overwritten old (place.at + place.next + 1) (frame c.args.body.now ++ 0 ∷ [])) (place.at + place.next) (open_gate ∷ []) =
     c.in_ok-write_gated.ensures.seen
     ∙ ap (λ k. overwritten (overwritten old (k + 1) c.deref.result.now) k (open_gate ∷ [])) gate
     ∙ ap (λ (l : List ℕ). overwritten (overwritten old (place.at + place.next + 1) l) (place.at + place.next) (open_gate ∷ [])) bytes in
     let done = after old place bodies stands inside c.requires.within c.args.body.now c.requires.some short room (g.D.Disk.seen c.write_gated.new.disk) (c.self.inside.next + (5 + length c.args.body.now)) seen next in
-    subst (λ (p : Place). IsAfter old place bodies c.args.body.now (g.D.Disk.seen c.write_gated.new.disk) (record p { next = c.self.inside.next + (5 + length c.args.body.now) })) (sym c.self.view_is) done
+    subst (λ (p : Place). IsAppended old place bodies c.args.body.now (g.D.Disk.seen c.write_gated.new.disk) (record p { next = c.self.inside.next + (5 + length c.args.body.now) })) (sym c.self.view_is) done

@@ -8,9 +8,9 @@ use Rattle.recovery.proofs.reading.first_slot.read_first_slot.Goals as goal
 pub returns-clause-fits : goal.returns-clause-fits
 returns-clause-fits g c honest =
     let seen = g.D.Disk.seen c.args.disk.now in
-    let same : g.D.Disk.seen c.is_open.new.disk ≡ seen = ap (λ (h : History). h.now.seen) c.is_open.ensures.stays in
+    let same : g.D.Disk.seen c.is_open.new.disk ≡ seen = ap (λ (h : History). h.now.seen) c.is_open.ensures.only_read.history in
     let at = 64 + 2 * c.from.result * c.from-2.result in
-    let gate : slice_index seen at ≡ open_gate = (c.in_ok-is_open.ensures.gate (c.read_segment.ensures.honest honest)).0 (search rules) in
+    let gate : slice_index seen at ≡ open_gate = (c.in_ok-is_open.ensures.gate (c.read_segment.ensures.only_read.honest honest)).0 (search rules) in
     let found = c.in_ok-found.ensures.found honest (subst (λ (l : List ℕ). slice_index l at ≡ open_gate) (sym same) gate) in
     record {
       slot = Some found.0;

@@ -1,10 +1,10 @@
 use Rattle.std.proofs.Common.{true, false, Err, ◌≡◌, ◌∙◌, ⊎_elim, inl, inr, List, ℕ, refl, sym, subst, ap, arith, length}
 use Rattle.std.proofs.lemmas.Result.{err_from_is_err_and}
 use Rattle.disk.specs.Crash.{history_of}
-use Rattle.disk.proofs.Moments.{begins, leaves_map, goes_on_run}
+use Rattle.disk.proofs.CallerLemmas.{begins, leaves_map, goes_on_run}
 use Rattle.journal.specs.Area.{Place}
 use Rattle.recovery.specs.Slot.{bodies_of}
-use Rattle.recovery.specs.Ring.{HasKept}
+use Rattle.recovery.specs.Ring.{IsSlotKept}
 use Rattle.recovery.specs.Room.{has_room_for}
 use Rattle.refusal.specs.declared.Refusal.TheVariants.{JournalFull, NoMemory}
 use Rattle.journal.specs.declared.area.AppendError.{AppendError}
@@ -86,6 +86,6 @@ returns-in_err-append-clause-given_up g c is slot synced fits =
     let area = c.in_ok-area.area in
     let kept = kept_ready (g.D.Disk.seen c.args.disk.now) c.args.self.now (bodies_of slot) (g.D.Disk.seen c.ready.new.disk) area c.ready.new.self (c.in_ok-area.ensures.done slot fits)
     c.ready.ensures.place.0 c.ready.ensures.place.1 c.in_ok-area.ensures.area.0 in (
-      subst (λ (l : List ℕ). HasKept (g.D.Disk.seen c.args.disk.now) c.args.self.now (bodies_of slot) l c.ready.new.self) (sym (ap g.D.Disk.seen untouched)) kept,
+      subst (λ (l : List ℕ). IsSlotKept (g.D.Disk.seen c.args.disk.now) c.args.self.now (bodies_of slot) l c.ready.new.self) (sym (ap g.D.Disk.seen untouched)) kept,
       ap g.D.Disk.unsynced untouched ∙ c.in_ok-area.ensures.synced synced,
     )

@@ -2,14 +2,14 @@ use Rattle.std.proofs.Common.{◌≡◌, ◌∙◌, ⊎_elim, ℕ, true, false, 
 use Rattle.journal.specs.BatchSpelling.{batch}
 use Rattle.revision.specs.State.{DocumentRecord, folded}
 use Rattle.recovery.specs.Slot.{bodies_of}
-use Rattle.recovery.specs.Ring.{HasBeforeOrAfter, HasAfter}
+use Rattle.recovery.specs.Ring.{IsSlotLeftByAppend, IsSlotAppended}
 use Rattle.recovery.specs.Room.{has_room_for}
 use Rattle.recovery.specs.Found.{StandFor}
 use Rattle.refusal.specs.declared.Refusal.{Refusal}
 use Rattle.refusal.specs.declared.Refusal.TheVariants.{NoMemory}
 use Rattle.recovery.proofs.Folds.{taken_back}
 use Rattle.disk.specs.Crash.{history_of}
-use Rattle.disk.proofs.Moments.{begins, leaves_map}
+use Rattle.disk.proofs.CallerLemmas.{begins, leaves_map}
 use Rattle.recovery.proofs.Commits.{found_before, with_or_without, laid_out_after, laid_out_kept, added_bodies, same_bodies}
 use Rattle.recovery.proofs.store.Store.commit.Goals as goal
 
@@ -41,7 +41,7 @@ returns-clause-any_moment g c unfailed is_open =
     leaves_map (λ content left.
     with_or_without (g.D.Disk.seen store.device) store.shape store.ring is_open.slot is_open.batches store.state is_open.ring_at is_open.ring_size is_open.laid_out is_open.stand
     c.args.batch.now c.in_ok-body.ensures.batch c.in_ok-absorb_all.ensures.grow content
-    (subst (λ (l : List ℕ). HasBeforeOrAfter store.ring.at store.ring.size (g.D.Disk.seen store.device) (bodies_of is_open.slot) l content) body left))
+    (subst (λ (l : List ℕ). IsSlotLeftByAppend store.ring.at store.ring.size (g.D.Disk.seen store.device) (bodies_of is_open.slot) l content) body left))
     (c.append.ensures.any_moment is_open.slot is_open.synced is_open.fits)
 
 pub returns-clause-kept : goal.returns-clause-kept
@@ -73,7 +73,7 @@ returns-in-Ok-clause-any_moment g c unfailed is_open =
     leaves_map (λ content left.
     with_or_without (g.D.Disk.seen store.device) store.shape store.ring is_open.slot is_open.batches store.state is_open.ring_at is_open.ring_size is_open.laid_out is_open.stand
     c.args.batch.now c.in_ok-body.ensures.batch c.in_ok-absorb_all.ensures.grow content
-    (subst (λ (l : List ℕ). HasBeforeOrAfter store.ring.at store.ring.size (g.D.Disk.seen store.device) (bodies_of is_open.slot) l content) body left))
+    (subst (λ (l : List ℕ). IsSlotLeftByAppend store.ring.at store.ring.size (g.D.Disk.seen store.device) (bodies_of is_open.slot) l content) body left))
     (c.append.ensures.any_moment is_open.slot is_open.synced is_open.fits)
 
 pub returns-in-Ok-clause-done : goal.returns-in-Ok-clause-done
@@ -82,8 +82,8 @@ returns-in-Ok-clause-done g c is_open =
     let old = g.D.Disk.seen store.device in
     let new = g.D.Disk.seen c.append.new.disk in
     let body : c.deref.result.now ≡ batch c.args.batch.now = c.deref.ensures.value ∙ c.in_ok-body.ensures.spelled in
-    let after : HasAfter old store.ring (bodies_of is_open.slot) (batch c.args.batch.now) new c.append.new.self =
-    subst (λ (l : List ℕ). HasAfter old store.ring (bodies_of is_open.slot) l new c.append.new.self) body (c.in-Ok.ensures.done is_open.slot is_open.fits) in
+    let after : IsSlotAppended old store.ring (bodies_of is_open.slot) (batch c.args.batch.now) new c.append.new.self =
+    subst (λ (l : List ℕ). IsSlotAppended old store.ring (bodies_of is_open.slot) l new c.append.new.self) body (c.in-Ok.ensures.done is_open.slot is_open.fits) in
     record {
       synced = c.in-Ok.ensures.synced;
       slot = after.slot;

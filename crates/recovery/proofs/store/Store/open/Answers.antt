@@ -1,14 +1,14 @@
 use Rattle.std.proofs.Common.{◌∙◌, ⊎_elim, sym}
-use Rattle.disk.proofs.Contents.{synced_leaves}
-use Rattle.recovery.proofs.FoundOnce.{found_same}
+use Rattle.disk.proofs.CallerLemmas.{synced_leaves}
+use Rattle.recovery.proofs.FoundOnce.{found_once}
 use Rattle.recovery.proofs.Runs.{found_again}
 use Rattle.recovery.proofs.store.Store.open.Goals as goal
 
 pub returns-in-Ok-clause-only_state : goal.returns-in-Ok-clause-only_state
 returns-in-Ok-clause-only_state g c honest state found =
     let read = c.in-Ok.ensures.read honest in
-    found_same (g.D.Disk.seen c.args.disk) state c.in-Ok.parts.state found
-    (record { shape = c.in-Ok.parts.shape; slot = read.slot; batches = read.batches; laid_out = read.laid_out; stand = read.stand })
+    found_once (g.D.Disk.seen c.args.disk) state c.in-Ok.recovered.state found
+    (record { shape = c.in-Ok.recovered.shape; slot = read.slot; batches = read.batches; laid_out = read.laid_out; stand = read.stand })
 
 pub returns-in-Ok-clause-kept : goal.returns-in-Ok-clause-kept
 returns-in-Ok-clause-kept g c content left = synced_leaves _ content c.in-Ok.ensures.synced left ∙ c.read_store.ensures.seen

@@ -1,7 +1,6 @@
 use Rattle.std.proofs.Common.{◌≡◌, ◌∙◌, ◌+◌, List, ℕ, take, drop, refl, sym, ap, subst, arith}
 use Rattle.disk.specs.Crash.{history_of}
-use Rattle.disk.proofs.Contents.{synced_leaves}
-use Rattle.disk.proofs.Moments.{begins, leaves_map, goes_on_run}
+use Rattle.disk.proofs.CallerLemmas.{synced_leaves, begins, leaves_map, goes_on_run}
 use Rattle.revision.specs.State.{State, folded}
 use Rattle.recovery.specs.declared.run.StoreStep.{StoreStep}
 use Rattle.std.proofs.lemmas.List.{at_drop_more, take_all}

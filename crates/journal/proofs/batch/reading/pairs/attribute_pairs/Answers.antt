@@ -14,5 +14,5 @@ returns c = pairs-all_read _ _ _ _ _ _ _ c.loop.invariant.read c.loop-test.false
 pub loop-preserved : goal.loop-preserved
 loop-preserved c = record {
   text = search rules;
-  read = rw c.in_ok-put_attribute.ensures.ok (pairs-one_more _ _ _ _ _ _ _ c.loop.invariant.read c.in_ok-name.name.now c.in_ok-name.value c.in_ok-name.after.now c.loop-test.true c.in_ok-name.ensures.read);
+  read = rw c.in_ok-set_attribute.ensures.ok (pairs-one_more _ _ _ _ _ _ _ c.loop.invariant.read c.in_ok-name.name.now c.in_ok-name.value c.in_ok-name.after.now c.loop-test.true c.in_ok-name.ensures.read);
 }

@@ -1,0 +1,3 @@
+-- Laws of `laws`, as the proofs of other crates cite them.
+pub use Rattle.recovery.proofs.FoundOnce.{found_once}
+pub use Rattle.recovery.proofs.Runs.{found_open, found_as}

@@ -1,0 +1,41 @@
+use Rattle.std.proofs.Common.{cond, ap, ap₂, ◌∙◌}
+use Rattle.std.specs.Result.{is_ok}
+use Rattle.attributes.specs.Map.{entries_of, insert, same_entries_map}
+use Rattle.revision.specs.Sources.{LastTaken}
+use Rattle.attributes.proofs.Outcomes.{OnOk-from, OnErr-from, chosen_true, chosen_false}
+use Rattle.attributes.proofs.Places.{written, inserted, ascending_as, ascending_if}
+use Rattle.revision.proofs.sources.Sources.set.Goals as goal
+
+pub invariant_of-self-inside : goal.invariant_of-self-inside
+invariant_of-self-inside c = (
+  ascending_as (insert c.args.self.now c.args.source (record { number = c.args.number; revision = c.args.revision })) _
+      (written c.args.self.now _ _ _ c.in-Ok.i (ap entries_of c.self.view_is) c.as_str.ensures.text c.in-Ok.ensures _ _ c.index_mut.ensures.value),
+  tt,
+)
+
+pub returns-in-Ok-clause-ok : goal.returns-in-Ok-clause-ok
+returns-in-Ok-clause-ok c =
+    same_entries_map _ _
+    (written c.args.self.now _ _ _ c.in-Ok.i (ap entries_of c.self.view_is) c.as_str.ensures.text c.in-Ok.ensures _ _ c.index_mut.ensures.value)
+
+pub invariant_of-self-inside-in-Err : goal.invariant_of-self-inside-in-Err
+invariant_of-self-inside-in-Err c =
+    let list = ap entries_of c.self.view_is in
+    let last : LastTaken = record { number = c.args.number; revision = c.args.revision } in
+    let more = inserted c.args.self.now _ _ c.args.source c.in-Err.i list c.as_str.ensures.text c.in-Err.ensures last in (
+      ascending_if c.args.self.now (insert c.args.self.now c.args.source last) (is_ok c.insert.result) _
+          (c.insert.ensures.items ∙ ap₂ (cond (is_ok c.insert.result)) more list),
+      tt,
+    )
+
+pub returns-in-Err-clause-ok : goal.returns-in-Err-clause-ok
+returns-in-Err-clause-ok c =
+    OnOk-from c.map_err.result (is_ok c.insert.result) c.map_err.ensures.variant
+    (λ done. same_entries_map _ _
+    (chosen_true _ _ _ c.insert.ensures.items done
+    ∙ inserted c.args.self.now _ _ c.args.source c.in-Err.i (ap entries_of c.self.view_is) c.as_str.ensures.text c.in-Err.ensures _))
+
+pub returns-in-Err-clause-unchanged : goal.returns-in-Err-clause-unchanged
+returns-in-Err-clause-unchanged c =
+    OnErr-from c.map_err.result (is_ok c.insert.result) c.map_err.ensures.variant
+    (λ done. same_entries_map _ _ (chosen_false _ _ _ c.insert.ensures.items done) ∙ c.self.view_is)

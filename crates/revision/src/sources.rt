@@ -1,0 +1,134 @@
+//! The sources of a document.
+ghost use Rattle.std.specs.Prelude.{◌≡◌, ℕ, T, MatchResult, IfOk, OnOk, OnErr, IsOkUnless, length};
+ghost use Rattle.std.specs.FinMap.Entries.{is_sorted};
+ghost use Rattle.attributes.specs.Map.{by_bytes, empty};
+ghost use Rattle.attributes.specs.Place.{IsHere, IsFree};
+ghost use Rattle.revision.specs.Sources.{count_of, last_of, with_last};
+ghost use lib.Dec.{T_prop};
+
+use crate::name::Name;
+use refusal::Refusal;
+use std::alloc::Global;
+use std::cmp::Ordering;
+use std::marker::Model;
+
+/// What a source has in a document: the number of its last command that was taken, and the revision that came of it.
+#[derive(Clone, Copy, Debug, PartialEq, Eq)]
+pub struct LastTaken {
+    pub number: u64,
+    pub revision: u64,
+}
+
+/// The sources of a document with what each has, in the order of the bytes of their names.
+#[derive(Drop)]
+pub struct Sources {
+    list: Vec<(Name, LastTaken)>,
+    ghost ascending: { T (is_sorted by_bytes list.items) } by { T_prop _ },
+}
+
+impl Model for Sources {
+    ghost use Rattle.revision.specs.Sources as spec;
+    ghost use Rattle.revision.specs.Sources.{sources_code};
+
+    ghost Value = { spec.Sources };
+
+    ghost coded = { sources_code };
+
+    ghost view = { λ s. record { entries = s.list.items; ascending = s.ascending } };
+}
+
+impl Sources {
+    /// None. It takes no memory.
+    pub fn new(alloc: Global) -> Sources
+        ensures { result ≡ empty }
+    {
+        Sources {
+            list: Vec::new(alloc),
+        }
+    }
+
+    /// The sources in order.
+    pub fn entries(&self) -> &[(Name, LastTaken)]
+        ensures { result.now ≡ self.now.entries }
+    {
+        self.list.as_slice()
+    }
+
+    /// How many there are.
+    pub fn count(&self) -> usize
+        ensures { result ≡ count_of self.now }
+    {
+        self.list.len()
+    }
+
+    // Where the name stands, or else where it would stand: it halves what is left until that is one place.
+    fn place(&self, name: &str) -> Result<usize, usize>
+        ensures { MatchResult result (IsHere name.now self.now.entries) (IsFree name.now self.now.entries) }
+    {
+        let mut low = 0;
+        let mut high = self.list.len();
+        while low < high {
+            let middle = low + (high - low) / 2;
+            match name.cmp(self.list[middle].0.as_str()) {
+                Ordering::Less => high = middle,
+                Ordering::Equal => return Ok(middle),
+                Ordering::Greater => low = middle + 1,
+            }
+        }
+        Err(low)
+    }
+
+    /// What a source has, 0 and 0 where it isn't there.
+    pub fn last(&self, source: &Name) -> LastTaken
+        ensures { result ≡ last_of source.now self.now }
+    {
+        match self.place(source.as_str()) {
+            Ok(i) => self.list[i].1,
+            Err(_) => LastTaken {
+                number: 0,
+                revision: 0,
+            },
+        }
+    }
+
+    /// Notes the last command of a source. Refused for want of memory alone, and then unchanged; where the source is there it
+    /// takes none.
+    pub fn set(&mut self, source: Name, number: u64, revision: u64) -> Result<(), Refusal>
+        ensures ok { OnOk result (self.new ≡ with_last source number revision self.old) }
+        ensures unchanged { OnErr result (self.new ≡ self.old) }
+        ensures only { IsOkUnless result Refusal.NoMemory }
+    {
+        let last = LastTaken { number, revision };
+        match self.place(source.as_str()) {
+            Ok(i) => {
+                self.list[i].1 = last;
+                Ok(())
+            }
+            Err(i) => self
+                .list
+                .insert(i, (source, last))
+                .map_err(|_| Refusal::NoMemory),
+        }
+    }
+
+    /// Equal sources, or `NoMemory`.
+    pub fn copy(&self, alloc: Global) -> Result<Sources, Refusal>
+        ensures same { IfOk result (λ sources. sources ≡ self.now) }
+        ensures only { IsOkUnless result Refusal.NoMemory }
+    {
+        Ok(Sources {
+            list: copy_of(alloc, self.entries())?,
+        })
+    }
+}
+
+fn copy_of(alloc: Global, entries: &[(Name, LastTaken)]) -> Result<Vec<(Name, LastTaken)>, Refusal>
+    ensures same { IfOk result (λ list. list.items ≡ entries.now) }
+    ensures only { IsOkUnless result Refusal.NoMemory }
+{
+    let mut list = Vec::new(alloc);
+    for (source, last) in entries {
+        list.push((source.copy(alloc)?, *last))?;
+    }
+    Ok(list)
+}

@@ -1,0 +1,51 @@
+//! How each layer is called.
+ghost use Rattle.std.specs.Prelude.{◌≡◌, ◌+◌, ◌≤◌, ◌<◌, ◌^◌, ℕ, List, [], ◌∷◌, ◌++◌, length, false, OnOk};
+ghost use Rattle.disk.specs.Device.{overwritten};
+ghost use Rattle.disk.specs.Crash.{LeavesOnly};
+ghost use Rattle.journal.specs.Area.{Stands};
+ghost use Rattle.journal.specs.BatchSpelling as spelling;
+ghost use Rattle.recovery.specs.Open.{IsOpen, IsWithOrWithout, device_of, state_of, has_failed};
+
+use disk::{Disk, Fault};
+use journal::{Area, encode_batch};
+use recovery::Store;
+use refusal::Refusal;
+use revision::Taken;
+use std::alloc::Global;
+
+/// Puts bytes onto a device so that they last.
+pub fn put<D: Disk>(disk: &mut D, at: u64, bytes: &[u8]) -> Result<(), Fault>
+    requires { at + length bytes.now ≤ length (D.seen disk.old) }
+    ensures seen { OnOk result (D.seen disk.new ≡ overwritten (D.seen disk.old) at bytes.now) }
+    ensures synced { OnOk result (D.unsynced disk.new ≡ []) }
+{
+    disk.write_at(at, bytes)?;
+    disk.sync()
+}
+
+/// Appends a batch to an area. At Ok the area holds its spelling behind what it held.
+pub fn keep<D: Disk>(
+    alloc: Global,
+    area: &mut Area,
+    disk: &mut D,
+    batch: &[Taken],
+) -> Result<(), Refusal>
+    requires some { 1 ≤ length batch.now }
+    requires short { length batch.now < 2 ^ 32 }
+    requires within { area.old.at + area.old.size ≤ length (D.seen disk.old) }
+    ensures { OnOk result ((bodies : List (List ℕ)) → Stands (D.seen disk.old) area.old bodies
+        → Stands (D.seen disk.new) area.new (bodies ++ spelling.batch batch.now ∷ [])) }
+{
+    let body = encode_batch(alloc, batch)?;
+    area.append(alloc, disk, &body)?;
+    Ok(())
+}
+
+/// Commits one command. A crash at any moment leaves the state without it or with it, and at Ok the store goes on.
+pub fn commit_one<D: Disk>(alloc: Global, store: &mut Store<D>, taken: Taken) -> Result<(), Refusal>
+    ensures any_moment { has_failed store.old ≡ false → IsOpen store.old
+        → LeavesOnly ⟦<D as Disk>⟧ (IsWithOrWithout (state_of store.old) (taken ∷ [])) (device_of store.old) (device_of store.new) }
+    ensures done { OnOk result (IsOpen store.old → IsOpen store.new) }
+{
+    store.commit(alloc, &[taken])
+}

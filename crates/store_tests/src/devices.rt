@@ -1,0 +1,87 @@
+//! Devices in memory and over files.
+use disk::{Call, Disk, FileDisk, MemDisk};
+use std::process::{self, Abort};
+use std::{env, fs, io};
+
+/// Writes, syncs and reads a device of eight zeros.
+pub fn try_out<D: Disk>(rt: &impl Abort, disk: &mut D) {
+    assert_eq!(rt; disk.len(), 8);
+    disk.write_at(2, b"abc").expect(rt, "a write");
+    disk.write_at(7, b"z").expect(rt, "a write");
+    disk.sync().expect(rt, "a sync");
+    disk.write_at(8, b"").expect(rt, "a write of nothing");
+    let mut bytes = [0; 6];
+    disk.read(2, &mut bytes).expect(rt, "a read");
+    assert_eq!(rt; bytes, *b"abc\0\0z");
+    assert_eq!(rt; disk.failures(), 0);
+}
+
+/// The call of a write, which replaced so many zeros.
+fn write_over_zeros(rt: &(impl Abort + AllocGlobal), at: u64, count: usize) -> Call {
+    let replaced = vec![in rt.alloc(); 0; count].expect(rt, "memory");
+    Call::Write { at, replaced }
+}
+
+#[test]
+fn memory_keeps_its_calls(rt: HostRuntime) {
+    let mut disk = MemDisk::new(rt.alloc(), 8).expect(&rt, "memory");
+    try_out(&rt, &mut disk);
+    assert_eq!(rt; disk.bytes(), b"\0\0abc\0\0z".as_slice());
+    let calls = [
+        write_over_zeros(&rt, 2, 3),
+        write_over_zeros(&rt, 7, 1),
+        Call::Sync,
+        write_over_zeros(&rt, 8, 0),
+        Call::Read { at: 2, len: 6 },
+    ];
+    assert!(rt; disk.calls() == calls.as_slice());
+}
+
+/// A path of its own for a test.
+fn path(rt: &HostRuntime, name: &str) -> io::Result<String> {
+    let folder = env::temp_dir(rt)?;
+    let number = process::id(rt.process());
+    Ok(format!(in rt.alloc(); "{}/richd-disk-{number}-{name}", folder.as_str())?)
+}
+
+/// A device over a file that a test has made is opened again, with what was written.
+fn holds_what_was_written(rt: &impl Abort, disk: &mut FileDisk) {
+    assert_eq!(rt; disk.len(), 8);
+    let mut bytes = [1; 8];
+    disk.read(0, &mut bytes).expect(rt, "a read");
+    assert_eq!(rt; bytes, *b"\0\0abc\0\0z");
+}
+
+#[test]
+fn a_file_is_made_and_opened_again(rt: HostRuntime) {
+    let path = path(&rt, "made").expect(&rt, "a path");
+    assert!(rt; FileDisk::open(&rt, path.as_str()).is_err());
+    let mut disk = FileDisk::create(&rt, path.as_str(), 8).expect(&rt, "a new file");
+    try_out(&rt, &mut disk);
+    drop(disk);
+    assert!(rt; FileDisk::create(&rt, path.as_str(), 8).is_err());
+    let mut disk = FileDisk::open(&rt, path.as_str()).expect(&rt, "the file");
+    holds_what_was_written(&rt, &mut disk);
+    fs::remove_file(&rt, path.as_str()).expect(&rt, "the file goes");
+}
+
+#[test]
+fn a_file_longer_than_a_piece_is_loaded(rt: HostRuntime) {
+    let path = path(&rt, "long").expect(&rt, "a path");
+    let mut disk = FileDisk::create(&rt, path.as_str(), 2_500_000).expect(&rt, "a new file");
+    assert_eq!(rt; disk.len(), 2_500_000);
+    disk.write_at(2_499_998, b"yz").expect(&rt, "a write");
+    disk.sync().expect(&rt, "a sync");
+    let mut bytes = [1; 4];
+    disk.read(2_499_996, &mut bytes).expect(&rt, "a read");
+    assert_eq!(rt; bytes, *b"\0\0yz");
+    fs::remove_file(&rt, path.as_str()).expect(&rt, "the file goes");
+}
+
+#[test]
+fn a_file_is_made_in_the_working_folder(rt: HostRuntime) {
+    let number = process::id(rt.process());
+    let name = format!(in rt.alloc(); "richd-disk-{number}-bare").expect(&rt, "memory");
+    assert!(rt; FileDisk::create(&rt, name.as_str(), 8).is_ok());
+    fs::remove_file(&rt, name.as_str()).expect(&rt, "the file goes");
+}

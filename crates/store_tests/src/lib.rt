@@ -1,0 +1,25 @@
+//! Tests of `disk`, `journal` and `recovery`, by their public calls alone. They stand apart from those crates so that
+//! each of them is proved once. `callers` has the call that each crate's page opens with, proved as its users write it.
+#![tactic(auto)]
+
+#[cfg(test)]
+mod batches;
+pub mod callers;
+#[cfg(test)]
+mod creating;
+#[cfg(test)]
+mod damage;
+#[cfg(test)]
+mod deltas;
+#[cfg(test)]
+mod devices;
+#[cfg(test)]
+mod opening;
+#[cfg(test)]
+mod plans;
+#[cfg(test)]
+mod running;
+#[cfg(test)]
+mod stopping;
+#[cfg(test)]
+mod stores;

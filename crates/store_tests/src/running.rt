@@ -1,0 +1,173 @@
+//! Runs of a store, one after another.
+ghost use Rattle.std.specs.Prelude.{All, IfOk};
+ghost use Rattle.recovery.specs.Run.{CanCommit};
+
+use crate::batches::EDIT;
+use crate::stores::{
+    Row, SLOT, differ_by, formatted_device, has_documents, open_store, part, session, small_device,
+};
+use journal::decode_batch;
+use recovery::{Shape, Stop, StoreStep};
+use refusal::Refusal;
+use std::process::Abort;
+
+/// A device of 12,352 bytes.
+const LARGER: Shape = Shape {
+    slots: 2,
+    slot: 2_048,
+    docs: 16,
+    cell: 256,
+    sources: 4,
+    keep: 2,
+};
+
+/// What is asked for in each run.
+const RUNS: [[Row; 3]; 7] = [
+    [
+        ("a", "d", "z", "taken 1"),
+        ("a", "e", "", "taken 1"),
+        ("b", "f", "abcde", "taken 1"),
+    ],
+    [
+        ("b", "one", "1", "taken 1"),
+        ("a", "d", "z", "again 1"),
+        ("a", "three", "333", "taken 1"),
+    ],
+    [
+        ("c", "D", "z", "taken 1"),
+        ("c", "d.d", "a b", "taken 1"),
+        ("c", "-", "\u{e9}", "taken 1"),
+    ],
+    [
+        ("d", "_", "\u{1F600}", "taken 1"),
+        ("d", "0", "0", "taken 1"),
+        ("d", "00", "00", "taken 1"),
+    ],
+    [
+        ("a", "f", "abcde", "error 7 Exists"),
+        ("a", "x-2", "\n", "taken 1"),
+        ("a", "x-3", "\"", "taken 1"),
+    ],
+    [
+        ("x", "y", "1", "taken 1"),
+        ("y", "z", "2", "taken 1"),
+        ("z", "x", "3", "taken 1"),
+    ],
+    [
+        ("a", "e", "", "again 1"),
+        ("a", "z", "2", "error 7 Exists"),
+        ("z", "x", "3", "again 1"),
+    ],
+];
+
+// The plain program: a line for each creation that is taken.
+fn push_taken(rt: &(impl Abort + AllocGlobal), lines: &mut String, row: &Row) {
+    let (_, doc, text, answer) = row;
+    if *answer == "taken 1" {
+        let line = format!(in rt.alloc(); "{doc} 1 {text}\n").expect(rt, "memory");
+        lines.push_str(line.as_str()).expect(rt, "memory");
+    }
+}
+
+#[test]
+fn many_creations_in_many_runs(rt: HostRuntime) {
+    let mut disk = formatted_device(&rt, 12_352, LARGER);
+    let mut lines = String::new(rt.alloc());
+    for run in &RUNS {
+        for row in run {
+            push_taken(&rt, &mut lines, row);
+        }
+        disk = session(&rt, disk.bytes(), run, lines.as_str());
+    }
+}
+
+/// The longest name of a source, and of a document. A creation by the one of the other with a text of 3 bytes is a
+/// batch of 141, so that its record leaves 101 bytes of the area of a small device's slot.
+const SOURCE: &str = "s23456789_123456789_123456789_12";
+
+const DOC: &str = "d23456789_123456789_123456789_123456789_123456789_123456789_1234";
+
+const ONE: &str = "d23456789_123456789_123456789_123456789_123456789_123456789_1234 1 abc\n";
+
+/// A name of 51 bytes and one of 52. A creation by `a` with a text of 1 byte is a batch of 95 or 96, and needs 6 more.
+const FITS: &str = "e23456789_123456789_123456789_123456789_123456789_1";
+
+const PASSES: &str = "e23456789_123456789_123456789_123456789_123456789_12";
+
+const BOTH: &str = "d23456789_123456789_123456789_123456789_123456789_123456789_1234 1 abc
+e23456789_123456789_123456789_123456789_123456789_1 1 z
+";
+
+const FULL: Row = ("a", PASSES, "z", "error 37 JournalFull");
+
+#[test]
+fn a_full_journal_changes_nothing(rt: HostRuntime) {
+    let empty = small_device(&rt);
+    let first = session(&rt, empty.bytes(), &[(SOURCE, DOC, "abc", "taken 1")], ONE);
+    let same = session(&rt, first.bytes(), &[FULL], ONE);
+    assert_eq!(rt; same.bytes(), first.bytes());
+    // The store works on.
+    session(
+        &rt,
+        first.bytes(),
+        &[FULL, ("a", FITS, "z", "taken 1")],
+        BOTH,
+    );
+}
+
+// The step that commits the batch which these bytes spell.
+fn step(rt: &(impl Abort + AllocGlobal), bytes: &[u8]) -> StoreStep
+    ensures { CanCommit result }
+{
+    let found = decode_batch(rt.alloc(), bytes).expect(rt, "memory");
+    let batch = found.expect(rt, "a batch");
+    assert!(rt; 1 <= batch.len() && batch.len() <= 9);
+    StoreStep::Commit(batch)
+}
+
+// The step that creates the document d so many times.
+fn repeated(rt: &(impl Abort + AllocGlobal), count: u8) -> StoreStep
+    ensures { CanCommit result }
+{
+    let mut bytes = [count, 0, 0, 0].to_vec(rt.alloc()).expect(rt, "memory");
+    for _ in 0..count {
+        bytes
+            .extend_from_slice(&part(rt, &SLOT, 18, 41))
+            .expect(rt, "memory");
+    }
+    step(rt, &bytes)
+}
+
+// A run creates the document d, and stops where it is created so many times again; the store works on.
+fn is_stopped(rt: &(impl Abort + AllocGlobal), count: u8, refusal: Refusal) {
+    let mut store = open_store(rt, small_device(rt));
+    let stop = store.run(rt.alloc(), &[repeated(rt, 1), repeated(rt, count)]);
+    assert_eq!(rt; stop, Err(Stop { at: 1, refusal }));
+    has_documents(rt, store.state(), "d 1 z\n");
+    let second = step(rt, &part(rt, &SLOT, 64, 45));
+    assert_eq!(rt; store.run(rt.alloc(), &[second]), Ok(()));
+    differ_by(
+        rt,
+        store.close().bytes(),
+        small_device(rt).bytes(),
+        1_088,
+        &SLOT,
+    );
+}
+
+// The first record leaves 197 bytes of the area. Four entries are a batch of 168 and need 6 more, five one of 209.
+#[test]
+fn a_run_stops_at_the_first_refusal(rt: HostRuntime) {
+    is_stopped(&rt, 1, Refusal::Stranger);
+    is_stopped(&rt, 4, Refusal::Stranger);
+    is_stopped(&rt, 5, Refusal::JournalFull);
+}
+
+// No edit continues a state yet.
+#[test]
+fn an_edit_is_not_committed(rt: HostRuntime) {
+    let mut store = open_store(&rt, small_device(&rt));
+    let stop = store.run(rt.alloc(), &[step(&rt, &EDIT)]);
+    let refusal = Refusal::Stranger;
+    assert_eq!(rt; stop, Err(Stop { at: 0, refusal }));
+}

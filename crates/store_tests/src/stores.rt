@@ -1,0 +1,234 @@
+//! Stores on devices in memory. What they are to hold stands in docs/FORMATS.md, and is written out by hand here.
+use attributes::Attrs;
+use delta::{Builder, Delta, Op, OpRef};
+use disk::{Disk, MemDisk};
+use recovery::{Shape, Store, format_device};
+use refusal::Refusal;
+use revision::{Command, Name, Plan, State};
+use std::process::Abort;
+
+/// A device of 1,600 bytes: cells at 64, 320, 576 and 832, slots at 1,088 and 1,344.
+pub const SMALL: Shape = Shape {
+    slots: 2,
+    slot: 256,
+    docs: 2,
+    cell: 256,
+    sources: 4,
+    keep: 2,
+};
+
+/// What stands from place 1,088 on, when the source `a` has created the document `d` with the text `z`, and then the
+/// document `e` with the text `y`.
+pub const SLOT: [u8; 110] = [
+    0xa5, 1, 0, 0, 0, 0, 0, 0, 0, // the gate of slot 0, and its number
+    0xa5, 45, 0, 0, 0, // the gate of the first record, and its length
+    1, 0, 0, 0, // one entry
+    1, 0, 0, 0, 0, 1, 0, 0, 0, 0, 0, 0, 0, // a creation, document 0, revision 1
+    1, 0, b'a', 1, 0, 0, 0, 0, 0, 0, 0, // source a, its number 1
+    1, 0, b'd', // name d
+    1, 0, 0, 0, 1, 1, 0, 0, 0, b'z', // one operation, an insert of the text z
+    0, 0, 0, 0, // no attributes
+    0xa5, 45, 0, 0, 0, // the gate of the second record, and its length
+    1, 0, 0, 0, // one entry
+    1, 1, 0, 0, 0, 1, 0, 0, 0, 0, 0, 0, 0, // a creation, document 1, revision 1
+    1, 0, b'a', 1, 0, 0, 0, 0, 0, 0, 0, // source a, its number 1
+    1, 0, b'e', // name e
+    1, 0, 0, 0, 1, 1, 0, 0, 0, b'y', // one operation, an insert of the text y
+    0, 0, 0, 0, // no attributes
+    0, // the closed gate behind
+];
+
+/// A creation that a source asks for: the source, the document's name, the text, and the answer.
+pub type Row = (&'static str, &'static str, &'static str, &'static str);
+
+/// So many bytes from a place on.
+pub fn part(rt: &(impl Abort + AllocGlobal), bytes: &[u8], at: usize, len: usize) -> Vec<u8> {
+    bytes
+        .iter()
+        .skip(at)
+        .take(len)
+        .copied()
+        .collect(rt.alloc())
+        .expect(rt, "memory")
+}
+
+/// The bytes with others from a place on, which may reach past their end.
+pub fn with_bytes_at(
+    rt: &(impl Abort + AllocGlobal),
+    bytes: &[u8],
+    at: usize,
+    other: &[u8],
+) -> Vec<u8> {
+    let head = bytes.iter().take(at).chain(other);
+    let mut all: Vec<u8> = head.copied().collect(rt.alloc()).expect(rt, "memory");
+    for byte in bytes.iter().skip(all.len()) {
+        all.push(*byte).expect(rt, "memory");
+    }
+    all
+}
+
+/// A device of so many zeros that is formatted.
+pub fn formatted_device(rt: &(impl Abort + AllocGlobal), len: usize, shape: Shape) -> MemDisk {
+    let mut disk = MemDisk::new(rt.alloc(), len).expect(rt, "memory");
+    assert_eq!(rt; format_device(rt.alloc(), &mut disk, shape), Ok(()));
+    disk
+}
+
+/// A small device that was just formatted.
+pub fn small_device(rt: &(impl Abort + AllocGlobal)) -> MemDisk {
+    formatted_device(rt, 1_600, SMALL)
+}
+
+/// A synced device of these bytes.
+pub fn device_of(rt: &(impl Abort + AllocGlobal), bytes: &[u8]) -> MemDisk {
+    MemDisk::holding(rt.alloc(), bytes.to_vec(rt.alloc()).expect(rt, "memory"))
+}
+
+/// A store over a device that is to open.
+pub fn open_store<D: Disk + Drop>(rt: &(impl Abort + AllocGlobal), disk: D) -> Store<D> {
+    match Store::open(rt.alloc(), disk) {
+        Ok(store) => store,
+        Err(fault) => panic!(rt; "{}", fault.refusal),
+    }
+}
+
+/// The text that a delta inserts.
+fn text_of(rt: &(impl Abort + AllocGlobal), delta: &Delta) -> String {
+    let mut all = String::new(rt.alloc());
+    for op in delta.ops() {
+        if let OpRef::Text(text, _) = op.get() {
+            all.push_str(text).expect(rt, "memory");
+        }
+    }
+    all
+}
+
+/// The documents of a state, each as a line of its name, its revision and its text.
+pub fn lines_of(rt: &(impl Abort + AllocGlobal), state: &State) -> String {
+    let mut lines = String::new(rt.alloc());
+    for record in state.documents() {
+        let delta = record.document().as_delta(rt.alloc()).expect(rt, "memory");
+        let name = record.name().as_str();
+        let text = text_of(rt, &delta);
+        let line = format!(in rt.alloc(); "{name} {} {text}\n", record.revision());
+        lines
+            .push_str(line.expect(rt, "memory").as_str())
+            .expect(rt, "memory");
+    }
+    lines
+}
+
+/// A state has these documents.
+pub fn has_documents(rt: &(impl Abort + AllocGlobal), state: &State, lines: &str) {
+    assert_eq!(rt; lines_of(rt, state).as_str(), lines);
+}
+
+/// A device of these bytes is opened, with these documents or this refusal. Opening it changes nothing.
+pub fn is_opened_as(rt: &(impl Abort + AllocGlobal), bytes: &[u8], wanted: &str) {
+    match Store::open(rt.alloc(), device_of(rt, bytes)) {
+        Ok(store) => {
+            has_documents(rt, store.state(), wanted);
+            assert_eq!(rt; store.close().bytes(), bytes);
+        }
+        Err(fault) => {
+            let text = format!(in rt.alloc(); "{}", fault.refusal).expect(rt, "memory");
+            assert_eq!(rt; text.as_str(), wanted);
+            assert_eq!(rt; fault.disk.bytes(), bytes);
+        }
+    }
+}
+
+/// Bytes, when others are written over them from a place on, are opened as this.
+pub fn is_opened_with(
+    rt: &(impl Abort + AllocGlobal),
+    bytes: &[u8],
+    at: usize,
+    other: &[u8],
+    wanted: &str,
+) {
+    is_opened_as(rt, &with_bytes_at(rt, bytes, at, other), wanted);
+}
+
+/// Bytes differ from what was there by others from a place on.
+pub fn differ_by(
+    rt: &(impl Abort + AllocGlobal),
+    bytes: &[u8],
+    before: &[u8],
+    at: usize,
+    other: &[u8],
+) {
+    assert_eq!(rt; bytes, with_bytes_at(rt, before, at, other).as_slice());
+}
+
+/// The delta that inserts a text.
+fn insert_of(rt: &(impl Abort + AllocGlobal), text: &str) -> Delta {
+    let text = String::from_str(rt.alloc(), text).expect(rt, "memory");
+    let mut builder = Builder::new(rt.alloc());
+    assert!(rt; builder.push(Op::text(text, Attrs::new(rt.alloc()))).is_ok());
+    builder.finish()
+}
+
+/// The source's first command to a document: it makes it.
+fn creation(rt: &(impl Abort + AllocGlobal), source: &str, doc: &str, text: &str) -> Command {
+    let source = Name::source(rt.alloc(), source).expect(rt, "a source");
+    let doc = Name::doc(rt.alloc(), doc).expect(rt, "a document");
+    Command::create(doc, source, 1, insert_of(rt, text)).expect(rt, "a creation")
+}
+
+// How a command is answered, and which revision it has made. It is committed where it is taken.
+fn answer<D: Disk>(
+    rt: &(impl Abort + AllocGlobal),
+    store: &mut Store<D>,
+    command: &Command,
+) -> Result<(&'static str, u64), Refusal> {
+    match store.state().plan(rt.alloc(), command)? {
+        Plan::Taken(taken) => {
+            let rev = taken.revision();
+            store.commit(rt.alloc(), &[taken])?;
+            Ok(("taken", rev))
+        }
+        Plan::Again { rev } => Ok(("again", rev)),
+    }
+}
+
+// A command's answer in words.
+fn answer_text<D: Disk>(
+    rt: &(impl Abort + AllocGlobal),
+    store: &mut Store<D>,
+    command: &Command,
+) -> String {
+    let text = match answer(rt, store, command) {
+        Ok((word, rev)) => format!(in rt.alloc(); "{word} {rev}"),
+        Err(refusal) => format!(in rt.alloc(); "{refusal}"),
+    };
+    text.expect(rt, "memory")
+}
+
+/// Asks for a creation, and compares the answer.
+pub fn create<D: Disk>(rt: &(impl Abort + AllocGlobal), store: &mut Store<D>, row: &Row) {
+    let (source, doc, text, wanted) = row;
+    let command = creation(rt, source, doc, text);
+    assert_eq!(rt;
+        answer_text(rt, store, &command).as_str(),
+        *wanted,
+        "at {doc}"
+    );
+}
+
+/// One run: opens a device of these bytes, asks for creations, and closes. The store is to hold these documents then,
+/// and so is the device, which comes back.
+pub fn session(
+    rt: &(impl Abort + AllocGlobal),
+    bytes: &[u8],
+    rows: &[Row],
+    lines: &str,
+) -> MemDisk {
+    let mut store = open_store(rt, device_of(rt, bytes));
+    for row in rows {
+        create(rt, &mut store, row);
+    }
+    has_documents(rt, store.state(), lines);
+    let disk = store.close();
+    is_opened_as(rt, disk.bytes(), lines);
+    disk
+}

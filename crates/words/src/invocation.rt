@@ -1,0 +1,75 @@
+//! What the words ask for.
+use crate::deltas::task_in;
+use crate::store::{self, ShapeOptions};
+use algebra::Task;
+use clap::{Command, Error};
+use std::alloc::{AllocError, Global};
+use std::convert::AsStr;
+
+/// The version of the program, which `richd --version` prints behind its name.
+const VERSION: &str = "0.1.0";
+
+/// What the words ask for.
+#[derive(Clone, Copy, Debug, PartialEq, Eq)]
+pub enum Invocation<'a> {
+    /// To make a store in this file.
+    Format { path: &'a str, shape: ShapeOptions },
+    /// To serve a session over the store in this file.
+    Serve { path: &'a str },
+    /// To print the documents of the store in this file.
+    Dump { path: &'a str },
+    /// To print what comes of two deltas.
+    Delta(Task<'a>),
+}
+
+impl<'a> Invocation<'a> {
+    /// What the words ask for, of which the first is the program's path. An `Err` has the text for the user: a usage
+    /// fault, or the help or the version that was asked for.
+    pub fn parse<S: AsStr>(alloc: Global, words: &'a [S]) -> Result<Invocation<'a>, Error> {
+        match words {
+            [_, first, ..] if first.as_str() == "delta" => {
+                Ok(Invocation::Delta(task_in(alloc, &words[1..])?))
+            }
+            _ => Invocation::of_store(alloc, words),
+        }
+    }
+
+    fn of_store<S: AsStr>(alloc: Global, words: &'a [S]) -> Result<Invocation<'a>, Error> {
+        let matches = richd(alloc)?.try_get_matches_from(words)?;
+        Ok(match matches.subcommand() {
+            Some(("format", given)) => Invocation::Format {
+                path: store::path_in(given),
+                shape: store::shape_in(given),
+            },
+            Some(("serve", given)) => Invocation::Serve {
+                path: store::path_in(given),
+            },
+            Some((_, given)) => Invocation::Dump {
+                path: store::path_in(given),
+            },
+            None => Invocation::Dump { path: "" },
+        })
+    }
+}
+
+fn richd<'a>(alloc: Global) -> Result<Command<'a>, AllocError> {
+    let richd = Command::new(alloc, "richd")
+        .version(VERSION)
+        .about("A durable server for rich text")
+        .subcommand_required(true);
+    with_subcommands(alloc, richd)
+}
+
+fn with_subcommands<'a>(alloc: Global, richd: Command<'a>) -> Result<Command<'a>, AllocError> {
+    let richd = richd.subcommand(store::format(alloc)?)?;
+    let richd = richd.subcommand(store::serve(alloc)?)?;
+    let richd = richd.subcommand(store::dump(alloc)?)?;
+    richd.subcommand(delta(alloc))
+}
+
+// For the help alone: its words are read by `task_in`.
+fn delta<'a>(alloc: Global) -> Command<'a> {
+    Command::new(alloc, "delta").about(
+        "Composes, transforms, inverts or applies deltas: 'richd delta --help' tells more",
+    )
+}

@@ -1,0 +1,78 @@
+//! The words of the commands on a store: `format`, `serve` and `dump`.
+use crate::arguments::{with_number, with_word};
+use clap::{ArgMatches, Command};
+use std::alloc::{AllocError, Global};
+
+/// The numbers of a new store that the words give. The others are left to their defaults.
+#[derive(Clone, Copy, Debug, PartialEq, Eq)]
+pub struct ShapeOptions {
+    pub slots: Option<u32>,
+    pub slot: Option<u32>,
+    pub docs: Option<u32>,
+    pub cell: Option<u32>,
+    pub sources: Option<u32>,
+    pub keep: Option<u32>,
+}
+
+/// The options for the numbers of a new store, each with its help.
+const NUMBERS: [(&str, &str); 6] = [
+    ("slots", "Slots of the journal, 2 to 1024 [default: 8]"),
+    ("slot", "Bytes of a slot, 256 to 16777216 [default: 262144]"),
+    ("docs", "Documents, 1 to 65536 [default: 64]"),
+    ("cell", "Bytes of a cell, 256 to 16777216 [default: 262144]"),
+    ("sources", "Sources of a document, 1 to 4096 [default: 256]"),
+    (
+        "keep",
+        "Revisions held below the newest, 1 to 65536 [default: 4096]",
+    ),
+];
+
+/// Makes a store.
+pub fn format<'a>(alloc: Global) -> Result<Command<'a>, AllocError> {
+    let format = Command::new(alloc, "format").about(
+        "Makes a store in a file, and the file where it is missing",
+    );
+    with_numbers(alloc, with_path(alloc, format)?)
+}
+
+/// Serves a store.
+pub fn serve<'a>(alloc: Global) -> Result<Command<'a>, AllocError> {
+    let serve = Command::new(alloc, "serve").about(
+        "Serves a session over standard input and output",
+    );
+    with_path(alloc, serve)
+}
+
+/// Prints a store.
+pub fn dump<'a>(alloc: Global) -> Result<Command<'a>, AllocError> {
+    let dump = Command::new(alloc, "dump").about("Prints the documents, one a line");
+    with_path(alloc, dump)
+}
+
+/// The file that was given.
+pub fn path_in<'a>(given: &ArgMatches<'a>) -> &'a str {
+    given.get_str("PATH").unwrap_or("")
+}
+
+/// The numbers that were given to `format`.
+pub fn shape_in(given: &ArgMatches<'_>) -> ShapeOptions {
+    ShapeOptions {
+        slots: given.get_one("slots"),
+        slot: given.get_one("slot"),
+        docs: given.get_one("docs"),
+        cell: given.get_one("cell"),
+        sources: given.get_one("sources"),
+        keep: given.get_one("keep"),
+    }
+}
+
+fn with_numbers<'a>(alloc: Global, mut command: Command<'a>) -> Result<Command<'a>, AllocError> {
+    for (name, help) in &NUMBERS {
+        command = with_number(alloc, command, name, help)?;
+    }
+    Ok(command)
+}
+
+fn with_path<'a>(alloc: Global, command: Command<'a>) -> Result<Command<'a>, AllocError> {
+    with_word(alloc, command, "PATH", "The file that holds the store")
+}

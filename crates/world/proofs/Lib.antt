@@ -1,0 +1,10 @@
+pub mod Pasts
+pub mod Showing
+pub mod Numbers
+pub mod Histories
+pub mod Answered
+pub mod Openings
+pub mod Standing
+pub mod Holding
+pub mod Clauses
+pub mod Followings

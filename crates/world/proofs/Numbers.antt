@@ -1,0 +1,151 @@
+-- A source's numbers, along the order of what was taken.
+use Rattle.std.proofs.Common.{◌≡◌, ℕ, zero, suc, ◌+◌, Bool, true, false, cond, ◌&&◌, List, [], ◌∷◌, length, Option, Some, None, refl, sym, ap, ◌∙◌}
+use Rattle.std.specs.Prelude.{bytes_eq, slice_get, unwrap_or}
+use Rattle.std.proofs.lemmas.Bool.{both_ways}
+use Rattle.std.proofs.lemmas.Bool.Decides.{same_from_decides}
+use Rattle.std.proofs.lemmas.Slice.Eq.{bytes_eq-Decides}
+use Rattle.std.proofs.lemmas.Map.Text.{is_eq-slice_cmp}
+use Rattle.attributes.specs.Map.{get}
+use Rattle.attributes.proofs.Maps.{get-insert, is_name}
+use Rattle.revision.specs.Command.{Taken}
+use Rattle.revision.specs.Sources.{LastTaken, Sources, last_of, with_last}
+use Rattle.world.specs.World.{Entry, is_of}
+use Rattle.world.specs.Shown.{Shown}
+use Rattle.world.proofs.Showing.{next_shown, blank, shown_by_name, set_shown, grown_shown}
+
+-- what a source has of which nothing was taken
+abbrev pub nothing_yet : LastTaken
+nothing_yet = record { number = 0; revision = 0 }
+
+-- the last that a source has in the document of a name, 0 and 0 where there is none
+abbrev pub last_in : List ℕ → List ℕ → List Shown → LastTaken
+last_in name source [] = nothing_yet
+last_in name source (first ∷ others) = cond (bytes_eq first.name name) (last_of source first.sources) (last_in name source others)
+
+-- no document has this name
+abbrev pub IsNew : List ℕ → List Shown → Type 0
+IsNew name [] = Unit {0}
+IsNew name (first ∷ others) = (bytes_eq first.name name ≡ false) × IsNew name others
+
+-- the document of this name has this number, and this revision is its next one
+abbrev pub IsNextAt : List ℕ → ℕ → ℕ → List Shown → Type 0
+IsNextAt name revision number [] = ⊥
+IsNextAt name revision zero (first ∷ others) = (bytes_eq first.name name ≡ true) × (revision ≡ first.revision + 1)
+IsNextAt name revision (suc number) (first ∷ others) = (bytes_eq first.name name ≡ false) × IsNextAt name revision number others
+
+abbrev pub HasPlace : List ℕ → Taken → List Shown → Option (List ℕ) → Type 0
+HasPlace name taken documents None = IsNextAt name taken.revision taken.document documents
+HasPlace name taken documents (Some new) = (new ≡ name) × (taken.document ≡ length documents) × (taken.revision ≡ 1) × IsNew name documents
+
+-- a command that these documents took: it is its source's next one, and has its place
+pub record Placed (documents : List Shown) (entry : Entry) : Type 0 where
+  pub source : entry.taken.source ≡ entry.command.source
+  pub number : entry.taken.number ≡ entry.command.number
+  pub next : entry.command.number ≡ (last_in entry.command.name entry.command.source documents).number + 1
+  pub place : HasPlace entry.command.name entry.taken documents entry.taken.name
+
+pub same_bytes : (a b : List ℕ) → bytes_eq a b ≡ true → a ≡ b
+same_bytes a b = (bytes_eq-Decides a b).0
+
+pub bytes_same : (a b : List ℕ) → a ≡ b → bytes_eq a b ≡ true
+bytes_same a b = (bytes_eq-Decides a b).1
+
+pub bytes_turned : (a b : List ℕ) → bytes_eq a b ≡ bytes_eq b a
+bytes_turned a b = same_from_decides (bytes_eq a b) (bytes_eq b a) (bytes_eq-Decides a b) ((λ e. sym (same_bytes b a e)), (λ e. bytes_same b a (sym e)))
+
+-- names that differ from one name are not another
+differ : (a b c : List ℕ) → bytes_eq a b ≡ false → bytes_eq a c ≡ true → bytes_eq b c ≡ false
+differ a b c other same = elim (bytes_eq b c) as (λ t. bytes_eq b c ≡ t → t ≡ false) [
+  | true ↦ λ e. absurd (both_ways (bytes_eq a b) other (bytes_same a b (same_bytes a c same ∙ sym (same_bytes b c e))))
+  | false ↦ λ e. refl
+] refl
+
+pub last_of-with_last : (source : List ℕ) (by : List ℕ) (number revision : ℕ) (sources : Sources)
+    → last_of source (with_last by number revision sources) ≡ cond (bytes_eq by source) (record { number = number; revision = revision }) (last_of source sources)
+last_of-with_last source by number revision sources =
+    ap (λ o. unwrap_or o (record { number = 0; revision = 0 })) (get-insert sources by (record { number = number; revision = revision }) source)
+    ∙ (by_test (is_name source by)
+    ∙ ap (λ b. cond b (record { number = number; revision = revision }) (last_of source sources)) (is_eq-slice_cmp source by ∙ bytes_turned source by))
+  where
+    by_test : (b : Bool) → unwrap_or (cond b (Some (record { number = number; revision = revision })) (get sources source)) (record { number = 0; revision = 0 })
+        ≡ cond b (record { number = number; revision = revision }) (last_of source sources)
+    by_test true = refl
+    by_test false = refl
+
+-- what a source has after a command
+abbrev pub noted : Taken → LastTaken
+noted taken = record { number = taken.number; revision = taken.revision }
+
+module _ (name source own : List ℕ) (taken : Taken) where
+  -- the record of the document itself, after the command that makes its next revision
+  own_last : (found : Shown) (others : List Shown) → bytes_eq found.name own ≡ true → taken.revision ≡ found.revision + 1
+      → last_in name source (next_shown taken found ∷ others)
+      ≡ cond (bytes_eq own name && bytes_eq taken.source source) (noted taken) (last_in name source (found ∷ others))
+  own_last found others is next =
+      ap (λ n. cond (bytes_eq n name) (last_of source (with_last taken.source taken.number (found.revision + 1) found.sources)) (last_in name source others)) named
+      ∙ (by_test (bytes_eq own name)
+      ∙ ap (λ n. cond (bytes_eq own name && bytes_eq taken.source source) (noted taken) (cond (bytes_eq n name) (last_of source found.sources) (last_in name source others))) (sym named))
+    where
+      named : found.name ≡ own
+      named = same_bytes found.name own is
+
+      by_test : (b : Bool) → cond b (last_of source (with_last taken.source taken.number (found.revision + 1) found.sources)) (last_in name source others)
+          ≡ cond (b && bytes_eq taken.source source) (noted taken) (cond b (last_of source found.sources) (last_in name source others))
+      by_test true =
+          last_of-with_last source taken.source taken.number (found.revision + 1) found.sources
+          ∙ ap (λ r. cond (bytes_eq taken.source source) (record { number = taken.number; revision = r }) (last_of source found.sources)) (sym next)
+      by_test false = refl
+
+  -- the documents before it are as they were
+  other_last : (found : Shown) (others after : List Shown) → bytes_eq found.name own ≡ false
+      → last_in name source after ≡ cond (bytes_eq own name && bytes_eq taken.source source) (noted taken) (last_in name source others)
+      → last_in name source (found ∷ after) ≡ cond (bytes_eq own name && bytes_eq taken.source source) (noted taken) (last_in name source (found ∷ others))
+  other_last found others after differs further = by_test (bytes_eq found.name name) refl
+    where
+      by_test : (b : Bool) → bytes_eq found.name name ≡ b → cond b (last_of source found.sources) (last_in name source after)
+          ≡ cond (bytes_eq own name && bytes_eq taken.source source) (noted taken) (cond b (last_of source found.sources) (last_in name source others))
+      by_test true e = ap (λ t. cond (t && bytes_eq taken.source source) (noted taken) (last_of source found.sources)) (sym (differ found.name own name differs e))
+      by_test false e = further
+
+  set_further : (number : ℕ) (document : Option Shown) (first : Shown) (others : List Shown)
+      → set_shown (suc number) document (first ∷ others) ≡ first ∷ set_shown number document others
+  set_further number None first others = refl
+  set_further number (Some document) first others = refl
+
+  last-changed : (number : ℕ) (documents : List Shown) → IsNextAt own taken.revision number documents
+      → last_in name source (set_shown number (shown_by_name (slice_get documents number) taken None) documents)
+      ≡ cond (bytes_eq own name && bytes_eq taken.source source) (noted taken) (last_in name source documents)
+  last-changed zero [] at = absurd at
+  last-changed (suc number) [] at = absurd at
+  last-changed zero (first ∷ others) at = own_last first others at.0 at.1
+  last-changed (suc number) (first ∷ others) at =
+      ap (last_in name source) (set_further number (shown_by_name (slice_get others number) taken None) first others)
+      ∙ other_last first others (set_shown number (shown_by_name (slice_get others number) taken None) others) at.0 (last-changed number others at.1)
+
+  last-created : (documents : List Shown) → IsNew own documents → taken.revision ≡ 1
+      → last_in name source (set_shown (length documents) (shown_by_name (slice_get documents (length documents)) taken (Some own)) documents)
+      ≡ cond (bytes_eq own name && bytes_eq taken.source source) (noted taken) (last_in name source documents)
+  last-created [] new first = own_last (blank own) [] (bytes_same own own refl) first ∙ ap (λ l. cond (bytes_eq own name && bytes_eq taken.source source) (noted taken) l) (none (bytes_eq own name))
+    where
+      none : (b : Bool) → cond b nothing_yet nothing_yet ≡ nothing_yet
+      none true = refl
+      none false = refl
+  last-created (found ∷ others) new first =
+      ap (last_in name source) (set_further (length others) (shown_by_name (slice_get others (length others)) taken (Some own)) found others)
+      ∙ other_last found others (set_shown (length others) (shown_by_name (slice_get others (length others)) taken (Some own)) others) new.0 (last-created others new.1 first)
+
+-- A command that has its place sets what its source has in its document, and nothing else.
+pub last-grown : (name source : List ℕ) (documents : List Shown) (entry : Entry) → Placed documents entry
+    → last_in name source (grown_shown entry.taken documents) ≡ cond (is_of name source entry.command) (noted entry.taken) (last_in name source documents)
+last-grown name source documents entry placed =
+    by_name entry.taken.name placed.place
+    ∙ ap (λ s. cond (bytes_eq entry.command.name name && bytes_eq s source) (noted entry.taken) (last_in name source documents)) placed.source
+  where
+    by_name : (new : Option (List ℕ)) → HasPlace entry.command.name entry.taken documents new
+        → last_in name source (set_shown entry.taken.document (shown_by_name (slice_get documents entry.taken.document) entry.taken new) documents)
+        ≡ cond (bytes_eq entry.command.name name && bytes_eq entry.taken.source source) (noted entry.taken) (last_in name source documents)
+    by_name None place = last-changed name source entry.command.name entry.taken entry.taken.document documents place
+    by_name (Some new) place =
+        ap (λ n. last_in name source (set_shown n (shown_by_name (slice_get documents n) entry.taken (Some new)) documents)) place.1
+        ∙ (ap (λ n. last_in name source (set_shown (length documents) (shown_by_name (slice_get documents (length documents)) entry.taken (Some n)) documents)) place.0
+        ∙ last-created name source entry.command.name entry.taken documents place.3 place.2)

@@ -1,0 +1,87 @@
+-- What a state shows goes on with each command by what it shows, so floors play no part in it.
+use Rattle.std.proofs.Common.{◌≡◌, ℕ, zero, suc, ◌+◌, List, [], ◌∷◌, ◌++◌, map, Option, Some, None, refl, sym, ap, ◌∙◌}
+use Rattle.std.specs.Prelude.{slice_get, option_map}
+use Rattle.std.proofs.lemmas.Option.{slice_get-map}
+use Rattle.attributes.specs.Map.{empty}
+use Rattle.delta.specs.Gaps.{counted, apply}
+use Rattle.revision.specs.Command.{Taken}
+use Rattle.revision.specs.Sources.{with_last}
+use Rattle.revision.specs.Whole.{change_of, empty_past, DocumentRecord, State, with_change, record_by_name, record_after, set_document, grown, fold}
+use Rattle.world.specs.Shown.{Shown, shown, all_shown}
+use Rattle.world.proofs.Pasts.{newest-with_change, units-with_change, sources-with_change}
+
+-- a document after one command more
+abbrev pub next_shown : Taken → Shown → Shown
+next_shown taken found = record found {
+  units = apply found.units (counted taken.delta);
+  revision = found.revision + 1;
+  sources = with_last taken.source taken.number (found.revision + 1) found.sources;
+}
+
+-- a document that nothing was taken of yet
+abbrev pub blank : List ℕ → Shown
+blank name = record { name = name; units = []; revision = 0; sources = empty }
+
+abbrev pub shown_by_name : Option Shown → Taken → Option (List ℕ) → Option Shown
+shown_by_name None taken None = None
+shown_by_name None taken (Some name) = Some (next_shown taken (blank name))
+shown_by_name (Some found) taken name = Some (next_shown taken found)
+
+abbrev pub set_shown : ℕ → Option Shown → List Shown → List Shown
+set_shown number None documents = documents
+set_shown zero (Some document) [] = document ∷ []
+set_shown (suc number) (Some document) [] = []
+set_shown zero (Some document) (first ∷ others) = document ∷ others
+set_shown (suc number) (Some document) (first ∷ others) = first ∷ set_shown number (Some document) others
+
+abbrev pub grown_shown : Taken → List Shown → List Shown
+grown_shown taken documents = set_shown taken.document (shown_by_name (slice_get documents taken.document) taken taken.name) documents
+
+pub shown-next : (keep : ℕ) (found : DocumentRecord) (taken : Taken)
+    → shown (record found { past = with_change keep found.past (change_of taken) }) ≡ next_shown taken (shown found)
+shown-next keep found taken = λ i. record {
+  name = found.name;
+  units = units-with_change keep found.past (change_of taken) i;
+  revision = newest-with_change keep found.past (change_of taken) i;
+  sources = sources-with_change keep found.past (change_of taken) i;
+}
+
+shown-created : (keep : ℕ) (name : List ℕ) (taken : Taken)
+    → shown (record { name = name; past = with_change keep empty_past (change_of taken) }) ≡ next_shown taken (blank name)
+shown-created keep name taken = shown-next keep (record { name = name; past = empty_past }) taken
+
+shown-by_name : (keep : ℕ) (found : Option DocumentRecord) (taken : Taken) (name : Option (List ℕ))
+    → option_map shown (record_by_name keep found taken name) ≡ shown_by_name (option_map shown found) taken name
+shown-by_name keep None taken None = refl
+shown-by_name keep None taken (Some name) = ap Some (shown-created keep name taken)
+shown-by_name keep (Some found) taken None = ap Some (shown-next keep found taken)
+shown-by_name keep (Some found) taken (Some name) = ap Some (shown-next keep found taken)
+
+shown-set : (number : ℕ) (document : Option DocumentRecord) (documents : List DocumentRecord)
+    → map shown (set_document number document documents) ≡ set_shown number (option_map shown document) (map shown documents)
+shown-set zero None documents = refl
+shown-set (suc number) None documents = refl
+shown-set zero (Some document) [] = refl
+shown-set (suc number) (Some document) [] = refl
+shown-set zero (Some document) (first ∷ others) = refl
+shown-set (suc number) (Some document) (first ∷ others) = ap (λ l. shown first ∷ l) (shown-set number (Some document) others)
+
+pub shown-grown : (state : State) (taken : Taken) → all_shown (grown state taken) ≡ grown_shown taken (all_shown state)
+shown-grown state taken =
+    shown-set taken.document (record_after state.limits.keep (slice_get state.documents taken.document) taken) state.documents
+    ∙ ap (λ o. set_shown taken.document o (all_shown state))
+    (shown-by_name state.limits.keep (slice_get state.documents taken.document) taken taken.name
+    ∙ ap (λ o. shown_by_name o taken taken.name) (sym (slice_get-map shown state.documents taken.document)))
+
+-- all commands in order
+abbrev pub fold_shown : List Shown → List Taken → List Shown
+fold_shown documents [] = documents
+fold_shown documents (first ∷ others) = fold_shown (grown_shown first documents) others
+
+pub shown-fold : (state : State) (commands : List Taken) → all_shown (fold state commands) ≡ fold_shown (all_shown state) commands
+shown-fold state [] = refl
+shown-fold state (first ∷ others) = shown-fold (grown state first) others ∙ ap (λ d. fold_shown d others) (shown-grown state first)
+
+pub fold_shown-append : (documents : List Shown) (first others : List Taken) → fold_shown documents (first ++ others) ≡ fold_shown (fold_shown documents first) others
+fold_shown-append documents [] others = refl
+fold_shown-append documents (taken ∷ more) others = fold_shown-append (grown_shown taken documents) more others

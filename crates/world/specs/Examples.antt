@@ -1,0 +1,162 @@
+-- Schedules, computed. What comes of each is worked out by hand.
+use Rattle.std.specs.Prelude.{◌≡◌, ℕ, true, false, List, [], ◌∷◌, ◌++◌, length, map, refl, codes}
+use Rattle.std.specs.Char.{encode_utf8}
+use Rattle.std.specs.Char.Utf16.{utf16_chars}
+use Rattle.refusal.specs.declared.Refusal.TheVariants.{TooOld}
+use Rattle.attributes.specs.Map.{empty, insert}
+use Rattle.attributes.specs.Attributes.{changed_by}
+use Rattle.delta.specs.Operation.{insert_text}
+use Rattle.revision.specs.Whole.{State, Action, Create, Edit, Command, Refuses, Reply, TakenAt, AgainAt, answer}
+use Rattle.world.specs.Board.{Ticket}
+use Rattle.world.specs.Event.{Done, Failed, Stopped, Event, Submit, Take, Device, Publish, Settle, Ack, Compose, Crash, Open, Resend}
+use Rattle.world.specs.World.{World, begun}
+use Rattle.world.specs.Step.{may_leave, run}
+
+-- a store without documents, of which each holds two revisions below its newest one
+abbrev empty_store : State
+empty_store = record { limits = record { docs = 2; sources = 4; weight = 1000; width = 237; keep = 2 }; documents = [] }
+
+-- source a's commands to document d
+abbrev ask : ℕ → Action → Command
+ask number action = record { name = 100 ∷ []; source = 97 ∷ []; number = number; action = action }
+
+abbrev create : Command
+create = ask 1 (Create (insert_text (codes "z") empty ∷ []))
+
+abbrev edit : ℕ → ℕ → Command
+edit number base = ask number (Edit base (insert_text (codes "x") empty ∷ []))
+
+abbrev after : List Event → World
+after events = run (begun empty_store) events
+
+-- what a ticket says: its reply, and the length that has to be settled
+abbrev said : Ticket → Reply × ℕ
+said ticket = (ticket.reply, ticket.length)
+
+abbrev tickets_after : List Event → List (Reply × ℕ)
+tickets_after events = map said (after events).tickets
+
+abbrev acks_after : List Event → List (Reply × ℕ)
+acks_after events = map said (after events).acks
+
+-- the counts of a world: taken off, settled, shown, and the two lengths of which a crash leaves one
+abbrev counts_after : List Event → List ℕ
+counts_after events =
+    let world = after events in
+    world.board.taken ∷ world.board.settled ∷ length world.published ∷ world.without ∷ world.with_batch ∷ []
+
+-- one command's way to its acknowledgement
+abbrev written_once : List Event
+written_once = Take 1 ∷ Device Done ∷ Publish ∷ Settle ∷ Ack 0 ∷ []
+
+-- A retry of an edit that isn't settled waits for it: its ticket has length 1, and its acknowledgement is not possible yet.
+abbrev retried : List Event
+retried = Submit create ∷ Take 1 ∷ Resend create ∷ []
+
+retry_waits : tickets_after retried ≡ (TakenAt 1, 1) ∷ (AgainAt 1, 1) ∷ []
+unfolding utf16_chars encode_utf8 insert
+retry_waits = refl
+
+retry_is_not_acknowledged : acks_after (retried ++ Ack 1 ∷ []) ≡ []
+unfolding utf16_chars encode_utf8 insert
+retry_is_not_acknowledged = refl
+
+-- A crash may lose the edit: then it is taken anew. Or it may leave it: then it is a retry.
+lost_is_taken_anew : tickets_after (retried ++ Crash 0 ∷ Open 0 [] ∷ Resend create ∷ []) ≡ (TakenAt 1, 1) ∷ []
+unfolding utf16_chars encode_utf8 insert
+lost_is_taken_anew = refl
+
+left_is_a_retry : tickets_after (retried ++ Crash 1 ∷ Open 1 (0 ∷ []) ∷ Resend create ∷ []) ≡ (AgainAt 1, 1) ∷ []
+unfolding utf16_chars encode_utf8 insert
+left_is_a_retry = refl
+
+-- What was acknowledged stays: the only length that a crash may leave is 1.
+acknowledged_stays : acks_after (Submit create ∷ written_once) ≡ (TakenAt 1, 1) ∷ []
+unfolding utf16_chars encode_utf8 insert
+acknowledged_stays = refl
+
+nothing_is_lost : counts_after (Submit create ∷ written_once ++ Crash 0 ∷ []) ≡ 1 ∷ 1 ∷ 1 ∷ 1 ∷ 1 ∷ []
+unfolding utf16_chars encode_utf8 insert
+nothing_is_lost = refl
+
+may_lose_nothing : may_leave (after (Submit create ∷ written_once)) 0 ≡ false
+unfolding utf16_chars encode_utf8 insert
+may_lose_nothing = refl
+
+settled_is_a_retry : tickets_after (Submit create ∷ written_once ++ Crash 1 ∷ Open 1 (0 ∷ []) ∷ Resend create ∷ []) ≡ (AgainAt 1, 1) ∷ []
+unfolding utf16_chars encode_utf8 insert
+settled_is_a_retry = refl
+
+-- Revisions 1 to 3 are acknowledged, and 3 is composed. An edit of base 1 is taken as revision 4, and its batch given up; the crash
+-- leaves three commands. Opened with floor 3 its base is too old, and it was never acknowledged.
+abbrev three_settled : List Event
+three_settled = Submit create ∷ Submit (edit 2 1) ∷ Submit (edit 3 2) ∷ Take 3 ∷ Device Done ∷ Publish ∷ Settle ∷ Ack 0 ∷ Ack 1 ∷ Ack 2 ∷ Compose 0 3 ∷ []
+
+abbrev fourth_given_up : List Event
+fourth_given_up = three_settled ++ Submit (edit 4 1) ∷ Take 1 ∷ Device Stopped ∷ []
+
+fourth_is_taken : tickets_after fourth_given_up ≡ (TakenAt 1, 1) ∷ (TakenAt 2, 2) ∷ (TakenAt 3, 3) ∷ (TakenAt 4, 4) ∷ []
+unfolding utf16_chars encode_utf8 insert changed_by
+fourth_is_taken = refl
+
+fourth_is_not_acknowledged : acks_after (fourth_given_up ++ Ack 3 ∷ []) ≡ (TakenAt 1, 1) ∷ (TakenAt 2, 2) ∷ (TakenAt 3, 3) ∷ []
+unfolding utf16_chars encode_utf8 insert changed_by
+fourth_is_not_acknowledged = refl
+
+fourth_is_too_old : answer (after (fourth_given_up ++ Crash 3 ∷ Open 3 (3 ∷ []) ∷ [])).board.state (edit 4 1) ≡ Refuses TooOld
+unfolding utf16_chars encode_utf8 insert changed_by
+fourth_is_too_old = refl
+
+fourth_has_no_ticket : tickets_after (fourth_given_up ++ Crash 3 ∷ Open 3 (3 ∷ []) ∷ Resend (edit 4 1) ∷ []) ≡ []
+unfolding utf16_chars encode_utf8 insert changed_by
+fourth_has_no_ticket = refl
+
+-- with a lower floor it is taken again, as the same revision
+fourth_is_taken_again : tickets_after (fourth_given_up ++ Crash 3 ∷ Open 3 (1 ∷ []) ∷ Resend (edit 4 1) ∷ []) ≡ (TakenAt 4, 4) ∷ []
+unfolding utf16_chars encode_utf8 insert changed_by
+fourth_is_taken_again = refl
+
+-- An event that isn't possible changes nothing: a settling before the batch is shown, a showing before it is written, a second batch
+-- while one is being written, a composing of a revision that isn't written, an opening of a store that works, a floor that no
+-- opening may give, and whatever comes between a crash and an opening.
+settles_nothing : counts_after (Submit create ∷ Take 1 ∷ Device Done ∷ Settle ∷ []) ≡ 1 ∷ 0 ∷ 0 ∷ 1 ∷ 1 ∷ []
+unfolding utf16_chars encode_utf8 insert
+settles_nothing = refl
+
+shows_nothing : counts_after (Submit create ∷ Take 1 ∷ Publish ∷ []) ≡ 1 ∷ 0 ∷ 0 ∷ 0 ∷ 1 ∷ []
+unfolding utf16_chars encode_utf8 insert
+shows_nothing = refl
+
+takes_no_second : counts_after (Submit create ∷ Take 1 ∷ Submit (edit 2 1) ∷ Take 1 ∷ []) ≡ 1 ∷ 0 ∷ 0 ∷ 0 ∷ 1 ∷ []
+unfolding utf16_chars encode_utf8 insert
+takes_no_second = refl
+
+composes_nothing : (after (Submit create ∷ Take 1 ∷ Compose 0 1 ∷ [])).composed ≡ []
+unfolding utf16_chars encode_utf8 insert
+composes_nothing = refl
+
+opens_nothing : counts_after (Submit create ∷ Take 1 ∷ Device Done ∷ Open 1 (0 ∷ []) ∷ []) ≡ 1 ∷ 0 ∷ 0 ∷ 1 ∷ 1 ∷ []
+unfolding utf16_chars encode_utf8 insert
+opens_nothing = refl
+
+opens_at_no_such_floor : (after (retried ++ Crash 1 ∷ Open 1 (1 ∷ []) ∷ [])).crashed ≡ true
+unfolding utf16_chars encode_utf8 insert
+opens_at_no_such_floor = refl
+
+sends_nothing_while_stopped : tickets_after (retried ++ Crash 0 ∷ Submit create ∷ []) ≡ []
+unfolding utf16_chars encode_utf8 insert
+sends_nothing_while_stopped = refl
+
+-- a number that isn't the last one isn't sent again
+sends_no_older : tickets_after (Submit create ∷ Submit (edit 2 1) ∷ Resend create ∷ []) ≡ (TakenAt 1, 1) ∷ (TakenAt 2, 2) ∷ []
+unfolding utf16_chars encode_utf8 insert
+sends_no_older = refl
+
+-- After a failed batch the store is opened again, with or without it; tickets of before are gone.
+tickets_are_gone : acks_after (Submit create ∷ Take 1 ∷ Device Failed ∷ Open 1 (0 ∷ []) ∷ Ack 0 ∷ []) ≡ []
+unfolding utf16_chars encode_utf8 insert
+tickets_are_gone = refl
+
+failed_is_left : tickets_after (Submit create ∷ Take 1 ∷ Device Failed ∷ Open 1 (0 ∷ []) ∷ Resend create ∷ []) ≡ (AgainAt 1, 1) ∷ []
+unfolding utf16_chars encode_utf8 insert
+failed_is_left = refl

@@ -1,0 +1,76 @@
+-- What holds of every schedule: of each world that any list of events makes of any store.
+use Rattle.std.specs.Prelude.{◌≡◌, ◌⊎◌, ℕ, ◌≤◌, true, List, length, take, Option, Some, None, All, Any, AllPairs}
+use Rattle.revision.specs.Sources.{LastTaken, last_of}
+use Rattle.revision.specs.Whole.{DocumentRecord, sources_of, State, Command, find, Repeats, Reply, TakenAt, AgainAt, Refused, answer, fold}
+use Rattle.world.specs.Board.{Ticket}
+use Rattle.world.specs.Event.{Event}
+use Rattle.world.specs.World.{Entry, takens, World, begun, last_sent}
+use Rattle.world.specs.Step.{may_leave, run}
+use Rattle.world.specs.Shown.{all_shown}
+
+-- P holds after each list of events, from each state that a store may begin with.
+abbrev pub OverAll : (World → Type 0) → Type 0
+OverAll P = (start : State) (events : List Event) → P (run (begun start) events)
+
+-- P holds of each number of commands that a crash or an opening may leave of the order.
+abbrev pub HowMuchIsLeft : World → (ℕ → Type 0) → Type 0
+HowMuchIsLeft world P = (kept : ℕ) → may_leave world kept ≡ true → P kept
+
+-- the revision that a reply names, 0 where it is a refusal
+abbrev pub revision_named : Reply → ℕ
+revision_named (TakenAt revision) = revision
+revision_named (AgainAt revision) = revision
+revision_named (Refused refusal) = 0
+
+-- two commands of one source to one document, with one number: one is the other, sent again
+abbrev pub IsSent : Command → Command → Type 0
+IsSent a b = (a.name ≡ b.name) × (a.source ≡ b.source) × (a.number ≡ b.number)
+
+-- what a source has in the document of its command: the last number with the revision that came of it, 0 and 0 where there is none
+abbrev pub last_found : List ℕ → Option (ℕ × DocumentRecord) → LastTaken
+last_found source None = record { number = 0; revision = 0 }
+last_found source (Some found) = last_of source (sources_of found.1)
+
+abbrev pub last_held : State → Command → LastTaken
+last_held state command = last_found command.source (find command.name 0 state.documents)
+
+-- an entry of the order is this command, and made this revision
+abbrev pub Made : Command → ℕ → Entry → Type 0
+Made command revision entry = IsSent command entry.command × (entry.taken.revision ≡ revision)
+
+-- A number made this revision: an entry among these did, or the start had it so.
+abbrev pub IsKept : State → List Entry → Command → ℕ → Type 0
+IsKept start entries command revision =
+    Any (Made command revision) entries ⊎ (last_held start command ≡ record { number = command.number; revision = revision })
+
+-- No acknowledged edit is missing: whatever is left of the order has all that an acknowledgement waited for.
+abbrev pub AcksStay : World → Type 0
+AcksStay world = HowMuchIsLeft world (λ kept. All (λ (ack : Ticket). ack.length ≤ kept) world.acks)
+
+-- None is taken twice: no two places of the order have one number of a source in a document.
+abbrev pub TakenOnce : World → Type 0
+TakenOnce world = AllPairs (λ (a b : Entry). IsSent a.command b.command → ⊥) world.board.order
+
+-- None changes its revision: all acknowledgements of one number name one revision.
+abbrev pub OneRevision : World → Type 0
+OneRevision world = AllPairs (λ (a b : Ticket). IsSent a.command b.command → revision_named a.reply ≡ revision_named b.reply) world.acks
+
+-- What an acknowledgement names, of a first sending or a retry, is never taken back: whatever is left of the order has it.
+abbrev pub NothingTakenBack : World → Type 0
+NothingTakenBack world =
+    HowMuchIsLeft world (λ kept. All (λ (ack : Ticket). IsKept world.board.start (take kept world.board.order) ack.command (revision_named ack.reply)) world.acks)
+
+-- A number that the order or the start has, and that is the last one that its source sent, is answered as a retry, with its revision.
+abbrev pub KeptIsAgain : World → Type 0
+KeptIsAgain world = (command : Command) (revision : ℕ) → 1 ≤ command.number → IsKept world.board.start world.board.order command revision
+    → last_sent command.name command.source world.sent ≤ command.number → answer world.board.state command ≡ Repeats revision
+
+-- What readers are shown is never taken back: it is a beginning of the order, and whatever is left of that has it.
+pub record ShownStays (world : World) : Type 0 where
+  pub beginning : world.published ≡ takens (take (length world.published) world.board.order)
+  pub stays : HowMuchIsLeft world (λ kept. length world.published ≤ kept)
+
+-- The state shows what the order makes of the start. How far back the two hold it may differ.
+pub record StateIsFold (world : World) : Type 0 where
+  pub limits : world.board.state.limits ≡ world.board.start.limits
+  pub documents : all_shown world.board.state ≡ all_shown (fold world.board.start (takens world.board.order))

@@ -1,0 +1,9 @@
+pub mod Board
+pub mod Event
+pub mod World
+pub mod Step
+pub mod Shown
+pub mod Law
+pub mod Followed
+pub mod Following
+mod Examples

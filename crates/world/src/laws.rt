@@ -1,0 +1,21 @@
+//! What holds of every schedule, as contracts of functions that do nothing.
+ghost use Rattle.world.specs.Following.{Follows};
+ghost use Rattle.world.specs.Law.{OverAll, AcksStay, TakenOnce, OneRevision, NothingTakenBack, KeptIsAgain, ShownStays, StateIsFold};
+
+/// Over every list of events, with crashes and commands sent again, from every state that a store may begin with: no
+/// acknowledged edit is missing, none is taken twice, and none changes its revision.
+pub fn every_schedule()
+    ensures acks_stay { OverAll AcksStay }
+    ensures taken_once { OverAll TakenOnce }
+    ensures one_revision { OverAll OneRevision }
+    ensures nothing_taken_back { OverAll NothingTakenBack }
+    ensures kept_is_again { OverAll KeptIsAgain }
+    ensures shown_stays { OverAll ShownStays }
+    ensures state_is_fold { OverAll StateIsFold }
+{}
+
+/// What a `Follower` comes to is what is followed of a world: of each schedule of one source's commands to one document, of a
+/// store that begins without documents, it shows the order, the tickets, the acknowledgements and the lengths.
+pub fn follower_follows()
+    ensures { Follows }
+{}

@@ -1,0 +1,17 @@
+//! Every schedule: what holds of the server over all of its lives, whatever happens in between.
+//!
+//! A world is what a history of the server has made: the one order of the commands that were taken with the state after them, how
+//! far it is taken off, shown and settled, the tickets that are out, all acknowledgements since the world began, and the two
+//! lengths of the order of which a crash leaves one (specs/World.antt). Events are the steps of the board, of the device and of the
+//! view, and crashes and openings (specs/Event.antt). Each makes a world of a world, and one that isn't possible changes nothing,
+//! so every list of events is a schedule (specs/Step.antt). What the board does stands apart, in specs/Board.antt, in words that
+//! the board itself can be promised by.
+//!
+//! `laws::every_schedule` promises of every list of events: no acknowledged edit is missing, none is taken twice, and none changes
+//! its revision (specs/Law.antt). It stands on the rule of acceptance, `revision`.
+#![tactic(auto)]
+
+mod follower;
+pub mod laws;
+
+pub use follower::{Follower, Happening, Place, Waiting};
