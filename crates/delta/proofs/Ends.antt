@@ -9,7 +9,7 @@ use Rattle.delta.specs.Element.{Element}
 use Rattle.delta.specs.Operation.{Operation, insert_text, insert_embed, retain, delete, is_plain, merged, op_len, base_of, out_of}
 use Rattle.delta.specs.Gaps.{Gaps, End, Gap, Fate, Del, Keep, front, run, counted, joined}
 use Rattle.delta.specs.Normal.{may_precede, is_built, ends_plain, IsNormal, past, settled, trim, trimmed, spelled, nf}
-use Rattle.delta.specs.Building.{without_plain, IsBuilding, IsDelta}
+use Rattle.delta.specs.steps.Building.{without_plain, IsBuilding, IsDelta}
 use Rattle.delta.proofs.Joins.{counted-append}
 use Rattle.delta.proofs.Settling.{settled-front}
 use Rattle.delta.proofs.BuiltLists.{nf-same}

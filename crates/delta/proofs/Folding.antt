@@ -8,7 +8,7 @@ use Rattle.delta.specs.Element.{Element, Item, code_unit, embed, letters, embedd
 use Rattle.delta.specs.Operation.{Operation, insert_text, insert_embed, retain, delete, is_insert, is_delete, merged, op_len}
 use Rattle.delta.specs.Gaps.{Gaps, End, Gap, Fate, Del, Keep, front, counted}
 use Rattle.delta.specs.Normal.{past, settled, spell_unit, spell_item, spell_inserts, spell_fate, spelled, built}
-use Rattle.delta.specs.Building.{neighbours}
+use Rattle.delta.specs.steps.Building.{neighbours}
 use Rattle.delta.proofs.Settling.{settled-front}
 use Rattle.delta.proofs.Spellings.{spelled-front}
 

@@ -4,7 +4,7 @@ use Rattle.std.proofs.Math.Numerals.{sub-one}
 use Rattle.std.proofs.lemmas.List.{set-get_or}
 use Rattle.std.specs.Prelude.{MatchBool}
 use Rattle.delta.specs.Operation.{Operation, insert_text, insert_embed, retain, delete, is_insert, is_delete, merged, op_len, op_base, op_out, base_of, out_of}
-use Rattle.delta.specs.Building.{neighbours, added, place_of, IsAddedApart}
+use Rattle.delta.specs.steps.Building.{neighbours, added, place_of, IsAddedApart}
 
 -- by the last operation
 pub place_of-last : (ops : List Operation) (k : ℕ) (op d : Operation) → length ops ≡ suc k → place_of ops op ≡ cond (is_delete (get_or ops k d) && is_insert op) k (suc k)

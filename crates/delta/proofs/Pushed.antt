@@ -4,7 +4,7 @@ use Rattle.std.specs.Prelude.{IsTrue}
 use Rattle.delta.specs.Operation.{Operation, insert_text, insert_embed, retain, delete, op_len, op_base, op_out, base_of, out_of, IsBounded}
 use Rattle.delta.specs.Gaps.{End, counted, joined}
 use Rattle.delta.specs.Normal.{is_built, built, settled, spelled}
-use Rattle.delta.specs.Building.{added, place_of, IsBuilding}
+use Rattle.delta.specs.steps.Building.{added, place_of, IsBuilding}
 use Rattle.delta.proofs.Joins.{counted-append, joined-End}
 use Rattle.delta.proofs.Normality.{built-spelled_settled}
 use Rattle.delta.proofs.BuiltLists.{built-same}

@@ -5,7 +5,7 @@ use Rattle.std.specs.Prelude.{is_none, nat_lt}
 use Rattle.attributes.specs.Attributes.{Attributes, Changes, same_attributes, same_changes}
 use Rattle.delta.specs.Operation.{Operation, insert_text, insert_embed, retain, delete, is_insert, is_delete, merged, op_len}
 use Rattle.delta.specs.Normal.{may_precede, is_built, built}
-use Rattle.delta.specs.Building.{neighbours, added, place_of}
+use Rattle.delta.specs.steps.Building.{neighbours, added, place_of}
 use Rattle.delta.proofs.Folding.{consed, built-cons}
 
 -- what may stand before an operation is put before it as it is

@@ -4,7 +4,7 @@ use Rattle.attributes.specs.Map.{empty}
 use Rattle.delta.specs.Operation.{Operation, retain, is_plain, op_len, base_of, out_of, IsBounded}
 use Rattle.delta.specs.Gaps.{Gaps, End, Gap, Fate, Keep, run, counted, joined}
 use Rattle.delta.specs.Normal.{built, settled, trimmed, spelled, nf}
-use Rattle.delta.specs.Building.{with_plain}
+use Rattle.delta.specs.steps.Building.{with_plain}
 use Rattle.delta.proofs.BuiltLists.{built-append}
 use Rattle.delta.proofs.Joins.{front-nil, counted-append, joined-End, joined-joined, joined-run}
 use Rattle.delta.proofs.Lengths.{base_of-append, out_of-append, lengths-built}

@@ -1,12 +1,11 @@
 -- What holds of any gap forms: before one another, joined, settled and trimmed, and their lengths.
-use Rattle.std.specs.Prelude.{◌≡◌, ℕ, ◌+◌, List, [], ◌++◌}
+use Rattle.std.specs.Prelude.{◌≡◌, ℕ, ◌+◌, List, [], ◌∷◌, ◌++◌}
 use Rattle.attributes.specs.Map.{empty}
 use Rattle.attributes.specs.Attributes.{Attributes, changed}
 use Rattle.delta.specs.Element.{Element}
-use Rattle.delta.specs.Operation.{Operation, base_of, out_of}
+use Rattle.delta.specs.Operation.{Operation, retain, base_of, out_of}
 use Rattle.delta.specs.Gaps.{Gaps, End, Fate, Del, Keep, front, run, counted, joined, units_below, units_made, apply}
 use Rattle.delta.specs.Normal.{past, settled, trimmed, spelled, nf}
-use Rattle.delta.specs.Building.{with_plain}
 
 -- nothing, and units after others, before a gap form
 abbrev pub FrontOfNothing : Type 0
@@ -60,7 +59,7 @@ abbrev pub TrimmedOfKept : Type 0
 TrimmedOfKept = (g : Gaps) (n : ℕ) → trimmed (settled (joined g (run n (Keep empty) (End [])))) ≡ trimmed (settled g)
 
 abbrev pub NormalOfPlain : Type 0
-NormalOfPlain = (ops : List Operation) (n : ℕ) → nf (counted (with_plain ops n)) ≡ nf (counted ops)
+NormalOfPlain = (ops : List Operation) (n : ℕ) → nf (counted (ops ++ retain n empty ∷ [])) ≡ nf (counted ops)
 
 -- how many units a gap form speaks of
 abbrev pub UnitsOfFront : Type 0

@@ -7,10 +7,10 @@ pub mod Cursor
 pub mod Gaps
 pub mod Places
 pub mod Normal
+pub mod steps
 pub mod Laws
 pub mod GapLaws
 pub mod PartLaws
-pub mod Building
 pub mod Equality
 mod Examples
 mod EffectExamples

@@ -3,7 +3,7 @@ ghost use Rattle.std.specs.Prelude.{◌≡◌, ◌+◌, ◌≤◌, ◌<◌, ◌^
 ghost use Rattle.delta.specs.Operation.{base_of, out_of, op_base, op_out, IsBounded};
 ghost use Rattle.delta.specs.Gaps.{counted};
 ghost use Rattle.delta.specs.Normal.{built, nf};
-ghost use Rattle.delta.specs.Building.{added_at, place_of, without_plain, IsAddedApart};
+ghost use Rattle.delta.specs.steps.Building.{added_at, place_of, without_plain, IsAddedApart};
 
 use crate::delta::Delta;
 use crate::op::Op;
@@ -26,7 +26,7 @@ impl Model for Builder {
     ghost use Rattle.std.specs.Prelude.{List};
     ghost use Rattle.std.specs.Coded.{coded_list};
     ghost use Rattle.delta.specs.Operation.{Operation, operation_code};
-    ghost use Rattle.delta.specs.Building.{IsBuilding};
+    ghost use Rattle.delta.specs.steps.Building.{IsBuilding};
 
     ghost Value = { List Operation };
 

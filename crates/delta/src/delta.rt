@@ -2,7 +2,7 @@
 ghost use Rattle.std.specs.Prelude.{◌≡◌, IfOk, IsOkUnless};
 ghost use Rattle.delta.specs.Operation.{base_of, out_of, IsBounded};
 ghost use Rattle.delta.specs.Normal.{IsNormal};
-ghost use Rattle.delta.specs.Building.{IsDelta};
+ghost use Rattle.delta.specs.steps.Building.{IsDelta};
 
 use crate::op::Op;
 use refusal::Refusal;
@@ -21,7 +21,7 @@ impl Model for Delta {
     ghost use Rattle.std.specs.Prelude.{List};
     ghost use Rattle.std.specs.Coded.{coded_list};
     ghost use Rattle.delta.specs.Operation.{Operation, operation_code};
-    ghost use Rattle.delta.specs.Building.{IsDelta};
+    ghost use Rattle.delta.specs.steps.Building.{IsDelta};
 
     ghost Value = { List Operation };
 

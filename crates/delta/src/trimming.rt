@@ -24,7 +24,7 @@ impl Model for TrimmingBuilder {
     ghost use Rattle.std.specs.Prelude.{List};
     ghost use Rattle.std.specs.Coded.{coded_list};
     ghost use Rattle.delta.specs.Operation.{Operation, operation_code};
-    ghost use Rattle.delta.specs.Building.{with_plain};
+    ghost use Rattle.delta.specs.steps.Building.{with_plain};
     ghost use Rattle.delta.specs.Normal.{built};
 
     ghost Value = { List Operation };

@@ -9,7 +9,7 @@ use Rattle.delta.specs.Operation.{Operation, insert_text, insert_embed, retain, 
 use Rattle.delta.specs.Gaps.{Gaps, End, Gap, Fate, Del, Keep, front, run, counted}
 use Rattle.delta.specs.Normal.{is_built, ends_plain, IsNormal}
 use Rattle.document.specs.Pairs.{IsPairAt}
-use Rattle.document.specs.Passes.{StopsInPair}
+use Rattle.document.specs.steps.Passes.{StopsInPair}
 use Rattle.delta.specs.Places.{fate_at, inserted_at}
 use Rattle.document.specs.Places.{Cuts}
 use Rattle.document.proofs.Formed.{IsPairAt-later, IsPairAt-earlier}

@@ -11,7 +11,7 @@ use Rattle.delta.specs.Operation.{Operation, retain, delete, op_base, base_of, o
 use Rattle.delta.specs.Gaps.{counted, apply}
 use Rattle.delta.proofs.CallerLemmas.{base_of-append, out_of-append, length-apply_counted, effect_of_parts, effect_past_end, effect_of_retain, effect_of_delete}
 use Rattle.document.specs.Pairs.{IsPairAt, IsWithinPair}
-use Rattle.document.specs.Passes.{StopsInPair, IsOneApplied, IsSteppedOver, IsKept, with_change}
+use Rattle.document.specs.steps.Passes.{StopsInPair, IsOneApplied, IsSteppedOver, IsKept, with_change}
 use Rattle.document.proofs.Formed.{IsWellFormed-seam}
 use Rattle.document.proofs.Passing.{length-parts}
 

@@ -3,8 +3,8 @@ ghost use Rattle.std.specs.Prelude.{◌≡◌, ◌+◌, ◌≤◌, ◌<◌, ◌^
 ghost use Rattle.delta.specs.Operation.{op_base, op_out, base_of, out_of};
 ghost use Rattle.delta.specs.Gaps.{counted, apply};
 ghost use Rattle.document.specs.Pairs.{IsWithinPair};
-ghost use Rattle.document.specs.Passes.{StopsInPair, IsOneApplied};
-ghost use Rattle.document.specs.Runs.{units_of_runs, AreRuns};
+ghost use Rattle.document.specs.steps.Passes.{StopsInPair, IsOneApplied};
+ghost use Rattle.document.specs.steps.Runs.{units_of_runs, AreRuns};
 
 use crate::cursor::Cursor;
 use crate::run::Run;
@@ -14,7 +14,6 @@ use attributes::Change;
 use delta::{Op, OpRef};
 use refusal::Refusal;
 use std::alloc::Global;
-use utf16::len16;
 
 /// Whether an operation ends between the two units of a pair.
 pub fn parts_pair(runs: &[Run], ops: &[Op]) -> bool
@@ -64,7 +63,7 @@ fn step(alloc: Global, cursor: &mut Cursor<'_>, op: &Op, made: &mut Vec<Run>) ->
 {
     match op.get() {
         OpRef::Text(text, attrs) => {
-            put_text(alloc, made, text, len16(text), attrs.copy(alloc)?)?;
+            put_text(alloc, made, text, op.len16(), attrs.copy(alloc)?)?;
         }
         OpRef::Embed(key, value, attrs) => {
             put_embed(

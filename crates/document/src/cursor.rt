@@ -1,8 +1,8 @@
 //! A walk over the units of runs, piece by piece.
 ghost use Rattle.std.specs.Prelude.{◌≡◌, ◌≤◌, ◌<◌, ◌++◌, length, IfOk, OnErr, IsOkUnless};
 ghost use Rattle.document.specs.Pairs.{IsWithinPair};
-ghost use Rattle.document.specs.Pieces.{piece_units, begun_units, IsPiece, IsBegun};
-ghost use Rattle.document.specs.Runs.{units_of_runs, AreRuns};
+ghost use Rattle.document.specs.steps.Pieces.{piece_units, begun_units, IsPiece, IsBegun};
+ghost use Rattle.document.specs.steps.Runs.{units_of_runs, AreRuns};
 
 use crate::run::{Piece, Run};
 use std::marker::Model;
@@ -20,8 +20,8 @@ impl<'a> Model for Cursor<'a> {
     ghost use Rattle.std.specs.Coded.{coded_list};
     ghost use Rattle.delta.specs.Element.{Element};
     ghost use Rattle.delta.specs.ElementCode.{element_code};
-    ghost use Rattle.document.specs.Pieces.{begun_units, IsBegun};
-    ghost use Rattle.document.specs.Runs.{units_of_runs, AreRuns};
+    ghost use Rattle.document.specs.steps.Pieces.{begun_units, IsBegun};
+    ghost use Rattle.document.specs.steps.Runs.{units_of_runs, AreRuns};
 
     ghost Value = { List Element };
 

@@ -4,7 +4,7 @@ ghost use Rattle.document.specs.Pairs.{IsWellFormed};
 ghost use Rattle.delta.specs.Gaps.{counted, apply, End};
 ghost use Rattle.delta.specs.Normal.{nf};
 ghost use Rattle.document.specs.Weight.{weight_of};
-ghost use Rattle.document.specs.Pieces.{piece_units};
+ghost use Rattle.document.specs.steps.Pieces.{piece_units};
 ghost use Rattle.delta.specs.Operation.{base_of, op_base, op_out};
 ghost use Rattle.delta.specs.Places.{IsDefined};
 ghost use Rattle.document.specs.Places.{Cuts};
@@ -30,7 +30,7 @@ impl Model for Document {
     ghost use Rattle.std.specs.Coded.{coded_list};
     ghost use Rattle.delta.specs.Element.{Element};
     ghost use Rattle.delta.specs.ElementCode.{element_code};
-    ghost use Rattle.document.specs.Runs.{units_of_runs, AreRuns};
+    ghost use Rattle.document.specs.steps.Runs.{units_of_runs, AreRuns};
 
     ghost Value = { List Element };
 

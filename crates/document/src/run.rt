@@ -2,7 +2,7 @@
 ghost use Rattle.std.specs.Prelude.{◌≡◌, ◌≢◌, ◌+◌, ◌-◌, min, ◌<◌, ◌^◌, ◌++◌, [], ◌∷◌, length, IfOk, OnErr, IsOkUnless, MatchBool, Some};
 ghost use Rattle.utf16.specs.Units.{units_of};
 ghost use Rattle.delta.specs.Element.{letters, embedded};
-ghost use Rattle.document.specs.Runs.{text_attributes};
+ghost use Rattle.document.specs.steps.Runs.{text_attributes};
 ghost use Rattle.document.specs.Weight.{weight_of, attributes_weight, named_weight, scalar_weight};
 
 use attributes::{Attrs, Key, Value, ValueRef};
@@ -33,7 +33,7 @@ pub enum Piece<'a> {
 }
 
 impl Content {
-    ghost use Rattle.document.specs.Pieces.{content_weight};
+    ghost use Rattle.document.specs.steps.Pieces.{content_weight};
 
     // the weight of an embed's value; a text has none
     fn weight(&self) -> u64
@@ -48,7 +48,7 @@ impl Content {
 }
 
 impl<'a> Piece<'a> {
-    ghost use Rattle.document.specs.Pieces.{piece_units, piece_attributes, IsCounted};
+    ghost use Rattle.document.specs.steps.Pieces.{piece_units, piece_attributes, IsCounted};
 
     /// How many code units it has.
     pub fn units(&self) -> u64
@@ -83,7 +83,7 @@ impl Model for Run {
 
     ghost coded = { coded_list element_code };
 
-    ghost use Rattle.document.specs.Pieces.{content_units};
+    ghost use Rattle.document.specs.steps.Pieces.{content_units};
 
     ghost view = { λ r. content_units r.content r.attrs };
 
@@ -91,7 +91,7 @@ impl Model for Run {
 }
 
 impl Run {
-    ghost use Rattle.document.specs.Pieces.{piece_units, IsCounted};
+    ghost use Rattle.document.specs.steps.Pieces.{piece_units, IsCounted};
 
     /// A run of a text with so many code units.
     pub fn text(alloc: Global, text: &str, units: u64, attrs: Attrs) -> Result<Self, Refusal>

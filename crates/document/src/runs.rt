@@ -2,7 +2,7 @@
 ghost use Rattle.std.specs.Prelude.{◌≡◌, ◌≢◌, Some, ◌+◌, ◌<◌, ◌^◌, ◌++◌, [], ◌∷◌, length, OnOk, OnErr, IsOkUnless, IfOk, MatchBool};
 ghost use Rattle.utf16.specs.Units.{units_of};
 ghost use Rattle.delta.specs.Element.{letters, embedded};
-ghost use Rattle.document.specs.Runs.{units_of_runs, AreRuns, TakesText, last_attributes};
+ghost use Rattle.document.specs.steps.Runs.{units_of_runs, AreRuns, TakesText, last_attributes};
 
 use crate::run::Run;
 use attributes::{Attrs, Key, Value};

@@ -1,9 +1,9 @@
 //! Steps over units of runs: past them, or out with a change.
 ghost use Rattle.std.specs.Prelude.{◌≡◌, ◌+◌, ◌≤◌, ◌<◌, ◌^◌, ◌++◌, length, IfOk, OnOk, OnErr, IsOkUnless};
 ghost use Rattle.document.specs.Pairs.{IsWithinPair};
-ghost use Rattle.document.specs.Passes.{IsSteppedOver, IsKept};
-ghost use Rattle.document.specs.Pieces.{piece_dressed, IsPiece};
-ghost use Rattle.document.specs.Runs.{units_of_runs, AreRuns};
+ghost use Rattle.document.specs.steps.Passes.{IsSteppedOver, IsKept};
+ghost use Rattle.document.specs.steps.Pieces.{piece_dressed, IsPiece};
+ghost use Rattle.document.specs.steps.Runs.{units_of_runs, AreRuns};
 
 use crate::cursor::Cursor;
 use crate::run::{Piece, Run};

@@ -1,8 +1,8 @@
 use Rattle.std.proofs.Common.{◌+◌, ◌<◌, ◌^◌, length, ap, subst, arith}
 use Rattle.std.proofs.lemmas.List.{take_all}
 use Rattle.delta.specs.Operation.{base_of, out_of}
-use Rattle.document.specs.Passes.{IsKept}
-use Rattle.document.specs.Runs.{units_of_runs}
+use Rattle.document.specs.steps.Passes.{IsKept}
+use Rattle.document.specs.steps.Runs.{units_of_runs}
 use Rattle.document.proofs.Progress.{IsApplied, drop-here, take-here, lengths-split, length-ahead, length-made, applied_more, parts_before, whole_at_end, applied_whole}
 use Rattle.document.proofs.applying.applied.Goals as goal
 

@@ -1,6 +1,6 @@
 use Rattle.std.proofs.Common.{ap, sym, ◌∙◌, arith}
 use Rattle.delta.specs.Operation.{base_of}
-use Rattle.document.specs.Passes.{IsSteppedOver}
+use Rattle.document.specs.steps.Passes.{IsSteppedOver}
 use Rattle.document.proofs.Passing.{length-parts}
 use Rattle.document.proofs.Progress.{when_ok, drop-here, parts_next, parts_before}
 use Rattle.document.proofs.applying.parts_pair.Goals as goal

@@ -1,7 +1,7 @@
 use Rattle.std.proofs.Common.{◌≤◌, length, drop}
 use Rattle.delta.specs.Operation.{base_of}
-use Rattle.document.specs.Passes.{StopsInPair}
-use Rattle.document.specs.Runs.{units_of_runs}
+use Rattle.document.specs.steps.Passes.{StopsInPair}
+use Rattle.document.specs.steps.Runs.{units_of_runs}
 use Rattle.document.proofs.applying.parts_pair.Given as goal
 
 abbrev pub invariant-loop-op : goal.invariant-loop-op

@@ -2,7 +2,7 @@ use Rattle.std.proofs.Common.{◌≡◌, ◌<◌, Bool, true, false, MatchBool, 
 use Rattle.std.proofs.lemmas.Bool.{false≢true}
 use Rattle.utf16.specs.Units.{units_of}
 use Rattle.delta.specs.Element.{letters}
-use Rattle.document.specs.Runs.{last_attributes, IsApart}
+use Rattle.document.specs.steps.Runs.{last_attributes, IsApart}
 use Rattle.document.proofs.Letters.{length-letters, text_attributes-letters}
 use Rattle.document.proofs.Characters.{IsWellFormed-text}
 use Rattle.document.proofs.Ended.{units_more, AreRuns-one_more, apart_from_text, units-taken, AreRuns-taken}

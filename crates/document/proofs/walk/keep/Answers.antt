@@ -1,8 +1,8 @@
 use Rattle.std.proofs.Common.{◌-◌, ◌∙◌, arith, ap, subst}
 use Rattle.attributes.specs.Attributes.{changed}
-use Rattle.document.specs.Passes.{IsKept}
-use Rattle.document.specs.Pieces.{piece_units}
-use Rattle.document.specs.Runs.{units_of_runs}
+use Rattle.document.specs.steps.Passes.{IsKept}
+use Rattle.document.specs.steps.Pieces.{piece_units}
+use Rattle.document.specs.steps.Runs.{units_of_runs}
 use Rattle.document.proofs.Passing.{kept_none, kept_more, whole_after, length-parts, length-put}
 use Rattle.document.proofs.walk.keep.Goals as goal
 

@@ -1,5 +1,5 @@
 use Rattle.std.proofs.Common.{◌≤◌, ◌-◌, length}
-use Rattle.document.specs.Passes.{IsSteppedOver}
+use Rattle.document.specs.steps.Passes.{IsSteppedOver}
 use Rattle.document.proofs.walk.skip.Given as goal
 
 abbrev pub invariant-loop-left : goal.invariant-loop-left

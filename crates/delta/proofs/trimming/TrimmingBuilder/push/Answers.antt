@@ -5,7 +5,7 @@ use Rattle.refusal.specs.declared.Refusal.{Refusal}
 use Rattle.refusal.specs.declared.Refusal.TheVariants.{BadOps}
 use Rattle.delta.specs.Operation.{retain, op_base, IsBounded}
 use Rattle.delta.specs.Normal.{built}
-use Rattle.delta.specs.Building.{with_plain}
+use Rattle.delta.specs.steps.Building.{with_plain}
 use Rattle.delta.proofs.Trimmed.{built-more, built-put, built-released, built-empty, built-built, plain-le, never-bounded, bounded-plain}
 use Rattle.delta.proofs.trimming.TrimmingBuilder.push.Goals as goal
 

@@ -2,7 +2,7 @@ use Rattle.std.proofs.Common.{◌≡◌, ◌+◌, ◌∙◌, length, take, ap, a
 use Rattle.std.proofs.lemmas.List.{take_all}
 use Rattle.delta.specs.Gaps.{End}
 use Rattle.delta.specs.Normal.{nf, spelled}
-use Rattle.document.specs.Runs.{units_of_runs}
+use Rattle.document.specs.steps.Runs.{units_of_runs}
 use Rattle.document.proofs.Joined.{length-one_more, length-before}
 use Rattle.document.proofs.Inserting.{spelled_more, runs_before_next, bounded_more, only_memory, finished, finished_base, finished_back}
 use Rattle.document.proofs.document.Document.as_delta.Goals as goal

@@ -1,5 +1,5 @@
 use Rattle.std.proofs.Common.{◌≡◌, ◌+◌, length, take, ap, subst, arith}
-use Rattle.document.specs.Runs.{units_of_runs}
+use Rattle.document.specs.steps.Runs.{units_of_runs}
 use Rattle.document.proofs.Joined.{length-one_more, length-before, IsWellFormed-runs}
 use Rattle.document.specs.Pairs.{IsWellFormed}
 use Rattle.document.proofs.document.Document.len16.Goals as goal

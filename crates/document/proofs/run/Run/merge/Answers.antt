@@ -1,6 +1,6 @@
 use Rattle.std.proofs.Common.{◌≡◌, ℕ, ◌<◌, ◌∙◌, List, length, sym, ap, arith}
 use Rattle.delta.specs.Element.{Element}
-use Rattle.document.specs.Pieces.{content_units}
+use Rattle.document.specs.steps.Pieces.{content_units}
 use Rattle.document.proofs.Letters.{merged_in, not_merged}
 use Rattle.document.proofs.run.Run.merge.Goals as goal
 
