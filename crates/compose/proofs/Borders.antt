@@ -13,7 +13,7 @@ use Rattle.delta.proofs.Neighbours.{may_lead-retain, built-parts, is_apart_text}
 use Rattle.compose.specs.Places.{inserts}
 use Rattle.compose.specs.steps.PairTest.{same_fate, parts}
 use Rattle.compose.proofs.Pairs.{border}
-use Rattle.compose.proofs.CutPieces.{normal-parts}
+use Rattle.delta.proofs.LeftOver.{normal-parts}
 
 pub inserts-front : (xs : List Element) (g : Gaps) → inserts (front xs g) ≡ xs ++ inserts g
 inserts-front xs (End ys) = refl

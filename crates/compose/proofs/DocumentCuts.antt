@@ -14,7 +14,8 @@ use Rattle.delta.proofs.Neighbours.{built-parts}
 use Rattle.delta.proofs.Normality.{IsNormal-nf}
 use Rattle.delta.proofs.Spellings.{counted-spelled}
 use Rattle.document.specs.Pairs.{IsHighItem, IsLowItem, IsPair, IsPairAt}
-use Rattle.document.specs.Places.{IsDefined, Cuts, fate_at, inserted_at}
+use Rattle.document.specs.Places.{Cuts}
+use Rattle.delta.specs.Places.{IsDefined, fate_at, inserted_at}
 use Rattle.refusal.specs.declared.Refusal.{Refusal}
 use Rattle.refusal.specs.declared.Refusal.TheVariants.{CutsPair, NoMemory}
 use Rattle.compose.specs.Composed.{beyond}

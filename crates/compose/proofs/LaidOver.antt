@@ -6,15 +6,16 @@ use Rattle.refusal.specs.declared.Refusal.{Refusal}
 use Rattle.refusal.specs.declared.Refusal.TheVariants.{BadOps, CutsPair, NoMemory}
 use Rattle.delta.specs.Operation.{Operation, op_len, is_insert, is_delete, IsBounded}
 use Rattle.delta.specs.Gaps.{counted}
-use Rattle.delta.specs.Normal.{IsNormal, settled, nf}
+use Rattle.delta.specs.Normal.{IsNormal, NoneIsEmpty, settled, nf}
 use Rattle.delta.proofs.Lengths.{base_of-append}
 use Rattle.compose.specs.Outcome.{IsComposeRefused}
-use Rattle.compose.specs.steps.Pieces.{first_units, left_after, met}
-use Rattle.compose.specs.steps.Stepping.{IsShortStep, CutsBefore, AllSome}
+use Rattle.delta.specs.Parts.{first_units, left_after}
+use Rattle.compose.specs.steps.Stepping.{made_in_turn}
+use Rattle.compose.specs.steps.Stepping.{IsShortStep, CutsBefore}
 use Rattle.compose.specs.steps.PartlyComposed.{IsPartlyComposed, ComposesFurther, IsRefusedPartway, IsComposeOutcome, EndsWith}
-use Rattle.compose.proofs.CutPieces.{left_after-whole, first-whole, normal-rest}
+use Rattle.delta.proofs.LeftOver.{left_after-whole, first-whole, normal-rest, none_empty-normal}
 use Rattle.compose.proofs.DocumentCuts.{cut-text}
-use Rattle.compose.proofs.Meetings.{met_made, met_shorter, some-first}
+use Rattle.compose.proofs.Meetings.{met_made, met_shorter, ends-within}
 use Rattle.compose.proofs.PartsComposed.{Takes, parts-start, parts-step, parts-whole, parts-past, parts-end}
 use Rattle.compose.proofs.Progress.{first_made, first_shorter, second_made, second_shorter}
 
@@ -65,7 +66,7 @@ refused-memory old first second e memory f s more so = subst (IsComposeRefused f
 -- what a loop over both keeps
 pub record IsLaid (old first second out before after : List Operation) : Type 0 where
   pub on : ComposesFurther old first second out before after
-  pub first_some : AllSome before
+  pub first_some : NoneIsEmpty before
   pub second_normal : IsNormal after
 
 pub laid-step : (old now next first second made before after left rest : List Operation) → IsLaid old first second now before after
@@ -152,16 +153,16 @@ alone-step op second some normal alone = record {
 }
 
 -- one whose units the second's operation keeps or deletes all
-pub whole-step : (op next then : Operation) (ops rest made : List Operation) (n : ℕ) → 0 < op_len op → is_delete op ≡ false → is_insert next ≡ false
-    → IsNormal (next ∷ ops) → n ≡ op_len op → n ≤ op_len next → then ≡ first_units n next → rest ≡ left_after n next ops → made ≡ met op then
+pub whole-step : (op next : Operation) (ops rest made : List Operation) (n : ℕ) → 0 < op_len op → is_delete op ≡ false → is_insert next ≡ false
+    → IsNormal (next ∷ ops) → n ≡ op_len op → n ≤ op_len next → rest ≡ left_after n next ops → made ≡ made_in_turn op next
     → IsShortStep (op ∷ []) (next ∷ ops) made [] rest
-whole-step op next then ops rest made n some stays stands normal n_is within then_is rest_is made_is =
+whole-step op next ops rest made n some stays stands normal n_is within rest_is made_is =
     let is_min : n ≡ min (op_len op) (op_len next) = omega arith in
     let part_is : op ≡ first_units n op = sym (first-whole op) ∙ ap (λ k. first_units k op) (sym n_is) in
     let left_is : ◌≡◌ {A = List Operation} [] (left_after n op []) = sym (left_after-whole op []) ∙ ap (λ k. left_after k op []) (sym n_is) in
     record {
-      step = met_made op next op then [] ops made [] rest n stays stands normal is_min (λ cut. omega (arith, cut.0)) part_is then_is made_is left_is rest_is;
-      shorter = met_shorter op next op then [] ops made [] rest n (some, tt) normal is_min part_is then_is made_is left_is rest_is;
+      step = met_made op next op [] ops made [] rest n stays stands normal is_min (λ cut. omega (arith, ends-within n op cut)) part_is made_is left_is rest_is;
+      shorter = met_shorter op next op [] ops made [] rest n (some, tt) normal is_min part_is made_is left_is rest_is;
     }
 
 pub not-begun : (old first second : List Operation) → ComposesFurther old first second old first second
@@ -174,13 +175,8 @@ laid-none start first second before after start_is before_is after_is normal_fir
     subst (λ l. IsPartlyComposed first second start l after) (sym (append-nil before))
     (parts-start first second start before after start_is before_is after_is normal_first normal_second bounded_first bounded_second)
 
--- in normal form no operation is empty
-pub some-normal : (ops : List Operation) → IsNormal ops → AllSome ops
-some-normal [] normal = tt
-some-normal (op ∷ ops) normal = (some-first op ops normal, some-normal ops (normal-rest op ops normal))
-
-pub some-same : (ops same : List Operation) → same ≡ ops → IsNormal ops → AllSome same
-some-same ops same is normal = subst AllSome (sym is) (some-normal ops normal)
+pub none_empty-same : (ops same : List Operation) → same ≡ ops → IsNormal ops → NoneIsEmpty same
+none_empty-same ops same is normal = subst NoneIsEmpty (sym is) (none_empty-normal ops normal)
 
 -- what comes of both lists, where all was made
 pub outcome : (one old out second : List Operation) → Appends old second out [] → one ≡ nf (counted out) → IsBounded one

@@ -2,7 +2,7 @@ pub mod Compositions
 pub mod Inverses
 pub mod Alongside
 pub mod Pairs
-pub mod CutPieces
+pub mod OutParts
 pub mod Borders
 pub mod Progress
 pub mod Meetings

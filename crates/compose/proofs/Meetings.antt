@@ -10,18 +10,20 @@ use Rattle.attributes.specs.Attributes.{Attributes, Changes, changed}
 use Rattle.delta.specs.Element.{Element, letters, embedded}
 use Rattle.delta.specs.Operation.{Operation, insert_text, insert_embed, retain, delete, op_len, op_base, op_out, base_of, out_of, is_insert, is_delete, then_changed}
 use Rattle.delta.specs.Gaps.{Gaps, End, Gap, Fate, Keep, Del, front, run, counted, joined}
-use Rattle.delta.specs.Normal.{IsNormal, settled}
+use Rattle.delta.specs.Normal.{IsNormal, NoneIsEmpty, settled}
 use Rattle.delta.proofs.Effects.{changed-empty}
 use Rattle.delta.proofs.Joins.{front-nil, joined-run}
 use Rattle.delta.proofs.Neighbours.{may_lead-text, built-parts}
 use Rattle.compose.specs.Places.{inserts}
 use Rattle.compose.specs.Composed.{composed, kept_then}
 use Rattle.compose.specs.steps.PairTest.{parts, cuts}
-use Rattle.compose.specs.steps.Pieces.{first_units, left_after, met, CutsText}
-use Rattle.compose.specs.steps.Stepping.{IsStep, IsStepBefore, IsShorter, AllSome}
+use Rattle.delta.specs.Parts.{first_units, left_after, EndsInPair}
+use Rattle.compose.specs.steps.Stepping.{made_in_turn}
+use Rattle.compose.specs.steps.Stepping.{IsStep, IsStepBefore, IsShorter}
 use Rattle.compose.proofs.Alongside.{composed-empty, composed-front, composed-kept, composed-letters_kept, composed-letters_deleted}
 use Rattle.compose.proofs.Pairs.{border, cuts-border, cuts-kept}
-use Rattle.compose.proofs.CutPieces.{left_after-within, left_after-whole, left_after-beyond, left_after-append, normal-parts, normal-left, len-last, length-left, length-whole, counted-cut, len-first, base-cut, out-cut}
+use Rattle.compose.proofs.OutParts.{out-cut}
+use Rattle.delta.proofs.LeftOver.{left_after-within, left_after-whole, left_after-append, normal-parts, normal-left, none_empty-left, length-left, length-whole, counted-cut, len-first, base-cut}
 use Rattle.compose.proofs.Borders.{inserts-front, fate_of, parts-next, border-apart, border-embed, border-within}
 
 -- the first operation inserts or keeps, the second keeps or deletes
@@ -45,7 +47,7 @@ run-joined n f k = joined-run n f (End []) k ∙ ap (run n f) (front-nil k)
 
 -- what they make stands before what the others make
 pub composed-met : (op next : Operation) (ops rest : List Operation) → DoMeet op next → op_len next ≡ op_len op
-    → composed (counted (op ∷ ops)) (counted (next ∷ rest)) ≡ joined (counted (met op next)) (composed (counted ops) (counted rest))
+    → composed (counted (op ∷ ops)) (counted (next ∷ rest)) ≡ joined (counted (made_in_turn op next)) (composed (counted ops) (counted rest))
 composed-met (delete k) next ops rest h same = absurd (let e = h.stays in cc)
 composed-met op (insert_text us a) ops rest h same = absurd (let e = h.stands in cc)
 composed-met op (insert_embed key value a) ops rest h same = absurd (let e = h.stands in cc)
@@ -70,24 +72,15 @@ composed-met (retain m c) (delete k) ops rest h same =
     ∙ (composed-kept m c Del (counted ops) (counted rest) ∙ sym (run-joined m Del (composed (counted ops) (counted rest))))
 
 -- a retain without attributes leaves the other as it is
-met-plain : (op : Operation) (n : ℕ) → is_delete op ≡ false → met op (retain n empty) ≡ op ∷ []
-met-plain (insert_text us a) n stays = ap (λ b. insert_text us b ∷ []) (changed-empty a)
-met-plain (insert_embed key value a) n stays = ap (λ b. insert_embed key value b ∷ []) (changed-empty a)
-met-plain (retain m c) n stays = ap (λ f. retain m f ∷ []) (composed-empty c)
-met-plain (delete m) n stays = absurd (cc)
+then-plain : (op : Operation) → then_changed op empty ≡ op
+then-plain (insert_text us a) = ap (insert_text us) (changed-empty a)
+then-plain (insert_embed key value a) = ap (insert_embed key value) (changed-empty a)
+then-plain (retain m c) = ap (retain m) (composed-empty c)
+then-plain (delete m) = refl
 
-pub met_plain : (op next : Operation) (n : ℕ) (d : Changes) → next ≡ retain n d → d ≡ empty → is_delete op ≡ false → op ∷ [] ≡ met op next
-met_plain op next n d is none stays = sym (ap (met op) is ∙ (ap (λ c. met op (retain n c)) none ∙ met-plain op n stays))
-
--- and one with a change changes it
-met-then : (op : Operation) (n : ℕ) (d : Changes) → is_delete op ≡ false → then_changed op d ∷ [] ≡ met op (retain n d)
-met-then (insert_text us a) n d stays = refl
-met-then (insert_embed key value a) n d stays = refl
-met-then (retain m c) n d stays = refl
-met-then (delete m) n d stays = absurd (cc)
-
-pub met_then : (op next made : Operation) (n : ℕ) (d : Changes) → next ≡ retain n d → made ≡ then_changed op d → is_delete op ≡ false → made ∷ [] ≡ met op next
-met_then op next made n d is made_is stays = ap (λ o. o ∷ []) made_is ∙ (met-then op n d stays ∙ ap (met op) (sym is))
+pub in_turn-plain : (op next : Operation) (n : ℕ) (d : Changes) → next ≡ retain n d → d ≡ empty → op ∷ [] ≡ made_in_turn op next
+in_turn-plain op next n d is none =
+    sym (ap (made_in_turn op) is ∙ (ap (λ c. then_changed op c ∷ []) none ∙ ap (λ o. o ∷ []) (then-plain op)))
 
 -- where they end
 abbrev pub border_of : Operation → List Element → Fate → Gaps → Bool
@@ -151,7 +144,7 @@ take-whole : (us : List ℕ) → take (length us) us ≡ us
 take-whole us = take-length us
 
 -- no pair stands there where the text isn't cut within one
-pub border-none : (n : ℕ) (op : Operation) (ops : List Operation) (f : Fate) (h : Gaps) → IsNormal (op ∷ ops) → 0 < n → n ≤ op_len op → ¬ (CutsText n op)
+pub border-none : (n : ℕ) (op : Operation) (ops : List Operation) (f : Fate) (h : Gaps) → IsNormal (op ∷ ops) → 0 < n → n ≤ op_len op → ¬ (EndsInPair n op)
     → border_of (first_units n op) (inserts (counted (left_after n op ops))) f h ≡ false
 border-none n (insert_text us a) ops f h normal some within whole =
     ⊎_elim
@@ -168,18 +161,24 @@ border-none n (insert_embed key value a) ops f h normal some within whole = bord
 border-none n (retain m c) ops f h normal some within whole = refl
 border-none n (delete m) ops f h normal some within whole = refl
 
+pub ends-within : (n : ℕ) (op : Operation) → EndsInPair n op → n < op_len op
+ends-within n (insert_text us a) cut = cut.0
+ends-within n (insert_embed key value a) cut = absurd cut
+ends-within n (retain m c) cut = absurd cut
+ends-within n (delete m) cut = absurd cut
+
 -- and one is cut where it is
-border-there : (n : ℕ) (op : Operation) (ops : List Operation) (f : Fate) (h : Gaps) → CutsText n op → parts f h ≡ true
+border-there : (n : ℕ) (op : Operation) (ops : List Operation) (f : Fate) (h : Gaps) → EndsInPair n op → parts f h ≡ true
     → border_of (first_units n op) (inserts (counted (left_after n op ops))) f h ≡ true
 border-there n (insert_text us a) ops f h cut parted =
     border-cut n us a ops f h cut.1.0 cut.0
     ∙ all-there (is_high_surrogate (slice_index us (n - 1))) (is_low_surrogate (slice_index us n)) (parts f h) cut.1.1 cut.1.2 parted
-border-there n (insert_embed key value a) ops f h cut parted = absurd (cut.1)
-border-there n (retain m c) ops f h cut parted = absurd (cut.1)
-border-there n (delete m) ops f h cut parted = absurd (cut.1)
+border-there n (insert_embed key value a) ops f h cut parted = absurd cut
+border-there n (retain m c) ops f h cut parted = absurd cut
+border-there n (delete m) ops f h cut parted = absurd cut
 
 -- the lengths of what they make
-base-met : (op next : Operation) → base_of (met op next) ≤ op_base op
+base-met : (op next : Operation) → base_of (made_in_turn op next) ≤ op_base op
 base-met (insert_text us a) (retain n d) = omega arith
 base-met (insert_embed key value a) (retain n d) = omega arith
 base-met (retain m c) (retain n d) = omega arith
@@ -198,7 +197,7 @@ base-met (delete m) (retain n d) = omega arith
 base-met (delete m) (delete n) = omega arith
 
 -- a text that is kept is as long as the retain over it
-out-met : (op next : Operation) → op_len op ≡ op_len next → out_of (met op next) ≤ op_out next
+out-met : (op next : Operation) → op_len op ≡ op_len next → out_of (made_in_turn op next) ≤ op_out next
 out-met (insert_text us a) (retain n d) same = omega (arith, same)
 out-met (insert_embed key value a) (retain n d) same = omega (arith, same)
 out-met (retain m c) (retain n d) same = omega (arith, same)
@@ -235,8 +234,8 @@ shorter-met op next ops rest n is_min =
     (cases_lt (op_len op) (op_len next))
 
 pub IsStep-met : (op next : Operation) (ops rest : List Operation) (n : ℕ) → DoMeet op next → IsNormal (op ∷ ops) → IsNormal (next ∷ rest)
-    → n ≡ min (op_len op) (op_len next) → ¬ (CutsText n op)
-    → IsStep (op ∷ ops) (next ∷ rest) (met (first_units n op) (first_units n next)) (left_after n op ops) (left_after n next rest)
+    → n ≡ min (op_len op) (op_len next) → ¬ (EndsInPair n op)
+    → IsStep (op ∷ ops) (next ∷ rest) (made_in_turn (first_units n op) (first_units n next)) (left_after n op ops) (left_after n next rest)
 IsStep-met op next ops rest n meet first second is_min whole =
     let some : 0 < n = some-min op next rest n (some-first op ops first) second is_min in
     let in_op : n ≤ op_len op = omega arith in
@@ -259,16 +258,8 @@ IsStep-met op next ops rest n meet first second is_min whole =
       normal = normal-left n op ops in_op first;
     }
 
--- what is left of operations of which none is empty
-some-left : (n : ℕ) (op : Operation) (ops : List Operation) → AllSome (op ∷ ops) → AllSome (left_after n op ops)
-some-left n op ops some =
-    ⊎_elim
-    (λ (less : n < op_len op). subst AllSome (sym (left_after-within n op ops less)) (len-last n op less, some.1))
-    (λ (whole : op_len op ≤ n). subst AllSome (sym (left_after-beyond n op ops whole)) some.1)
-    (cases_lt n (op_len op))
-
-IsShorter-met : (op next : Operation) (ops rest : List Operation) (n : ℕ) → AllSome (op ∷ ops) → IsNormal (next ∷ rest) → n ≡ min (op_len op) (op_len next)
-    → IsShorter (op ∷ ops) (next ∷ rest) (met (first_units n op) (first_units n next)) (left_after n op ops) (left_after n next rest)
+IsShorter-met : (op next : Operation) (ops rest : List Operation) (n : ℕ) → NoneIsEmpty (op ∷ ops) → IsNormal (next ∷ rest) → n ≡ min (op_len op) (op_len next)
+    → IsShorter (op ∷ ops) (next ∷ rest) (made_in_turn (first_units n op) (first_units n next)) (left_after n op ops) (left_after n next rest)
 IsShorter-met op next ops rest n some second is_min =
     let some_n : 0 < n = some-min op next rest n some.0 second is_min in
     let in_op : n ≤ op_len op = omega arith in
@@ -277,7 +268,7 @@ IsShorter-met op next ops rest n some second is_min =
     let then : Operation = first_units n next in
     let same : op_len part ≡ op_len then = len-first n op some_n in_op ∙ sym (len-first n next some_n in_next) in
     record {
-      first_some = some-left n op ops some;
+      first_some = none_empty-left n op ops some;
       second_normal = normal-left n next rest in_next second;
       first_ended = λ e. absurd (cc);
       second_ended = λ e. absurd (cc);
@@ -287,27 +278,37 @@ IsShorter-met op next ops rest n some second is_min =
     }
 
 -- the same by equal operations, whatever follows the first list
-pub met_made : (op next part then : Operation) (ops rest made left_first left_second : List Operation) (n : ℕ) → is_delete op ≡ false → is_insert next ≡ false
-    → IsNormal (next ∷ rest) → n ≡ min (op_len op) (op_len next) → ¬ (CutsText n op)
-    → part ≡ first_units n op → then ≡ first_units n next → made ≡ met part then → left_first ≡ left_after n op ops → left_second ≡ left_after n next rest
+-- the first units of the second make the same
+pub in_turn-first : (n : ℕ) (op next : Operation) → made_in_turn op (first_units n next) ≡ made_in_turn op next
+in_turn-first n op (insert_text us a) = refl
+in_turn-first n op (insert_embed key value a) = refl
+in_turn-first n op (retain m d) = refl
+in_turn-first n (insert_text us a) (delete m) = refl
+in_turn-first n (insert_embed key value a) (delete m) = refl
+in_turn-first n (retain k c) (delete m) = refl
+in_turn-first n (delete k) (delete m) = refl
+
+pub met_made : (op next part : Operation) (ops rest made left_first left_second : List Operation) (n : ℕ) → is_delete op ≡ false → is_insert next ≡ false
+    → IsNormal (next ∷ rest) → n ≡ min (op_len op) (op_len next) → ¬ (EndsInPair n op)
+    → part ≡ first_units n op → made ≡ made_in_turn part next → left_first ≡ left_after n op ops → left_second ≡ left_after n next rest
     → IsStepBefore (op ∷ ops) (next ∷ rest) made left_first left_second
-met_made op next part then ops rest made left_first left_second n stays stands second is_min whole part_is then_is made_is first_is second_is more first =
-    let all : made ≡ met (first_units n op) (first_units n next) = made_is ∙ (ap (λ o. met o then) part_is ∙ ap (met (first_units n op)) then_is) in
+met_made op next part ops rest made left_first left_second n stays stands second is_min whole part_is made_is first_is second_is more first =
+    let all : made ≡ made_in_turn (first_units n op) (first_units n next) = made_is ∙ (ap (λ o. made_in_turn o next) part_is ∙ sym (in_turn-first n (first_units n op) next)) in
     let left_is : left_first ++ more ≡ left_after n op (ops ++ more) = ap (λ l. l ++ more) first_is ∙ left_after-append n op ops more in
     subst (λ m. IsStep (op ∷ (ops ++ more)) (next ∷ rest) m (left_first ++ more) left_second) (sym all)
-    (subst (λ l. IsStep (op ∷ (ops ++ more)) (next ∷ rest) (met (first_units n op) (first_units n next)) l left_second) (sym left_is)
-    (subst (λ l. IsStep (op ∷ (ops ++ more)) (next ∷ rest) (met (first_units n op) (first_units n next)) (left_after n op (ops ++ more)) l) (sym second_is)
+    (subst (λ l. IsStep (op ∷ (ops ++ more)) (next ∷ rest) (made_in_turn (first_units n op) (first_units n next)) l left_second) (sym left_is)
+    (subst (λ l. IsStep (op ∷ (ops ++ more)) (next ∷ rest) (made_in_turn (first_units n op) (first_units n next)) (left_after n op (ops ++ more)) l) (sym second_is)
     (IsStep-met op next (ops ++ more) rest n (record { stays = stays; stands = stands }) first second is_min whole)))
 
-pub met_shorter : (op next part then : Operation) (ops rest made left_first left_second : List Operation) (n : ℕ) → AllSome (op ∷ ops) → IsNormal (next ∷ rest)
+pub met_shorter : (op next part : Operation) (ops rest made left_first left_second : List Operation) (n : ℕ) → NoneIsEmpty (op ∷ ops) → IsNormal (next ∷ rest)
     → n ≡ min (op_len op) (op_len next)
-    → part ≡ first_units n op → then ≡ first_units n next → made ≡ met part then → left_first ≡ left_after n op ops → left_second ≡ left_after n next rest
+    → part ≡ first_units n op → made ≡ made_in_turn part next → left_first ≡ left_after n op ops → left_second ≡ left_after n next rest
     → IsShorter (op ∷ ops) (next ∷ rest) made left_first left_second
-met_shorter op next part then ops rest made left_first left_second n some second is_min part_is then_is made_is first_is second_is =
-    let all : made ≡ met (first_units n op) (first_units n next) = made_is ∙ (ap (λ o. met o then) part_is ∙ ap (met (first_units n op)) then_is) in
+met_shorter op next part ops rest made left_first left_second n some second is_min part_is made_is first_is second_is =
+    let all : made ≡ made_in_turn (first_units n op) (first_units n next) = made_is ∙ (ap (λ o. made_in_turn o next) part_is ∙ sym (in_turn-first n (first_units n op) next)) in
     subst (λ m. IsShorter (op ∷ ops) (next ∷ rest) m left_first left_second) (sym all)
-    (subst (λ l. IsShorter (op ∷ ops) (next ∷ rest) (met (first_units n op) (first_units n next)) l left_second) (sym first_is)
-    (subst (λ l. IsShorter (op ∷ ops) (next ∷ rest) (met (first_units n op) (first_units n next)) (left_after n op ops) l) (sym second_is)
+    (subst (λ l. IsShorter (op ∷ ops) (next ∷ rest) (made_in_turn (first_units n op) (first_units n next)) l left_second) (sym first_is)
+    (subst (λ l. IsShorter (op ∷ ops) (next ∷ rest) (made_in_turn (first_units n op) (first_units n next)) (left_after n op ops) l) (sym second_is)
     (IsShorter-met op next ops rest n some second is_min)))
 
 -- a pair is cut where the first operation is cut within one
@@ -322,10 +323,10 @@ or-first true t e = refl
 or-first false t e = absurd (cc)
 
 pub pair_cut : (op next : Operation) (ops rest : List Operation) (n : ℕ) → is_delete op ≡ false → is_insert next ≡ false → IsNormal (op ∷ ops) → IsNormal (next ∷ rest)
-    → n ≡ min (op_len op) (op_len next) → CutsText n op → IsTrue (cuts (counted (op ∷ ops)) (counted (next ∷ rest)))
+    → n ≡ min (op_len op) (op_len next) → EndsInPair n op → IsTrue (cuts (counted (op ∷ ops)) (counted (next ∷ rest)))
 pair_cut op next ops rest n stays stands first second is_min cut =
     let some : 0 < n = some-min op next rest n (some-first op ops first) second is_min in
-    let within : n < op_len op = cut.0 in
+    let within : n < op_len op = ends-within n op cut in
     let whole : n ≡ op_len next = omega arith in
     let part : Operation = first_units n op in
     let then : Operation = first_units n next in
@@ -338,10 +339,3 @@ pair_cut op next ops rest n stays stands first second is_min cut =
     ∙ (cuts-met part then (left_after n op ops) (left_after n next rest) (stays-first n op next (record { stays = stays; stands = stands })) same
     ∙ or-first (border_of part (inserts (counted (left_after n op ops))) (fate_of then) (counted (left_after n next rest))) (cuts (counted (left_after n op ops)) (counted (left_after n next rest)))
     (border-there n op ops (fate_of then) (counted (left_after n next rest)) cut parted)))
-
--- an operation that keeps or deletes has no text to cut
-pub never_cut : (n : ℕ) (op : Operation) → is_insert op ≡ false → ¬ (CutsText n op)
-never_cut n (insert_text us a) stands cut = absurd (cc)
-never_cut n (insert_embed key value a) stands cut = absurd (cc)
-never_cut n (retain m c) stands cut = cut.1
-never_cut n (delete m) stands cut = cut.1

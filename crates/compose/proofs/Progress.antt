@@ -4,14 +4,14 @@ use Rattle.std.proofs.lemmas.List.{append-nil}
 use Rattle.delta.specs.Element.{letters, embedded}
 use Rattle.delta.specs.Operation.{Operation, insert_text, insert_embed, retain, delete, op_base, out_of, is_insert, is_delete}
 use Rattle.delta.specs.Gaps.{End, Del, front, run, counted, joined}
-use Rattle.delta.specs.Normal.{IsNormal, settled}
+use Rattle.delta.specs.Normal.{IsNormal, NoneIsEmpty, settled}
 use Rattle.delta.proofs.Joins.{front-nil, joined-run, counted-append}
 use Rattle.compose.specs.Composed.{composed}
 use Rattle.compose.specs.steps.PairTest.{cuts}
-use Rattle.compose.specs.steps.Stepping.{IsStep, IsStepBefore, IsShorter, AllSome}
+use Rattle.compose.specs.steps.Stepping.{IsStep, IsStepBefore, IsShorter}
 use Rattle.compose.proofs.Alongside.{composed-nothing, composed-insert, composed-deleted}
 use Rattle.compose.proofs.Pairs.{cuts-nothing, cuts-insert, cuts-deleted}
-use Rattle.compose.proofs.CutPieces.{normal-rest}
+use Rattle.delta.proofs.LeftOver.{normal-rest}
 
 -- the first operation of the first list, where the second has ended or the operation deletes
 alone-effect : (op : Operation) (ops second : List Operation) → (second ≡ []) ⊎ (is_delete op ≡ true)
@@ -97,7 +97,7 @@ out-alone (insert_text us a) second (inr deletes) = absurd (cc)
 out-alone (insert_embed key value a) second (inr deletes) = absurd (cc)
 out-alone (retain n c) second (inr deletes) = absurd (cc)
 
-pub first_shorter : (op made : Operation) (ops second rest : List Operation) → made ≡ op → rest ≡ ops → AllSome (op ∷ ops) → IsNormal second
+pub first_shorter : (op made : Operation) (ops second rest : List Operation) → made ≡ op → rest ≡ ops → NoneIsEmpty (op ∷ ops) → IsNormal second
     → (second ≡ []) ⊎ (is_delete op ≡ true) → IsShorter (op ∷ ops) second (made ∷ []) rest second
 first_shorter op made ops second rest made_is rest_is some normal alone =
     subst (λ m. IsShorter (op ∷ ops) second (m ∷ []) rest second) (sym made_is)
@@ -118,7 +118,7 @@ base-insert (insert_embed key value a) inserts = refl
 base-insert (retain n c) inserts = absurd (cc)
 base-insert (delete n) inserts = absurd (cc)
 
-pub second_shorter : (first : List Operation) (op made : Operation) (ops rest : List Operation) → made ≡ op → rest ≡ ops → AllSome first → IsNormal (op ∷ ops)
+pub second_shorter : (first : List Operation) (op made : Operation) (ops rest : List Operation) → made ≡ op → rest ≡ ops → NoneIsEmpty first → IsNormal (op ∷ ops)
     → is_insert op ≡ true → IsShorter first (op ∷ ops) (made ∷ []) first rest
 second_shorter first op made ops rest made_is rest_is some normal inserts =
     subst (λ m. IsShorter first (op ∷ ops) (m ∷ []) first rest) (sym made_is)

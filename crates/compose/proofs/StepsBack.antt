@@ -10,9 +10,10 @@ use Rattle.delta.specs.Normal.{IsNormal, settled}
 use Rattle.delta.proofs.Joins.{front-nil, front-front}
 use Rattle.compose.specs.Places.{inserts}
 use Rattle.compose.specs.Inverse.{inverse, unit_back}
-use Rattle.compose.specs.steps.Pieces.{first_units, last_units, left_after, CutsText}
+use Rattle.delta.specs.Parts.{first_units, last_units, left_after, EndsInPair}
 use Rattle.compose.specs.steps.SteppingBack.{AllInsert, units_inserted, turned_back, IsStepBack}
-use Rattle.compose.proofs.CutPieces.{normal-rest, normal-left, counted-cut, len-first, base-cut, out-cut, left_after-within, left_after-whole}
+use Rattle.compose.proofs.OutParts.{out-cut}
+use Rattle.delta.proofs.LeftOver.{normal-rest, normal-left, counted-cut, len-first, base-cut, left_after-within, left_after-whole}
 use Rattle.compose.proofs.Borders.{inserts-front}
 use Rattle.compose.proofs.Progress.{IsStep-second}
 use Rattle.compose.proofs.Meetings.{run-joined, IsStep-met, some-first, some-min, shorter-met}
@@ -90,9 +91,7 @@ back-effect op (insert_embed key value a) ops rest is stands same = absurd (cc)
 back-effect (insert_text us a) (retain k c) ops rest is stands same =
     ap (λ n. inverse (run n (Keep c) (counted rest)) (units_inserted (insert_text us a ∷ ops))) same
     ∙ (ap (inverse (run (length us) (Keep c) (counted rest))) (inserts-front (letters us a) (counted ops))
-    ∙ (inverse-kept us a c (counted rest) (units_inserted ops)
-    ∙ (ap (λ n. run n (Keep (reverted c a)) (inverse (counted rest) (units_inserted ops))) (sym same)
-    ∙ sym (run-joined k (Keep (reverted c a)) (inverse (counted rest) (units_inserted ops))))))
+    ∙ (inverse-kept us a c (counted rest) (units_inserted ops) ∙ sym (run-joined (length us) (Keep (reverted c a)) (inverse (counted rest) (units_inserted ops)))))
 back-effect (insert_text us a) (delete k) ops rest is stands same =
     ap (λ n. inverse (run n Del (counted rest)) (units_inserted (insert_text us a ∷ ops))) same
     ∙ (ap (inverse (run (length us) Del (counted rest))) (inserts-front (letters us a) (counted ops))
@@ -101,8 +100,7 @@ back-effect (insert_text us a) (delete k) ops rest is stands same =
 back-effect (insert_embed key value a) (retain k c) ops rest is stands same =
     ap (λ n. inverse (run n (Keep c) (counted rest)) (units_inserted (insert_embed key value a ∷ ops))) same
     ∙ (ap (inverse (Gap [] (Keep c) (counted rest))) (inserts-front (embedded key value a ∷ []) (counted ops))
-    ∙ (ap (λ n. run n (Keep (reverted c a)) (inverse (counted rest) (units_inserted ops))) (sym same)
-    ∙ sym (run-joined k (Keep (reverted c a)) (inverse (counted rest) (units_inserted ops)))))
+    ∙ sym (run-joined 1 (Keep (reverted c a)) (inverse (counted rest) (units_inserted ops))))
 back-effect (insert_embed key value a) (delete k) ops rest is stands same =
     ap (λ n. inverse (run n Del (counted rest)) (units_inserted (insert_embed key value a ∷ ops))) same
     ∙ ap (inverse (Gap [] Del (counted rest))) (inserts-front (embedded key value a ∷ []) (counted ops))
@@ -141,8 +139,12 @@ stays (insert_embed key value a) is = refl
 stays (retain n c) is = refl
 stays (delete n) is = absurd (cc)
 
+-- a delta that keeps or deletes next has a unit to stand on
+pub not-ended : (next : Operation) (rest : List Operation) → IsNormal (next ∷ rest) → is_insert next ≡ false → ¬ (base_of (next ∷ rest) ≤ 0)
+not-ended next rest normal stands none = omega (arith, none, some-first next rest normal, base-stands next stands)
+
 IsStepBack-met : (op next : Operation) (ops rest : List Operation) (n : ℕ) → IsNormal (op ∷ ops) → IsNormal (next ∷ rest) → AllInsert (op ∷ ops) → base_of (next ∷ rest) ≤ out_of (op ∷ ops) → is_insert next ≡ false
-    → n ≡ min (op_len op) (op_len next) → ¬ (CutsText n op)
+    → n ≡ min (op_len op) (op_len next) → ¬ (EndsInPair n op)
     → IsStepBack (op ∷ ops) (next ∷ rest) (turned_back (first_units n op) (first_units n next)) (left_after n op ops) (left_after n next rest)
 IsStepBack-met op next ops rest n first second inserted defined stands is_min whole =
     let step = IsStep-met op next ops rest n (record { stays = stays op inserted.0; stands = stands }) first second is_min whole in
@@ -170,12 +172,25 @@ IsStepBack-met op next ops rest n first second inserted defined stands is_min wh
       defined = omega (arith, base-cut n next rest in_next, out-cut n op ops some in_op, out_part, base_then, len_part, len_then, defined);
     }
 
-pub turned : (op next part then : Operation) (ops rest made left_base left_ops : List Operation) (n : ℕ) → IsNormal (op ∷ ops) → IsNormal (next ∷ rest) → AllInsert (op ∷ ops) → base_of (next ∷ rest) ≤ out_of (op ∷ ops) → is_insert next ≡ false
-    → n ≡ min (op_len op) (op_len next) → ¬ (CutsText n op)
-    → part ≡ first_units n op → then ≡ first_units n next → made ≡ turned_back part then → left_base ≡ left_after n op ops → left_ops ≡ left_after n next rest
+-- the first units of the delta's operation turn back the same
+back-first : (n : ℕ) (op next : Operation) → turned_back op (first_units n next) ≡ turned_back op next
+back-first n (insert_text us a) (insert_text vs b) = refl
+back-first n (insert_text us a) (insert_embed key value b) = refl
+back-first n (insert_text us a) (retain m c) = refl
+back-first n (insert_text us a) (delete m) = refl
+back-first n (insert_embed key value a) (insert_text vs b) = refl
+back-first n (insert_embed key value a) (insert_embed other w b) = refl
+back-first n (insert_embed key value a) (retain m c) = refl
+back-first n (insert_embed key value a) (delete m) = refl
+back-first n (retain m c) next = refl
+back-first n (delete m) next = refl
+
+pub turned : (op next part : Operation) (ops rest made left_base left_ops : List Operation) (n : ℕ) → IsNormal (op ∷ ops) → IsNormal (next ∷ rest) → AllInsert (op ∷ ops) → base_of (next ∷ rest) ≤ out_of (op ∷ ops) → is_insert next ≡ false
+    → n ≡ min (op_len op) (op_len next) → ¬ (EndsInPair n op)
+    → part ≡ first_units n op → made ≡ turned_back part next → left_base ≡ left_after n op ops → left_ops ≡ left_after n next rest
     → IsStepBack (op ∷ ops) (next ∷ rest) made left_base left_ops
-turned op next part then ops rest made left_base left_ops n first second inserted defined stands is_min whole part_is then_is made_is base_is ops_is =
-    let all : made ≡ turned_back (first_units n op) (first_units n next) = made_is ∙ (ap (λ o. turned_back o then) part_is ∙ ap (turned_back (first_units n op)) then_is) in
+turned op next part ops rest made left_base left_ops n first second inserted defined stands is_min whole part_is made_is base_is ops_is =
+    let all : made ≡ turned_back (first_units n op) (first_units n next) = made_is ∙ (ap (λ o. turned_back o next) part_is ∙ sym (back-first n (first_units n op) next)) in
     subst (λ m. IsStepBack (op ∷ ops) (next ∷ rest) m left_base left_ops) (sym all)
     (subst (λ l. IsStepBack (op ∷ ops) (next ∷ rest) (turned_back (first_units n op) (first_units n next)) l left_ops) (sym base_is)
     (subst (λ l. IsStepBack (op ∷ ops) (next ∷ rest) (turned_back (first_units n op) (first_units n next)) (left_after n op ops) l) (sym ops_is)

@@ -12,7 +12,7 @@ use Rattle.delta.specs.Normal.{past, settled, trim, trimmed, nf, IsNormal}
 use Rattle.delta.proofs.Joins.{counted-append, units_below-counted}
 use Rattle.delta.proofs.Lengths.{base_of-append, out_of-append, base_of-spelled, lengths-nf}
 use Rattle.delta.proofs.Neighbours.{built-parts}
-use Rattle.compose.proofs.CutPieces.{normal-parts, normal-rest}
+use Rattle.delta.proofs.LeftOver.{normal-parts, normal-rest}
 
 -- nothing but kept units without a change
 abbrev is_bare : Gaps → Bool

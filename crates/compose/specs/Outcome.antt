@@ -5,7 +5,8 @@ use Rattle.refusal.specs.declared.Refusal.TheVariants.{PastEnd, CutsPair, BadOps
 use Rattle.delta.specs.Element.{Element}
 use Rattle.delta.specs.Operation.{Operation, IsBounded}
 use Rattle.delta.specs.Gaps.{Gaps}
-use Rattle.document.specs.Places.{IsDefined, Cuts}
+use Rattle.delta.specs.Places.{IsDefined}
+use Rattle.document.specs.Places.{Cuts}
 use Rattle.compose.specs.Composed.{one_for}
 use Rattle.compose.specs.Cuts.{CutsText}
 

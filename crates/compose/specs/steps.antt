@@ -1,6 +1,5 @@
 -- What the contracts of single steps cite: for a reader of a body, beside the definitions of the subject.
 pub mod PairTest
-pub mod Pieces
 pub mod Stepping
 pub mod PartlyComposed
 pub mod SteppingBack

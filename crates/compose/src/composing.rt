@@ -6,8 +6,7 @@ ghost use Rattle.compose.specs.Many.{many, ComposesAll, lengths_of};
 ghost use Rattle.compose.specs.Outcome.{CanCompose, CanComposeAll, IsComposeRefused, IsComposeAllRefused};
 
 use crate::laying::{end, lay, lay_over};
-use crate::pieces::all;
-use delta::{Builder, Delta};
+use delta::{Builder, Cursor, Delta};
 use refusal::Refusal;
 use std::alloc::Global;
 
@@ -22,7 +21,12 @@ pub fn compose(alloc: Global, first: &Delta, second: &Delta) -> Result<Delta, Re
     ensures long { result ≡ Err Refusal.BadOps → 2 ^ 48 < lengths_of (first.now ∷ second.now ∷ []) }
 {
     let mut out = Builder::new(alloc);
-    let rest = lay(alloc, all(first.ops()), all(second.ops()), &mut out)?;
+    let rest = lay(
+        alloc,
+        Cursor::new(first.ops()),
+        Cursor::new(second.ops()),
+        &mut out,
+    )?;
     end(alloc, rest, out)
 }
 
@@ -52,7 +56,7 @@ fn compose_onto(alloc: Global, first: Delta, second: &Delta) -> Result<Delta, Re
     ensures only { IfErr result (IsComposeRefused first second.now) }
 {
     let mut out = Builder::new(alloc);
-    let mut rest = all(second.ops());
+    let mut rest = Cursor::new(second.ops());
     for op in first.into_ops() {
         rest = lay_over(alloc, op, rest, &mut out)?;
     }

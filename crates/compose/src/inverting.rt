@@ -2,7 +2,7 @@
 ghost use Rattle.std.specs.Prelude.{◌≡◌, ◌↔◌, IfOk, OnOk, IfErr};
 ghost use Rattle.delta.specs.Gaps.{counted, apply};
 ghost use Rattle.delta.specs.Normal.{nf};
-ghost use Rattle.document.specs.Places.{IsDefined};
+ghost use Rattle.delta.specs.Places.{IsDefined};
 ghost use Rattle.compose.specs.Inverse.{inverse};
 ghost use Rattle.compose.specs.Outcome.{CanInvert, IsInvertRefused};
 

@@ -1,32 +1,31 @@
 //! The second delta over what the first inserts and keeps.
-ghost use Rattle.std.specs.Prelude.{◌≡◌, ◌<◌, [], ◌∷◌, false, IfOk, IfErr, OnOk, IsOkUnless};
-ghost use Rattle.delta.specs.Operation.{op_len, is_delete};
-ghost use Rattle.delta.specs.Normal.{IsNormal};
-ghost use Rattle.delta.specs.Kind.{operation_of};
-ghost use Rattle.compose.specs.steps.Pieces.{left, met};
+ghost use Rattle.std.specs.Prelude.{◌≡◌, ◌<◌, [], ◌∷◌, IfOk, IfErr, IsOkUnless};
+ghost use Rattle.std.specs.Option.{option_to_list};
+ghost use Rattle.delta.specs.Operation.{op_len};
+ghost use Rattle.delta.specs.Normal.{IsNormal, NoneIsEmpty};
+ghost use Rattle.delta.specs.Cursor.{operation_of_part, operations_left};
 ghost use Rattle.compose.specs.steps.PartlyComposed.{ComposesFurther, IsRefusedPartway, EndsWith};
-ghost use Rattle.compose.specs.steps.Stepping.{AllSome, as_list};
+ghost use Rattle.compose.specs.steps.Stepping.{made_in_turn};
 
-use crate::pieces::{Rest, all, copy_of, cut, is_delete, is_insert, len_of};
 use crate::stepping::{add, next_step};
-use delta::{Builder, Delta, Op, OpRef};
+use delta::{Builder, Cursor, Delta, Op, OpRef, Part};
 use refusal::Refusal;
 use std::alloc::Global;
 
 /// Lays the second list over the operations of the first, and gives what is left of it. What is made is made of copies.
 pub fn lay<'b>(
     alloc: Global,
-    mut first: Rest<'_>,
-    mut second: Rest<'b>,
+    mut first: Cursor<'_>,
+    mut second: Cursor<'b>,
     out: &mut Builder,
-) -> Result<Rest<'b>, Refusal>
-    requires first { AllSome (left first) }
-    requires second { IsNormal (left second) }
-    ensures on { IfOk result (λ rest. ComposesFurther out.old (left first.entry) (left second.entry) out.new [] (left rest)) }
-    ensures refused { IfErr result (IsRefusedPartway out.old (left first.entry) (left second.entry)) }
+) -> Result<Cursor<'b>, Refusal>
+    requires first { NoneIsEmpty (operations_left first) }
+    requires second { IsNormal (operations_left second) }
+    ensures on { IfOk result (λ rest. ComposesFurther out.old (operations_left first.entry) (operations_left second.entry) out.new [] (operations_left rest)) }
+    ensures refused { IfErr result (IsRefusedPartway out.old (operations_left first.entry) (operations_left second.entry)) }
 {
-    while let Some(op) = first.head {
-        let step = next_step(alloc, op, first.tail, second)?;
+    while let Some((op, tail)) = first.split_first() {
+        let step = next_step(alloc, op, tail, second)?;
         add(out, step.made)?;
         first = step.first;
         second = step.second;
@@ -39,41 +38,33 @@ pub fn lay<'b>(
 pub fn lay_over<'b>(
     alloc: Global,
     op: Op,
-    second: Rest<'b>,
+    second: Cursor<'b>,
     out: &mut Builder,
-) -> Result<Rest<'b>, Refusal>
+) -> Result<Cursor<'b>, Refusal>
     requires first { 0 < op_len op }
-    requires second { IsNormal (left second) }
-    ensures on { IfOk result (λ rest. ComposesFurther out.old (op ∷ []) (left second.entry) out.new [] (left rest)) }
-    ensures refused { IfErr result (IsRefusedPartway out.old (op ∷ []) (left second.entry)) }
+    requires second { IsNormal (operations_left second) }
+    ensures on { IfOk result (λ rest. ComposesFurther out.old (op ∷ []) (operations_left second.entry) out.new [] (operations_left rest)) }
+    ensures refused { IfErr result (IsRefusedPartway out.old (op ∷ []) (operations_left second.entry)) }
 {
-    if is_delete(op.get()) {
+    if op.is_delete() {
         add(out, Some(op))?;
         return Ok(second);
     }
     let second = pass_inserts(alloc, second, out)?;
-    match second.head {
+    match second.split_first() {
         None => {
             add(out, Some(op))?;
             Ok(second)
         }
-        Some(next) => {
+        Some((next, rest)) => {
             let len = op.len16();
-            if is_insert(next) || len_of(next) < len {
-                let whole = Rest {
-                    head: Some(op.get()),
-                    tail: &[],
-                };
+            if next.is_insert() || next.len16() < len {
+                let whole = Cursor::before(Part::whole(&op), &[]);
                 let rest = lay(alloc, whole, second, out)?;
                 return Ok(rest);
             }
-            match cut(next, second.tail, len) {
-                None => Err(Refusal::CutsPair),
-                Some((then, rest)) => {
-                    add(out, changed(alloc, op, then)?)?;
-                    Ok(rest)
-                }
-            }
+            add(out, changed(alloc, op, next)?)?;
+            Ok(next.past(len, rest))
         }
     }
 }
@@ -81,31 +72,31 @@ pub fn lay_over<'b>(
 // the inserts that a list begins with, as they are
 fn pass_inserts<'b>(
     alloc: Global,
-    mut second: Rest<'b>,
+    mut second: Cursor<'b>,
     out: &mut Builder,
-) -> Result<Rest<'b>, Refusal>
-    requires second { IsNormal (left second) }
-    ensures on { IfOk result (λ rest. ComposesFurther out.old [] (left second.entry) out.new [] (left rest)) }
-    ensures second { IfOk result (λ rest. IsNormal (left rest)) }
-    ensures refused { IfErr result (IsRefusedPartway out.old [] (left second.entry)) }
+) -> Result<Cursor<'b>, Refusal>
+    requires second { IsNormal (operations_left second) }
+    ensures on { IfOk result (λ rest. ComposesFurther out.old [] (operations_left second.entry) out.new [] (operations_left rest)) }
+    ensures second { IfOk result (λ rest. IsNormal (operations_left rest)) }
+    ensures refused { IfErr result (IsRefusedPartway out.old [] (operations_left second.entry)) }
 {
-    while let Some(op) = second.head {
-        if !is_insert(op) {
+    while let Some((op, rest)) = second.split_first() {
+        if !op.is_insert() {
             return Ok(second);
         }
-        add(out, Some(copy_of(alloc, op)?))?;
-        second = all(second.tail);
+        add(out, Some(op.to_op(alloc)?))?;
+        second = Cursor::new(rest);
     }
     Ok(second)
 }
 
 /// The delta of what was made, and of what is left of the second list where the first has ended.
-pub fn end(alloc: Global, mut rest: Rest<'_>, mut out: Builder) -> Result<Delta, Refusal>
-    ensures { EndsWith result out (left rest.entry) }
+pub fn end(alloc: Global, mut rest: Cursor<'_>, mut out: Builder) -> Result<Delta, Refusal>
+    ensures { EndsWith result out (operations_left rest.entry) }
 {
-    while let Some(op) = rest.head {
-        add(&mut out, Some(copy_of(alloc, op)?))?;
-        rest = all(rest.tail);
+    while let Some((op, behind)) = rest.split_first() {
+        add(&mut out, Some(op.to_op(alloc)?))?;
+        rest = Cursor::new(behind);
     }
     let delta = out.finish();
     let _ = delta.ops();
@@ -113,12 +104,11 @@ pub fn end(alloc: Global, mut rest: Rest<'_>, mut out: Builder) -> Result<Delta,
 }
 
 // what keeps or deletes all units of an operation, after it; the operation as it is where that changes nothing
-fn changed(alloc: Global, op: Op, next: OpRef<'_>) -> Result<Option<Op>, Refusal>
-    requires stays { is_delete op ≡ false }
-    ensures made { IfOk result (λ made. as_list made ≡ met op (operation_of next.entry)) }
+fn changed(alloc: Global, op: Op, next: Part<'_>) -> Result<Option<Op>, Refusal>
+    ensures made { IfOk result (λ made. option_to_list made ≡ made_in_turn op (operation_of_part next.entry)) }
     ensures only { IsOkUnless result Refusal.NoMemory }
 {
-    match next {
+    match next.get() {
         OpRef::Retain(_, change) => {
             if change.is_empty() {
                 return Ok(Some(op));

@@ -13,7 +13,6 @@ mod composing;
 mod inverting;
 pub mod laws;
 mod laying;
-mod pieces;
 mod stepping;
 mod undoing;
 

@@ -1,22 +1,19 @@
 -- One step along two lists of operations, the second over what the first leaves.
-use Rattle.std.specs.Prelude.{◌≡◌, ◌⊎◌, ◌+◌, ◌<◌, ◌≤◌, IsTrue, List, length, Option, Some, None, [], ◌∷◌, ◌++◌}
-use Rattle.delta.specs.Operation.{Operation, base_of, out_of, op_len}
+use Rattle.std.specs.Prelude.{◌≡◌, ◌⊎◌, ◌+◌, ◌<◌, ◌≤◌, IsTrue, List, length, [], ◌∷◌, ◌++◌}
+use Rattle.std.specs.Option.{option_to_list}
+use Rattle.delta.specs.Operation.{Operation, retain, delete, then_changed, base_of, out_of}
+use Rattle.delta.specs.Cursor.{operations_left}
 use Rattle.delta.specs.Gaps.{counted, joined}
-use Rattle.delta.specs.Normal.{IsNormal, settled}
+use Rattle.delta.specs.Normal.{IsNormal, NoneIsEmpty, settled}
 use Rattle.compose.specs.Composed.{composed}
 use Rattle.compose.specs.steps.PairTest.{cuts}
-use Rattle.compose.specs.steps.Pieces.{left}
 use Rattle.compose.specs.declared.stepping.Step.{Step}
 
--- none or one
-abbrev pub as_list : Option Operation → List Operation
-as_list None = []
-as_list (Some op) = op ∷ []
-
--- no operation is empty
-abbrev pub AllSome : List Operation → Type 0
-AllSome [] = Unit {0}
-AllSome (op ∷ ops) = (0 < op_len op) × AllSome ops
+-- what two operations on the same units make, the second after the first
+abbrev pub made_in_turn : Operation → Operation → List Operation
+made_in_turn op (retain n d) = then_changed op d ∷ []
+made_in_turn (retain m c) (delete n) = delete m ∷ []
+made_in_turn _ _ = []
 
 -- a step makes some operations of the two lists and leaves others: they stand for the two as well
 pub record IsStep (first second made first_left second_left : List Operation) : Type 0 where
@@ -32,7 +29,7 @@ IsStepBefore first second made first_left second_left =
 
 -- and the lists that it leaves are shorter; a list that has ended stays so
 pub record IsShorter (first second made first_left second_left : List Operation) : Type 0 where
-  pub first_some : AllSome first_left
+  pub first_some : NoneIsEmpty first_left
   pub second_normal : IsNormal second_left
   pub first_ended : first ≡ [] → first_left ≡ []
   pub second_ended : second ≡ [] → second_left ≡ []
@@ -47,7 +44,7 @@ pub record IsShortStep (first second made first_left second_left : List Operatio
 
 -- the same of what the program gives
 abbrev pub IsStepOf : List Operation → List Operation → Step → Type 0
-IsStepOf first second s = IsShortStep first second (as_list s.made) (left s.first) (left s.second)
+IsStepOf first second s = IsShortStep first second (option_to_list s.made) (operations_left s.first) (operations_left s.second)
 
 -- the second list cuts a pair that the first inserts, whatever operations follow the first
 abbrev pub CutsBefore : List Operation → List Operation → Type 0

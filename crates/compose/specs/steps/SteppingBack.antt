@@ -19,9 +19,9 @@ units_inserted ops = inserts (counted ops)
 
 -- what takes back what is done to inserted units: the change back, or the units again
 abbrev pub turned_back : Operation → Operation → List Operation
-turned_back (insert_text us a) (retain n c) = retain n (reverted c a) ∷ []
+turned_back (insert_text us a) (retain n c) = retain (length us) (reverted c a) ∷ []
 turned_back (insert_text us a) (delete n) = insert_text us a ∷ []
-turned_back (insert_embed key value a) (retain n c) = retain n (reverted c a) ∷ []
+turned_back (insert_embed key value a) (retain n c) = retain 1 (reverted c a) ∷ []
 turned_back (insert_embed key value a) (delete n) = insert_embed key value a ∷ []
 turned_back _ _ = []
 

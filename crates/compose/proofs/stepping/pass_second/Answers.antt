@@ -1,12 +1,16 @@
-use Rattle.std.proofs.Common.{inr, ◌∷◌, ◌++◌}
-use Rattle.delta.specs.Kind.{operation_of}
-use Rattle.compose.specs.steps.Pieces.{left}
+use Rattle.std.proofs.Common.{List, [], inr, ◌∷◌, ◌++◌, sym, subst}
+use Rattle.delta.specs.Operation.{Operation}
+use Rattle.delta.specs.Cursor.{operation_of_part, operations_left}
+use Rattle.compose.specs.steps.Stepping.{IsShortStep}
 use Rattle.compose.proofs.Progress.{second_made, second_shorter}
 use Rattle.compose.proofs.stepping.pass_second.Goals as goal
 
 pub returns-clause-step : goal.returns-clause-step
-returns-clause-step c = record {
-  step = λ more.
-      second_made (operation_of c.args.op ∷ (c.args.tail.now ++ more)) (operation_of c.args.next) c.in_ok-copy_of.field-0 c.args.rest.now (left c.all.result) c.in_ok-copy_of.ensures.same c.all.ensures (inr c.requires.inserts);
-  shorter = second_shorter (operation_of c.args.op ∷ c.args.tail.now) (operation_of c.args.next) c.in_ok-copy_of.field-0 c.args.rest.now (left c.all.result) c.in_ok-copy_of.ensures.same c.all.ensures c.requires.first c.requires.second c.requires.inserts;
-}
+returns-clause-step c =
+    let op : Operation = operation_of_part c.args.op in
+    let next : Operation = operation_of_part c.args.next in
+    subst (λ (l : List Operation). IsShortStep (op ∷ c.args.tail.now) (next ∷ c.args.rest.now) (c.in_ok-to_op.field-0 ∷ []) l (operations_left c.new.result)) (sym c.before-2.ensures)
+    (record {
+      step = λ more. second_made (op ∷ (c.args.tail.now ++ more)) next c.in_ok-to_op.field-0 c.args.rest.now (operations_left c.new.result) c.in_ok-to_op.ensures.same c.new.ensures (inr c.requires.inserts);
+      shorter = second_shorter (op ∷ c.args.tail.now) next c.in_ok-to_op.field-0 c.args.rest.now (operations_left c.new.result) c.in_ok-to_op.ensures.same c.new.ensures c.requires.first c.requires.second c.requires.inserts;
+    })

@@ -1,24 +1,27 @@
-use Rattle.delta.specs.Kind.{operation_of}
-use Rattle.compose.specs.steps.Pieces.{left}
-use Rattle.compose.specs.steps.Stepping.{as_list}
+use Rattle.std.proofs.Common.{min, ap, ◌∙◌}
+use Rattle.std.specs.Prelude.{Err}
+use Rattle.std.specs.Option.{option_to_list}
+use Rattle.delta.specs.Operation.{op_len}
+use Rattle.delta.specs.Cursor.{operation_of_part, operations_left}
 use Rattle.compose.proofs.Meetings.{some-min, some-first, pair_cut}
 use Rattle.compose.proofs.StepsBack.{stays, turned}
 use Rattle.compose.proofs.undoing.turn.Goals as goal
 
-pub cut-requires-in-Some-clause-some : goal.cut-requires-in-Some-clause-some
-cut-requires-in-Some-clause-some c =
-    some-min (operation_of c.args.op) (operation_of c.args.next) c.args.rest.now c.common_len-len.result (some-first (operation_of c.args.op) c.args.tail.now c.requires.base) c.requires.ops
-    c.common_len-len.ensures
+pub take-requires-clause-some : goal.take-requires-clause-some
+take-requires-clause-some c =
+    let is_min = c.min-len.ensures ∙ (ap (λ k. min k c.len16-2.result) c.len16.ensures ∙ ap (min (op_len (operation_of_part c.args.op))) c.len16-2.ensures) in
+    some-min (operation_of_part c.args.op) (operation_of_part c.args.next) c.args.rest.now c.min-len.result (some-first (operation_of_part c.args.op) c.args.tail.now c.requires.base) c.requires.ops is_min
 
-pub returns-in-None-clause-cut : goal.returns-in-None-clause-cut
-returns-in-None-clause-cut c =
-    λ _. pair_cut (operation_of c.args.op) (operation_of c.args.next) c.args.tail.now c.args.rest.now c.common_len-len.result (stays (operation_of c.args.op) c.requires.inserted.0) c.requires.stands c.requires.base c.requires.ops
-    c.common_len-len.ensures
-    c.in-None.ensures.cut
+pub returns-in_err-part-clause-cut : goal.returns-in_err-part-clause-cut
+returns-in_err-part-clause-cut c =
+    λ _.
+    let is_min = c.min-len.ensures ∙ (ap (λ k. min k c.len16-2.result) c.len16.ensures ∙ ap (min (op_len (operation_of_part c.args.op))) c.len16-2.ensures) in
+    pair_cut (operation_of_part c.args.op) (operation_of_part c.args.next) c.args.tail.now c.args.rest.now c.min-len.result (stays (operation_of_part c.args.op) c.requires.inserted.0) c.requires.stands c.requires.base c.requires.ops is_min
+    (c.in_err-part.ensures.cut.0 (ap Err c.in_err-part.ensures.only))
 
-pub returns-in_ok-back-in-Some-cut-clause-made : goal.returns-in_ok-back-in-Some-cut-clause-made
-returns-in_ok-back-in-Some-cut-clause-made c =
-    turned (operation_of c.args.op) (operation_of c.args.next) (operation_of c.in-Some.part) (operation_of c.in-Some-cut.then) c.args.tail.now c.args.rest.now (as_list c.in_ok-back-in-Some-cut.field-0) (left c.in-Some.first) (left c.in-Some-cut.second) c.common_len-len.result
-    c.requires.base c.requires.ops c.requires.inserted c.requires.defined c.requires.stands
-    c.common_len-len.ensures
-    c.in-Some.ensures.cut c.in-Some.ensures.first c.in-Some-cut.ensures.first c.in_ok-back-in-Some-cut.ensures.made c.in-Some.ensures.rest c.in-Some-cut.ensures.rest
+pub returns-clause-made : goal.returns-clause-made
+returns-clause-made c =
+    let is_min = c.min-len.ensures ∙ (ap (λ k. min k c.len16-2.result) c.len16.ensures ∙ ap (min (op_len (operation_of_part c.args.op))) c.len16-2.ensures) in
+    turned (operation_of_part c.args.op) (operation_of_part c.args.next) (operation_of_part c.in_ok-part.part) c.args.tail.now c.args.rest.now (option_to_list c.in_ok-back.field-0) (operations_left c.in_ok-part.first) (operations_left c.past.result) c.min-len.result
+    c.requires.base c.requires.ops c.requires.inserted c.requires.defined c.requires.stands is_min (λ cut. let bad = c.in_ok-part.ensures.cut.1 cut in absurd (cc))
+    c.in_ok-part.ensures.first c.in_ok-back.ensures.made c.in_ok-part.ensures.left c.past.ensures
