@@ -9,7 +9,7 @@ use Rattle.recovery.specs.Slot.{Segment, HoldsSlot, bodies_of}
 use Rattle.recovery.specs.Layout.{IsLaidOut}
 use Rattle.recovery.specs.declared.segments.Ring.{Ring}
 use Rattle.recovery.specs.Found.{Found, StandFor, empty_state}
-use Rattle.recovery.specs.Reading.{Names, OthersClosed, FitsBodies}
+use Rattle.recovery.specs.steps.Reading.{Names, OthersClosed, FitsBodies}
 use Rattle.recovery.proofs.Named.{named_same}
 use Rattle.recovery.proofs.Replays.{Leads, leads_same, leads_stand, stand_leads}
 

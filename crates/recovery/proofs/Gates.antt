@@ -4,7 +4,7 @@ use Rattle.std.proofs.lemmas.List.{get_or-take, get_or-drop}
 use Rattle.recovery.specs.declared.shape.Shape.{Shape}
 use Rattle.recovery.specs.Shape.{slot_place}
 use Rattle.recovery.specs.Layout.{IsClosed}
-use Rattle.recovery.specs.Reading.{AreClosed, OthersClosed}
+use Rattle.recovery.specs.steps.Reading.{AreClosed, OthersClosed}
 
 -- the first byte of what is read from a place on
 pub first_read : (content bytes : List ℕ) (at : ℕ) → bytes ≡ take 1 (drop at content) → get_or bytes 0 0 ≡ get_or content at 0

@@ -11,7 +11,7 @@ use Rattle.revision.specs.State.{State, folded, all_grow}
 use Rattle.journal.proofs.CallerLemmas.{one_spelling}
 use Rattle.recovery.specs.declared.shape.Shape.{Shape}
 use Rattle.recovery.specs.Found.{StandFor, empty_state, commands_of}
-use Rattle.recovery.specs.Reading.{Continues}
+use Rattle.recovery.specs.steps.Reading.{Continues}
 use Rattle.recovery.proofs.Folds.{folded-append, all_grow-append}
 
 -- the batches that bodies spell lead from the first state to the last

@@ -7,4 +7,4 @@ pub mod Room
 pub mod Open
 pub mod Run
 pub mod Formatting
-pub mod Reading
+pub mod steps

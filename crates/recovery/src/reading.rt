@@ -8,7 +8,7 @@ ghost use Rattle.recovery.specs.declared.shape.Shape.{Shape as ShapeValue};
 ghost use Rattle.recovery.specs.Shape.{is_in_range, layout_length, slot_place};
 ghost use Rattle.recovery.specs.Layout.{IsFormatted};
 ghost use Rattle.recovery.specs.Found.{Found};
-ghost use Rattle.recovery.specs.Reading.{Names, IsReadAs};
+ghost use Rattle.recovery.specs.steps.Reading.{Names, IsReadAs};
 
 mod first_slot;
 mod gates;

@@ -6,7 +6,7 @@ ghost use Rattle.journal.specs.Area.{open_gate, entries};
 ghost use Rattle.journal.specs.Scan.{items_of};
 ghost use Rattle.recovery.specs.Shape.{is_in_range, layout_length, slot_place};
 ghost use Rattle.recovery.specs.Slot.{Segment, HoldsSegment, HoldsSlot};
-ghost use Rattle.recovery.specs.Reading.{FitsBodies};
+ghost use Rattle.recovery.specs.steps.Reading.{FitsBodies};
 
 use super::gates::{is_open, read_at};
 use crate::segments::Ring;

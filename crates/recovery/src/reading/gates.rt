@@ -3,7 +3,7 @@ ghost use Rattle.std.specs.Prelude.{◌≡◌, ◌↔◌, ◌+◌, ◌*◌, ◌<
 ghost use Rattle.disk.specs.Calls.{HasOnlyRead, CountsFaults};
 ghost use Rattle.journal.specs.Area.{open_gate};
 ghost use Rattle.recovery.specs.Shape.{is_in_range, layout_length};
-ghost use Rattle.recovery.specs.Reading.{AreClosed, OthersClosed};
+ghost use Rattle.recovery.specs.steps.Reading.{AreClosed, OthersClosed};
 
 use crate::shape::Shape;
 use crate::superblock::SUPERBLOCK_LEN;

@@ -5,7 +5,7 @@ ghost use Rattle.revision.specs.State.{State as StateValue};
 ghost use Rattle.journal.specs.Scan.{items_of};
 ghost use Rattle.recovery.specs.Shape.{is_in_range};
 ghost use Rattle.recovery.specs.Found.{StandFor};
-ghost use Rattle.recovery.specs.Reading.{Continues};
+ghost use Rattle.recovery.specs.steps.Reading.{Continues};
 
 use crate::shape::Shape;
 use journal::decode_batch;

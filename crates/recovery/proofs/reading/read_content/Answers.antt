@@ -3,7 +3,7 @@ use Rattle.std.proofs.lemmas.Result.{err_from_is_err_and}
 use Rattle.std.proofs.lemmas.Bool.{iff_false}
 use Rattle.disk.specs.Device.{History}
 use Rattle.journal.specs.Scan.{items_of}
-use Rattle.recovery.specs.Reading.{FitsBodies}
+use Rattle.recovery.specs.steps.Reading.{FitsBodies}
 use Rattle.recovery.proofs.FoundOnce.{not_others, not_slot, not_stand}
 use Rattle.recovery.proofs.reading.read_content.Goals as goal
 

@@ -1,6 +1,6 @@
 use Rattle.std.proofs.Common.{◌≡◌}
 use Rattle.disk.specs.Crash.{history_of}
-use Rattle.recovery.specs.Reading.{AreClosed}
+use Rattle.recovery.specs.steps.Reading.{AreClosed}
 use Rattle.recovery.proofs.reading.gates.are_closed.Given as goal
 
 -- each gate so far is closed
