@@ -2,6 +2,31 @@
 //!
 //! The numbers and the names are part of the messages that clients read, so they never change their
 //! meaning. The crate stands on nothing; every layer that refuses something names it by this type.
+//!
+//! A caller, with its contract, which is proved as it stands:
+//!
+//! ```text
+//! ghost use Rattle.std.specs.Prelude.{◌≡◌, ◌≤◌, ◌<◌, ◌⊎◌, ◌++◌, ◌∷◌, [], Err, length, IfOk, IfErr};
+//! ghost use Rattle.std.specs.String.{string_bytes};
+//!
+//! use refusal::Refusal;
+//! use std::alloc::Global;
+//!
+//! /// The text with a line end, refused where it is too long for a line.
+//! pub fn line_of(alloc: Global, text: &str) -> Result<String, Refusal>
+//!     ensures ok { IfOk result (λ line. string_bytes line ≡ text.now ++ 10 ∷ []) }
+//!     ensures short { IfOk result (λ _. length text.now ≤ 65536) }
+//!     ensures too_long { result ≡ Err Refusal.LineTooLong → 65536 < length text.now }
+//!     ensures only { IfErr result (λ e. (e ≡ Refusal.LineTooLong) ⊎ (e ≡ Refusal.NoMemory)) }
+//! {
+//!     if text.len() > 65_536 {
+//!         return Err(Refusal::LineTooLong);
+//!     }
+//!     let mut line = String::from_str(alloc, text)?;
+//!     line.push('\n')?;
+//!     Ok(line)
+//! }
+//! ```
 #![tactic(auto)]
 
 ghost use Rattle.std.specs.Prelude.{◌≡◌};

@@ -9,6 +9,40 @@
 //! It stands on `words` for what the words ask for, on `recovery` for the store, on `revision` for what becomes of a
 //! command, on `algebra` for the commands on deltas, and on `disk` for the file. The lines of a session (`session`) are a
 //! module of this crate until they are a crate of their own.
+//!
+//! A caller, with its contract, which is proved as it stands:
+//!
+//! ```text
+//! ghost use Rattle.std.specs.Prelude.{◌≡◌, List, false, IfOk};
+//! ghost use Rattle.recovery.specs.Open.{IsOpen, has_failed, state_of};
+//! ghost use Rattle.server.specs.Asked.{state_after};
+//! ghost use Rattle.server.specs.Replies.{Exchange};
+//!
+//! use disk::Disk;
+//! use recovery::Store;
+//! use server::Failure;
+//! use server::desk::StoreDesk;
+//! use server::serve::serve;
+//! use std::alloc::Global;
+//! use std::io::{Read, Write};
+//!
+//! /// Serves one session over an opened store. The store then holds what it held, with all that was answered as taken.
+//! pub fn serve_store<D: Disk + Drop, I: Read, O: Write>(
+//!     alloc: Global,
+//!     store: Store<D>,
+//!     input: &mut I,
+//!     output: &mut O,
+//! ) -> Result<Store<D>, Failure>
+//!     requires works { has_failed store ≡ false }
+//!     requires open { IsOpen store }
+//!     ensures { IfOk result (λ after. (asked : List Exchange)
+//!         × (state_of after ≡ state_after (state_of store) asked)) }
+//! {
+//!     let mut desk = StoreDesk::new(store);
+//!     serve(alloc, &mut desk, input, output)?;
+//!     Ok(desk.into_store())
+//! }
+//! ```
 #![tactic(auto)]
 
 mod deltas;

@@ -3,6 +3,22 @@
 //! `Invocation::parse` reads them, and answers what they ask for or the text for a user whose words can't be used, who
 //! asked for help, or who asked for the version. Which words mean what is tested, and not proved. It stands on `clap`,
 //! and on `algebra` for the tasks on deltas.
+//!
+//! A caller, with its contract, which is proved as it stands:
+//!
+//! ```text
+//! use std::alloc::Global;
+//! use words::Invocation;
+//!
+//! /// The file that the words name. A command on deltas has none.
+//! pub fn file_in<'a>(alloc: Global, words: &'a [&'a str]) -> Result<Option<&'a str>, clap::Error> {
+//!     Ok(match Invocation::parse(alloc, words)? {
+//!         Invocation::Format { path, shape: _ } => Some(path),
+//!         Invocation::Serve { path } | Invocation::Dump { path } => Some(path),
+//!         Invocation::Delta(_) => None,
+//!     })
+//! }
+//! ```
 #![tactic(auto)]
 
 mod arguments;

@@ -1,0 +1,9 @@
+//! Tests of the program as a call, of its sessions over a device that stops, and of how a refusal is printed. They call
+//! public functions only.
+//!
+//! `callers` has the callers that open `lib.rt` of refusal, words and server, proved.
+#![tactic(auto)]
+
+pub mod callers;
+#[cfg(test)]
+mod tests;

@@ -1,0 +1,266 @@
+use super::{GREETED, HELLO, call, format_small, path};
+use std::fs::{self, File};
+use std::io::{self, Read};
+use std::process::Abort;
+use std::rt::Files;
+use std::test::Fail;
+
+/// An input that is read in pieces of one size.
+#[derive(Drop)]
+struct Pieces<'a> {
+    rest: &'a [u8],
+    size: usize,
+}
+
+impl Read for Pieces<'_> {
+    fn read(&mut self, buf: &mut [u8]) -> io::Result<usize> {
+        let count = self.size.min(self.rest.len()).min(buf.len());
+        buf[..count].copy_from_slice(&self.rest[..count]);
+        self.rest = &self.rest[count..];
+        Ok(count)
+    }
+}
+
+/// An input, whose middle is written so many times, and what it is replied.
+struct Row {
+    front: &'static [u8],
+    middle: &'static [u8],
+    count: usize,
+    back: &'static [u8],
+    replies: &'static str,
+}
+
+const BAD_LINE: &str = "{\"code\":1,\"error\":\"BadLine\"}\n";
+
+const BAD_MESSAGE: &str = "{\"code\":2,\"error\":\"BadMessage\"}\n";
+
+const TOO_LONG: &str = "{\"code\":23,\"error\":\"LineTooLong\"}\n";
+
+const ROWS: [Row; 11] = [
+    Row {
+        front: b"",
+        middle: b"\n",
+        count: 1,
+        back: b"",
+        replies: BAD_LINE,
+    },
+    Row {
+        front: b"\"\xff\"\n",
+        middle: b"",
+        count: 0,
+        back: b"",
+        replies: BAD_LINE,
+    },
+    Row {
+        front: b"{\"do\":\"drop\"}\n",
+        middle: b"",
+        count: 0,
+        back: b"",
+        replies: BAD_MESSAGE,
+    },
+    Row {
+        front: b"{\"do\":\"create\",\"doc\":\"d\",\"n\":1,\"ops\":[{\"insert\":\"z\"}]}\n",
+        middle: b"",
+        count: 0,
+        back: b"",
+        replies: "{\"code\":5,\"error\":\"NoHello\"}\n",
+    },
+    Row {
+        front: b"{\"do\":\"hello\",\"source\":\"a b\"}\n",
+        middle: b"",
+        count: 0,
+        back: b"",
+        replies: "{\"code\":8,\"error\":\"BadName\"}\n",
+    },
+    // 65,536 bytes without the line's end.
+    Row {
+        front: b"",
+        middle: b" ",
+        count: 65_509,
+        back: b"{\"do\":\"hello\",\"source\":\"a\"}\n",
+        replies: GREETED,
+    },
+    // 65,537 bytes without it.
+    Row {
+        front: b"",
+        middle: b" ",
+        count: 65_510,
+        back: b"{\"do\":\"hello\",\"source\":\"a\"}\n",
+        replies: TOO_LONG,
+    },
+    Row {
+        front: b"",
+        middle: b" ",
+        count: 70_000,
+        back: b"",
+        replies: TOO_LONG,
+    },
+    Row {
+        front: b"{\"do\":\"hello\",\"source\":\"a\"}",
+        middle: b"",
+        count: 0,
+        back: b"",
+        replies: "",
+    },
+    // 1,024 operations, each of which inserts nothing.
+    Row {
+        front: b"{\"do\":\"hello\",\"source\":\"a\"}\n{\"do\":\"create\",\"doc\":\"d\",\"n\":1,\"ops\":[{\"insert\":\"\"}",
+        middle: b",{\"insert\":\"\"}",
+        count: 1_023,
+        back: b"]}\n",
+        replies: "{\"ok\":\"hello\"}\n{\"doc\":\"d\",\"n\":1,\"ok\":\"taken\",\"rev\":1}\n",
+    },
+    // 1,025 operations.
+    Row {
+        front: b"{\"do\":\"hello\",\"source\":\"a\"}\n{\"do\":\"create\",\"doc\":\"d\",\"n\":1,\"ops\":[{\"insert\":\"\"}",
+        middle: b",{\"insert\":\"\"}",
+        count: 1_024,
+        back: b"]}\n",
+        replies: "{\"ok\":\"hello\"}\n{\"code\":4,\"error\":\"TooManyOps\"}\n",
+    },
+];
+
+/// A line of arrays that nest so deep, and its reply.
+const NESTED: [(usize, &str); 2] = [(127, BAD_MESSAGE), (128, BAD_LINE)];
+
+/// A line behind hello, and its reply: the first refusal that holds.
+const REFUSED: [(&str, &str); 18] = [
+    ("{\"do\":\"hello\",\"source\":\"a\"}\n", BAD_MESSAGE),
+    ("{\"do\":\"hello\",\"source\":\"a b\"}\n", BAD_MESSAGE),
+    ("{\"do\":1}\n", BAD_MESSAGE),
+    ("{\"doc\":\"d\",\"n\":1,\"ops\":[]}\n", BAD_MESSAGE),
+    ("{\"do\":\"create\",\"doc\":\"d\",\"n\":1}\n", BAD_MESSAGE),
+    (
+        "{\"do\":\"create\",\"doc\":\"d\",\"n\":1,\"ops\":[],\"x\":0}\n",
+        BAD_MESSAGE,
+    ),
+    (
+        "{\"do\":\"create\",\"doc\":\"d\",\"n\":1,\"ops\":{}}\n",
+        BAD_MESSAGE,
+    ),
+    (
+        "{\"do\":\"create\",\"doc\":\"d\",\"n\":0,\"ops\":[]}\n",
+        BAD_MESSAGE,
+    ),
+    (
+        "{\"do\":\"create\",\"doc\":\"\",\"n\":9007199254740992,\"ops\":[]}\n",
+        BAD_MESSAGE,
+    ),
+    (
+        "{\"do\":\"create\",\"doc\":\"\",\"n\":1,\"ops\":[0]}\n",
+        BAD_NAME,
+    ),
+    (
+        "{\"do\":\"create\",\"doc\":\"d/e\",\"n\":1,\"ops\":[]}\n",
+        BAD_NAME,
+    ),
+    // A name of 65 bytes.
+    (
+        "{\"do\":\"create\",\"doc\":\"d23456789_123456789_123456789_123456789_123456789_123456789_12345\",\"n\":1,\"ops\":[]}\n",
+        BAD_NAME,
+    ),
+    (
+        "{\"do\":\"create\",\"doc\":\"d\",\"n\":2,\"ops\":[{\"retain\":1}]}\n",
+        BAD_OPS,
+    ),
+    (
+        "{\"do\":\"create\",\"doc\":\"d\",\"n\":2,\"ops\":[{\"delete\":1}]}\n",
+        BAD_OPS,
+    ),
+    (
+        "{\"do\":\"create\",\"doc\":\"d\",\"n\":2,\"ops\":[{\"insert\":{\"image\":\"u\"}}]}\n",
+        BAD_OPS,
+    ),
+    (
+        "{\"do\":\"create\",\"doc\":\"d\",\"n\":2,\"ops\":[{\"insert\":\"z\",\"attributes\":{\"bold\":true}}]}\n",
+        BAD_OPS,
+    ),
+    (
+        "{\"do\":\"create\",\"doc\":\"d\",\"n\":9007199254740991,\"ops\":[{\"insert\":\"abcdef\"}]}\n",
+        "{\"code\":9,\"error\":\"Gap\"}\n",
+    ),
+    (
+        "{\"do\":\"create\",\"doc\":\"d\",\"n\":1,\"ops\":[{\"insert\":\"abc\"},{\"insert\":\"def\"}]}\n",
+        "{\"code\":16,\"error\":\"TooHeavy\"}\n",
+    ),
+];
+
+const BAD_NAME: &str = "{\"code\":8,\"error\":\"BadName\"}\n";
+
+const BAD_OPS: &str = "{\"code\":3,\"error\":\"BadOps\"}\n";
+
+/// What a session over a new store writes. It ends well.
+fn replies<R: Files<File = File> + AllocGlobal + Abort, I: Read>(
+    rt: &R,
+    path: &str,
+    input: &mut I,
+) -> Result<String, Fail> {
+    format_small(rt, path)?;
+    let ended = call(rt, &["richd", "serve", path], input)?;
+    assert_eq!(rt; (ended.status, ended.errors.as_str()), (0, ""));
+    fs::remove_file(rt, path)?;
+    Ok(ended.output)
+}
+
+/// An input is replied this, in whatever pieces it is read.
+fn replied<R: Files<File = File> + AllocGlobal + Abort>(
+    rt: &R,
+    path: &str,
+    input: &[u8],
+    wanted: &str,
+) -> Result<(), Fail> {
+    for size in [1, 7, 100_000] {
+        let written = replies(rt, path, &mut Pieces { rest: input, size })?;
+        assert_eq!(rt; written.as_str(), wanted);
+    }
+    Ok(())
+}
+
+fn input_of(rt: &HostRuntime, row: &Row) -> Result<Vec<u8>, Fail> {
+    let mut input = row.front.to_vec(rt.alloc())?;
+    for _ in 0..row.count {
+        input.extend_from_slice(row.middle)?;
+    }
+    input.extend_from_slice(row.back)?;
+    Ok(input)
+}
+
+fn nested(rt: &HostRuntime, depth: usize) -> Result<Vec<u8>, Fail> {
+    let mut line = vec![in rt.alloc(); b'['; depth]?;
+    for _ in 0..depth {
+        line.push(b']')?;
+    }
+    line.push(b'\n')?;
+    Ok(line)
+}
+
+#[test]
+fn each_line_has_its_reply(rt: HostRuntime) -> Result<(), Fail> {
+    let path = path(&rt, "rows")?;
+    for row in &ROWS {
+        let input = input_of(&rt, row)?;
+        replied(&rt, path.as_str(), &input, row.replies)?;
+    }
+    Ok(())
+}
+
+#[test]
+fn arrays_nest_127_deep(rt: HostRuntime) -> Result<(), Fail> {
+    let path = path(&rt, "nested")?;
+    for (depth, reply) in &NESTED {
+        let input = nested(&rt, *depth)?;
+        replied(&rt, path.as_str(), &input, *reply)?;
+    }
+    Ok(())
+}
+
+#[test]
+fn the_first_refusal_that_holds_decides(rt: HostRuntime) -> Result<(), Fail> {
+    let path = path(&rt, "refused")?;
+    for (line, reply) in &REFUSED {
+        let input = format!(in rt.alloc(); "{HELLO}{line}")?;
+        let written = replies(&rt, path.as_str(), &mut input.as_bytes())?;
+        assert_eq!(rt; written.as_str().strip_prefix(GREETED), Some(*reply));
+    }
+    Ok(())
+}

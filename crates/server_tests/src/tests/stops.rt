@@ -1,0 +1,111 @@
+use disk::{Call, Disk, FaultDisk, Left, MemDisk, Plan};
+use recovery::{OpenFault, Shape, Store, format_device};
+use refusal::Refusal;
+use server::desk::StoreDesk;
+use server::dump::dump;
+use server::serve::serve;
+use std::process::Abort;
+use std::test::Fail;
+
+/// The device has 1,600 bytes, and the first record's gate is byte 1,097.
+const SMALL: Shape = Shape {
+    slots: 2,
+    slot: 256,
+    docs: 2,
+    cell: 256,
+    sources: 4,
+    keep: 2,
+};
+
+const LINES: &str = "{\"do\":\"hello\",\"source\":\"a\"}\n\
+    {\"do\":\"create\",\"doc\":\"d\",\"n\":1,\"ops\":[{\"insert\":\"z\"}]}\n";
+
+/// What a stop leaves of the gate's byte; then the documents, and the reply to the same create.
+const STOPS: [(u8, &str, &str); 2] = [
+    (
+        0x3c,
+        "",
+        "{\"ok\":\"hello\"}\n{\"doc\":\"d\",\"n\":1,\"ok\":\"taken\",\"rev\":1}\n",
+    ),
+    (
+        0xa5,
+        "d 1 0 {\"ops\":[{\"insert\":\"z\"}]}\n",
+        "{\"ok\":\"hello\"}\n{\"doc\":\"d\",\"n\":1,\"ok\":\"again\",\"rev\":1}\n",
+    ),
+];
+
+/// A device with a store without documents.
+fn formatted<R: AllocGlobal>(rt: &R) -> Result<MemDisk, Fail> {
+    let alloc = rt.alloc();
+    let mut disk = MemDisk::new(alloc, 1_600)?;
+    format_device(alloc, &mut disk, SMALL)?;
+    Ok(MemDisk::holding(alloc, disk.bytes().to_vec(alloc)?))
+}
+
+fn opened<R: AllocGlobal, D: Disk + Drop>(rt: &R, disk: D) -> Result<Store<D>, Refusal> {
+    match Store::open(rt.alloc(), disk) {
+        Ok(store) => Ok(store),
+        Err(OpenFault { disk: _, refusal }) => Err(refusal),
+    }
+}
+
+/// Serves hello and the creation of `d` over a device under a plan, and gives the device then. This is what is written.
+fn served<R: AllocGlobal + Abort>(
+    rt: &R,
+    disk: MemDisk,
+    plan: Plan,
+    wanted: &str,
+) -> Result<FaultDisk, Fail> {
+    let mut desk = StoreDesk::new(opened(rt, FaultDisk::new(disk, plan))?);
+    let mut output = Vec::new(rt.alloc());
+    let _ = serve(rt.alloc(), &mut desk, &mut LINES.as_bytes(), &mut output);
+    assert_eq!(rt; output.as_slice(), wanted.as_bytes());
+    Ok(desk.into_store().close())
+}
+
+/// Nothing goes wrong.
+fn never() -> Plan {
+    Plan::stop(u64::MAX, Left::Nothing)
+}
+
+fn is_gate(call: &Call) -> bool {
+    match call {
+        Call::Write { at, .. } => *at == 1_097,
+        _ => false,
+    }
+}
+
+/// The number of the call that opens the first record's gate, where nothing goes wrong.
+fn gate_call<R: AllocGlobal + Abort>(rt: &R) -> Result<u64, Fail> {
+    let taken = STOPS[0].2;
+    let disk = served(rt, formatted(rt)?, never(), taken)?;
+    let gate = disk
+        .disk()
+        .calls()
+        .iter()
+        .position(is_gate)
+        .ok_or("the gate is not opened")?;
+    Ok(gate as u64)
+}
+
+/// The documents of a store over a device, as they are printed.
+fn holds<R: AllocGlobal + Abort>(rt: &R, disk: MemDisk, wanted: &str) -> Result<(), Fail> {
+    let store = opened(rt, disk)?;
+    let mut output = Vec::new(rt.alloc());
+    let _ = dump(rt.alloc(), store.state(), &mut output);
+    assert_eq!(rt; output.as_slice(), wanted.as_bytes());
+    Ok(())
+}
+
+#[test]
+fn a_create_stopped_while_its_gate_opens_is_lost_or_kept(rt: HostRuntime) -> Result<(), Fail> {
+    let gate = gate_call(&rt)?;
+    let failed = "{\"ok\":\"hello\"}\n{\"code\":21,\"error\":\"StoreFailed\"}\n";
+    for (left, documents, replies) in &STOPS {
+        let plan = Plan::stop(gate, Left::Byte(*left));
+        let stopped = served(&rt, formatted(&rt)?, plan, failed)?;
+        holds(&rt, stopped.after_crash(rt.alloc())?, *documents)?;
+        served(&rt, stopped.after_crash(rt.alloc())?, never(), *replies)?;
+    }
+    Ok(())
+}
