@@ -1,3 +1,5 @@
+mod Floors
+mod Parts
 mod Halves
 pub mod Sums
 pub mod Texts

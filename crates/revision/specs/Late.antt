@@ -38,6 +38,10 @@ pub record HasRoom (edit : List Operation) (since : List (List Operation)) : Typ
   pub base : base_of edit + all_inserted since ≤ 2 ^ 48
   pub out : out_of edit + all_inserted since ≤ 2 ^ 48
 
+-- there is room past them for each delta that a command may have
+abbrev pub HasCommandRoom : List (List Operation) → Type 0
+HasCommandRoom since = (edit : List Operation) → base_of edit ≤ 2 ^ 44 → out_of edit ≤ 2 ^ 44 → HasRoom edit since
+
 -- a delta inserts no more units than the document has after it
 abbrev pub InsertedStay : Type 0
 InsertedStay = (units : List Element) (taken : List Operation) → base_of taken ≤ length units

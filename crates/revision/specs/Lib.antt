@@ -10,6 +10,7 @@ pub mod Acceptance
 pub mod Planned
 pub mod Late
 pub mod Past
+pub mod PastView
 pub mod Parting
 pub mod Sources
 pub mod Whole

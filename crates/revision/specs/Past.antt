@@ -1,13 +1,18 @@
 -- What is held of a document's past: its units at one revision, the floor, and the deltas of the revisions after it, in order.
-use Rattle.std.specs.Prelude.{ℕ, ◌+◌, ◌-◌, ◌≤◌, ◌<◌, ◌^◌, max, List, [], ◌∷◌, ◌++◌, length, take, drop}
+use Rattle.std.specs.Prelude.{◌≡◌, ℕ, ◌+◌, ◌-◌, ◌≤◌, ◌<◌, ◌^◌, max, List, [], ◌∷◌, ◌++◌, length, take, drop, map, refl}
+use Rattle.std.specs.Coded.{Coded, code_by, coded×, coded_list, coded_ℕ}
+use Rattle.attributes.specs.Map.{empty}
 use Rattle.delta.specs.Element.{Element}
-use Rattle.delta.specs.Operation.{Operation}
+use Rattle.delta.specs.ElementCode.{element_code}
+use Rattle.delta.specs.Operation.{Operation, operation_code}
 use Rattle.delta.specs.Gaps.{counted, apply}
 use Rattle.delta.specs.Normal.{nf}
 use Rattle.document.specs.Outcome.{IsAccepted}
 use Rattle.compose.specs.Inverse.{inverse}
 use Rattle.compose.specs.Many.{applied}
 use Rattle.revision.specs.Late.{late}
+use Rattle.revision.specs.Sources.{Sources, sources_code, with_last}
+use Rattle.revision.specs.declared.past.Taker.{Taker}
 
 -- each delta stands on what those before it leave: the document there has all units that it speaks of, it parts no pair, and
 -- the document after it has at most 2^48 units
@@ -36,39 +41,151 @@ way_back_late units (taken ∷ others) = late (way_back units taken) others
 abbrev pub undo_of : ℕ → List Element → List (List Operation) → ℕ → List Operation
 undo_of floor units deltas revision = way_back_late (units_at floor units deltas (revision - 1)) (deltas_since floor deltas (revision - 1))
 
--- A document's past, as far back as it is held: the floor, the units there, and the deltas of the revisions after it.
+-- what stands in a document at a revision
+pub record Content : Type 0 where
+  pub units : List Element
+
+-- A change of a document that was taken: its source, the source's number for it, and the delta from the revision before.
+pub record Change : Type 0 where
+  pub source : List ℕ
+  pub number : ℕ
+  pub delta : List Operation
+
+-- A document's past, as far back as it is held: the floor, which is the lowest revision that is held, the content and the sources
+-- there, and the changes of the revisions after it, in order.
 pub record Past : Type 0 where
   pub floor : ℕ
-  pub units : List Element
-  pub deltas : List (List Operation)
+  pub content : Content
+  pub sources : Sources
+  pub changes : List Change
 
--- its newest revision, and the units there
+-- the past of a document that nothing was taken of yet
+abbrev pub empty_past : Past
+empty_past = record { floor = 0; content = record { units = [] }; sources = empty; changes = [] }
+
+-- the newest revision
 abbrev pub newest : Past → ℕ
-newest past = past.floor + length past.deltas
+newest past = past.floor + length past.changes
 
+-- the deltas of the revisions above the floor
+abbrev pub deltas_of : Past → List (List Operation)
+deltas_of past = map (λ (change : Change). change.delta) past.changes
+
+-- the sources after changes, the first of which is that of the revision after this one
+abbrev pub sources_after : ℕ → Sources → List Change → Sources
+sources_after revision sources [] = sources
+sources_after revision sources (first ∷ others) =
+    sources_after (revision + 1) (with_last first.source first.number (revision + 1) sources) others
+
+-- the content, and the sources, at a revision that is held
+abbrev pub content_at : Past → ℕ → Content
+content_at past revision = record past.content { units = units_at past.floor past.content.units (deltas_of past) revision }
+
+abbrev pub sources_at : Past → ℕ → Sources
+sources_at past revision = sources_after past.floor past.sources (take (revision - past.floor) past.changes)
+
+-- the deltas of the revisions after one that is held
+abbrev pub deltas_above : Past → ℕ → List (List Operation)
+deltas_above past revision = deltas_since past.floor (deltas_of past) revision
+
+-- the past from a revision on that is held
+abbrev pub from_floor : Past → ℕ → Past
+from_floor past floor = record {
+  floor = floor;
+  content = content_at past floor;
+  sources = sources_at past floor;
+  changes = drop (floor - past.floor) past.changes;
+}
+
+-- One revision more: the floor rises to `keep` below it where it is lower.
+abbrev pub with_change : ℕ → Past → Change → Past
+with_change keep past change =
+    from_floor (record past { changes = past.changes ++ change ∷ [] }) (max past.floor (newest past + 1 - keep))
+
+-- the units at the newest revision
 abbrev pub newest_units : Past → List Element
-newest_units past = applied past.units past.deltas
+newest_units past = (content_at past (newest past)).units
+
+-- several revisions more
+abbrev pub with_changes : ℕ → Past → List Change → Past
+with_changes keep past [] = past
+with_changes keep past (first ∷ others) = with_changes keep (with_change keep past first) others
+
+-- A past, with the changes that were prepared to follow it.
+pub record Prepared : Type 0 where
+  pub past : Past
+  pub next : List Change
+
+-- the deltas of changes
+abbrev pub deltas_in : List Change → List (List Operation)
+deltas_in changes = map (λ (change : Change). change.delta) changes
+
+-- the units after all that was prepared, and its revision
+abbrev pub prepared_units : Prepared → List Element
+prepared_units prepared = applied (newest_units prepared.past) (deltas_in prepared.next)
+
+abbrev pub prepared_revision : Prepared → ℕ
+prepared_revision prepared = newest prepared.past + length prepared.next
+
+-- the changes of these sources by these deltas, one by one
+abbrev pub changes_by : List Taker → List (List Operation) → List Change
+changes_by [] deltas = []
+changes_by (first ∷ others) [] = []
+changes_by (first ∷ others) (delta ∷ deltas) =
+    record { source = first.source; number = first.number; delta = delta } ∷ changes_by others deltas
+
+-- What the program keeps of a past: the document and the sources at a revision that isn't above the floor, and the deltas after it with
+-- their sources, of which so many are taken; the others are prepared.
+pub record Parts : Type 0 where
+  pub start : ℕ
+  pub floor : ℕ
+  pub units : List Element
+  pub sources : Sources
+  pub takers : List Taker
+  pub deltas : List (List Operation)
+  pub count : ℕ
+
+-- the past from the start on
+abbrev pub whole_past : Parts → Past
+whole_past parts = record {
+  floor = parts.start;
+  content = record { units = parts.units };
+  sources = parts.sources;
+  changes = take parts.count (changes_by parts.takers parts.deltas);
+}
+
+-- what is seen of them: the past from the floor on, with what is prepared
+abbrev pub seen : Parts → Prepared
+seen parts = record { past = from_floor (whole_past parts) parts.floor; next = drop parts.count (changes_by parts.takers parts.deltas) }
 
 -- the document has at most 2^29 units at each of these revisions, as one of a weight below 2^32 has
 abbrev pub StayShort : List Element → List (List Operation) → Type 0
 StayShort units [] = length units ≤ 2 ^ 29
 StayShort units (taken ∷ others) = (length units ≤ 2 ^ 29) × StayShort (apply units (counted taken)) others
 
--- what a past keeps: its deltas stand in turn on short documents, there are at most 65,536, and revisions are below 2^53
-pub record IsPast (past : Past) : Type 0 where
-  pub stand : StandInTurn past.units past.deltas
-  pub short : StayShort past.units past.deltas
-  pub count : length past.deltas ≤ 65536
-  pub revision : newest past < 2 ^ 53
+-- what they keep: all deltas stand in turn on short documents, and at most 65,536 of those taken are above the floor
+pub record AreParts (parts : Parts) : Type 0 where
+  pub stand : StandInTurn parts.units parts.deltas
+  pub short : StayShort parts.units parts.deltas
+  pub same : length parts.takers ≡ length parts.deltas
+  pub count : parts.count ≤ length parts.deltas
+  pub start : parts.start ≤ parts.floor
+  pub floor : parts.floor ≤ parts.start + parts.count
+  pub held : parts.start + parts.count ≤ parts.floor + 65536
+  pub revision : parts.start + length parts.deltas < 2 ^ 53
 
--- One revision more: the floor rises to `keep` below it where it is lower, and what is held begins there.
-abbrev pub with_floor : Past → ℕ → Past
-with_floor past floor = record {
-  floor = floor;
-  units = units_at past.floor past.units past.deltas floor;
-  deltas = deltas_since past.floor past.deltas floor;
-}
+-- how a past is told from another
+abbrev pub change_code : Coded Change
+change_code =
+    code_by (List ℕ × (ℕ × List Operation)) (coded× (coded_list coded_ℕ) (coded× coded_ℕ (coded_list operation_code)))
+    (λ c. (c.source, (c.number, c.delta))) (λ p. record { source = p.0; number = p.1.0; delta = p.1.1 }) (λ _. refl)
 
-abbrev pub with_delta : ℕ → Past → List Operation → Past
-with_delta keep past taken =
-    with_floor (record past { deltas = past.deltas ++ taken ∷ [] }) (max past.floor (newest past + 1 - keep))
+abbrev pub past_code : Coded Past
+past_code =
+    code_by (ℕ × (List Element × (Sources × List Change))) (coded× coded_ℕ (coded× (coded_list element_code) (coded× sources_code (coded_list change_code))))
+    (λ p. (p.floor, (p.content.units, (p.sources, p.changes))))
+    (λ p. record { floor = p.0; content = record { units = p.1.0 }; sources = p.1.1.0; changes = p.1.1.1 }) (λ _. refl)
+
+abbrev pub prepared_code : Coded Prepared
+prepared_code =
+    code_by (Past × List Change) (coded× past_code (coded_list change_code)) (λ p. (p.past, p.next)) (λ p. record { past = p.0; next = p.1 }) (λ _. refl)

@@ -1,6 +1,6 @@
 -- The whole rule of acceptance, with edits, undo and the past of a document. No code stands on these definitions yet: State.antt
 -- and Acceptance.antt have what the program does so far, which is creations. Here are the same words with all their cases.
-use Rattle.std.specs.Prelude.{ℕ, zero, suc, ◌+◌, ◌-◌, ◌^◌, ◌≡◌, ◌≤◌, ◌<◌, ◌==◌, ◌&&◌, ◌||◌, not, nat_lt, nat_le, bytes_eq, if◌then◌else◌, max, Bool, true, false, Option, Some, None, is_none, Result, Ok, Err, List, [], ◌∷◌, ◌++◌, length, take, drop, map, slice_get}
+use Rattle.std.specs.Prelude.{ℕ, zero, suc, ◌+◌, ◌-◌, ◌^◌, ◌≡◌, ◌≤◌, ◌<◌, ◌==◌, ◌&&◌, ◌||◌, not, nat_lt, nat_le, bytes_eq, if◌then◌else◌, Bool, true, false, Option, Some, None, is_none, Result, Ok, Err, List, [], ◌∷◌, ◌++◌, length, slice_get}
 use Rattle.refusal.specs.declared.Refusal.{Refusal}
 use Rattle.refusal.specs.declared.Refusal.TheVariants.{NoDocument, Exists, Gap, OldNumber, TooManySources, Future, TooOld, PastEnd, CutsPair, TooHeavy, TooWide, RevisionsSpent, NothingToUndo, TooManyDocuments}
 use Rattle.attributes.specs.Map.{empty}
@@ -12,7 +12,8 @@ use Rattle.revision.specs.State.{reaches_past, weight_of}
 use Rattle.revision.specs.Sources.{LastTaken, Sources, last_of, count_of, with_last}
 use Rattle.revision.specs.Parting.{parts_pair}
 use Rattle.revision.specs.Late.{late}
-use Rattle.revision.specs.Past.{units_at, deltas_since, undo_of}
+use Rattle.revision.specs.Past.{undo_of}
+pub use Rattle.revision.specs.Past.{Content, Change, Past, empty_past, newest, deltas_of, sources_after, content_at, sources_at, deltas_above, from_floor, with_change}
 
 -- How much a state may hold: documents, sources of a document, a document's weight, the bytes of a command's entry in the journal,
 -- and how many revisions below the newest one are held.
@@ -22,67 +23,6 @@ pub record Limits : Type 0 where
   pub weight : ℕ
   pub width : ℕ
   pub keep : ℕ
-
--- what stands in a document at a revision
-pub record Content : Type 0 where
-  pub units : List Element
-
--- A change of a document that was taken: its source, the source's number for it, and the delta from the revision before.
-pub record Change : Type 0 where
-  pub source : List ℕ
-  pub number : ℕ
-  pub delta : List Operation
-
--- A document's past, as far back as it is held: the floor, which is the lowest revision that is held, the content and the sources
--- there, and the changes of the revisions after it, in order.
-pub record Past : Type 0 where
-  pub floor : ℕ
-  pub content : Content
-  pub sources : Sources
-  pub changes : List Change
-
--- the past of a document that nothing was taken of yet
-abbrev pub empty_past : Past
-empty_past = record { floor = 0; content = record { units = [] }; sources = empty; changes = [] }
-
--- the newest revision
-abbrev pub newest : Past → ℕ
-newest past = past.floor + length past.changes
-
--- the deltas of the revisions above the floor
-abbrev pub deltas_of : Past → List (List Operation)
-deltas_of past = map (λ (change : Change). change.delta) past.changes
-
--- the sources after changes, the first of which is that of the revision after this one
-abbrev pub sources_after : ℕ → Sources → List Change → Sources
-sources_after revision sources [] = sources
-sources_after revision sources (first ∷ others) =
-    sources_after (revision + 1) (with_last first.source first.number (revision + 1) sources) others
-
--- the content, and the sources, at a revision that is held
-abbrev pub content_at : Past → ℕ → Content
-content_at past revision = record past.content { units = units_at past.floor past.content.units (deltas_of past) revision }
-
-abbrev pub sources_at : Past → ℕ → Sources
-sources_at past revision = sources_after past.floor past.sources (take (revision - past.floor) past.changes)
-
--- the deltas of the revisions after one that is held
-abbrev pub deltas_above : Past → ℕ → List (List Operation)
-deltas_above past revision = deltas_since past.floor (deltas_of past) revision
-
--- the past from a revision on that is held
-abbrev pub from_floor : Past → ℕ → Past
-from_floor past floor = record {
-  floor = floor;
-  content = content_at past floor;
-  sources = sources_at past floor;
-  changes = drop (floor - past.floor) past.changes;
-}
-
--- One revision more: the floor rises to `keep` below it where it is lower.
-abbrev pub with_change : ℕ → Past → Change → Past
-with_change keep past change =
-    from_floor (record past { changes = past.changes ++ change ∷ [] }) (max past.floor (newest past + 1 - keep))
 
 -- A record of a document: its name, and its past, from which all else comes.
 pub record DocumentRecord : Type 0 where

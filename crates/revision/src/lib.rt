@@ -4,15 +4,15 @@
 //! `State::plan` answers a command by the first case that holds and leaves the state alone; `State::absorb` adds what was
 //! taken, just where it continues the state. So far commands create documents. The definitions stand in
 //! specs/Acceptance.antt and specs/State.antt; when two states hold the same, and that such states stay so, in
-//! specs/Agree.antt and `laws`. For edits and undo, which are to come, `late` and `past` say and do what they take: a delta
+//! specs/Agree.antt and `laws`. For edits and undo, which are to come, `late` and `Past` say and do what they take: a delta
 //! past those that were taken since its base, the document at an older revision, and what undoes a revision (specs/Late.antt
-//! and specs/Past.antt); `held` is a document's past as a type. No state holds one yet.
+//! and specs/Past.antt). `Past` is a document's past as a type, and `Sources` what each source has in a document. No state
+//! holds one yet; specs/Whole.antt has the rule with all its cases, on records that do.
 //! It stands on `delta`, `document`, `compose` and `xform`.
 #![tactic(auto)]
 
 mod command;
 mod growing;
-mod held;
 mod late;
 pub mod laws;
 mod name;
@@ -28,6 +28,7 @@ mod widths;
 
 pub use command::{Action, Command};
 pub use name::Name;
+pub use past::{Past, Taker};
 pub use planning::Plan;
 pub use sources::{LastTaken, Sources};
 pub use state::{DocState, Limits, SourceEntry, State};

@@ -1,21 +1,230 @@
-//! What is held of a document's past: the document at an older revision, and the delta that undoes a revision.
-ghost use Rattle.std.specs.Prelude.{◌≡◌, ◌+◌, ◌≤◌, ◌<◌, ◌^◌, ◌∷◌, length, take, drop, IfOk, OnOk, IsOkUnless};
+//! A document's past, as far back as it is held.
+ghost use Rattle.std.specs.Prelude.{◌≡◌, ◌+◌, ◌≤◌, ◌<◌, ◌^◌, ◌∷◌, ◌++◌, [], length, take, drop, IfOk, OnOk, OnErr, IsOkUnless};
+ghost use Rattle.delta.specs.Operation.{base_of, out_of};
 ghost use Rattle.delta.specs.Gaps.{counted, apply};
 ghost use Rattle.document.specs.Outcome.{IsAccepted};
 ghost use Rattle.compose.specs.Many.{applied};
-ghost use Rattle.revision.specs.Late.{late, all_inserted};
-ghost use Rattle.revision.specs.Past.{StandInTurn, way_back, way_back_late};
+ghost use Rattle.revision.specs.Late.{late as late_edit, all_inserted, HasCommandRoom};
+ghost use Rattle.revision.specs.Past.{StandInTurn, newest, content_at, deltas_of, deltas_above, undo_of, way_back, way_back_late, with_changes, prepared_units, prepared_revision};
 
-use crate::late::past_all;
+use crate::late::{late, past_all};
+use crate::name::Name;
+use crate::sources::Sources;
 use compose::invert;
 use delta::Delta;
 use document::Document;
 use refusal::Refusal;
 use std::alloc::Global;
+use std::marker::Model;
 
-/// The document after the first `count` of the deltas of its past, which stand on it in turn. Refused for want of memory
-/// alone. The document is copied once, and each delta applied to the copy.
-pub(crate) fn document_after(
+/// The source of a change, with its number for it.
+#[derive(Drop)]
+pub struct Taker {
+    source: Name,
+    number: u64,
+}
+
+/// The lowest revision that is held, the floor, with the document and the sources there, and the changes of the revisions after
+/// it. The document that is kept may be older: what is seen is computed from it, so that the floor rises without a copy.
+///
+/// A change is first prepared, which leaves what is seen as it is, and may find no memory. What is prepared is then accepted,
+/// which needs none.
+#[derive(Drop)]
+pub struct Past {
+    start: u64,
+    floor: u64,
+    document: Document,
+    sources: Sources,
+    takers: Vec<Taker>,
+    deltas: Vec<Delta>,
+    count: usize,
+}
+
+impl Model for Past {
+    ghost use Rattle.revision.specs.Past as spec;
+
+    ghost Value = { spec.Prepared };
+
+    ghost coded = { spec.prepared_code };
+
+    ghost use Rattle.revision.specs.PastView.{parts_of};
+
+    ghost view = { λ p. spec.seen (parts_of p) };
+
+    ghost invariant = { λ p. spec.AreParts (parts_of p) };
+}
+
+impl Past {
+    /// A past that begins with a document, which is short, and its sources at a revision. It takes no memory.
+    pub fn new(alloc: Global, floor: u64, document: Document, sources: Sources) -> Past
+        requires short { length document ≤ 2 ^ 29 }
+        requires revision { floor < 2 ^ 53 }
+        ensures { result ≡ record { past = record { floor = floor; content = record { units = document }; sources = sources; changes = [] }; next = [] } }
+    {
+        Past {
+            start: floor,
+            floor,
+            document,
+            sources,
+            takers: Vec::new(alloc),
+            deltas: Vec::new(alloc),
+            count: 0,
+        }
+    }
+
+    /// The lowest revision that is held.
+    pub fn floor(&self) -> u64
+        ensures { result ≡ self.now.past.floor }
+    {
+        self.floor
+    }
+
+    /// The newest revision.
+    pub fn revision(&self) -> u64
+        ensures revision { result ≡ newest self.now.past }
+        ensures bound { newest self.now.past < 2 ^ 53 }
+    {
+        self.start + self.count as u64
+    }
+
+    /// The deltas after a revision that is held. It takes no memory.
+    pub fn since(&self, revision: u64) -> &[Delta]
+        requires held { self.now.past.floor ≤ revision }
+        requires there { revision ≤ newest self.now.past }
+        ensures deltas { result.now ≡ deltas_above self.now.past revision }
+        ensures room { HasCommandRoom result.now }
+    {
+        let from = (revision - self.start) as usize;
+        &self.deltas.as_slice()[from..self.count]
+    }
+
+    /// The document at a revision that is held. Refused for want of memory alone.
+    pub fn document_at(&self, alloc: Global, revision: u64) -> Result<Document, Refusal>
+        requires held { self.now.past.floor ≤ revision }
+        requires there { revision ≤ newest self.now.past }
+        ensures document { IfOk result (λ document. document ≡ (content_at self.now.past revision).units) }
+        ensures only { IsOkUnless result Refusal.NoMemory }
+    {
+        let count = (revision - self.start) as usize;
+        document_after(alloc, &self.document, self.deltas.as_slice(), count)
+    }
+
+    /// An edit that was made on a revision that is held, late past what was taken since. Its lengths are those of a
+    /// command's delta, at most 2^44 each. Refused for want of memory alone.
+    pub fn late(&self, alloc: Global, edit: &Delta, revision: u64) -> Result<Delta, Refusal>
+        requires held { self.now.past.floor ≤ revision }
+        requires there { revision ≤ newest self.now.past }
+        requires base { base_of edit.now ≤ 2 ^ 44 }
+        requires out { out_of edit.now ≤ 2 ^ 44 }
+        ensures late { IfOk result (λ made. made ≡ late_edit edit.now (deltas_above self.now.past revision)) }
+        ensures only { IsOkUnless result Refusal.NoMemory }
+    {
+        late(alloc, edit, self.since(revision))
+    }
+
+    /// The delta that undoes a revision above the floor, late past what was taken since. Refused for want of memory alone.
+    pub fn undo(&self, alloc: Global, revision: u64) -> Result<Delta, Refusal>
+        requires held { self.now.past.floor < revision }
+        requires there { revision ≤ newest self.now.past }
+        ensures undo { IfOk result (λ back. back ≡ undo_of self.now.past.floor self.now.past.content.units (deltas_of self.now.past) revision) }
+        ensures only { IsOkUnless result Refusal.NoMemory }
+    {
+        let place = (revision - 1 - self.start) as usize;
+        undo_one(
+            alloc,
+            &self.document,
+            &self.deltas.as_slice()[..self.count],
+            place,
+        )
+    }
+
+    /// The revision of the last change that was prepared, the newest revision where none was.
+    pub fn prepared_revision(&self) -> u64
+        ensures revision { result ≡ prepared_revision self.now }
+        ensures bound { prepared_revision self.now < 2 ^ 53 }
+    {
+        self.start + self.deltas.len() as u64
+    }
+
+    /// The document after all that was prepared. Refused for want of memory alone.
+    pub fn prepared_document(&self, alloc: Global) -> Result<Document, Refusal>
+        ensures document { IfOk result (λ document. document ≡ prepared_units self.now) }
+        ensures only { IsOkUnless result Refusal.NoMemory }
+    {
+        document_after(
+            alloc,
+            &self.document,
+            self.deltas.as_slice(),
+            self.deltas.len(),
+        )
+    }
+
+    /// Prepares the change of the revision after all that was prepared: the document takes it there, and stays short. What is
+    /// seen of the past stays as it is. Refused for want of memory alone, and then nothing more is prepared.
+    pub fn prepare(&mut self, source: Name, number: u64, delta: Delta) -> Result<(), Refusal>
+        requires accepted { IsAccepted (prepared_units self.old) (counted delta) }
+        requires short { length (apply (prepared_units self.old) (counted delta)) ≤ 2 ^ 29 }
+        requires revision { prepared_revision self.old + 1 < 2 ^ 53 }
+        ensures ok { OnOk result (self.new ≡ record self.old { next = self.old.next ++ record { source = source; number = number; delta = delta } ∷ [] }) }
+        ensures only { IsOkUnless result Refusal.NoMemory }
+        ensures unchanged { OnErr result (self.new ≡ self.old) }
+    {
+        let taker = Taker { source, number };
+        push_both(&mut self.takers, &mut self.deltas, taker, delta)?;
+        Ok(())
+    }
+
+    /// Accepts what was prepared: each change is the next revision, and the floor rises to `keep` below the newest one where it
+    /// is lower. It takes no memory, and isn't refused.
+    pub fn accept(&mut self, keep: u32)
+        requires some { 1 ≤ keep }
+        requires bound { keep ≤ 65536 }
+        ensures { self.new ≡ record { past = with_changes keep self.old.past self.old.next; next = [] } }
+    {
+        let newest = self.start + self.deltas.len() as u64;
+        if self.count == self.deltas.len() {
+            return;
+        }
+        self.count = self.deltas.len();
+        let least = newest.saturating_sub(u64::from(keep));
+        if least > self.floor {
+            self.floor = least;
+        }
+    }
+
+    /// Drops what was prepared.
+    pub fn forget(&mut self)
+        ensures { self.new ≡ record self.old { next = [] } }
+    {
+        self.takers.truncate(self.count);
+        self.deltas.truncate(self.count);
+    }
+}
+
+// Adds to both lists. Refused for want of memory alone, and then both are unchanged.
+fn push_both(
+    takers: &mut Vec<Taker>,
+    deltas: &mut Vec<Delta>,
+    taker: Taker,
+    delta: Delta,
+) -> Result<(), Refusal>
+    ensures takers { OnOk result (takers.new.items ≡ takers.old.items ++ taker ∷ []) }
+    ensures deltas { OnOk result (deltas.new.items ≡ deltas.old.items ++ delta ∷ []) }
+    ensures only { IsOkUnless result Refusal.NoMemory }
+    ensures takers_unchanged { OnErr result (takers.new.items ≡ takers.old.items) }
+    ensures deltas_unchanged { OnErr result (deltas.new.items ≡ deltas.old.items) }
+{
+    takers.push(taker)?;
+    if deltas.push(delta).is_err() {
+        drop(takers.pop());
+        return Err(Refusal::NoMemory);
+    }
+    Ok(())
+}
+
+// The document after the first `count` of the deltas of its past, which stand on it in turn. Refused for want of memory
+// alone. The document is copied once, and each delta applied to the copy.
+fn document_after(
     alloc: Global,
     base: &Document,
     deltas: &[Delta],
@@ -45,9 +254,9 @@ fn apply_taken(alloc: Global, document: &mut Document, taken: &Delta) -> Result<
     }
 }
 
-/// The delta that undoes one of these deltas, which stand in turn on the document: what takes it back, late past all that
-/// come after it. Refused for want of memory alone, given that all units inserted stay within the bound of 2^48.
-pub(crate) fn undo(
+// The delta that undoes one of these deltas, which stand in turn on the document: what takes it back, late past all that
+// come after it. Refused for want of memory alone, given that all units inserted stay within the bound of 2^48.
+fn undo_one(
     alloc: Global,
     base: &Document,
     deltas: &[Delta],
@@ -55,7 +264,7 @@ pub(crate) fn undo(
 ) -> Result<Delta, Refusal>
     requires stand { StandInTurn base.now deltas.now }
     requires held { place < length deltas.now }
-    requires room { length base.now + all_inserted deltas.now ≤ 2 ^ 48 }
+    requires room { length (applied base.now (take place deltas.now)) + all_inserted (drop place deltas.now) ≤ 2 ^ 48 }
     ensures undo { IfOk result (λ back. back ≡ way_back_late (applied base.now (take place deltas.now)) (drop place deltas.now)) }
     ensures only { IsOkUnless result Refusal.NoMemory }
 {

@@ -1,14 +1,15 @@
 //! Edits of older revisions, documents at them, and undo. What is taken, and the texts, are worked out by hand.
 ghost use Rattle.std.specs.Prelude.{◌≡◌, ◌+◌, ◌≤◌, ◌^◌, true, length, IfOk};
 ghost use Rattle.revision.specs.Late.{HasRoom, all_inserted};
-ghost use Rattle.revision.specs.Past.{StandInTurn, newest_units};
+ghost use Rattle.revision.specs.Past.{prepared_units};
 ghost use Rattle.delta.specs.Gaps.{counted, apply};
 ghost use Rattle.document.specs.Outcome.{IsAccepted};
 
 use super::{Step, delta_of};
-use crate::held::Past;
 use crate::late::late;
-use crate::past::{document_after, undo};
+use crate::name::Name;
+use crate::past::Past;
+use crate::sources::Sources;
 use attributes::{Change, Key, Value};
 use delta::{Builder, Delta, MAX_LEN, Op};
 use document::Document;
@@ -23,12 +24,6 @@ fn deltas_of(alloc: Global, all: &[&[Step]]) -> Result<Vec<Delta>, Refusal> {
         deltas.push(delta_of(alloc, steps)?)?;
     }
     Ok(deltas)
-}
-
-fn document_of(alloc: Global, steps: &[Step]) -> Result<Document, Refusal> {
-    let mut document = Document::empty(alloc);
-    document.apply(alloc, &delta_of(alloc, steps)?)?;
-    Ok(document)
 }
 
 // whether so many units are within the bound with all that the deltas insert
@@ -54,21 +49,6 @@ fn has_room(edit: &Delta, since: &[Delta]) -> bool
     ensures { result ≡ true → HasRoom edit.now since.now }
 {
     fits(edit.base_len(), since) && fits(edit.out_len(), since)
-}
-
-// whether deltas stand in turn on a document
-fn stand(alloc: Global, base: &Document, deltas: &[Delta]) -> Result<bool, Refusal>
-    ensures { IfOk result (λ yes. yes ≡ true → StandInTurn base.now deltas.now) }
-{
-    let mut document = base.copy(alloc)?;
-    for taken in deltas {
-        if taken.base_len() > document.len16() {
-            return Ok(false);
-        }
-        document.apply(alloc, taken)?;
-        let _ = document.len16();
-    }
-    Ok(true)
 }
 
 // an edit past what was taken since
@@ -149,32 +129,92 @@ fn names_that_were_set_since_are_left_alone(rt: HostRuntime) -> Result<(), Fail>
     Ok(())
 }
 
-// the document after so many of the deltas
-fn after(
+// a past that begins with a text at revision 1
+fn past_of(alloc: Global, text: &'static str) -> Result<Past, Refusal> {
+    let mut document = Document::empty(alloc);
+    document.apply(alloc, &delta_of(alloc, &[Step::Plain(text)])?)?;
+    if document.len16() > SHORT {
+        return Err(Refusal::TooHeavy);
+    }
+    Ok(Past::new(alloc, 1, document, Sources::new(alloc)))
+}
+
+/// 2^29
+const SHORT: u64 = 536_870_912;
+
+// whether a change may follow all that was prepared: the document there takes it, and stays short
+fn is_next(alloc: Global, past: &Past, taken: &Delta) -> Result<bool, Refusal>
+    ensures accepted { IfOk result (λ yes. yes ≡ true → IsAccepted (prepared_units past.now) (counted taken.now)) }
+    ensures short { IfOk result (λ yes. yes ≡ true → length (apply (prepared_units past.now) (counted taken.now)) ≤ 2 ^ 29) }
+{
+    let mut document = past.prepared_document(alloc)?;
+    if taken.base_len() > document.len16() {
+        return Ok(false);
+    }
+    document.apply(alloc, taken)?;
+    Ok(document.len16() <= SHORT)
+}
+
+// adds a change to a past of which so many revisions below the newest one are held
+fn go_on(
     rt: &impl Abort,
     alloc: Global,
-    base: &Document,
-    deltas: &[Delta],
-    count: usize,
-) -> Result<Document, Fail> {
-    let stands = stand(alloc, base, deltas)?;
-    assert!(rt; stands);
-    assert!(rt; count <= deltas.len());
-    Ok(document_after(alloc, base, deltas, count)?)
+    past: &mut Past,
+    taken: Delta,
+    keep: u32,
+) -> Result<(), Fail>
+    requires some { 1 ≤ keep }
+    requires bound { keep ≤ 65536 }
+{
+    let next = is_next(alloc, past, &taken)?;
+    assert!(rt; next);
+    let revision = past.prepared_revision();
+    assert!(rt; revision < 1000);
+    let before = past.revision();
+    past.prepare(Name::source(alloc, "a")?, 1, taken)?;
+    assert_eq!(rt; past.revision(), before);
+    past.accept(keep);
+    Ok(())
 }
 
 #[test]
 fn an_edit_passes_one_delta_after_another(rt: HostRuntime) -> Result<(), Fail> {
     let alloc = rt.alloc();
-    let base = document_of(alloc, &[Step::Plain("z")])?;
-    let since = deltas_of(
+    let mut past = past_of(alloc, "z")?;
+    let after = delta_of(alloc, &[Step::Keep(1), Step::Plain("x")])?;
+    go_on(&rt, alloc, &mut past, after, 10)?;
+    go_on(
+        &rt,
         alloc,
-        &[&[Step::Keep(1), Step::Plain("x")], &[Step::Drop(1)]],
+        &mut past,
+        delta_of(alloc, &[Step::Drop(1)])?,
+        10,
     )?;
-    let made = late_of(&rt, alloc, &since, &delta_of(alloc, &[Step::Plain("y")])?)?;
-    let mut document = after(&rt, alloc, &base, &since, 2)?;
-    document.apply(alloc, &made)?;
-    assert!(&rt; document.as_delta(alloc)? == delta_of(alloc, &[Step::Plain("yx")])?);
+    is_late(&rt, alloc, &past, 1, &[Step::Plain("y")])?;
+    go_on(
+        &rt,
+        alloc,
+        &mut past,
+        delta_of(alloc, &[Step::Plain("y")])?,
+        10,
+    )?;
+    is_there(&rt, alloc, &past, 4, "yx")
+}
+
+// an edit of a letter in front that was made on a revision that is held is taken as this
+fn is_late(
+    rt: &impl Abort,
+    alloc: Global,
+    past: &Past,
+    revision: u64,
+    wanted: &[Step],
+) -> Result<(), Fail> {
+    let edit = delta_of(alloc, &[Step::Plain("y")])?;
+    assert!(rt; edit.base_len() <= 1 && edit.out_len() <= 1);
+    assert!(rt; past.floor() <= revision);
+    assert!(rt; revision <= past.revision());
+    let made = past.late(alloc, &edit, revision)?;
+    assert!(rt; made == delta_of(alloc, wanted)?);
     Ok(())
 }
 
@@ -185,109 +225,81 @@ const TAKEN: [&[Step]; 3] = [
     &[Step::Keep(2), Step::Plain("b")],
 ];
 
-/// The document after each of them.
-const TEXTS: [&str; 4] = ["ab", "a", "qa", "qab"];
+/// The document at each revision.
+const TEXTS: [(u64, &str); 4] = [(1, "ab"), (2, "a"), (3, "qa"), (4, "qab")];
+
+// the past after so many of what was taken
+fn taken_of(rt: &impl Abort, alloc: Global, count: usize) -> Result<Past, Fail> {
+    let mut past = past_of(alloc, "ab")?;
+    for steps in TAKEN.iter().take(count) {
+        go_on(rt, alloc, &mut past, delta_of(alloc, steps)?, 10)?;
+    }
+    Ok(past)
+}
 
 #[test]
 fn documents_at_older_revisions(rt: HostRuntime) -> Result<(), Fail> {
     let alloc = rt.alloc();
-    let base = document_of(alloc, &[Step::Plain("ab")])?;
-    let deltas = deltas_of(alloc, &TAKEN)?;
-    for count in 0..4 {
-        let document = after(&rt, alloc, &base, &deltas, count)?;
-        let wanted = delta_of(alloc, &[Step::Plain(TEXTS[count])])?;
-        assert!(&rt; document.as_delta(alloc)? == wanted, "after {count}");
+    let past = taken_of(&rt, alloc, 3)?;
+    for (revision, text) in &TEXTS {
+        is_there(&rt, alloc, &past, *revision, text)?;
     }
     Ok(())
 }
 
-/// How many of them were taken, which one is undone, and by what.
-const UNDONE: [(usize, usize, &[Step]); 4] = [
-    (1, 0, &[Step::Keep(1), Step::Plain("b")]),
-    (2, 0, &[Step::Keep(2), Step::Plain("b")]),
-    (2, 1, &[Step::Drop(1)]),
-    (3, 2, &[Step::Keep(2), Step::Drop(1)]),
+/// How many of them were taken, which revision is undone, and by what.
+const UNDONE: [(usize, u64, &[Step]); 4] = [
+    (1, 2, &[Step::Keep(1), Step::Plain("b")]),
+    (2, 2, &[Step::Keep(2), Step::Plain("b")]),
+    (2, 3, &[Step::Drop(1)]),
+    (3, 4, &[Step::Keep(2), Step::Drop(1)]),
 ];
 
 #[test]
 fn what_undoes_a_revision(rt: HostRuntime) -> Result<(), Fail> {
     let alloc = rt.alloc();
-    let base = document_of(alloc, &[Step::Plain("ab")])?;
-    let deltas = deltas_of(alloc, &TAKEN)?;
-    for (count, place, wanted) in &UNDONE {
-        assert!(&rt; *count <= deltas.len());
-        let back = undone(&rt, alloc, &base, &deltas[..*count], *place)?;
-        assert!(&rt;
-            back == delta_of(alloc, wanted)?,
-            "of {count} the one at {place}"
-        );
+    for (count, revision, wanted) in &UNDONE {
+        let past = taken_of(&rt, alloc, *count)?;
+        is_undone(&rt, alloc, &past, *revision, wanted)?;
     }
     Ok(())
 }
 
-fn undone(
+// a revision above the floor is undone by this
+fn is_undone(
     rt: &impl Abort,
     alloc: Global,
-    base: &Document,
-    deltas: &[Delta],
-    place: usize,
-) -> Result<Delta, Fail> {
-    let stands = stand(alloc, base, deltas)?;
-    let room = fits(base.len16(), deltas);
-    assert!(rt; stands);
-    assert!(rt; room);
-    assert!(rt; place < deltas.len());
-    Ok(undo(alloc, base, deltas, place)?)
-}
-
-/// 2^29
-const SHORT: u64 = 536_870_912;
-
-// whether a delta may be added to a past: the document there takes it, and stays short
-fn is_next(alloc: Global, past: &Past, taken: &Delta) -> Result<bool, Refusal>
-    ensures accepted { IfOk result (λ yes. yes ≡ true → IsAccepted (newest_units past.now) (counted taken.now)) }
-    ensures short { IfOk result (λ yes. yes ≡ true → length (apply (newest_units past.now) (counted taken.now)) ≤ 2 ^ 29) }
-{
-    let mut document = past.document_at(alloc, past.revision())?;
-    if taken.base_len() > document.len16() {
-        return Ok(false);
-    }
-    document.apply(alloc, taken)?;
-    Ok(document.len16() <= SHORT)
-}
-
-// adds a delta to a past of which two revisions below the newest one are held
-fn go_on(rt: &impl Abort, alloc: Global, past: &mut Past, steps: &[Step]) -> Result<(), Fail> {
-    let taken = delta_of(alloc, steps)?;
-    let next = is_next(alloc, past, &taken)?;
-    assert!(rt; next);
-    let revision = past.revision();
-    assert!(rt; revision < 1000);
-    past.add(alloc, taken, 2)?;
+    past: &Past,
+    revision: u64,
+    wanted: &[Step],
+) -> Result<(), Fail> {
+    assert!(rt; past.floor() < revision);
+    assert!(rt; revision <= past.revision());
+    let back = past.undo(alloc, revision)?;
+    assert!(rt; back == delta_of(alloc, wanted)?, "of {revision}");
     Ok(())
 }
 
-/// What is taken from the empty document on, and the floor and the text after it.
+/// What is taken after the empty document at revision 1, and the floor and the text after it.
 const ROUND: [(&[Step], u64, &str); 5] = [
-    (&[Step::Plain("ab")], 0, "ab"),
-    (&[Step::Keep(1), Step::Drop(1)], 0, "a"),
-    (&[Step::Plain("q")], 1, "qa"),
-    (&[Step::Keep(2), Step::Plain("b")], 2, "qab"),
-    (&[Step::Keep(2), Step::Drop(1)], 3, "qa"),
+    (&[Step::Plain("ab")], 1, "ab"),
+    (&[Step::Keep(1), Step::Drop(1)], 1, "a"),
+    (&[Step::Plain("q")], 2, "qa"),
+    (&[Step::Keep(2), Step::Plain("b")], 3, "qab"),
+    (&[Step::Keep(2), Step::Drop(1)], 4, "qa"),
 ];
 
 #[test]
 fn a_past_begins_at_its_floor(rt: HostRuntime) -> Result<(), Fail> {
     let alloc = rt.alloc();
-    let mut past = Past::new(alloc, 0, Document::empty(alloc));
+    let mut past = past_of(alloc, "")?;
     for (steps, floor, text) in &ROUND {
-        go_on(&rt, alloc, &mut past, steps)?;
+        go_on(&rt, alloc, &mut past, delta_of(alloc, steps)?, 2)?;
         assert_eq!(&rt; past.floor(), *floor);
-        let newest = past.revision();
-        is_there(&rt, alloc, &past, newest, text)?;
+        is_there(&rt, alloc, &past, past.revision(), text)?;
     }
-    is_there(&rt, alloc, &past, 3, "qa")?;
-    is_there(&rt, alloc, &past, 4, "qab")
+    is_there(&rt, alloc, &past, 4, "qa")?;
+    is_there(&rt, alloc, &past, 5, "qab")
 }
 
 // the text at a revision that is held
@@ -308,18 +320,21 @@ fn is_there(
 #[test]
 fn a_past_makes_edits_late_and_undoes(rt: HostRuntime) -> Result<(), Fail> {
     let alloc = rt.alloc();
-    let mut past = Past::new(alloc, 1, Document::empty(alloc));
-    go_on(&rt, alloc, &mut past, &[Step::Plain("z")])?;
-    go_on(&rt, alloc, &mut past, &[Step::Keep(1), Step::Plain("x")])?;
-    go_on(&rt, alloc, &mut past, &[Step::Drop(1)])?;
+    let mut past = past_of(alloc, "")?;
+    for steps in &LATER {
+        go_on(&rt, alloc, &mut past, delta_of(alloc, steps)?, 2)?;
+    }
     assert!(&rt; past.floor() == 2);
     assert!(&rt; past.revision() == 4);
-    let edit = delta_of(alloc, &[Step::Plain("y")])?;
-    assert!(&rt; edit.base_len() <= 1 && edit.out_len() <= 1);
-    let made = past.late(alloc, &edit, 2)?;
-    assert!(&rt; made == delta_of(alloc, &[Step::Plain("y")])?);
-    let back = past.undo(alloc, 3)?;
-    assert!(&rt; back == delta_of(alloc, &[Step::Drop(1)])?);
+    is_late(&rt, alloc, &past, 2, &[Step::Plain("y")])?;
+    is_undone(&rt, alloc, &past, 3, &[Step::Drop(1)])?;
     assert_eq!(&rt; past.since(3).len(), 1);
     Ok(())
 }
+
+/// What is taken after the empty document at revision 1, so that the floor is 2 where two revisions below the newest are held.
+const LATER: [&[Step]; 3] = [
+    &[Step::Plain("z")],
+    &[Step::Keep(1), Step::Plain("x")],
+    &[Step::Drop(1)],
+];

@@ -6,8 +6,8 @@ use Rattle.compose.specs.Many.{applied}
 use Rattle.revision.specs.Late.{HasRoom, all_inserted}
 use Rattle.revision.specs.Past.{StandInTurn}
 use Rattle.revision.proofs.Room.{room-back}
-use Rattle.revision.proofs.Replays.{drop-here, stand-drop, room-drop}
-use Rattle.revision.proofs.past.undo.Goals as goal
+use Rattle.revision.proofs.Replays.{drop-here, stand-drop}
+use Rattle.revision.proofs.past.undo_one.Goals as goal
 
 pub taken_back-requires : goal.taken_back-requires
 taken_back-requires c =
@@ -28,6 +28,6 @@ past_all-requires c =
     let cut = drop-here deltas place taken c.requires.held c.index-deltas-place.is in
     let all : take (length deltas - (place + 1)) (drop (place + 1) deltas) ≡ drop (place + 1) deltas = take_all (length deltas - (place + 1)) (drop (place + 1) deltas) (omega (arith, length-drop (place + 1) deltas)) in
     let room : length c.in_ok-before.before + all_inserted (taken ∷ drop (place + 1) deltas) ≤ 2 ^ 48 =
-    omega (arith, room-drop place base deltas c.requires.stand, c.requires.room, ap length c.in_ok-before.ensures.document, ap all_inserted cut) in
+    omega (arith, c.requires.room, ap length c.in_ok-before.ensures.document, ap all_inserted cut) in
     subst (λ b. HasRoom b (take (length deltas - (place + 1)) (drop (place + 1) deltas))) (sym c.in_ok-back.ensures.back)
     (subst (HasRoom _) (sym all) (room-back c.in_ok-before.before taken (drop (place + 1) deltas) room))

@@ -1,0 +1,28 @@
+use Rattle.std.proofs.Common.{◌≡◌, ◌+◌, ◌≤◌, ◌<◌, ◌^◌, List, [], ◌∷◌, ◌++◌, length, sym, ap, ap₂, subst, ◌∙◌}
+use Rattle.delta.specs.Operation.{Operation}
+use Rattle.delta.specs.Gaps.{counted, apply}
+use Rattle.document.specs.Outcome.{IsAccepted}
+use Rattle.revision.specs.declared.past.Taker.{Taker}
+use Rattle.revision.specs.Past.{Parts, Prepared, Change, AreParts, seen, prepared_units, prepared_revision}
+use Rattle.revision.specs.PastView.{parts_of}
+use Rattle.revision.proofs.Parts.{prepare_is, prepare_are}
+use Rattle.revision.proofs.past.Past.prepare.Goals as goal
+
+pub invariant_of-self-2 : goal.invariant_of-self-2
+invariant_of-self-2 c =
+    let parts : Parts = parts_of c.self.inside in
+    let taker : Taker = record { source = c.args.source; number = c.args.number } in
+    let same : c.args.self.now ≡ seen parts = sym c.self.view_is in
+    subst AreParts
+    (ap₂ (λ (t : List Taker) (d : List (List Operation)). record parts { takers = t; deltas = d }) (sym c.in_ok-push_both.ensures.takers) (sym c.in_ok-push_both.ensures.deltas))
+    (prepare_are parts c.self.invariant taker c.args.delta (subst (λ (p : Prepared). IsAccepted (prepared_units p) (counted c.args.delta)) same c.requires.accepted)
+    (subst (λ (p : Prepared). length (apply (prepared_units p) (counted c.args.delta)) ≤ 2 ^ 29) same c.requires.short)
+    (subst (λ (p : Prepared). prepared_revision p + 1 < 2 ^ 53) same c.requires.revision))
+
+pub returns-clause-ok : goal.returns-clause-ok
+returns-clause-ok c =
+    let parts : Parts = parts_of c.self.inside in
+    let taker : Taker = record { source = c.args.source; number = c.args.number } in
+    let one : List Change = record { source = c.args.source; number = c.args.number; delta = c.args.delta } ∷ [] in
+    ap₂ (λ (t : List Taker) (d : List (List Operation)). seen (record parts { takers = t; deltas = d })) c.in_ok-push_both.ensures.takers c.in_ok-push_both.ensures.deltas
+    ∙ (prepare_is parts c.self.invariant taker c.args.delta ∙ ap (λ (p : Prepared). record p { next = p.next ++ one }) c.self.view_is)
