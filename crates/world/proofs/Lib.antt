@@ -10,3 +10,4 @@ pub mod Clauses
 pub mod Followings
 pub mod Cutting
 pub mod Agreeing
+pub mod SameBoards

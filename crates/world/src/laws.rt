@@ -1,4 +1,5 @@
 //! What holds of every schedule, as contracts of functions that do nothing.
+ghost use Rattle.world.specs.Boards.{SameBoard, BatchGoesOn};
 ghost use Rattle.world.specs.Following.{Follows};
 ghost use Rattle.world.specs.Law.{OverAll, AcksStay, TakenOnce, OneRevision, NothingTakenBack, KeptIsAgain, ShownStays, StateIsFold, StateAgrees};
 
@@ -19,4 +20,14 @@ pub fn every_schedule()
 /// store that begins without documents, it shows the order, the tickets, the acknowledgements and the lengths.
 pub fn follower_follows()
     ensures { Follows }
+{}
+
+/// A board that keeps of each command only what was taken of it moves as the board of a world does.
+pub fn same_board()
+    ensures { SameBoard }
+{}
+
+/// While a batch is written, the two lengths of the order that a crash may leave are the state without it and with it.
+pub fn batch_goes_on()
+    ensures { BatchGoesOn }
 {}
