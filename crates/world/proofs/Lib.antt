@@ -8,3 +8,6 @@ pub mod Standing
 pub mod Holding
 pub mod Clauses
 pub mod Followings
+pub mod Cutting
+pub mod Agreeing
+pub mod SameBoards

@@ -2,6 +2,7 @@
 use Rattle.std.specs.Prelude.{◌≡◌, ◌⊎◌, ℕ, ◌≤◌, true, List, length, take, Option, Some, None, All, Any, AllPairs}
 use Rattle.revision.specs.Sources.{LastTaken, last_of}
 use Rattle.revision.specs.Whole.{DocumentRecord, sources_of, State, Command, find, Repeats, Reply, TakenAt, AgainAt, Refused, answer, fold}
+use Rattle.revision.specs.Agreement.{Agree}
 use Rattle.world.specs.Board.{Ticket}
 use Rattle.world.specs.Event.{Event}
 use Rattle.world.specs.World.{Entry, takens, World, begun, last_sent}
@@ -74,3 +75,7 @@ pub record ShownStays (world : World) : Type 0 where
 pub record StateIsFold (world : World) : Type 0 where
   pub limits : world.board.state.limits ≡ world.board.start.limits
   pub documents : all_shown world.board.state ≡ all_shown (fold world.board.start (takens world.board.order))
+
+-- And it agrees with it: what the two hold from any floor on that neither is above is the same.
+abbrev pub StateAgrees : World → Type 0
+StateAgrees world = Agree world.board.state (fold world.board.start (takens world.board.order))

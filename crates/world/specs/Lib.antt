@@ -1,6 +1,7 @@
 pub mod Board
 pub mod Event
 pub mod World
+pub mod Boards
 pub mod Step
 pub mod Shown
 pub mod Law

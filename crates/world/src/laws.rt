@@ -1,6 +1,7 @@
 //! What holds of every schedule, as contracts of functions that do nothing.
+ghost use Rattle.world.specs.Boards.{SameBoard, BatchGoesOn};
 ghost use Rattle.world.specs.Following.{Follows};
-ghost use Rattle.world.specs.Law.{OverAll, AcksStay, TakenOnce, OneRevision, NothingTakenBack, KeptIsAgain, ShownStays, StateIsFold};
+ghost use Rattle.world.specs.Law.{OverAll, AcksStay, TakenOnce, OneRevision, NothingTakenBack, KeptIsAgain, ShownStays, StateIsFold, StateAgrees};
 
 /// Over every list of events, with crashes and commands sent again, from every state that a store may begin with: no
 /// acknowledged edit is missing, none is taken twice, and none changes its revision.
@@ -12,10 +13,21 @@ pub fn every_schedule()
     ensures kept_is_again { OverAll KeptIsAgain }
     ensures shown_stays { OverAll ShownStays }
     ensures state_is_fold { OverAll StateIsFold }
+    ensures state_agrees { OverAll StateAgrees }
 {}
 
 /// What a `Follower` comes to is what is followed of a world: of each schedule of one source's commands to one document, of a
 /// store that begins without documents, it shows the order, the tickets, the acknowledgements and the lengths.
 pub fn follower_follows()
     ensures { Follows }
+{}
+
+/// A board that keeps of each command only what was taken of it moves as the board of a world does.
+pub fn same_board()
+    ensures { SameBoard }
+{}
+
+/// While a batch is written, the two lengths of the order that a crash may leave are the state without it and with it.
+pub fn batch_goes_on()
+    ensures { BatchGoesOn }
 {}

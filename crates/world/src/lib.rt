@@ -8,7 +8,9 @@
 //! the board itself can be promised by.
 //!
 //! `laws::every_schedule` promises of every list of events: no acknowledged edit is missing, none is taken twice, and none changes
-//! its revision (specs/Law.antt). It stands on the rule of acceptance, `revision`.
+//! its revision (specs/Law.antt). A `Follower` is a plain program that goes through a schedule of one source's commands to one
+//! document, step by step, with what the rule of acceptance says told to it; `laws::follower_follows` ties it to worlds. The crate
+//! stands on the rule of acceptance, `revision`.
 #![tactic(auto)]
 
 mod follower;

@@ -1,5 +1,6 @@
 use Rattle.world.specs.Law.{AcksStay, TakenOnce, OneRevision, NothingTakenBack, KeptIsAgain, ShownStays, StateIsFold}
 use Rattle.world.proofs.Clauses.{acks-stay, taken-once, acks-one_revision, nothing-taken_back, kept-is_again, shown-stays, state-is_fold, over_all}
+use Rattle.world.proofs.Agreeing.{all-agree}
 use Rattle.world.proofs.laws.every_schedule.Goals as goal
 
 pub returns-clause-acks_stay : goal.returns-clause-acks_stay
@@ -22,3 +23,6 @@ returns-clause-shown_stays c = over_all ShownStays shown-stays
 
 pub returns-clause-state_is_fold : goal.returns-clause-state_is_fold
 returns-clause-state_is_fold c = over_all StateIsFold state-is_fold
+
+pub returns-clause-state_agrees : goal.returns-clause-state_agrees
+returns-clause-state_agrees c = all-agree

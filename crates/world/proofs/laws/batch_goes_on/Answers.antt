@@ -1,0 +1,5 @@
+use Rattle.world.proofs.SameBoards.{batch_goes_on}
+use Rattle.world.proofs.laws.batch_goes_on.Goals as goal
+
+pub returns : goal.returns
+returns c = batch_goes_on

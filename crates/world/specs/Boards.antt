@@ -1,0 +1,31 @@
+-- What ties a board of the program, and the commits of its batches, to a world.
+use Rattle.std.specs.Prelude.{◌≡◌, ℕ, ◌+◌, take}
+use Rattle.revision.specs.Command.{Taken}
+use Rattle.revision.specs.Whole.{Command, fold}
+use Rattle.world.specs.Board.{Board, Ticket, submitted, ticket_of, can_take, next_run, taken_more, can_settle, settled_more, taken_beyond, can_ack}
+use Rattle.world.specs.World.{Entry, entry_of, takens}
+
+-- the board that keeps of each command only what was taken of it
+abbrev pub board_of : Board Entry → Board Taken
+board_of board = record { start = board.start; order = takens board.order; state = board.state; taken = board.taken; settled = board.settled }
+
+-- It answers and moves as the board of the world does: at a command, at taking off, at settling, at publishing and at acknowledging.
+pub record MovesAlike (board : Board Entry) : Type 0 where
+  pub command : (c : Command) → submitted (λ t. t) (board_of board) c ≡ board_of (submitted (entry_of c) board c)
+  pub ticket : (c : Command) → ticket_of (board_of board) c ≡ ticket_of board c
+  pub may_take : (count : ℕ) → can_take (board_of board) count ≡ can_take board count
+  pub batch : (count : ℕ) → next_run (board_of board) count ≡ takens (next_run board count)
+  pub taking : (count : ℕ) → taken_more (board_of board) count ≡ board_of (taken_more board count)
+  pub may_settle : (count told : ℕ) → can_settle (board_of board) count told ≡ can_settle board count told
+  pub settling : (count : ℕ) → settled_more (board_of board) count ≡ board_of (settled_more board count)
+  pub publishing : (seen : ℕ) → taken_beyond (board_of board) seen ≡ takens (taken_beyond board seen)
+  pub acknowledging : (t : Ticket) → can_ack (board_of board) t ≡ can_ack board t
+
+abbrev pub SameBoard : Type 0
+SameBoard = (board : Board Entry) → MovesAlike board
+
+-- What a commit adds to the state without its batch is the state with it: of the two lengths that may be left while it is written,
+-- one is the state that the store had, the other is that with the batch.
+abbrev pub BatchGoesOn : Type 0
+BatchGoesOn = (board : Board Taken) (count : ℕ)
+    → fold board.start (take (board.taken + count) board.order) ≡ fold (fold board.start (take board.taken board.order)) (next_run board count)
