@@ -1,5 +1,6 @@
 -- Words and what becomes of them, computed.
 use Rattle.std.specs.Prelude.{◌≡◌, ℕ, zero, suc, true, false, List, [], ◌∷◌, Some, Ok, Err, codes, refl}
+use Rattle.std.proofs.Common.{inl}
 use Rattle.std.specs.Str.{chars, is_utf8}
 use Rattle.std.specs.Char.{encode_utf8}
 use Rattle.std.specs.Char.Utf16.{utf16_chars}
@@ -11,10 +12,11 @@ use Rattle.attributes.specs.Attributes.{Changes, changed_by}
 use Rattle.attributes.specs.Scalar.{flag_scalar}
 use Rattle.delta.specs.Element.{letters}
 use Rattle.delta.specs.Operation.{Operation, insert_text, retain, delete}
-use Rattle.compose.specs.Cuts as pairs
-use Rattle.delta.specs.Gaps.{counted}
+use Rattle.compose.specs.Cuts.{CutsText}
 use Rattle.algebra.specs.Words.{delta_in, deltas_in, of_array}
-use Rattle.algebra.specs.Outcomes.{one_for, second_after, document_of}
+use Rattle.compose.specs.Composed.{one_for}
+use Rattle.xform.specs.After.{second_past}
+use Rattle.algebra.specs.Outcomes.{first_document}
 use Rattle.algebra.specs.Text.{text_of}
 
 abbrev ins : List ℕ → Operation
@@ -77,34 +79,34 @@ unfolding changed_by
 deleted_within = refl
 
 -- of "😀", D83D DE00, [ret 1, del 1] cuts the pair
-pair_cut : pairs.cuts (counted (ins (0xd83d ∷ 0xde00 ∷ []) ∷ [])) (counted (ret 1 ∷ delete 1 ∷ [])) ≡ true
-pair_cut = refl
+pair_cut : CutsText (ins (0xd83d ∷ 0xde00 ∷ []) ∷ []) (ret 1 ∷ delete 1 ∷ [])
+pair_cut = (0, (refl, refl, refl), inl (λ e. cc))
 
 -- [ins "b", ret 5, ins "c"] past [ins "a"]
 abbrev inserting : List Operation
 inserting = ins (codes "b") ∷ ret 5 ∷ ins (codes "c") ∷ []
 
-first_before : second_after (ins (codes "a") ∷ []) inserting true ≡ ret 1 ∷ ins (codes "b") ∷ ret 5 ∷ ins (codes "c") ∷ []
+first_before : second_past (ins (codes "a") ∷ []) inserting true ≡ ret 1 ∷ ins (codes "b") ∷ ret 5 ∷ ins (codes "c") ∷ []
 first_before = refl
 
-first_behind : second_after (ins (codes "a") ∷ []) inserting false ≡ ins (codes "b") ∷ ret 6 ∷ ins (codes "c") ∷ []
+first_behind : second_past (ins (codes "a") ∷ []) inserting false ≡ ins (codes "b") ∷ ret 6 ∷ ins (codes "c") ∷ []
 first_behind = refl
 
 -- [ret 1, ins "x", del 4] past [del 3], and the other way
 abbrev crossing : List Operation
 crossing = ret 1 ∷ ins (codes "x") ∷ delete 4 ∷ []
 
-crossing_after : second_after (delete 3 ∷ []) crossing true ≡ ins (codes "x") ∷ delete 2 ∷ []
+crossing_after : second_past (delete 3 ∷ []) crossing true ≡ ins (codes "x") ∷ delete 2 ∷ []
 crossing_after = refl
 
-deletes_after : second_after crossing (delete 3 ∷ []) false ≡ delete 1 ∷ []
+deletes_after : second_past crossing (delete 3 ∷ []) false ≡ delete 1 ∷ []
 deletes_after = refl
 
 -- [ins "ab"] makes a document of the empty one, [ret 1 {bold: true}] makes none
-made : document_of (ins (codes "ab") ∷ []) ≡ Ok (letters (codes "ab") empty)
+made : first_document (ins (codes "ab") ∷ []) ≡ Ok (letters (codes "ab") empty)
 made = refl
 
-not_made : document_of (retain 1 bolden ∷ []) ≡ Err PastEnd
+not_made : first_document (retain 1 bolden ∷ []) ≡ Err PastEnd
 unfolding insert
 not_made = refl
 

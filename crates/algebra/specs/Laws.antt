@@ -13,8 +13,8 @@ abbrev pub ComesToOne : Type 0
 ComesToOne = (task : Task) (one other : Outcome) → ComesTo task one → ComesTo task other → one ≡ other
 
 -- a document after a delta
-abbrev pub after : List Element → List Operation → List Element
-after document ops = apply document (counted ops)
+abbrev pub document_after : List Element → List Operation → List Element
+document_after document ops = apply document (counted ops)
 
 -- what composing gives does what the two do in turn
 abbrev pub ComposedInTurn : Type 0
@@ -23,16 +23,19 @@ ComposedInTurn = (first second one : List Operation) → Composing first second 
 -- each of two deltas of one document, transformed past the other, leads to the same document
 abbrev pub MetBothWays : Type 0
 MetBothWays =
-    (document : List Element) (a b a_moved b_moved : List Operation) (priority : Bool) → base_of a ≤ length document → base_of b ≤ length document
+    (document : List Element) (a b a_moved b_moved : List Operation) (priority : Bool)
+    → base_of a ≤ length document → base_of b ≤ length document
     → Transforming a b priority (Ok b_moved) → Transforming b a (not priority) (Ok a_moved)
-    → after (after document a) b_moved ≡ after (after document b) a_moved
+    → document_after (document_after document a) b_moved ≡ document_after (document_after document b) a_moved
 
 -- what inverting gives leads back to the document
 abbrev pub TakenBack : Type 0
 TakenBack =
-    (document : List Element) (ops back : List Operation) → InvertingOn ops document (Ok back) → after (after document ops) back ≡ document
+    (document : List Element) (ops back : List Operation)
+    → InvertingOn ops document (Ok back) → document_after (document_after document ops) back ≡ document
 
 -- what applying gives makes the document after the delta of the empty one
 abbrev pub MadeAnew : Type 0
 MadeAnew =
-    (document : List Element) (ops made : List Operation) → ApplyingOn ops document (Ok made) → after [] made ≡ after document ops
+    (document : List Element) (ops made : List Operation)
+    → ApplyingOn ops document (Ok made) → document_after [] made ≡ document_after document ops

@@ -1,16 +1,20 @@
 -- What comes of two deltas: a delta, or a refusal. Of the facts that stand beside the outcomes just one holds.
-use Rattle.std.specs.Prelude.{◌≡◌, ◌==◌, if◌then◌else◌, Bool, List, [], Result, Ok, Err}
+use Rattle.std.specs.Prelude.{◌≡◌, ◌==◌, if◌then◌else◌, Bool, List, Result, Ok, Err}
 use Rattle.refusal.specs.declared.Refusal.{Refusal}
 use Rattle.refusal.specs.declared.Refusal.TheVariants.{BadOps, PastEnd, CutsPair}
 use Rattle.delta.specs.Element.{Element}
-use Rattle.delta.specs.Operation.{Operation, base_of, IsBounded}
+use Rattle.delta.specs.Operation.{Operation, base_of}
 use Rattle.delta.specs.Gaps.{End, counted, apply}
 use Rattle.delta.specs.Normal.{nf}
-use Rattle.compose.specs.Composed.{composed}
-use Rattle.compose.specs.Cuts as pairs
+use Rattle.compose.specs.Composed.{one_for}
+use Rattle.compose.specs.Cuts.{CutsText}
 use Rattle.compose.specs.Inverse.{inverse}
-use Rattle.xform.specs.After.{after}
-use Rattle.document.specs.Places.{IsDefined, Cuts}
+use Rattle.compose.specs.Outcome.{CanCompose, IsComposedTooLong, CanInvert}
+use Rattle.xform.specs.After.{second_past}
+use Rattle.xform.specs.Outcome.{CanTransform}
+use Rattle.delta.specs.Places.{IsDefined}
+use Rattle.document.specs.Places.{Cuts}
+use Rattle.document.specs.Making.{document_from}
 use Rattle.document.specs.Outcome.{IsAccepted, IsTooLong}
 
 abbrev pub Outcome : Type 0
@@ -21,38 +25,28 @@ abbrev pub Following : {X : Type 0} → Result X Refusal → (X → Outcome → 
 Following (Ok x) Gives outcome = Gives x outcome
 Following (Err refusal) Gives outcome = outcome ≡ Err refusal
 
--- the second cuts a surrogate pair of the text that the first inserts
-abbrev pub CutsText : List Operation → List Operation → Type 0
-CutsText first second = pairs.Cuts (counted first) (counted second)
-
--- the one delta for two in turn, and the second after the first
-abbrev pub one_for : List Operation → List Operation → List Operation
-one_for first second = nf (composed (counted first) (counted second))
-
-abbrev pub second_after : List Operation → List Operation → Bool → List Operation
-second_after first second priority = nf (after (counted first) (counted second) priority)
-
 -- composing
 abbrev pub Composing : List Operation → List Operation → Outcome → Type 0
-Composing first second (Ok one) = (¬ (CutsText first second)) × IsBounded (one_for first second) × (one ≡ one_for first second)
+Composing first second (Ok one) = CanCompose first second × (one ≡ one_for first second)
 Composing first second (Err CutsPair) = CutsText first second
-Composing first second (Err BadOps) = (¬ (CutsText first second)) × (¬ (IsBounded (one_for first second)))
+Composing first second (Err BadOps) = IsComposedTooLong first second
 Composing first second (Err _) = ⊥
 
 -- transforming the second past the first
 abbrev pub Transforming : List Operation → List Operation → Bool → Outcome → Type 0
-Transforming first second priority (Ok moved) = IsBounded (second_after first second priority) × (moved ≡ second_after first second priority)
-Transforming first second priority (Err BadOps) = ¬ (IsBounded (second_after first second priority))
+Transforming first second priority (Ok moved) =
+    CanTransform first second priority × (moved ≡ second_past first second priority)
+Transforming first second priority (Err BadOps) = ¬ (CanTransform first second priority)
 Transforming first second priority (Err _) = ⊥
 
--- the document that a delta makes of the empty one, which has no unit to retain or to delete
-abbrev pub document_of : List Operation → Result (List Element) Refusal
-document_of ops = if base_of ops == 0 then Ok (apply [] (counted ops)) else Err PastEnd
+-- the document that a command begins with: what a delta makes of the empty one, which has no unit to retain or to delete
+abbrev pub first_document : List Operation → Result (List Element) Refusal
+first_document ops = if base_of ops == 0 then Ok (document_from ops) else Err PastEnd
 
 -- taking a delta back on a document
 abbrev pub InvertingOn : List Operation → List Element → Outcome → Type 0
 InvertingOn ops document (Ok back) =
-    IsDefined document (counted ops) × (¬ (Cuts document (counted ops))) × (back ≡ nf (inverse (counted ops) document))
+    CanInvert document (counted ops) × (back ≡ nf (inverse (counted ops) document))
 InvertingOn ops document (Err PastEnd) = ¬ (IsDefined document (counted ops))
 InvertingOn ops document (Err CutsPair) = IsDefined document (counted ops) × Cuts document (counted ops)
 InvertingOn ops document (Err _) = ⊥
@@ -67,8 +61,8 @@ ApplyingOn ops document (Err _) = ⊥
 
 -- taking back the first on the document that the second makes
 abbrev pub Inverting : List Operation → List Operation → Outcome → Type 0
-Inverting ops base outcome = Following (document_of base) (InvertingOn ops) outcome
+Inverting ops base outcome = Following (first_document base) (InvertingOn ops) outcome
 
 -- applying the second to the document that the first makes
 abbrev pub Applying : List Operation → List Operation → Outcome → Type 0
-Applying document ops outcome = Following (document_of document) (ApplyingOn ops) outcome
+Applying document ops outcome = Following (first_document document) (ApplyingOn ops) outcome

@@ -25,12 +25,12 @@ of_value (Some value) = of_array (array_in value)
 abbrev pub delta_in : List ℕ → Result (List Operation) Refusal
 delta_in word = of_value (value_of word)
 
--- both, where both are there; else the fault of the first that has one
-abbrev pub both : {X : Type 0} → Result X Refusal → Result X Refusal → Result (X × X) Refusal
-both (Ok x) (Ok y) = Ok (x, y)
-both (Ok x) (Err other) = Err other
-both (Err one) _ = Err one
+-- two results as one pair; else the refusal of the first that is refused
+abbrev pub pair_of : {X : Type 0} → Result X Refusal → Result X Refusal → Result (X × X) Refusal
+pair_of (Ok x) (Ok y) = Ok (x, y)
+pair_of (Ok x) (Err other) = Err other
+pair_of (Err one) _ = Err one
 
 -- the deltas that two words describe: they are read from left to right, each to its end
 abbrev pub deltas_in : List ℕ → List ℕ → Result (List Operation × List Operation) Refusal
-deltas_in first second = both (delta_in first) (delta_in second)
+deltas_in first second = pair_of (delta_in first) (delta_in second)

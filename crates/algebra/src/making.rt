@@ -1,5 +1,5 @@
 //! What comes of two deltas.
-ghost use Rattle.algebra.specs.Answer.{IsAnswer};
+ghost use Rattle.optext.specs.Answer.{IsAnswerOf};
 ghost use Rattle.algebra.specs.Outcomes.{Composing, Transforming, Inverting, Applying, InvertingOn, ApplyingOn};
 
 use compose::{compose, invert};
@@ -11,7 +11,7 @@ use xform::transform;
 
 /// The one delta for two in turn.
 pub(crate) fn composed(alloc: Global, first: &Delta, second: &Delta) -> Result<Delta, Refusal>
-    ensures { IsAnswer (Composing first.now second.now) result }
+    ensures { IsAnswerOf (Composing first.now second.now) result }
 {
     compose(alloc, first, second)
 }
@@ -23,14 +23,14 @@ pub(crate) fn transformed(
     second: &Delta,
     priority: bool,
 ) -> Result<Delta, Refusal>
-    ensures { IsAnswer (Transforming first.now second.now priority) result }
+    ensures { IsAnswerOf (Transforming first.now second.now priority) result }
 {
     transform(alloc, first, second, priority)
 }
 
 /// The delta that takes back another on the document that the base makes.
 pub(crate) fn inverted(alloc: Global, delta: &Delta, base: &Delta) -> Result<Delta, Refusal>
-    ensures { IsAnswer (Inverting delta.now base.now) result }
+    ensures { IsAnswerOf (Inverting delta.now base.now) result }
 {
     let document = Document::from_delta(alloc, base)?;
     inverted_on(alloc, delta, &document)
@@ -38,20 +38,20 @@ pub(crate) fn inverted(alloc: Global, delta: &Delta, base: &Delta) -> Result<Del
 
 /// The delta that makes the document of the first after the second.
 pub(crate) fn applied(alloc: Global, document: &Delta, delta: &Delta) -> Result<Delta, Refusal>
-    ensures { IsAnswer (Applying document.now delta.now) result }
+    ensures { IsAnswerOf (Applying document.now delta.now) result }
 {
     let document = Document::from_delta(alloc, document)?;
     applied_to(alloc, delta, document)
 }
 
 fn inverted_on(alloc: Global, delta: &Delta, document: &Document) -> Result<Delta, Refusal>
-    ensures { IsAnswer (InvertingOn delta.now document.now) result }
+    ensures { IsAnswerOf (InvertingOn delta.now document.now) result }
 {
     invert(alloc, delta, document)
 }
 
 fn applied_to(alloc: Global, delta: &Delta, mut document: Document) -> Result<Delta, Refusal>
-    ensures { IsAnswer (ApplyingOn delta.now document) result }
+    ensures { IsAnswerOf (ApplyingOn delta.now document) result }
 {
     document.apply(alloc, delta)?;
     let made = document.as_delta(alloc)?;

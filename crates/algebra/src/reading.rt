@@ -1,7 +1,7 @@
 //! The deltas that words describe.
 ghost use Rattle.std.specs.Prelude.{◌≡◌, option_map};
 ghost use Rattle.serde_json.specs.View.{view, items_view};
-ghost use Rattle.optext.specs.Answer.{IsDue};
+ghost use Rattle.optext.specs.Answer.{IsAnswer};
 ghost use Rattle.algebra.specs.Words as spec;
 
 use delta::Delta;
@@ -12,7 +12,7 @@ use std::alloc::Global;
 
 /// The deltas that two words describe, which are read from left to right, each to its end.
 pub(crate) fn read_both(alloc: Global, first: &str, second: &str) -> Result<(Delta, Delta), Refusal>
-    ensures { IsDue (spec.deltas_in first.now second.now) result }
+    ensures { IsAnswer (spec.deltas_in first.now second.now) result }
 {
     let first = read_word(alloc, first)?;
     let second = read_word(alloc, second)?;
@@ -21,7 +21,7 @@ pub(crate) fn read_both(alloc: Global, first: &str, second: &str) -> Result<(Del
 
 // the delta that a word describes
 fn read_word(alloc: Global, word: &str) -> Result<Delta, Refusal>
-    ensures { IsDue (spec.delta_in word.now) result }
+    ensures { IsAnswer (spec.delta_in word.now) result }
 {
     let value = read_json(alloc, word.as_bytes())?;
     match array_in(&value) {

@@ -1,10 +1,8 @@
 //! What the words of a command ask for, and its answer.
-ghost use Rattle.std.specs.Prelude.{◌≡◌, ◌⊎◌, List, IfOk, IfErr};
+ghost use Rattle.std.specs.Prelude.{◌≡◌, ◌⊎◌, IfOk, IfErr};
 ghost use Rattle.std.specs.String.{string_bytes};
-ghost use Rattle.delta.specs.Operation.{Operation};
-ghost use Rattle.algebra.specs.Answer.{IsAnswer};
-ghost use Rattle.algebra.specs.Tasks.{ComesTo};
-ghost use Rattle.algebra.specs.Text.{text_of};
+ghost use Rattle.optext.specs.Answer.{IsAnswerOf};
+ghost use Rattle.algebra.specs.Tasks.{ComesTo, PrintsOutcome};
 
 use crate::making::{applied, composed, inverted, transformed};
 use crate::reading::read_both;
@@ -42,7 +40,7 @@ pub enum Task<'a> {
 impl<'a> Task<'a> {
     /// The text of what the command comes to, without a line end, or the refusal that it comes to; and NoMemory.
     pub fn answer(self, alloc: Global) -> Result<String, Refusal>
-        ensures text { IfOk result (λ text. (made : List Operation) × ComesTo self.entry (Ok made) × (string_bytes text ≡ text_of made)) }
+        ensures text { IfOk result (λ text. PrintsOutcome self.entry (string_bytes text)) }
         ensures refusal { IfErr result (λ refusal. ComesTo self.entry (Err refusal) ⊎ (refusal ≡ Refusal.NoMemory)) }
     {
         let made = self.made(alloc)?;
@@ -52,7 +50,7 @@ impl<'a> Task<'a> {
 
     // what the command comes to
     fn made(self, alloc: Global) -> Result<Delta, Refusal>
-        ensures { IsAnswer (ComesTo self.entry) result }
+        ensures { IsAnswerOf (ComesTo self.entry) result }
     {
         match self {
             Task::Compose { first, second } => {
