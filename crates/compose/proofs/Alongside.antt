@@ -6,9 +6,7 @@ use Rattle.attributes.specs.Attributes.{Attributes, Changes, changed, composed a
 use Rattle.delta.specs.Element.{Element, letters, embedded}
 use Rattle.delta.specs.Gaps.{Gaps, End, Gap, Fate, Del, Keep, front, run, fated}
 use Rattle.delta.specs.Normal.{past, settled}
-use Rattle.delta.proofs.Effects.{changed-empty}
-use Rattle.delta.proofs.Joins.{front-nil, front-front}
-use Rattle.delta.proofs.Settling.{settled-front, past-front}
+use Rattle.delta.proofs.CallerLemmas.{changed-empty, front-nil, front-front, settled-front, past-front}
 use Rattle.compose.specs.Places.{inserts, fate, tail}
 use Rattle.compose.specs.Composed.{units_after, beyond, kept_then, composed}
 

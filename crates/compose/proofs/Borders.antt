@@ -8,12 +8,11 @@ use Rattle.attributes.specs.Attributes.{Attributes, same_attributes, same_change
 use Rattle.delta.specs.Element.{Element, letters, lettered, embedded}
 use Rattle.delta.specs.Operation.{Operation, insert_text, insert_embed, retain, delete, is_insert}
 use Rattle.delta.specs.Gaps.{Gaps, End, Gap, Fate, Keep, Del, front, counted}
-use Rattle.delta.specs.Normal.{IsNormal, is_built}
-use Rattle.delta.proofs.Neighbours.{may_lead-retain, built-parts, is_apart_text}
+use Rattle.delta.specs.Normal.{IsNormal, is_built, is_apart_text}
+use Rattle.delta.proofs.CallerLemmas.{may_lead-retain, built-parts, normal-parts}
 use Rattle.compose.specs.Places.{inserts}
 use Rattle.compose.specs.steps.PairTest.{same_fate, parts}
 use Rattle.compose.proofs.Pairs.{border}
-use Rattle.delta.proofs.LeftOver.{normal-parts}
 
 pub inserts-front : (xs : List Element) (g : Gaps) → inserts (front xs g) ≡ xs ++ inserts g
 inserts-front xs (End ys) = refl

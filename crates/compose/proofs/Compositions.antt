@@ -6,11 +6,7 @@ use Rattle.attributes.proofs.AtEachName.{changed-changed}
 use Rattle.delta.specs.Element.{Element}
 use Rattle.delta.specs.Operation.{base_of}
 use Rattle.delta.specs.Gaps.{Gaps, End, Gap, Fate, Del, Keep, fated, apply, counted}
-use Rattle.delta.proofs.Effects.{apply-front, changed-empty, apply-nf}
-use Rattle.delta.proofs.Joins.{units_below-counted}
-use Rattle.delta.proofs.Normality.{IsNormal-nf}
-use Rattle.delta.proofs.Lengths.{length-apply_counted}
-use Rattle.delta.proofs.SameEffects.{same_effect_from}
+use Rattle.delta.proofs.CallerLemmas.{apply-front, changed-empty, apply-nf, units_below-counted, IsNormal-nf, length-apply_counted, same_effect_from}
 use Rattle.compose.specs.Places.{inserts, fate, tail}
 use Rattle.compose.specs.Composed.{units_after, beyond, kept_then, composed}
 use Rattle.compose.specs.Laws.{EffectOfComposed, ComposesByNormal, ComposesOnce}

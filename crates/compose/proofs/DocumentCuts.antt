@@ -8,11 +8,7 @@ use Rattle.delta.specs.Element.{Element, Item, code_unit, embed}
 use Rattle.delta.specs.Operation.{Operation, insert_text, insert_embed, retain, delete, base_of, out_of}
 use Rattle.delta.specs.Gaps.{Gaps, End, Gap, Fate, Del, Keep, counted}
 use Rattle.delta.specs.Normal.{IsNormal, is_built, nf}
-use Rattle.delta.proofs.Joins.{units_below-counted}
-use Rattle.delta.proofs.Lengths.{out_of-spelled}
-use Rattle.delta.proofs.Neighbours.{built-parts}
-use Rattle.delta.proofs.Normality.{IsNormal-nf}
-use Rattle.delta.proofs.Spellings.{counted-spelled}
+use Rattle.delta.proofs.CallerLemmas.{units_below-counted, out_of-spelled, built-parts, IsNormal-nf, counted-spelled}
 use Rattle.document.specs.Pairs.{IsHighItem, IsLowItem, IsPair, IsPairAt}
 use Rattle.document.specs.Places.{Cuts}
 use Rattle.delta.specs.Places.{IsDefined, fate_at, inserted_at}

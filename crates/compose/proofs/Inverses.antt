@@ -5,7 +5,7 @@ use Rattle.delta.specs.Element.{Element}
 use Rattle.delta.specs.Gaps.{Gaps, End, Gap, Fate, Del, Keep, run, fated, apply, counted}
 use Rattle.delta.specs.Operation.{Operation}
 use Rattle.delta.specs.Normal.{nf}
-use Rattle.delta.proofs.Effects.{apply-front, apply-nf}
+use Rattle.delta.proofs.CallerLemmas.{apply-front, apply-nf}
 use Rattle.compose.specs.Inverse.{inverse, unit_back}
 use Rattle.compose.specs.Laws.{Undone}
 

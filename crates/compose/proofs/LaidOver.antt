@@ -7,13 +7,11 @@ use Rattle.refusal.specs.declared.Refusal.TheVariants.{BadOps, CutsPair, NoMemor
 use Rattle.delta.specs.Operation.{Operation, op_len, is_insert, is_delete, IsBounded}
 use Rattle.delta.specs.Gaps.{counted}
 use Rattle.delta.specs.Normal.{IsNormal, NoneIsEmpty, settled, nf}
-use Rattle.delta.proofs.Lengths.{base_of-append}
+use Rattle.delta.proofs.CallerLemmas.{base_of-append, left_after-whole, first-whole, normal-rest, none_empty-normal}
 use Rattle.compose.specs.Outcome.{IsComposeRefused}
 use Rattle.delta.specs.Parts.{first_units, left_after}
-use Rattle.compose.specs.steps.Stepping.{made_in_turn}
-use Rattle.compose.specs.steps.Stepping.{IsShortStep, CutsBefore}
+use Rattle.compose.specs.steps.Stepping.{made_in_turn, IsShortStep, CutsBefore}
 use Rattle.compose.specs.steps.PartlyComposed.{IsPartlyComposed, ComposesFurther, IsRefusedPartway, IsComposeOutcome, EndsWith}
-use Rattle.delta.proofs.LeftOver.{left_after-whole, first-whole, normal-rest, none_empty-normal}
 use Rattle.compose.proofs.DocumentCuts.{cut-text}
 use Rattle.compose.proofs.Meetings.{met_made, met_shorter, ends-within}
 use Rattle.compose.proofs.PartsComposed.{Takes, parts-start, parts-step, parts-whole, parts-past, parts-end}

@@ -3,11 +3,9 @@ use Rattle.std.proofs.Common.{◌≡◌, suc, ◌+◌, ◌≤◌, List, [], ◌�
 use Rattle.attributes.specs.Attributes.{Changes}
 use Rattle.delta.specs.Element.{Element}
 use Rattle.delta.specs.Operation.{Operation, base_of, out_of}
-use Rattle.delta.specs.Gaps.{Gaps, End, Gap, Fate, Del, Keep, front, fated, counted, joined, units_below}
+use Rattle.delta.specs.Gaps.{Gaps, End, Gap, Fate, Del, Keep, front, fated, counted, joined, units_below, units_made, units_kept}
 use Rattle.delta.specs.Normal.{settled, spelled, nf}
-use Rattle.delta.proofs.Joins.{units_below-front, units_below-counted}
-use Rattle.delta.proofs.Spellings.{counted-spelled}
-use Rattle.delta.proofs.Lengths.{units_made, units_kept, units_made-counted, units_below-settled, units_made-settled, base_of-spelled, out_of-spelled, lengths-nf}
+use Rattle.delta.proofs.CallerLemmas.{units_below-front, units_below-counted, counted-spelled, units_made-counted, units_below-settled, units_made-settled, base_of-spelled, out_of-spelled, lengths-nf}
 use Rattle.compose.specs.Places.{inserts, fate, tail}
 use Rattle.compose.specs.Composed.{units_after, beyond, kept_then, composed, one_for}
 

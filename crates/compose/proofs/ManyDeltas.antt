@@ -9,8 +9,7 @@ use Rattle.refusal.specs.declared.Refusal.TheVariants.{BadOps}
 use Rattle.delta.specs.Operation.{Operation, base_of, out_of, IsBounded}
 use Rattle.delta.specs.Gaps.{Gaps, End, Gap, Del, Keep, fated, counted, apply, units_below}
 use Rattle.delta.specs.Normal.{IsNormal}
-use Rattle.delta.proofs.Joins.{units_below-counted, units_below-front}
-use Rattle.delta.proofs.Lengths.{base_of-nf}
+use Rattle.delta.proofs.CallerLemmas.{units_below-counted, units_below-front, base_of-nf}
 use Rattle.compose.specs.Places.{tail}
 use Rattle.compose.specs.Composed.{units_after, beyond, composed, one_for}
 use Rattle.compose.specs.Composes.{IsDefined}

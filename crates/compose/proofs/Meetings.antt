@@ -11,19 +11,15 @@ use Rattle.delta.specs.Element.{Element, letters, embedded}
 use Rattle.delta.specs.Operation.{Operation, insert_text, insert_embed, retain, delete, op_len, op_base, op_out, base_of, out_of, is_insert, is_delete, then_changed}
 use Rattle.delta.specs.Gaps.{Gaps, End, Gap, Fate, Keep, Del, front, run, counted, joined}
 use Rattle.delta.specs.Normal.{IsNormal, NoneIsEmpty, settled}
-use Rattle.delta.proofs.Effects.{changed-empty}
-use Rattle.delta.proofs.Joins.{front-nil, joined-run}
-use Rattle.delta.proofs.Neighbours.{may_lead-text, built-parts}
+use Rattle.delta.proofs.CallerLemmas.{changed-empty, front-nil, joined-run, may_lead-text, built-parts, left_after-within, left_after-whole, left_after-append, normal-parts, normal-left, none_empty-left, length-left, length-whole, counted-cut, len-first, base-cut}
 use Rattle.compose.specs.Places.{inserts}
 use Rattle.compose.specs.Composed.{composed, kept_then}
 use Rattle.compose.specs.steps.PairTest.{parts, cuts}
 use Rattle.delta.specs.Parts.{first_units, left_after, EndsInPair}
-use Rattle.compose.specs.steps.Stepping.{made_in_turn}
-use Rattle.compose.specs.steps.Stepping.{IsStep, IsStepBefore, IsShorter}
+use Rattle.compose.specs.steps.Stepping.{made_in_turn, IsStep, IsStepBefore, IsShorter}
 use Rattle.compose.proofs.Alongside.{composed-empty, composed-front, composed-kept, composed-letters_kept, composed-letters_deleted}
 use Rattle.compose.proofs.Pairs.{border, cuts-border, cuts-kept}
 use Rattle.compose.proofs.OutParts.{out-cut}
-use Rattle.delta.proofs.LeftOver.{left_after-within, left_after-whole, left_after-append, normal-parts, normal-left, none_empty-left, length-left, length-whole, counted-cut, len-first, base-cut}
 use Rattle.compose.proofs.Borders.{inserts-front, fate_of, parts-next, border-apart, border-embed, border-within}
 
 -- the first operation inserts or keeps, the second keeps or deletes

@@ -4,7 +4,7 @@ use Rattle.std.proofs.lemmas.Bool.{cases_lt}
 use Rattle.std.proofs.lemmas.List.{length-take-le}
 use Rattle.delta.specs.Operation.{Operation, insert_text, insert_embed, retain, delete, op_len, op_out, out_of}
 use Rattle.delta.specs.Parts.{first_units, last_units, left_after}
-use Rattle.delta.proofs.LeftOver.{left_after-within, left_after-whole, first-whole}
+use Rattle.delta.proofs.CallerLemmas.{left_after-within, left_after-whole, first-whole}
 
 out-last : (n : ℕ) (op : Operation) → 0 < n → n < op_len op → op_out (first_units n op) + op_out (last_units n op) ≡ op_out op
 out-last n (insert_text us a) some within = omega (arith, length-take-le n us (omega arith), length-drop n us)

@@ -4,10 +4,7 @@ use Rattle.std.proofs.lemmas.List.{append-nil, length-append}
 use Rattle.delta.specs.Operation.{Operation, base_of, out_of, IsBounded}
 use Rattle.delta.specs.Gaps.{Gaps, End, counted, joined}
 use Rattle.delta.specs.Normal.{IsNormal, settled, trimmed, spelled, nf, built}
-use Rattle.delta.proofs.Joins.{front-nil, joined-End, joined-joined, counted-append, units_below-counted}
-use Rattle.delta.proofs.Settling.{settled-joined, settled-joined_settled, settled-settled}
-use Rattle.delta.proofs.Spellings.{counted-spelled}
-use Rattle.delta.proofs.Lengths.{units_made-counted, base_of-append, out_of-append}
+use Rattle.delta.proofs.CallerLemmas.{front-nil, joined-End, joined-joined, counted-append, units_below-counted, settled-joined, settled-joined_settled, settled-settled, counted-spelled, units_made-counted, base_of-append, out_of-append}
 use Rattle.compose.specs.Composed.{composed, one_for}
 use Rattle.compose.specs.Cuts.{CutsText}
 use Rattle.compose.specs.Outcome.{IsComposedTooLong}

@@ -5,13 +5,12 @@ use Rattle.delta.specs.Element.{letters, embedded}
 use Rattle.delta.specs.Operation.{Operation, insert_text, insert_embed, retain, delete, op_base, out_of, is_insert, is_delete}
 use Rattle.delta.specs.Gaps.{End, Del, front, run, counted, joined}
 use Rattle.delta.specs.Normal.{IsNormal, NoneIsEmpty, settled}
-use Rattle.delta.proofs.Joins.{front-nil, joined-run, counted-append}
+use Rattle.delta.proofs.CallerLemmas.{front-nil, joined-run, counted-append, normal-rest}
 use Rattle.compose.specs.Composed.{composed}
 use Rattle.compose.specs.steps.PairTest.{cuts}
 use Rattle.compose.specs.steps.Stepping.{IsStep, IsStepBefore, IsShorter}
 use Rattle.compose.proofs.Alongside.{composed-nothing, composed-insert, composed-deleted}
 use Rattle.compose.proofs.Pairs.{cuts-nothing, cuts-insert, cuts-deleted}
-use Rattle.delta.proofs.LeftOver.{normal-rest}
 
 -- the first operation of the first list, where the second has ended or the operation deletes
 alone-effect : (op : Operation) (ops second : List Operation) → (second ≡ []) ⊎ (is_delete op ≡ true)

@@ -7,13 +7,12 @@ use Rattle.delta.specs.Element.{Element, letters, lettered, embedded}
 use Rattle.delta.specs.Operation.{Operation, insert_text, insert_embed, retain, delete, op_len, op_base, op_out, base_of, out_of, is_insert, is_delete}
 use Rattle.delta.specs.Gaps.{Gaps, End, Gap, Del, Keep, front, run, counted, joined}
 use Rattle.delta.specs.Normal.{IsNormal, settled}
-use Rattle.delta.proofs.Joins.{front-nil, front-front}
+use Rattle.delta.proofs.CallerLemmas.{front-nil, front-front, normal-rest, normal-left, counted-cut, len-first, base-cut, left_after-within, left_after-whole}
 use Rattle.compose.specs.Places.{inserts}
 use Rattle.compose.specs.Inverse.{inverse, unit_back}
 use Rattle.delta.specs.Parts.{first_units, last_units, left_after, EndsInPair}
 use Rattle.compose.specs.steps.SteppingBack.{AllInsert, units_inserted, turned_back, IsStepBack}
 use Rattle.compose.proofs.OutParts.{out-cut}
-use Rattle.delta.proofs.LeftOver.{normal-rest, normal-left, counted-cut, len-first, base-cut, left_after-within, left_after-whole}
 use Rattle.compose.proofs.Borders.{inserts-front}
 use Rattle.compose.proofs.Progress.{IsStep-second}
 use Rattle.compose.proofs.Meetings.{run-joined, IsStep-met, some-first, some-min, shorter-met}

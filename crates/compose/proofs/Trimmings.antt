@@ -9,10 +9,7 @@ use Rattle.delta.specs.Element.{Element, letters, lettered, embedded}
 use Rattle.delta.specs.Operation.{Operation, insert_text, insert_embed, retain, delete, op_len, op_base, op_out, base_of, out_of, is_plain, IsBounded}
 use Rattle.delta.specs.Gaps.{Gaps, End, Gap, Fate, Keep, Del, front, run, counted, joined, units_below}
 use Rattle.delta.specs.Normal.{past, settled, trim, trimmed, nf, IsNormal}
-use Rattle.delta.proofs.Joins.{counted-append, units_below-counted}
-use Rattle.delta.proofs.Lengths.{base_of-append, out_of-append, base_of-spelled, lengths-nf}
-use Rattle.delta.proofs.Neighbours.{built-parts}
-use Rattle.delta.proofs.LeftOver.{normal-parts, normal-rest}
+use Rattle.delta.proofs.CallerLemmas.{counted-append, units_below-counted, base_of-append, out_of-append, base_of-spelled, lengths-nf, built-parts, normal-parts, normal-rest}
 
 -- nothing but kept units without a change
 abbrev is_bare : Gaps → Bool

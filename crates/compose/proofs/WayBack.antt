@@ -2,10 +2,9 @@
 use Rattle.std.proofs.Common.{◌≡◌, ℕ, zero, suc, ◌+◌, ◌≤◌, true, false, List, [], ◌∷◌, ◌++◌, length, refl, sym, ap, subst, ◌∙◌, arith}
 use Rattle.delta.specs.Element.{Element}
 use Rattle.delta.specs.Operation.{Operation, base_of, out_of, IsBounded}
-use Rattle.delta.specs.Gaps.{Gaps, End, Gap, Fate, Del, Keep, run, counted, joined, units_below}
+use Rattle.delta.specs.Gaps.{Gaps, End, Gap, Fate, Del, Keep, run, counted, joined, units_below, units_made, units_kept}
 use Rattle.delta.specs.Normal.{IsNormal, settled, trimmed, spelled, nf}
-use Rattle.delta.proofs.Joins.{front-nil, joined-End, units_below-counted, units_below-front, units_below-run}
-use Rattle.delta.proofs.Lengths.{units_made, units_kept, units_made-counted, base_of-append, out_of-append}
+use Rattle.delta.proofs.CallerLemmas.{front-nil, joined-End, units_below-counted, units_below-front, units_below-run, units_made-counted, base_of-append, out_of-append}
 use Rattle.compose.specs.Inverse.{inverse, unit_back}
 use Rattle.compose.specs.steps.PairTest.{cuts}
 use Rattle.compose.specs.steps.SteppingBack.{AllInsert, units_inserted, IsStepBack}

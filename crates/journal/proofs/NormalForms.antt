@@ -4,8 +4,7 @@ use Rattle.std.specs.Prelude.{◌^◌, Option, Some, None, cond}
 use Rattle.std.proofs.lemmas.Bool.{and_parts, and_from, both_ways as both_kinds, false_from_ne_true, true_from_ne_false, leb-true, le-leb}
 use Rattle.delta.specs.Operation.{Operation, insert_text, insert_embed, retain, delete, op_len, op_base, op_out, is_plain, base_of, out_of, IsBounded}
 use Rattle.delta.specs.Gaps.{counted}
-use Rattle.delta.proofs.BuiltLists.{built-same, nf-same}
-use Rattle.delta.proofs.Lengths.{base_of-append, out_of-append}
+use Rattle.delta.proofs.CallerLemmas.{built-same, nf-same, base_of-append, out_of-append}
 use Rattle.journal.specs.declared.batch.unread.Unread.{Unread}
 use Rattle.journal.specs.declared.batch.unread.Unread.TheVariants.{Malformed, NoMemory}
 use Rattle.journal.specs.steps.Reading.{Fails}

@@ -6,7 +6,7 @@ use Rattle.std.proofs.lemmas.Bool.{eqb-true}
 use Rattle.std.proofs.lemmas.Option.{option_and_then_some, same_Some}
 use Rattle.std.proofs.lemmas.Str.{IsUtf8-from_is_utf8}
 use Rattle.utf16.specs.Units.{units_of, utf8_of}
-use Rattle.utf16.proofs.CodeUnits.{utf8_of-units_of}
+use Rattle.utf16.proofs.CallerLemmas.{utf8_of-units_of}
 use Rattle.attributes.specs.Attributes.{Attributes, Changes}
 use Rattle.delta.specs.Operation.{Operation, insert_text, insert_embed, retain, delete}
 use Rattle.journal.specs.Spelling.{number, text16, text32}

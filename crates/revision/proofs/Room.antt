@@ -3,19 +3,20 @@ use Rattle.std.proofs.Common.{◌≡◌, ℕ, zero, suc, ◌+◌, ◌*◌, ◌�
 use Rattle.std.specs.Prelude.{All}
 use Rattle.std.proofs.lemmas.List.{length-map}
 use Rattle.std.proofs.lemmas.List.Elements.{All-head, All-tail}
+use Rattle.refusal.specs.declared.Refusal.{Refusal}
+use Rattle.refusal.specs.declared.Refusal.TheVariants.{BadOps, NoMemory}
 use Rattle.attributes.specs.Map.{empty}
 use Rattle.attributes.specs.Attributes.{Changes}
 use Rattle.delta.specs.Element.{Element, letters, lettered, embedded}
 use Rattle.delta.specs.Operation.{Operation, insert_text, insert_embed, retain, delete, base_of, out_of, IsBounded}
-use Rattle.delta.specs.Gaps.{Gaps, End, Gap, Fate, Del, Keep, front, run, counted, apply, units_below}
+use Rattle.delta.specs.Gaps.{Gaps, End, Gap, Fate, Del, Keep, front, run, counted, apply, units_below, units_kept, units_made}
 use Rattle.delta.specs.Normal.{nf, spelled}
-use Rattle.delta.proofs.Joins.{units_below-front, units_below-run, units_below-counted}
-use Rattle.delta.proofs.Spellings.{counted-spelled}
-use Rattle.delta.proofs.Lengths.{units_kept, units_made, units_made-counted, base_of-nf, lengths-nf, out_of-spelled, length-apply_counted}
+use Rattle.delta.proofs.CallerLemmas.{units_below-front, units_below-run, units_below-counted, counted-spelled, units_made-counted, base_of-nf, lengths-nf, out_of-spelled, length-apply_counted}
 use Rattle.document.specs.Weight.{weight_of}
 use Rattle.compose.specs.Inverse.{unit_back, inverse}
 use Rattle.xform.specs.After.{beside, left_of, after}
-use Rattle.xform.proofs.Afterwards.{units_below-beside}
+use Rattle.xform.specs.Outcome.{CanTransform, IsTransformRefused}
+use Rattle.xform.proofs.CallerLemmas.{units_below-beside}
 use Rattle.revision.specs.Past.{way_back}
 use Rattle.revision.specs.Late.{past_one, inserted_of, all_inserted, HasRoom, InsertedStay, RoomForCommands, RoomForUndo, LightInserts}
 
@@ -110,10 +111,12 @@ bounded-after taken edit priority room = record {
   out = omega (arith, room.out, out-past taken edit priority);
 }
 
--- where the one of two can't be, it is the other
-pub other_one : {A B : Type 0} → (A → ⊥) → A ⊎ B → B
-other_one no_first (inl a) = absurd (no_first a)
-other_one no_first (inr b) = b
+-- where two deltas can be transformed, only want of memory is a refusal
+pub only_memory : (first second : List Operation) (priority : Bool) (refusal : Refusal) → CanTransform first second priority
+    → IsTransformRefused first second priority refusal → refusal ≡ NoMemory
+only_memory first second priority BadOps can no = absurd (no can)
+only_memory first second priority NoMemory can memory = refl
+only_memory first second priority _ can no = absurd no
 
 -- the way back stands on no more units than there were and were inserted, and makes no more than there were
 made-deletes : (n : ℕ) (g : Gaps) → units_made (run n Del g) ≡ units_made g

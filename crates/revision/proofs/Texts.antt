@@ -3,7 +3,7 @@ use Rattle.std.proofs.Common.{◌≡◌, ℕ, ◌^◌, ◌<◌, true, List, leng
 use Rattle.std.specs.Str.{is_utf8}
 use Rattle.std.proofs.lemmas.Str.{IsUtf8-from_is_utf8}
 use Rattle.utf16.specs.Units.{units_of, utf8_of}
-use Rattle.utf16.proofs.CodeUnits.{utf8_of-units_of}
+use Rattle.utf16.proofs.CallerLemmas.{utf8_of-units_of}
 use Rattle.revision.specs.Spellable.{IsText}
 
 -- the code units of a text

@@ -4,7 +4,7 @@ use Rattle.delta.specs.Element.{Element}
 use Rattle.delta.specs.Operation.{Operation}
 use Rattle.delta.specs.Gaps.{counted}
 use Rattle.document.specs.Places.{Cuts}
-use Rattle.compose.specs.Cuts.{cuts_units}
+use Rattle.compose.specs.steps.PairTest.{cuts_units}
 
 -- some pair of the units has two fates, or something is inserted between its two
 abbrev pub parts_pair : List Operation → List Element → Bool

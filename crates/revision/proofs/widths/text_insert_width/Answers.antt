@@ -1,6 +1,6 @@
 use Rattle.std.proofs.Common.{arith}
 use Rattle.std.proofs.lemmas.Str.{is_utf8-from_IsUtf8}
-use Rattle.utf16.proofs.CodeUnits.{utf8_of-units_of}
+use Rattle.utf16.proofs.CallerLemmas.{utf8_of-units_of}
 use Rattle.revision.proofs.Texts.{IsText-units_of}
 use Rattle.revision.proofs.widths.text_insert_width.Goals as goal
 

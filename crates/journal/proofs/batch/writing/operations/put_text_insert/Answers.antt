@@ -1,6 +1,6 @@
 use Rattle.std.proofs.Common.{◌<◌, ◌^◌, length, subst, arith}
 use Rattle.std.proofs.lemmas.Grind.{common_steps}
-use Rattle.utf16.proofs.CodeUnits.{utf8_of-units_of}
+use Rattle.utf16.proofs.CallerLemmas.{utf8_of-units_of}
 use Rattle.journal.specs.DeltaSpelling.{operation}
 use Rattle.journal.proofs.batch.writing.operations.put_text_insert.Goals as goal
 
