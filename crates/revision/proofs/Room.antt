@@ -114,9 +114,9 @@ bounded-after taken edit priority room = record {
 -- where two deltas can be transformed, only want of memory is a refusal
 pub only_memory : (first second : List Operation) (priority : Bool) (refusal : Refusal) → CanTransform first second priority
     → IsTransformRefused first second priority refusal → refusal ≡ NoMemory
-only_memory first second priority BadOps can no = absurd (no can)
+only_memory first second priority BadOps can refused = absurd (refused can)
 only_memory first second priority NoMemory can memory = refl
-only_memory first second priority _ can no = absurd no
+only_memory first second priority _ can refused = absurd refused
 
 -- the way back stands on no more units than there were and were inserted, and makes no more than there were
 made-deletes : (n : ℕ) (g : Gaps) → units_made (run n Del g) ≡ units_made g
