@@ -1,22 +1,15 @@
 -- Normal form, operation by operation.
-use Rattle.std.proofs.Common.{◌≡◌, ℕ, zero, suc, ◌+◌, ◌<◌, ◌≤◌, max, Bool, true, false, ◌&&◌, not, ltb, List, [], ◌∷◌, ◌++◌, length, drop, refl, sym, ap, ◌∙◌, add-one, arith, append_assoc, subst, leb}
+use Rattle.std.proofs.Common.{◌≡◌, ℕ, zero, suc, ◌+◌, ◌<◌, ◌≤◌, Bool, true, false, ◌&&◌, not, ltb, List, [], ◌∷◌, ◌++◌, length, drop, refl, sym, ap, ◌∙◌, add-one, arith, append_assoc, subst, leb}
 use Rattle.std.specs.Prelude.{◌^◌, Option, Some, None, cond}
 use Rattle.std.proofs.lemmas.Bool.{and_parts, and_from, both_ways as both_kinds, false_from_ne_true, true_from_ne_false, leb-true, le-leb}
-use Rattle.delta.specs.Operation.{Operation, insert_text, insert_embed, retain, delete, op_len, op_base, op_out, is_plain, base_of, out_of, IsBounded}
+use Rattle.delta.specs.Operation.{Operation, op_len, is_plain, base_of, out_of, IsBounded, is_bounded}
 use Rattle.delta.specs.Gaps.{counted}
 use Rattle.delta.proofs.CallerLemmas.{built-same, nf-same, base_of-append, out_of-append}
 use Rattle.journal.specs.declared.batch.unread.Unread.{Unread}
 use Rattle.journal.specs.declared.batch.unread.Unread.TheVariants.{Malformed, NoMemory}
 use Rattle.journal.specs.steps.Reading.{Fails}
 use Rattle.delta.specs.Normal.{is_built, ends_plain, may_precede, built, nf}
-use Rattle.journal.specs.steps.DeltaReading.{is_normal, begins_normal, is_bounded, delta_of}
-
--- the length is the greater of the two
-pub op_len_max : (op : Operation) → op_len op ≡ max (op_base op) (op_out op)
-op_len_max (insert_text us a) = omega arith
-op_len_max (insert_embed name v a) = omega arith
-op_len_max (retain n c) = omega arith
-op_len_max (delete n) = omega arith
+use Rattle.journal.specs.steps.DeltaReading.{is_normal, begins_normal, delta_of}
 
 last_again : (a b : Bool) → ((a && b) && true) ≡ (a && b)
 last_again true true = refl

@@ -1,27 +1,19 @@
 -- Reading from the front of bytes: deltas.
-use Rattle.std.proofs.Common.{◌≡◌, ℕ, ◌^◌, true, leb, Some, List, [], ◌++◌, length, refl, sym, ap, subst, ◌∙◌, append_assoc, arith}
+use Rattle.std.proofs.Common.{◌≡◌, ℕ, ◌^◌, true, Some, List, [], ◌++◌, length, refl, sym, ap, subst, ◌∙◌, append_assoc, arith}
 use Rattle.std.specs.Prelude.{◌&&◌, All}
 use Rattle.std.specs.Int.{w32}
 use Rattle.std.specs.List.{flat_map}
-use Rattle.std.proofs.lemmas.Bool.{and_parts, and_from, leb-true, le-leb}
+use Rattle.std.proofs.lemmas.Bool.{and_parts}
 use Rattle.std.proofs.lemmas.List.Elements.{All-from_recursion, recursion_from_All}
 use Rattle.std.proofs.lemmas.Option.{cond_some, option_and_then_some, same_Some, some_pair_parts}
-use Rattle.delta.specs.Operation.{Operation, base_of, out_of, IsBounded}
+use Rattle.delta.specs.Operation.{Operation, is_bounded, is_bounded-Decides}
 use Rattle.journal.specs.Spelling.{number}
 use Rattle.journal.specs.DeltaSpelling.{operation, delta}
 use Rattle.revision.specs.Spellable.{IsOperation, IsSpellable}
 use Rattle.journal.specs.steps.Reading.{number_at}
-use Rattle.journal.specs.steps.DeltaReading.{operations_at, is_normal, is_bounded, delta_of, delta_at}
+use Rattle.journal.specs.steps.DeltaReading.{operations_at, is_normal, delta_of, delta_at}
 use Rattle.journal.proofs.Numbers.{IsBytes, Takes, Takes-then, number32, number_takes, number_again}
 use Rattle.journal.proofs.ReadOperations.{operations_take, operations_again}
-
-bounded_from_test : (ops : List Operation) → is_bounded ops ≡ true → IsBounded ops
-bounded_from_test ops e =
-    let parts = and_parts (leb (base_of ops) (2 ^ 48)) (leb (out_of ops) (2 ^ 48)) e in
-    record { base = leb-true _ _ parts.0; out = leb-true _ _ parts.1 }
-
-test_from_bounded : (ops : List Operation) → IsBounded ops → is_bounded ops ≡ true
-test_from_bounded ops is = and_from (leb (base_of ops) (2 ^ 48)) (leb (out_of ops) (2 ^ 48)) (le-leb _ _ is.base) (le-leb _ _ is.out)
 
 -- a delta that is read is spelled so
 pub delta_takes : (bytes : List ℕ) (x : List Operation × List ℕ) → IsBytes bytes → delta_at bytes ≡ Some x → Takes bytes (delta x.0) x.1 × IsSpellable x.0
@@ -37,7 +29,7 @@ delta_takes bytes x fit e =
     let whole : Takes bytes (number w32 (length u.more) ++ flat_map operation u.more) read.1 = rw u.counted (Takes-then t.0 u.parts) in
     let is : IsSpellable read.0 = record {
       normal = tests.0;
-      bounded = bounded_from_test read.0 tests.1;
+      bounded = (is_bounded-Decides read.0).0 tests.1;
       count = omega (arith, u.counted, t.1, ap length u.all);
       each = subst (λ (all : List Operation). All IsOperation all) (sym u.all) (All-from_recursion IsOperation u.more u.each);
     } in
@@ -49,7 +41,7 @@ delta_takes bytes x fit e =
 pub delta_again : (ops : List Operation) (rest : List ℕ) → IsSpellable ops → delta_at (delta ops ++ rest) ≡ Some (ops, rest)
 unfolding delta_at delta_of delta
 delta_again ops rest is =
-    let within : is_bounded ops ≡ true = test_from_bounded ops is.bounded in
+    let within : is_bounded ops ≡ true = (is_bounded-Decides ops).1 is.bounded in
     let normal : is_normal ops ≡ true = is.normal in
     rw (append_assoc (number w32 (length ops)) (flat_map operation ops) rest, number_again w32 (2 ^ 32) number32 (length ops) (flat_map operation ops ++ rest) is.count, operations_again ops [] rest (recursion_from_All IsOperation ops is.each), normal, within) refl
 

@@ -1,21 +1,21 @@
 -- Reading from the front of bytes: names with what stands at each.
-use Rattle.std.proofs.Common.{◌≡◌, ℕ, zero, suc, ◌^◌, ◌≤◌, Bool, true, false, leb, Option, Some, List, [], ◌∷◌, ◌++◌, length, refl, sym, ap, subst, ◌∙◌, append_assoc, append-nil, arith, T, Ordering, Less, Equal, Greater}
+use Rattle.std.proofs.Common.{◌≡◌, ℕ, zero, suc, ◌^◌, ◌≤◌, Bool, true, false, Option, Some, List, [], ◌∷◌, ◌++◌, length, refl, sym, ap, subst, ◌∙◌, append_assoc, append-nil, arith, T, Ordering, Less, Equal, Greater}
 use Rattle.std.specs.Prelude.{◌&&◌}
 use Rattle.std.specs.Int.{w16, w32}
 use Rattle.std.specs.List.{flat_map, AllByRecursion}
 use Rattle.std.specs.Ordering.{is_lt, ordering_reverse}
 use Rattle.std.specs.Cmp.Lexicographic.{nat_list_cmp_total}
 use Rattle.std.specs.FinMap.Entries.{put, is_sorted, below_all}
-use Rattle.std.proofs.lemmas.Bool.{and_parts, and_from, leb-true, le-leb}
+use Rattle.std.proofs.lemmas.Bool.{and_parts, and_from}
 use Rattle.std.proofs.lemmas.List.Elements.{All-from_recursion, recursion_from_All}
 use Rattle.std.proofs.lemmas.Option.{cond_some, option_and_then_some, same_Some}
 use Rattle.attributes.specs.Map.{Map, empty, insert, by_bytes, same_entries_map}
-use Rattle.attributes.specs.Attributes.{Attributes, Changes}
+use Rattle.attributes.specs.Attributes.{Attributes, Changes, is_key, is_key-Decides}
 use Rattle.journal.specs.Spelling.{number, text16}
 use Rattle.journal.specs.DeltaSpelling.{value, new_value, pair, pairs}
 use Rattle.revision.specs.Spellable.{IsValue, IsNewValue, IsName, IsPair, IsPairs}
 use Rattle.journal.specs.steps.Reading.{◌>>=◌, number_at, text_at, name_at}
-use Rattle.journal.specs.steps.DeltaReading.{is_key, key_at, key_above, pair_at, pairs_at, value_at, new_value_at, attributes_at, change_at}
+use Rattle.journal.specs.steps.DeltaReading.{key_at, key_above, pair_at, pairs_at, value_at, new_value_at, attributes_at, change_at}
 use Rattle.journal.proofs.Numbers.{IsBytes, Takes, Takes-then, number16, number32, number_takes, number_again}
 use Rattle.journal.proofs.Texts.{text_takes, text_again}
 use Rattle.journal.proofs.ReadValues.{value_takes, value_again, new_value_takes, new_value_again}
@@ -28,14 +28,13 @@ key_takes bytes x fit e =
     option_and_then_some _ (text_at w16 bytes) x e (λ text found made.
     let t = text_takes w16 (2 ^ 16) number16 bytes text fit found in
     let g = cond_some (is_key text.0) text x made in
-    let parts = and_parts (leb 1 (length text.0)) (leb (length text.0) 64) g.0 in
     subst (λ (y : List ℕ × List ℕ). Takes bytes (number w16 (length y.0) ++ y.0) y.1 × IsName y.0) g.1
-    (t.0, record { key = (leb-true _ _ parts.0, leb-true _ _ parts.1); valid = t.2 }))
+    (t.0, record { key = (is_key-Decides text.0).0 g.0; valid = t.2 }))
 
 pub key_again : (name rest : List ℕ) → IsName name → key_at (text16 name ++ rest) ≡ Some (name, rest)
 unfolding key_at name_at text16
 key_again name rest is =
-    let test : is_key name ≡ true = and_from _ _ (le-leb _ _ is.key.0) (le-leb _ _ is.key.1) in
+    let test : is_key name ≡ true = (is_key-Decides name).1 is.key in
     rw (text_again w16 (2 ^ 16) number16 name rest (omega (arith, is.key.1)) is.valid, test) refl
 
 above_takes : (last bytes : List ℕ) (x : List ℕ × List ℕ) → IsBytes bytes → key_above last bytes ≡ Some x → Takes bytes (text16 x.0) x.1 × IsName x.0 × (is_lt (by_bytes last x.0) ≡ true)

@@ -1,17 +1,15 @@
 -- Reading from the front of bytes: values.
-use Rattle.std.proofs.Common.{◌≡◌, ℕ, zero, suc, ◌-◌, ◌^◌, ◌<◌, Bool, true, false, ◌⊎◌, inl, inr, cond, eqb, Option, Some, None, List, [], ◌∷◌, ◌++◌, length, refl, sym, ap, subst, arith, T, ℤ, pos, negsuc, SFits}
-use Rattle.std.specs.Prelude.{int_lt}
+use Rattle.std.proofs.Common.{◌≡◌, ℕ, zero, suc, ◌^◌, ◌<◌, Bool, true, false, ◌⊎◌, inl, inr, cond, eqb, Option, Some, None, List, [], ◌∷◌, ◌++◌, length, refl, sym, ap, subst, arith, ℤ, SFits}
 use Rattle.std.specs.Int.{w32, w64, cast_unsigned, cast_signed}
-use Rattle.std.specs.Int.Signed.{lt_z_yes}
-use Rattle.std.proofs.lemmas.Bool.{and_parts, and_from, eqb-true}
+use Rattle.std.proofs.lemmas.Bool.{eqb-true}
 use Rattle.std.proofs.lemmas.Int.{of_z-to_z, to_z-of_z, ints}
 use Rattle.std.proofs.lemmas.Option.{cond_some, option_and_then_some, same_Some}
-use Rattle.attributes.specs.Scalar.{Scalar, text_scalar, whole_scalar, flag_scalar, IsExact}
+use Rattle.attributes.specs.Scalar.{Scalar, text_scalar, whole_scalar, flag_scalar, IsExact, is_exact, is_exact-Decides}
 use Rattle.journal.specs.Spelling.{number, text32}
 use Rattle.journal.specs.DeltaSpelling.{value, new_value}
 use Rattle.revision.specs.Spellable.{IsValue, IsNewValue}
 use Rattle.journal.specs.steps.Reading.{number_at, text_at, byte_at}
-use Rattle.journal.specs.steps.DeltaReading.{is_exact, whole_at, text_value_at, value_behind, value_at, new_value_behind, new_value_at}
+use Rattle.journal.specs.steps.DeltaReading.{whole_at, text_value_at, value_behind, value_at, new_value_behind, new_value_at}
 use Rattle.journal.proofs.Numbers.{IsBytes, Takes, Takes-then, number32, number64, number_takes, number_again}
 use Rattle.journal.proofs.Texts.{text_takes, text_again}
 
@@ -43,18 +41,6 @@ nothing_more bytes fit = record { parts = refl; rest_fits = fit }
 
 -- ---- whole numbers
 
-exact_from_test : (n : ℤ) → is_exact n ≡ true → IsExact n
-exact_from_test n e =
-    let parts = and_parts (int_lt (negsuc (2 ^ 53 - 1)) n) (int_lt n (pos (2 ^ 53))) e in
-    (lt_z_yes (subst T (sym parts.0) tt), lt_z_yes (subst T (sym parts.1) tt))
-
-from_T : (b : Bool) → T b → b ≡ true
-from_T true h = refl
-from_T false h = absurd h
-
-test_from_exact : (n : ℤ) → IsExact n → is_exact n ≡ true
-test_from_exact n is = and_from (int_lt (negsuc (2 ^ 53 - 1)) n) (int_lt n (pos (2 ^ 53))) (from_T _ is.0.lt) (from_T _ is.1.lt)
-
 exact_fits : (n : ℤ) → IsExact n → SFits w64 n
 exact_fits n is = omega (arith, ints)
 
@@ -70,7 +56,7 @@ whole_behind bytes x fit e =
     let g = cond_some (is_exact z) (whole_scalar z, bits.1) x made in
     let same : cast_unsigned w64 z ≡ bits.0 = of_z-to_z w64 bits.0 t.1 in
     subst (λ (y : Scalar × List ℕ). ReadBehind value IsValue 3 bytes y) g.1
-    (record { text = number w64 bits.0; spelled = ap (λ n. 3 ∷ number w64 n) same; takes = t.0; is = exact_from_test z g.0 }))
+    (record { text = number w64 bits.0; spelled = ap (λ n. 3 ∷ number w64 n) same; takes = t.0; is = (is_exact-Decides z).0 g.0 }))
 
 -- ---- values
 
@@ -113,7 +99,7 @@ unfolding value_at byte_at value_behind value whole_at text_value_at text32
 value_again (flag_scalar false) rest is = refl
 value_again (flag_scalar true) rest is = refl
 value_again (whole_scalar n) rest is =
-    rw (number_again w64 (2 ^ 64) number64 (cast_unsigned w64 n) rest (exact_bits n is), to_z-of_z w64 n (exact_fits n is), test_from_exact n is) refl
+    rw (number_again w64 (2 ^ 64) number64 (cast_unsigned w64 n) rest (exact_bits n is), to_z-of_z w64 n (exact_fits n is), (is_exact-Decides n).1 is) refl
 value_again (text_scalar text) rest is = rw (text_again w32 (2 ^ 32) number32 text rest is.0 is.1) refl
 
 -- ---- new values
@@ -142,5 +128,5 @@ new_value_again None rest is = refl
 new_value_again (Some (flag_scalar false)) rest is = refl
 new_value_again (Some (flag_scalar true)) rest is = refl
 new_value_again (Some (whole_scalar n)) rest is =
-    rw (number_again w64 (2 ^ 64) number64 (cast_unsigned w64 n) rest (exact_bits n is), to_z-of_z w64 n (exact_fits n is), test_from_exact n is) refl
+    rw (number_again w64 (2 ^ 64) number64 (cast_unsigned w64 n) rest (exact_bits n is), to_z-of_z w64 n (exact_fits n is), (is_exact-Decides n).1 is) refl
 new_value_again (Some (text_scalar text)) rest is = rw (text_again w32 (2 ^ 32) number32 text rest is.0 is.1) refl

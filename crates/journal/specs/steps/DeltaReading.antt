@@ -1,18 +1,14 @@
 -- Reading of the spelling of deltas on lists: a value with the bytes behind it, or none. Private to the reader's proof.
-use Rattle.std.specs.Prelude.{ℕ, zero, suc, ◌-◌, ◌^◌, pos, negsuc, ℤ, ◌==◌, nat_le, nat_lt, ◌&&◌, not, if◌then◌else◌, int_lt, Bool, true, false, Option, Some, None, List, [], ◌∷◌, ◌++◌, length}
+use Rattle.std.specs.Prelude.{ℕ, zero, suc, ◌==◌, nat_lt, ◌&&◌, not, if◌then◌else◌, Bool, true, false, Option, Some, None, List, [], ◌∷◌, ◌++◌}
 use Rattle.std.specs.Int.{w32, w64, cast_signed}
 use Rattle.std.specs.Ordering.{is_lt}
 use Rattle.utf16.specs.Units.{units_of}
 use Rattle.attributes.specs.Map.{Map, empty, insert, by_bytes}
-use Rattle.attributes.specs.Attributes.{Attributes, Changes}
-use Rattle.attributes.specs.Scalar.{Scalar, text_scalar, whole_scalar, flag_scalar}
-use Rattle.delta.specs.Operation.{Operation, insert_text, insert_embed, retain, delete, base_of, out_of, op_len, is_plain}
+use Rattle.attributes.specs.Attributes.{Attributes, Changes, is_key}
+use Rattle.attributes.specs.Scalar.{Scalar, text_scalar, whole_scalar, flag_scalar, is_exact}
+use Rattle.delta.specs.Operation.{Operation, insert_text, insert_embed, retain, delete, op_len, is_plain, is_bounded}
 use Rattle.delta.specs.Normal.{is_built, ends_plain, may_precede}
 use Rattle.journal.specs.steps.Reading.{◌>>=◌, number_at, text_at, name_at, byte_at}
-
--- a whole number of magnitude below 2^53
-abbrev pub is_exact : ℤ → Bool
-is_exact n = int_lt (negsuc (2 ^ 53 - 1)) n && int_lt n (pos (2 ^ 53))
 
 unfoldable pub whole_at : List ℕ → Option (Scalar × List ℕ)
 whole_at bytes = do
@@ -51,9 +47,6 @@ new_value_at bytes = do
   new_value_behind tag.0 tag.1
 
 -- a name of an attribute or an embed
-abbrev pub is_key : List ℕ → Bool
-is_key name = nat_le 1 (length name) && nat_le (length name) 64
-
 unfoldable pub key_at : List ℕ → Option (List ℕ × List ℕ)
 key_at bytes = name_at is_key bytes
 
@@ -142,10 +135,6 @@ abbrev pub begins_normal : List Operation → Bool
 begins_normal [] = true
 begins_normal (op ∷ []) = nat_lt 0 (op_len op) && not (is_plain op)
 begins_normal (op ∷ next ∷ ops) = nat_lt 0 (op_len op) && may_precede op next
-
--- within the bound, as a test
-abbrev pub is_bounded : List Operation → Bool
-is_bounded operations = nat_le (base_of operations) (2 ^ 48) && nat_le (out_of operations) (2 ^ 48)
 
 -- the operations, where they are in normal form and within the bound
 unfoldable pub delta_of : List Operation → Option (List Operation)

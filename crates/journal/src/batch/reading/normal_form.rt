@@ -1,9 +1,9 @@
 //! The delta of operations that are in normal form.
 ghost use Rattle.std.specs.Prelude.{◌≡◌, ◌++◌, [], ◌∷◌, true, nat_lt, OnOk, IfErr};
-ghost use Rattle.delta.specs.Operation.{op_len, is_plain, IsBounded};
+ghost use Rattle.delta.specs.Operation.{op_len, is_plain, is_bounded, IsBounded};
 ghost use Rattle.delta.specs.Normal.{may_precede, built};
 ghost use Rattle.journal.specs.steps.Reading.{Gives};
-ghost use Rattle.journal.specs.steps.DeltaReading.{begins_normal, is_normal, is_bounded, delta_of};
+ghost use Rattle.journal.specs.steps.DeltaReading.{begins_normal, is_normal, delta_of};
 
 use crate::batch::unread::Unread;
 use delta::{Builder, Delta, Op, OpRef};
@@ -60,19 +60,18 @@ fn begins_normal_form(ops: &[Op]) -> bool
     }
 }
 
-#[tactic(auto, using(crate::proofs::NormalForms::op_len_max))]
 fn has_units(op: &Op) -> bool
     ensures { result ≡ nat_lt 0 (op_len op.now) }
 {
-    op.base_len().max(op.out_len()) > 0
+    op.len16() > 0
 }
 
 fn is_plain_retain(op: &Op) -> bool
     ensures { result ≡ is_plain op.now }
 {
-    match op.get() {
-        OpRef::Retain(_, change) => change.is_empty(),
-        OpRef::Text(_, _) | OpRef::Embed(_, _, _) | OpRef::Delete(_) => false,
+    match op.plain_len() {
+        Some(_) => true,
+        None => false,
     }
 }
 

@@ -1,6 +1,7 @@
 use Rattle.std.proofs.Common.{◌≡◌, ◌++◌, length, true}
 use Rattle.std.specs.Vec.Iter.{into_iter_items, into_iter_len}
-use Rattle.journal.specs.steps.DeltaReading.{is_normal, is_bounded}
+use Rattle.delta.specs.Operation.{is_bounded}
+use Rattle.journal.specs.steps.DeltaReading.{is_normal}
 use Rattle.journal.proofs.batch.reading.normal_form.delta_of_ops.Given as goal
 
 -- the builder keeps the operations so far as they are, and the iterator has the others
