@@ -1,7 +1,7 @@
 //! What a row comes to.
 ghost use Rattle.std.specs.Prelude.{◌≡◌, ◌++◌, codes, decimal, IfOk, IsOkUnless};
 ghost use Rattle.std.specs.String.{string_bytes};
-ghost use Rattle.optext.specs.Answer.{IsDue};
+ghost use Rattle.optext.specs.Answer.{IsAnswer};
 ghost use Rattle.rows.specs.Words.{delta_in};
 
 use crate::cases::cases;
@@ -59,7 +59,7 @@ fn transform(alloc: Global, first: &str, second: &str, priority: bool) -> Result
 
 // the delta that an array of operations describes
 fn read(alloc: Global, ops: &str) -> Result<Delta, Refusal>
-    ensures { IsDue (delta_in ops.now) result }
+    ensures { IsAnswer (delta_in ops.now) result }
 {
     let value = read_json(alloc, ops.as_bytes())?;
     match value.as_array() {

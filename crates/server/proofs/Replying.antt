@@ -10,7 +10,7 @@ use Rattle.server.specs.declared.session.line.Event.{Event}
 use Rattle.server.specs.declared.session.line.Event.TheVariants.{More, TooLong, Complete}
 use Rattle.server.specs.declared.session.request.Request.{Request}
 use Rattle.server.specs.declared.session.request.Request.TheVariants.{Greet, Ask}
-use Rattle.optext.specs.Answer.{IsDue}
+use Rattle.optext.specs.Answer.{IsAnswer}
 use Rattle.server.specs.Line.{Partial, with_byte}
 use Rattle.server.specs.Request.{request_of}
 use Rattle.server.specs.Reply.{greeting, line_of}
@@ -19,7 +19,7 @@ use Rattle.server.specs.Replies.{Exchange, refusal_line, answer_line, IsLine, te
 use Rattle.server.proofs.Writes.{appends-nothing}
 
 -- an answer that is no refusal is the one that is due
-due_ok : {T : Type 0} (due : Result T Refusal) (x : T) → IsDue due (Ok x) → due ≡ Ok x
+due_ok : {T : Type 0} (due : Result T Refusal) (x : T) → IsAnswer due (Ok x) → due ≡ Ok x
 due_ok due x (inl is) = sym is
 due_ok due x (inr memory) = absurd cc
 
@@ -30,7 +30,7 @@ told_line bytes (Err e) due is = inr refl
 
 -- what is due of the bytes of a line is due of the line
 pub line_due : (o : Partial) (source known : Option (List ℕ)) (bytes : List ℕ) (r : Result Request Refusal) → IfSome o (λ line. bytes ≡ line)
-    → known ≡ source → IsDue (request_of known bytes) r → IfSome o (λ line. IsDue (request_of source line) r)
+    → known ≡ source → IsAnswer (request_of known bytes) r → IfSome o (λ line. IsAnswer (request_of source line) r)
 line_due None source known bytes r is same due = tt
 line_due (Some line) source known bytes r is same due = rw (is, same) at due
 
@@ -40,7 +40,7 @@ module _ {D : Type 0} (gives : D → Command → Result Reply Refusal → D → 
   Responds old new desk desk' text line = (asked : List Exchange) × IsReplied old.source line asked new.source text × Asks gives desk asked desk'
 
   pub greeted : {T E : Type 0} (bytes : T → List ℕ) (o : Partial) (old new : Session) (name : List ℕ) (result : Result T E) (desk : D) (request : Request)
-      → request ≡ Greet name → IfSome o (λ line. IsDue (request_of old.source line) (Ok request))
+      → request ≡ Greet name → IfSome o (λ line. IsAnswer (request_of old.source line) (Ok request))
       → IfOk result (λ t. bytes t ≡ line_of greeting) → OnOk result (new ≡ record old { source = Some name }) → OnErr result (new ≡ old)
       → IfSome o (Responds old new desk desk (text_told bytes result))
   greeted bytes None old new name result desk request is due text presented unchanged = tt
@@ -49,7 +49,7 @@ module _ {D : Type 0} (gives : D → Command → Result Reply Refusal → D → 
   greeted bytes (Some line) old new name (Err e) desk request is due text presented unchanged = ([], rw unchanged NotTaken, refl)
 
   pub asked : (o : Partial) (old : Session) (command : Command) (text : List ℕ) (desk desk' : D) (request : Request)
-      → request ≡ Ask command → IfSome o (λ line. IsDue (request_of old.source line) (Ok request))
+      → request ≡ Ask command → IfSome o (λ line. IsAnswer (request_of old.source line) (Ok request))
       → ((answer : Result Reply Refusal) × gives desk command answer desk' × IsLine (answer_line command answer) text)
       → IfSome o (Responds old old desk desk' text)
   asked None old command text desk desk' request is due told = tt
@@ -57,7 +57,7 @@ module _ {D : Type 0} (gives : D → Command → Result Reply Refusal → D → 
       ((command, told.0) ∷ [], Asked command told.0 text (due_ok _ _ due ∙ ap (λ (r : Request). Ok r) is) told.2, (desk', told.1, refl))
 
   refused_line : {T E : Type 0} (bytes : T → List ℕ) (old : Session) (line : List ℕ) (refusal : Refusal) (result : Result T E)
-      → IsDue (request_of old.source line) (Err refusal) → IfOk result (λ t. bytes t ≡ refusal_line refusal)
+      → IsAnswer (request_of old.source line) (Err refusal) → IfOk result (λ t. bytes t ≡ refusal_line refusal)
       → IsReplied old.source line [] old.source (text_told bytes result)
   refused_line bytes old line refusal (Ok t) (inl due) text = rw text (Refused refusal (sym due))
   refused_line bytes old line refusal (Ok t) (inr memory) text =
@@ -66,7 +66,7 @@ module _ {D : Type 0} (gives : D → Command → Result Reply Refusal → D → 
   refused_line bytes old line refusal (Err e) due text = NotTaken
 
   pub refused_any : {T E : Type 0} (bytes : T → List ℕ) (o : Partial) (old : Session) (refusal : Refusal) (result : Result T E) (desk : D)
-      → IfSome o (λ line. IsDue (request_of old.source line) (Err refusal)) → IfOk result (λ t. bytes t ≡ refusal_line refusal)
+      → IfSome o (λ line. IsAnswer (request_of old.source line) (Err refusal)) → IfOk result (λ t. bytes t ≡ refusal_line refusal)
       → IfSome o (Responds old old desk desk (text_told bytes result))
   refused_any bytes None old refusal result desk due text = tt
   refused_any bytes (Some line) old refusal result desk due text = ([], refused_line bytes old line refusal result due text, refl)

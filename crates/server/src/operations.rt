@@ -2,7 +2,7 @@
 ghost use Rattle.std.specs.Prelude.{◌≡◌, is_some, option_and_then, codes};
 ghost use Rattle.serde_json.specs.Find.{get, as_str};
 ghost use Rattle.serde_json.specs.View.{view, items_view};
-ghost use Rattle.optext.specs.Answer.{IsDue};
+ghost use Rattle.optext.specs.Answer.{IsAnswer};
 ghost use Rattle.server.specs.Operations as spec;
 
 use delta::Delta;
@@ -14,7 +14,7 @@ use std::alloc::Global;
 /// The delta of a message's operations. Refused with `TooManyOps` above 1,024 of them, then with `BadOps` where one
 /// is no insertion of plain text or the delta's output would pass 2^48 code units, or with `NoMemory`.
 pub fn read_inserts(alloc: Global, operations: &[Value]) -> Result<Delta, Refusal>
-    ensures { IsDue (spec.delta_of (items_view operations.now)) result }
+    ensures { IsAnswer (spec.delta_of (items_view operations.now)) result }
 {
     if operations.len() > MAX_OPERATIONS {
         return Err(Refusal::TooManyOps);

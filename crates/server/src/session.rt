@@ -5,7 +5,7 @@ ghost use Rattle.std.specs.Io.KnownBytes.{Appends};
 ghost use Rattle.refusal.specs.declared.Refusal as refusal;
 ghost use Rattle.server.specs.declared.session.reply.Reply as reply;
 ghost use Rattle.revision.specs.Name.{is_source_name};
-ghost use Rattle.optext.specs.Answer.{IsDue};
+ghost use Rattle.optext.specs.Answer.{IsAnswer};
 ghost use Rattle.server.specs.Line.{with_byte};
 ghost use Rattle.server.specs.Request.{request_of, GreetsSource};
 ghost use Rattle.server.specs.Reply.{greeting as spec_greeting, line_of};
@@ -175,7 +175,7 @@ impl Session {
 
     // What the line asks for, which is complete.
     fn request(&self, alloc: Global) -> Result<Request, Refusal>
-        ensures due { IfSome self.now.line (λ line. IsDue (request_of self.now.source line) result) }
+        ensures due { IfSome self.now.line (λ line. IsAnswer (request_of self.now.source line) result) }
         ensures greets { IfOk result GreetsSource }
     {
         Request::read(alloc, self.source.as_ref(), self.line.bytes())

@@ -3,7 +3,7 @@ ghost use Rattle.std.specs.Prelude.{◌≡◌, ◌≤◌, ◌<◌, ◌^◌, IfOk
 ghost use Rattle.std.specs.Option.{ForSome};
 ghost use Rattle.serde_json.specs.View.{items_view};
 ghost use Rattle.revision.specs.Name.{is_source_name};
-ghost use Rattle.optext.specs.Answer.{IsDue};
+ghost use Rattle.optext.specs.Answer.{IsAnswer};
 ghost use Rattle.server.specs.Message.{Create, IsNumbered};
 ghost use Rattle.server.specs.MessageView.{message_view};
 ghost use Rattle.server.specs.Request as spec;
@@ -30,7 +30,7 @@ impl Request {
     /// refusal that holds decides; `NoMemory` may come instead of any other answer.
     pub fn read(alloc: Global, source: Option<&Name>, line: &[u8]) -> Result<Request, Refusal>
         requires { ForSome (option_copied source) (λ name. is_source_name name ≡ true) }
-        ensures due { IsDue (spec.request_of (option_copied source.entry) line.now) result }
+        ensures due { IsAnswer (spec.request_of (option_copied source.entry) line.now) result }
         ensures greets { IfOk result spec.GreetsSource }
     {
         let value = read_json(alloc, line)?;
@@ -43,7 +43,7 @@ impl Request {
     fn of(alloc: Global, source: Option<&Name>, message: Message<'_>) -> Result<Request, Refusal>
         requires source { ForSome (option_copied source) (λ name. is_source_name name ≡ true) }
         requires numbered { IsNumbered (message_view message) }
-        ensures due { IsDue (spec.request_in (option_copied source.entry) (message_view message.entry)) result }
+        ensures due { IsAnswer (spec.request_in (option_copied source.entry) (message_view message.entry)) result }
         ensures greets { IfOk result spec.GreetsSource }
     {
         match (message, source) {
@@ -71,7 +71,7 @@ impl Request {
         requires source { is_source_name source.now ≡ true }
         requires first { 1 ≤ number }
         requires last { number < 2 ^ 53 }
-        ensures due { IsDue (spec.request_in (Some source.now)
+        ensures due { IsAnswer (spec.request_in (Some source.now)
             (Create doc.now number (items_view operations.now))) result }
         ensures asks { IfOk result spec.GreetsSource }
     {
