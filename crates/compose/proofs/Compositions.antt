@@ -1,11 +1,12 @@
 -- One gap form for two, and its effect.
-use Rattle.std.proofs.Common.{◌≡◌, ◌+◌, ◌≤◌, List, [], ◌∷◌, ◌++◌, length, refl, sym, ap, subst, ◌∙◌, arith}
+use Rattle.std.proofs.Common.{◌≡◌, ◌+◌, ◌≤◌, List, [], ◌∷◌, ◌++◌, length, refl, sym, ap, ◌∙◌, arith}
 use Rattle.std.proofs.lemmas.List.{append_assoc}
 use Rattle.attributes.specs.Attributes.{Changes, changed}
 use Rattle.attributes.proofs.AtEachName.{changed-changed}
 use Rattle.delta.specs.Element.{Element}
 use Rattle.delta.specs.Operation.{base_of}
 use Rattle.delta.specs.Gaps.{Gaps, End, Gap, Fate, Del, Keep, fated, apply, counted}
+use Rattle.delta.specs.Places.{IsDefined}
 use Rattle.delta.proofs.CallerLemmas.{apply-front, changed-empty, apply-nf, units_below-counted, IsNormal-nf, length-apply_counted, same_effect_from}
 use Rattle.compose.specs.Places.{inserts, fate, tail}
 use Rattle.compose.specs.Composed.{units_after, beyond, kept_then, composed}
@@ -48,7 +49,7 @@ apply-composed (x ∷ d) (Gap xs (Keep c) g) b long =
 pub composes_by_normal : ComposesByNormal
 composes_by_normal a b = record {
   normal = IsNormal-nf (composed (counted a) (counted b));
-  effect = λ d long _. apply-nf d (composed (counted a) (counted b)) ∙ apply-composed d (counted a) (counted b) (subst (λ n. n ≤ length d) (sym (units_below-counted a)) long);
+  effect = λ d long _. apply-nf d (composed (counted a) (counted b)) ∙ apply-composed d (counted a) (counted b) long;
 }
 
 pub composes_once : ComposesOnce
@@ -56,4 +57,6 @@ composes_once c e a b first second =
     same_effect_from (base_of a + base_of b) c e first.normal second.normal (λ d long.
     let long_a : base_of a ≤ length d = omega (arith, long) in
     let long_b : base_of b ≤ length (apply d (counted a)) = omega (arith, long, length-apply_counted d a long_a) in
-    first.effect d long_a long_b ∙ sym (second.effect d long_a long_b))
+    let defined_a : IsDefined d (counted a) = omega (arith, long_a, units_below-counted a) in
+    let defined_b : IsDefined (apply d (counted a)) (counted b) = omega (arith, long_b, units_below-counted b) in
+    first.effect d defined_a defined_b ∙ sym (second.effect d defined_a defined_b))

@@ -15,3 +15,4 @@ pub mod ManyDeltas
 pub mod StepsBack
 pub mod WayBack
 pub mod DocumentCuts
+pub mod CallerLemmas

@@ -9,10 +9,10 @@ use Rattle.refusal.specs.declared.Refusal.TheVariants.{BadOps}
 use Rattle.delta.specs.Operation.{Operation, base_of, out_of, IsBounded}
 use Rattle.delta.specs.Gaps.{Gaps, End, Gap, Del, Keep, fated, counted, apply, units_below}
 use Rattle.delta.specs.Normal.{IsNormal}
+use Rattle.delta.specs.Places.{IsDefined}
 use Rattle.delta.proofs.CallerLemmas.{units_below-counted, units_below-front, base_of-nf}
 use Rattle.compose.specs.Places.{tail}
 use Rattle.compose.specs.Composed.{units_after, beyond, composed, one_for}
-use Rattle.compose.specs.Composes.{IsDefined}
 use Rattle.compose.specs.Many.{many_after, many, AreDefined, applied, ComposesAll, lengths_of}
 use Rattle.compose.specs.Outcome.{CanCompose, CanComposeAll, IsComposeRefused, IsComposeAllRefused}
 use Rattle.compose.proofs.Compositions.{composes_by_normal}
@@ -39,20 +39,20 @@ units-composed (x ∷ d) (Gap xs (Keep c) g) b long_a long_b =
     let rest = units-composed d g (tail (beyond xs b)) (omega (arith, long_a)) (units-tail (beyond xs b) (length (apply d g)) over) in
     omega (arith, rest)
 
-pub defined-one : (d : List Element) (a b : List Operation) → IsDefined d a → IsDefined (apply d (counted a)) b → IsDefined d (one_for a b)
+pub defined-one : (d : List Element) (a b : List Operation) → IsDefined d (counted a) → IsDefined (apply d (counted a)) (counted b) → IsDefined d (counted (one_for a b))
 defined-one d a b long_a long_b =
-    let rest = units-composed d (counted a) (counted b) (omega (arith, long_a, units_below-counted a)) (omega (arith, long_b, units_below-counted b)) in
-    omega (arith, rest, base_of-nf (composed (counted a) (counted b)))
+    let rest = units-composed d (counted a) (counted b) long_a long_b in
+    omega (arith, rest, base_of-nf (composed (counted a) (counted b)), units_below-counted (one_for a b))
 
 -- so for all in turn
-defined-many : (d : List Element) (first : List Operation) (others : List (List Operation)) → IsDefined d first → AreDefined (apply d (counted first)) others → IsDefined d (many_after first others)
+defined-many : (d : List Element) (first : List Operation) (others : List (List Operation)) → IsDefined d (counted first) → AreDefined (apply d (counted first)) others → IsDefined d (counted (many_after first others))
 defined-many d first [] long rest = long
 defined-many d first (next ∷ others) long rest =
     let one = composes_by_normal first next in
     defined-many d (one_for first next) others (defined-one d first next long rest.0)
     (subst (λ e. AreDefined e others) (sym (one.effect d long rest.0)) rest.1)
 
-effect-many : (d : List Element) (first : List Operation) (others : List (List Operation)) → IsDefined d first → AreDefined (apply d (counted first)) others
+effect-many : (d : List Element) (first : List Operation) (others : List (List Operation)) → IsDefined d (counted first) → AreDefined (apply d (counted first)) others
     → apply d (counted (many_after first others)) ≡ applied (apply d (counted first)) others
 effect-many d first [] long rest = refl
 effect-many d first (next ∷ others) long rest =

@@ -7,6 +7,39 @@
 //! sides once, cutting them where they meet; what `compose_many` copies stands with it. The definitions stand in specs/
 //! (Composes, Inverse and Many are read first, then Composed and Cuts); `laws` has the law of undoing and that nothing else
 //! composes two deltas. It stands on `delta`, `document`, `attributes` and `utf16`.
+//!
+//! A caller, with its contract, which is proved as it stands:
+//!
+//! ```text
+//! ghost use Rattle.std.specs.Prelude.{◌≡◌, OnErr, OnOk};
+//! ghost use Rattle.delta.specs.Gaps.{counted, apply};
+//! ghost use Rattle.delta.specs.Places.{IsDefined};
+//!
+//! use compose::compose;
+//! use compose::laws::effect_of_composed;
+//! use delta::Delta;
+//! use delta::laws::effect_of_normal;
+//! use document::Document;
+//! use refusal::Refusal;
+//! use std::alloc::Global;
+//!
+//! /// Applies two deltas in turn as one. Refused, the document is as it was.
+//! pub fn apply_both(
+//!     alloc: Global,
+//!     document: &mut Document,
+//!     first: &Delta,
+//!     second: &Delta,
+//! ) -> Result<(), Refusal>
+//!     ensures both { OnOk result (IsDefined document.old (counted first.now)
+//!         → document.new ≡ apply (apply document.old (counted first.now)) (counted second.now)) }
+//!     ensures err { OnErr result (document.new ≡ document.old) }
+//! {
+//!     effect_of_composed();
+//!     effect_of_normal();
+//!     let one = compose(alloc, first, second)?;
+//!     document.apply(alloc, &one)
+//! }
+//! ```
 #![tactic(auto)]
 
 mod composing;
