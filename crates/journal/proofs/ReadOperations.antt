@@ -14,7 +14,7 @@ use Rattle.journal.specs.DeltaSpelling.{value, new_value, pairs, operation}
 use Rattle.revision.specs.Spellable.{IsOperation}
 use Rattle.journal.specs.steps.Reading.{number_at, text_at, byte_at}
 use Rattle.journal.specs.steps.DeltaReading.{key_at, value_at, attributes_at, change_at, text_insert_at, embed_insert_at, retain_at, delete_at, operation_behind, operation_at, operations_at}
-use Rattle.revision.proofs.Texts.{IsText-units_of}
+use Rattle.revision.proofs.CallerLemmas.{IsText-units_of}
 use Rattle.journal.proofs.Numbers.{IsBytes, Takes, Takes-then, number32, number64, number_takes, number_again}
 use Rattle.journal.proofs.Texts.{text_takes, text_again}
 use Rattle.journal.proofs.ReadValues.{ReadBehind, either_way, with_tag, byte_takes, value_takes, value_again}

@@ -4,7 +4,7 @@ use Rattle.disk.specs.Device.{SameOutside}
 use Rattle.revision.specs.Command.{Taken}
 use Rattle.journal.specs.BatchSpelling.{IsBatch, batch}
 use Rattle.revision.specs.State.{State, folded, all_grow}
-use Rattle.revision.proofs.Agreeing.{agrees}
+use Rattle.revision.proofs.CallerLemmas.{agrees}
 use Rattle.recovery.specs.declared.shape.Shape.{Shape}
 use Rattle.recovery.specs.declared.segments.Ring.{Ring}
 use Rattle.recovery.specs.Shape.{slot_place}

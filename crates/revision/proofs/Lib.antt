@@ -12,3 +12,4 @@ pub mod Replays
 pub mod Kept
 pub mod Told
 pub mod WholeTaking
+pub mod CallerLemmas

@@ -1,12 +1,9 @@
 -- What the rule of acceptance takes continues the state.
-use Rattle.std.proofs.Common.{◌≡◌, ℕ, Bool, true, false, cond, List, [], length, Option, Some, None, Ok, refl, sym, ap, ◌∙◌, arith}
+use Rattle.std.proofs.Common.{◌≡◌, ℕ, Bool, true, false, cond, List, [], length, Option, Some, None, refl, sym, ap, ◌∙◌, arith}
 use Rattle.std.specs.Prelude.{◌&&◌, ◌==◌, not, nat_lt, nat_le, is_none}
 use Rattle.std.proofs.lemmas.Bool.Decides.{nat_tests}
 use Rattle.refusal.specs.declared.Refusal.TheVariants.{Exists, Gap, TooManyDocuments, PastEnd, TooHeavy, TooWide}
 use Rattle.delta.specs.Operation.{Operation}
-use Rattle.revision.specs.declared.planning.Plan.{Plan}
-use Rattle.revision.specs.declared.planning.Plan.TheVariants as plans
-use Rattle.revision.specs.Planned.{Gives}
 use Rattle.revision.specs.Command.{Action, Create, Command, Taken, width_of}
 use Rattle.revision.specs.State.{DocumentRecord, State, record_of, last_of, reaches_past, made_by, weight_of, creates, grows}
 use Rattle.revision.specs.Acceptance.{Answer, Takes, Repeats, Refuses, creation, create_new, create_existing, create_answer, answer_to, answer}
@@ -57,7 +54,3 @@ answer_grows state command taken (Create delta) is h =
 -- what is taken continues the state
 pub planned_grows : (state : State) (command : Command) (taken : Taken) → answer state command ≡ Takes taken → grows state taken ≡ true
 planned_grows state command taken h = answer_grows state command taken command.action refl h
-
--- what a plan takes is what is due
-pub planned_due : (plan : Plan) (due : Answer) (taken : Taken) → Gives (Ok plan) due → plan ≡ plans.Taken taken → due ≡ Takes taken
-planned_due plan due taken h is = rw is at h

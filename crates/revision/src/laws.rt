@@ -1,5 +1,8 @@
 //! Laws of states, for the layers above. Each is a function that does nothing: its contract is the law.
-ghost use Rattle.std.specs.Prelude.{◌≡◌, true};
+ghost use Rattle.std.specs.Prelude.{◌≡◌, ◌<◌, ◌^◌, ℕ, true, List, length};
+ghost use Rattle.std.specs.Str.{is_utf8};
+ghost use Rattle.utf16.specs.Units.{units_of};
+ghost use Rattle.revision.specs.Spellable.{IsText};
 ghost use Rattle.revision.specs.Command.{Command, Taken};
 ghost use Rattle.revision.specs.State.{State, grows};
 ghost use Rattle.revision.specs.Acceptance.{Takes, answer};
@@ -11,6 +14,11 @@ ghost use Rattle.revision.specs.Late.{InsertedStay, LightInserts, RoomForCommand
 /// What the rule of acceptance takes continues the state.
 pub fn taken_grows()
     ensures { (state : State) (command : Command) (taken : Taken) → answer state command ≡ Takes taken → grows state taken ≡ true }
+{}
+
+/// The code units of a text that is short enough can be spelled.
+pub fn texts_are_spellable()
+    ensures { (text : List ℕ) → length text < 2 ^ 32 → is_utf8 text ≡ true → IsText (units_of text) }
 {}
 
 /// To agree is an equivalence of states.

@@ -2,8 +2,7 @@
 use Rattle.std.proofs.Common.{◌≡◌, inl, inr, ⊎_elim, Bool, true, false, List, ℕ, [], ◌∷◌, ◌++◌, Result, Ok, Err, refl, sym, ◌∙◌, ap, subst}
 use Rattle.disk.specs.declared.device.Disk.{Ghosts}
 use Rattle.disk.specs.Crash.{LeavesOnly, MayLeaveNow, history_of}
-use Rattle.disk.proofs.Contents.{synced_leaves}
-use Rattle.disk.proofs.Moments.{begins, begins_anywhere, leaves_map, goes_on_run}
+use Rattle.disk.proofs.CallerLemmas.{synced_leaves, begins, begins_anywhere, leaves_map, goes_on_run}
 use Rattle.refusal.specs.declared.Refusal.{Refusal}
 use Rattle.refusal.specs.declared.Refusal.TheVariants.{NoMemory, StoreFailed}
 use Rattle.revision.specs.Command.{Command}
@@ -11,7 +10,7 @@ use Rattle.revision.specs.State.{State, folded}
 use Rattle.revision.specs.Acceptance.{Answer}
 use Rattle.recovery.specs.Found.{FoundAs}
 use Rattle.recovery.specs.Open.{IsOpen, device_of, state_of, has_failed as store_has_failed}
-use Rattle.recovery.proofs.Runs.{found_open, found_as}
+use Rattle.recovery.proofs.CallerLemmas.{found_open, found_as}
 use Rattle.server.specs.declared.session.reply.Reply.{Reply}
 use Rattle.server.specs.declared.session.reply.Reply.TheVariants as reply
 use Rattle.server.specs.declared.desk.StoreDesk.{StoreDesk}

@@ -13,7 +13,8 @@ use Rattle.revision.specs.State.{reaches_past}
 use Rattle.revision.specs.Parting.{parts_pair}
 use Rattle.revision.specs.Late.{late}
 use Rattle.revision.specs.Past.{undo_of}
-use Rattle.revision.specs.Sources.{LastTaken, Sources, last_of}
+use Rattle.revision.specs.declared.sources.LastTaken.{LastTaken}
+use Rattle.revision.specs.Sources.{Sources, last_of}
 use Rattle.revision.specs.Whole.{Limits, DocumentRecord, State, Action, Create, Edit, Undo, Command, Answer, Takes, Repeats, Refuses, revision_of, units_of, sources_of, deltas_of, deltas_above, find, last_of_all, weight_after, take_on, creation, next_revision, change, has_place, edit, undo, by_number, answer_to, answer}
 use Rattle.world.specs.World.{entry_of}
 use Rattle.world.specs.Shown.{Shown, shown, all_shown}

@@ -7,7 +7,7 @@ use Rattle.std.proofs.lemmas.List.{append-nil, get_or_default, length-append, le
 use Rattle.std.proofs.lemmas.List.Elements.{All-nil, All-head, All-tail, All-push, All-take}
 use Rattle.std.proofs.lemmas.Option.{slice_get-map}
 use Rattle.revision.specs.Command.{Taken}
-use Rattle.revision.specs.Sources.{LastTaken}
+use Rattle.revision.specs.declared.sources.LastTaken.{LastTaken}
 use Rattle.revision.specs.Whole.{Command, State, Answer, Takes, Repeats, Refuses, TakenAt, AgainAt, answer, last_of_all}
 use Rattle.world.specs.declared.follower.Place.{Place}
 use Rattle.world.specs.declared.follower.Waiting.{Waiting}

@@ -8,7 +8,8 @@ use Rattle.std.proofs.lemmas.Map.Text.{is_eq-slice_cmp}
 use Rattle.attributes.specs.Map.{get}
 use Rattle.attributes.proofs.Maps.{get-insert, is_name}
 use Rattle.revision.specs.Command.{Taken}
-use Rattle.revision.specs.Sources.{LastTaken, Sources, last_of, with_last}
+use Rattle.revision.specs.declared.sources.LastTaken.{LastTaken}
+use Rattle.revision.specs.Sources.{Sources, last_of, with_last}
 use Rattle.world.specs.World.{Entry, is_of}
 use Rattle.world.specs.Shown.{Shown}
 use Rattle.world.proofs.Showing.{next_shown, blank, shown_by_name, set_shown, grown_shown}

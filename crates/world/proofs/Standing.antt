@@ -3,7 +3,7 @@ use Rattle.std.proofs.Common.{◌≡◌, ℕ, ◌≤◌, List, [], ◌∷◌, �
 use Rattle.std.specs.Prelude.{◌⊎◌}
 use Rattle.std.proofs.lemmas.Bool.{cases_lt}
 use Rattle.std.proofs.lemmas.List.{take-append-le, take-take, length-append, length-take-le, map-append}
-use Rattle.revision.specs.Sources.{LastTaken}
+use Rattle.revision.specs.declared.sources.LastTaken.{LastTaken}
 use Rattle.world.specs.Board.{Ticket}
 use Rattle.world.specs.World.{Entry, takens}
 use Rattle.world.specs.Law.{IsSent, revision_named}

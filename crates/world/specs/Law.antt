@@ -1,6 +1,7 @@
 -- What holds of every schedule: of each world that any list of events makes of any store.
 use Rattle.std.specs.Prelude.{◌≡◌, ◌⊎◌, ℕ, ◌≤◌, true, List, length, take, Option, Some, None, All, Any, AllPairs}
-use Rattle.revision.specs.Sources.{LastTaken, last_of}
+use Rattle.revision.specs.declared.sources.LastTaken.{LastTaken}
+use Rattle.revision.specs.Sources.{last_of}
 use Rattle.revision.specs.Whole.{DocumentRecord, sources_of, State, Command, find, Repeats, Reply, TakenAt, AgainAt, Refused, answer, fold}
 use Rattle.revision.specs.Agreement.{Agree}
 use Rattle.world.specs.Board.{Ticket}

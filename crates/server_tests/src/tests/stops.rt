@@ -1,4 +1,4 @@
-use disk::{Call, Disk, FaultDisk, Left, MemDisk, Plan};
+use disk::{Call, Disk, FaultDisk, Left, FaultPlan, MemDisk};
 use recovery::{OpenFault, Shape, Store, format_device};
 use refusal::Refusal;
 use server::desk::StoreDesk;
@@ -65,7 +65,7 @@ fn served<R: AllocGlobal + Abort>(
 
 /// Nothing goes wrong.
 fn never() -> Plan {
-    Plan::stop(u64::MAX, Left::Nothing)
+    FaultPlan::stop(u64::MAX, Left::Nothing)
 }
 
 fn is_gate(call: &Call) -> bool {
@@ -102,7 +102,7 @@ fn a_create_stopped_while_its_gate_opens_is_lost_or_kept(rt: HostRuntime) -> Res
     let gate = gate_call(&rt)?;
     let failed = "{\"ok\":\"hello\"}\n{\"code\":21,\"error\":\"StoreFailed\"}\n";
     for (left, documents, replies) in &STOPS {
-        let plan = Plan::stop(gate, Left::Byte(*left));
+        let plan = FaultPlan::stop(gate, Left::Byte(*left));
         let stopped = served(&rt, formatted(&rt)?, plan, failed)?;
         holds(&rt, stopped.after_crash(rt.alloc())?, *documents)?;
         served(&rt, stopped.after_crash(rt.alloc())?, never(), *replies)?;

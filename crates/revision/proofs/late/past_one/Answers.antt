@@ -1,4 +1,3 @@
-use Rattle.refusal.specs.declared.Refusal.{Refusal}
 use Rattle.revision.proofs.Room.{only_memory, bounded-after}
 use Rattle.revision.proofs.late.past_one.Goals as goal
 

@@ -1,8 +1,16 @@
-use Rattle.std.proofs.Common.{ap, inr, sym, ◌∙◌}
-use Rattle.revision.specs.Acceptance.{answer}
+use Rattle.std.proofs.Common.{◌≡◌, ap, inr, sym, ◌∙◌, Ok}
+use Rattle.revision.specs.Acceptance.{Answer, Takes, answer}
 use Rattle.recovery.specs.Open.{state_of}
-use Rattle.revision.proofs.Taking.{planned_due, planned_grows}
+use Rattle.revision.specs.declared.planning.Plan.{Plan}
+use Rattle.revision.specs.declared.planning.Plan.TheVariants as plans
+use Rattle.revision.specs.Command.{Taken}
+use Rattle.revision.specs.Planned.{Gives}
+use Rattle.revision.proofs.CallerLemmas.{planned_grows}
 use Rattle.server.proofs.desk.StoreDeskDesk.ask.Goals as goal
+
+-- what a plan takes is what is due
+planned_due : (plan : Plan) (due : Answer) (taken : Taken) → Gives (Ok plan) due → plan ≡ plans.Taken taken → due ≡ Takes taken
+planned_due plan due taken h is = rw is at h
 
 pub commit-requires-clause-grows : goal.commit-requires-clause-grows
 commit-requires-clause-grows g c =

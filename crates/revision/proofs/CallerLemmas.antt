@@ -1,0 +1,4 @@
+-- Laws of `laws`, as the proofs of other crates cite them.
+pub use Rattle.revision.proofs.Taking.{planned_grows}
+pub use Rattle.revision.proofs.Agreeing.{agrees}
+pub use Rattle.revision.proofs.Texts.{IsText-units_of}
