@@ -7,12 +7,18 @@ ghost use Rattle.delta.specs.Element.{Element};
 ghost use Rattle.delta.specs.Operation.{Operation, retain, insert_text, base_of};
 ghost use Rattle.delta.specs.Gaps.{counted, apply};
 ghost use Rattle.delta.specs.Normal.{nf};
+ghost use Rattle.delta.specs.Places.{IsDefined};
 ghost use Rattle.optext.specs.Described.{delta_of};
 ghost use Rattle.optext.specs.Printed.{printed};
+ghost use Rattle.algebra.specs.Outcomes.{Following, Composing};
+ghost use Rattle.algebra.specs.Text.{text_of};
+ghost use Rattle.algebra.specs.Words.{deltas_in};
 ghost use Rattle.serde_json.specs.Data.{array};
 ghost use Rattle.serde_json.specs.View.{view, items_view};
 
+use algebra::Task;
 use attributes::{Attrs, Change};
+use compose::compose;
 use delta::{Builder, Delta, Op};
 use document::Document;
 use optext::{read_ops, write_ops};
@@ -67,6 +73,23 @@ pub fn edit(alloc: Global, document: &mut Document, delta: &Delta) -> Result<u64
     Ok(document.len16())
 }
 
+/// Applies two deltas in turn as one. Refused, the document is as it was.
+pub fn apply_both(
+    alloc: Global,
+    document: &mut Document,
+    first: &Delta,
+    second: &Delta,
+) -> Result<(), Refusal>
+    ensures both { OnOk result (IsDefined document.old (counted first.now)
+        → document.new ≡ apply (apply document.old (counted first.now)) (counted second.now)) }
+    ensures err { OnErr result (document.new ≡ document.old) }
+{
+    compose::laws::effect_of_composed();
+    delta::laws::effect_of_normal();
+    let one = compose(alloc, first, second)?;
+    document.apply(alloc, &one)
+}
+
 /// Each of two deltas of one document as it is after the other: in either order they lead to the same document.
 pub fn transform_both(alloc: Global, one: &Delta, other: &Delta) -> Result<(Delta, Delta), Refusal>
     ensures { IfOk result (λ moved. (document : List Element)
@@ -89,4 +112,14 @@ pub fn print_normal(alloc: Global, operations: &[Json]) -> Result<Json, Refusal>
 {
     let delta = read_ops(alloc, operations)?;
     write_ops(alloc, &delta)
+}
+
+/// The text of the one delta for the two that these texts describe.
+pub fn compose_texts(alloc: Global, first: &str, second: &str) -> Result<String, Refusal>
+    ensures { IfOk result (λ text. (one : List Operation)
+        × Following (deltas_in first.now second.now) (λ deltas. Composing deltas.0 deltas.1) (Ok one)
+        × (string_bytes text ≡ text_of one)) }
+{
+    let task = Task::Compose { first, second };
+    task.answer(alloc)
 }

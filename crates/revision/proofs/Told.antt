@@ -1,6 +1,6 @@
 -- The test of a parted pair.
 use Rattle.delta.specs.Gaps.{counted}
-use Rattle.compose.proofs.DocumentCuts.{cuts_of_units}
+use Rattle.compose.proofs.CallerLemmas.{cuts_of_units}
 use Rattle.revision.specs.Parting.{PartsTold}
 
 pub parts_told : PartsTold
