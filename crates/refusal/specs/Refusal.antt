@@ -1,5 +1,6 @@
 -- The number and the name of each refusal, as messages print them.
-use Rattle.std.specs.Prelude.{ℕ, List, codes}
+use Rattle.std.specs.Prelude.{ℕ, List, ◌++◌, codes}
+use Rattle.std.specs.Fmt.{decimal}
 use Rattle.refusal.specs.declared.Refusal.{Refusal}
 use Rattle.refusal.specs.declared.Refusal.TheVariants.{BadLine, BadMessage, BadOps, TooManyOps, NoHello, NoDocument, Exists, BadName, Gap, OldNumber, TooManySources, Future, TooOld, PastEnd, CutsPair, TooHeavy, TooWide, RevisionsSpent, NothingToUndo, TooManyDocuments, StoreFailed, NoMemory, LineTooLong, NoSeat, NotFormatted, AlreadyFormatted, Damaged, BadShape, Fault, StillNeeded, Stranger, JournalFull}
 
@@ -72,3 +73,7 @@ name_of Fault = codes "Fault"
 name_of StillNeeded = codes "StillNeeded"
 name_of Stranger = codes "Stranger"
 name_of JournalFull = codes "JournalFull"
+
+-- how it is printed, as `error 7 Exists`
+abbrev pub text_of : Refusal → List ℕ
+text_of refusal = codes "error " ++ (decimal (number_of refusal) ++ (codes " " ++ name_of refusal))

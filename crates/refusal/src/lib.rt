@@ -156,6 +156,11 @@ impl Refusal {
 }
 
 impl Display for Refusal {
+    ghost use Rattle.std.specs.Prelude.{Some};
+    ghost use Rattle.refusal.specs.Refusal.{text_of};
+
+    ghost output = { λ refusal. Some (text_of refusal) };
+
     fn fmt<W: fmt::Write>(&self, f: &mut Formatter<W>) -> fmt::Result {
         let number = self.number();
         let name = self.name();

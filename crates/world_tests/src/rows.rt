@@ -16,6 +16,7 @@ const LOST: [Happening; 3] = [
     Happening::Open(0, true),
     Happening::Resend(1, Some(1)),
 ];
+
 const LEFT: [Happening; 3] = [
     Happening::Crash(1),
     Happening::Open(1, true),
@@ -54,6 +55,7 @@ const TAKEN: Waiting = Waiting {
     revision: 1,
     length: 1,
 };
+
 const AGAIN: Waiting = Waiting {
     number: 1,
     again: true,

@@ -1,4 +1,4 @@
-use disk::{Call, Disk, FaultDisk, Left, FaultPlan, MemDisk};
+use disk::{Call, Disk, FaultDisk, FaultPlan, Left, MemDisk};
 use recovery::{OpenFault, Shape, Store, format_device};
 use refusal::Refusal;
 use server::desk::StoreDesk;
