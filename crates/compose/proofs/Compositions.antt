@@ -2,7 +2,7 @@
 use Rattle.std.proofs.Common.{◌≡◌, ◌+◌, ◌≤◌, List, [], ◌∷◌, ◌++◌, length, refl, sym, ap, ◌∙◌, arith}
 use Rattle.std.proofs.lemmas.List.{append_assoc}
 use Rattle.attributes.specs.Attributes.{Changes, changed}
-use Rattle.attributes.proofs.AtEachName.{changed-changed}
+use Rattle.attributes.proofs.CallerLemmas.{changed-changed}
 use Rattle.delta.specs.Element.{Element}
 use Rattle.delta.specs.Operation.{base_of}
 use Rattle.delta.specs.Gaps.{Gaps, End, Gap, Fate, Del, Keep, fated, apply, counted}

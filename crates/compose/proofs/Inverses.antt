@@ -1,6 +1,6 @@
 -- A delta and its inverse.
 use Rattle.std.proofs.Common.{◌≡◌, List, [], ◌∷◌, ◌++◌, length, refl, ap, ◌∙◌}
-use Rattle.attributes.proofs.AtEachName.{changed-reverted}
+use Rattle.attributes.proofs.CallerLemmas.{changed-reverted}
 use Rattle.delta.specs.Element.{Element}
 use Rattle.delta.specs.Gaps.{Gaps, End, Gap, Fate, Del, Keep, run, fated, apply, counted}
 use Rattle.delta.specs.Operation.{Operation}

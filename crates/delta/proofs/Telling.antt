@@ -7,8 +7,7 @@ use Rattle.attributes.specs.Map.{empty, get, insert}
 use Rattle.attributes.specs.Attributes.{Attributes, Changes, changed}
 use Rattle.attributes.specs.Laws.{value_after}
 use Rattle.attributes.specs.Scalar.{Scalar, text_scalar, whole_scalar, flag_scalar}
-use Rattle.attributes.proofs.AtEachName.{get-changed, same_changes_map}
-use Rattle.attributes.proofs.Maps.{get-insert}
+use Rattle.attributes.proofs.CallerLemmas.{get-changed, same_changes_map, get-insert}
 use Rattle.delta.specs.Element.{Element, Item, code_unit, embed}
 use Rattle.delta.specs.Gaps.{Gaps, End, Gap, Del, Keep, fated, apply, units_below}
 use Rattle.delta.proofs.Settling.{IsBare, IsSettled}

@@ -1,4 +1,5 @@
--- What each state is that grew from the empty one.
+-- What each state is that grew from the empty one. That it is so (EmptyIsState, GrowingKeeps, AdoptingKeeps) isn't proved yet: no
+-- function promises it, and nothing rests on it.
 use Rattle.std.specs.Prelude.{◌≡◌, ℕ, ◌≤◌, ◌<◌, ◌^◌, true, List, [], Some, length, slice_get}
 use Rattle.revision.specs.State.{weight_of}
 use Rattle.revision.specs.Command.{Taken}
