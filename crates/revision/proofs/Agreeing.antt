@@ -2,7 +2,8 @@
 use Rattle.std.proofs.Common.{◌≡◌, ℕ, suc, Bool, true, false, ◌&&◌, ◌==◌, Option, Some, None, is_none, not, nat_lt, nat_le, bytes_eq, if◌then◌else◌, List, [], ◌∷◌, ◌++◌, length, refl, sym, ◌∙◌, ap}
 use Rattle.revision.specs.declared.state.Limits.{Limits}
 use Rattle.revision.specs.Command.{Taken, width_of}
-use Rattle.revision.specs.State.{DocumentRecord, State, record_of, reaches_past, made_by, weight_of, creates, grows, grows_by_name, created, grown, grown_by_name, folded, all_grow}
+use Rattle.document.specs.Making.{document_from}
+use Rattle.revision.specs.State.{DocumentRecord, State, record_of, reaches_past, weight_of, creates, grows, grows_by_name, created, grown, grown_by_name, folded, all_grow}
 use Rattle.revision.specs.Agree.{SameDocument, SameDocuments, Agree}
 
 same_itself : (a : DocumentRecord) → SameDocument a a
@@ -89,9 +90,9 @@ module _ (s t : State) (agree : Agree s t) where
   -- they are continued by the same creations: growing doesn't look at floors
   same_creates : (taken : Taken) (name : List ℕ) → creates s taken name ≡ creates t taken name
   same_creates taken name =
-      ap (λ n. (taken.revision == 1) && (taken.number == 1) && (taken.document == n) && is_none (record_of name s.documents) && nat_lt n s.limits.docs && not (reaches_past taken.delta []) && nat_le (weight_of (made_by taken.delta) 1) s.limits.weight && nat_le (width_of taken) s.limits.width) (same_count s.documents t.documents agree.documents)
-      ∙ ap (λ b. (taken.revision == 1) && (taken.number == 1) && (taken.document == length t.documents) && b && nat_lt (length t.documents) s.limits.docs && not (reaches_past taken.delta []) && nat_le (weight_of (made_by taken.delta) 1) s.limits.weight && nat_le (width_of taken) s.limits.width) (same_names name s.documents t.documents agree.documents)
-      ∙ ap (λ (l : Limits). (taken.revision == 1) && (taken.number == 1) && (taken.document == length t.documents) && is_none (record_of name t.documents) && nat_lt (length t.documents) l.docs && not (reaches_past taken.delta []) && nat_le (weight_of (made_by taken.delta) 1) l.weight && nat_le (width_of taken) l.width) agree.limits
+      ap (λ n. (taken.revision == 1) && (taken.number == 1) && (taken.document == n) && is_none (record_of name s.documents) && nat_lt n s.limits.docs && not (reaches_past taken.delta []) && nat_le (weight_of (document_from taken.delta) 1) s.limits.weight && nat_le (width_of taken) s.limits.width) (same_count s.documents t.documents agree.documents)
+      ∙ ap (λ b. (taken.revision == 1) && (taken.number == 1) && (taken.document == length t.documents) && b && nat_lt (length t.documents) s.limits.docs && not (reaches_past taken.delta []) && nat_le (weight_of (document_from taken.delta) 1) s.limits.weight && nat_le (width_of taken) s.limits.width) (same_names name s.documents t.documents agree.documents)
+      ∙ ap (λ (l : Limits). (taken.revision == 1) && (taken.number == 1) && (taken.document == length t.documents) && is_none (record_of name t.documents) && nat_lt (length t.documents) l.docs && not (reaches_past taken.delta []) && nat_le (weight_of (document_from taken.delta) 1) l.weight && nat_le (width_of taken) l.width) agree.limits
 
   same_grows : (taken : Taken) (name : Option (List ℕ)) → grows_by_name s taken name ≡ grows_by_name t taken name
   same_grows taken None = refl

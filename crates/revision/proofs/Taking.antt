@@ -5,7 +5,8 @@ use Rattle.std.proofs.lemmas.Bool.Decides.{nat_tests}
 use Rattle.refusal.specs.declared.Refusal.TheVariants.{Exists, Gap, TooManyDocuments, PastEnd, TooHeavy, TooWide}
 use Rattle.delta.specs.Operation.{Operation}
 use Rattle.revision.specs.Command.{Action, Create, Command, Taken, width_of}
-use Rattle.revision.specs.State.{DocumentRecord, State, record_of, last_of, reaches_past, made_by, weight_of, creates, grows}
+use Rattle.document.specs.Making.{document_from}
+use Rattle.revision.specs.State.{DocumentRecord, State, record_of, last_of, reaches_past, weight_of, creates, grows}
 use Rattle.revision.specs.Acceptance.{Answer, Takes, Repeats, Refuses, creation, create_new, create_existing, create_answer, answer_to, answer}
 
 -- where a test refuses, what is taken is not refused by it
@@ -30,7 +31,7 @@ new_grows state command delta taken fresh h =
     let gap = passed_test (nat_lt 1 command.number) (Refuses Gap) _ taken (λ e. cc) h in
     let docs = passed_test (nat_le state.limits.docs (length state.documents)) (Refuses TooManyDocuments) _ taken (λ e. cc) gap.1 in
     let past = passed_test (reaches_past delta []) (Refuses PastEnd) _ taken (λ e. cc) docs.1 in
-    let heavy = passed_test (nat_lt state.limits.weight (weight_of (made_by delta) 1)) (Refuses TooHeavy) _ taken (λ e. cc) past.1 in
+    let heavy = passed_test (nat_lt state.limits.weight (weight_of (document_from delta) 1)) (Refuses TooHeavy) _ taken (λ e. cc) past.1 in
     let wide = passed_test (nat_lt state.limits.width (width_of made)) (Refuses TooWide) _ taken (λ e. cc) heavy.1 in
     let is : made ≡ taken = cc in
     let one : creates state made command.name ≡ true = tests_hold _ _ _ _ _ _ (reaches_past delta []) (record_of command.name state.documents) fresh docs.0 past.0 heavy.0 wide.0 in

@@ -4,7 +4,8 @@ use Rattle.refusal.specs.declared.Refusal.{Refusal}
 use Rattle.refusal.specs.declared.Refusal.TheVariants.{Exists, Gap, TooManyDocuments, PastEnd, TooHeavy, TooWide}
 use Rattle.delta.specs.Operation.{Operation}
 use Rattle.revision.specs.Command.{Action, Create, Command, Taken, width_of}
-use Rattle.revision.specs.State.{DocumentRecord, State, record_of, last_of, reaches_past, made_by, weight_of}
+use Rattle.document.specs.Making.{document_from}
+use Rattle.revision.specs.State.{DocumentRecord, State, record_of, last_of, reaches_past, weight_of}
 
 pub data Answer : Type 0 where
   -- it is taken, and this is added to the state
@@ -37,7 +38,7 @@ create_new state command delta =
     if nat_lt 1 command.number then Refuses Gap
     else if nat_le state.limits.docs (length state.documents) then Refuses TooManyDocuments
     else if reaches_past delta [] then Refuses PastEnd
-    else if nat_lt state.limits.weight (weight_of (made_by delta) 1) then Refuses TooHeavy
+    else if nat_lt state.limits.weight (weight_of (document_from delta) 1) then Refuses TooHeavy
     else if nat_lt state.limits.width (width_of (creation state command delta)) then Refuses TooWide
     else Takes (creation state command delta)
 

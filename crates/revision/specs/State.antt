@@ -2,7 +2,8 @@
 use Rattle.std.specs.Prelude.{ℕ, ◌+◌, ◌-◌, ◌*◌, ◌==◌, ◌&&◌, not, nat_lt, nat_le, bytes_eq, if◌then◌else◌, Bool, true, false, Option, Some, None, is_none, List, [], ◌∷◌, ◌++◌, length}
 use Rattle.delta.specs.Element.{Element}
 use Rattle.delta.specs.Operation.{Operation}
-use Rattle.delta.specs.Gaps.{apply, counted, units_below}
+use Rattle.delta.specs.Gaps.{counted, units_below}
+use Rattle.document.specs.Making.{document_from}
 use Rattle.document.specs.Weight as document
 use Rattle.revision.specs.declared.state.Limits.{Limits}
 use Rattle.revision.specs.declared.state.SourceEntry.{SourceEntry}
@@ -36,10 +37,6 @@ last_of source (first ∷ others) = if bytes_eq first.source source then (first.
 abbrev pub reaches_past : List Operation → List Element → Bool
 reaches_past delta units = nat_lt (length units) (units_below (counted delta))
 
--- the document that a delta makes of the empty one; the empty one has no pair that it could part
-abbrev pub made_by : List Operation → List Element
-made_by delta = apply [] (counted delta)
-
 -- the weight of the document, and 64 for each source
 abbrev pub weight_of : List Element → ℕ → ℕ
 weight_of units sources = document.weight_of units + 64 * sources
@@ -52,7 +49,7 @@ creates state taken name =
     && is_none (record_of name state.documents)
     && nat_lt (length state.documents) state.limits.docs
     && not (reaches_past taken.delta [])
-    && nat_le (weight_of (made_by taken.delta) 1) state.limits.weight
+    && nat_le (weight_of (document_from taken.delta) 1) state.limits.weight
     && nat_le (width_of taken) state.limits.width
 
 -- a command that was taken continues the state
@@ -67,7 +64,7 @@ grows state taken = grows_by_name state taken taken.name
 abbrev pub created : Limits → Taken → List ℕ → DocumentRecord
 created limits taken name = record {
   name = name;
-  units = made_by taken.delta;
+  units = document_from taken.delta;
   revision = taken.revision;
   floor = taken.revision - limits.keep;
   sources = (record { source = taken.source; number = taken.number; revision = taken.revision }) ∷ [];

@@ -1,7 +1,7 @@
 //! What was taken is added to the state.
 ghost use Rattle.std.specs.Prelude.{◌≡◌, ◌⊎◌, ◌↔◌, ◌≤◌, ◌&&◌, ◌==◌, true, false, [], ◌∷◌, length, take, nat_lt, nat_le, is_none, not, Some, IfOk, IfErr, OnOk, OnErr, IsErrOf};
+ghost use Rattle.document.specs.Making.{document_from};
 ghost use Rattle.revision.specs.Command.{width_of};
-ghost use Rattle.revision.specs.State as spec;
 ghost use Rattle.revision.specs.State.{creates, grows, grown, folded, all_grow, record_of};
 
 use crate::name::Name;
@@ -62,7 +62,7 @@ fn next_document(
     taken: &Taken,
     name: &Name,
 ) -> Result<Document, Refusal>
-    ensures made { IfOk result (λ document. document ≡ spec.made_by taken.now.delta) }
+    ensures made { IfOk result (λ document. document ≡ document_from taken.now.delta) }
     ensures creates { IfOk result (λ _. creates state.now taken.now name.now ≡ true) }
     ensures only { IfErr result
         (λ e. (e ≡ Refusal.NoMemory) ⊎ ((e ≡ Refusal.Stranger) × (creates state.now taken.now name.now ≡ false))) }

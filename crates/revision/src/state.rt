@@ -1,6 +1,7 @@
 //! What a store holds: documents in order of creation, under limits.
 ghost use Rattle.std.specs.Prelude.{◌≡◌, ◌⊎◌, ◌<◌, ◌≤◌, ◌^◌, ◌↔◌, ◌∷◌, ◌++◌, true, false, [], length, take, option_map, IfOk, IfErr, IfSome, OnOk, OnErr, IsErrOf};
-ghost use Rattle.revision.specs.State.{created, last_of, made_by, record_of};
+ghost use Rattle.document.specs.Making.{document_from};
+ghost use Rattle.revision.specs.State.{created, last_of, record_of};
 
 use crate::name::Name;
 use crate::taken::Taken;
@@ -59,7 +60,7 @@ impl DocState {
         name: &Name,
         document: Document,
     ) -> Result<DocState, Refusal>
-        requires made { document ≡ made_by taken.now.delta }
+        requires made { document ≡ document_from taken.now.delta }
         ensures ok { IfOk result (λ d. d ≡ created limits taken.now name.now) }
         ensures only { IfErr result (λ e. e ≡ Refusal.NoMemory) }
     {
