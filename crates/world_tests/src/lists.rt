@@ -111,7 +111,9 @@ fn count(alloc: Global, beginning: &[Happening]) -> Result<(u64, u64, u64), Allo
     for list in 0..LISTS {
         let (follower, held) = run(alloc, beginning, list)?;
         counts.0 = counts.0.wrapping_add(u64::from(held));
-        counts.1 = counts.1.wrapping_add(u64::from(!follower.acks().is_empty()));
+        counts.1 = counts
+            .1
+            .wrapping_add(u64::from(!follower.acks().is_empty()));
         counts.2 = counts.2.wrapping_add(u64::from(any_again(follower.acks())));
     }
     Ok(counts)
