@@ -10,7 +10,7 @@ use Rattle.world.specs.Board.{Ticket}
 use Rattle.world.specs.World.{Entry, takens, World, begun, is_of, last_sent}
 use Rattle.world.specs.Step.{run}
 use Rattle.world.specs.Shown.{Shown, all_shown}
-use Rattle.world.specs.Law.{OverAll, revision_named, last_found, last_held, Made, IsKept, AcksStay, TakenOnce, OneRevision, NothingTakenBack, KeptIsAgain, ShownStays, StateIsFold}
+use Rattle.world.specs.Law.{OverAll, revision_named, last_found, last_held, Made, IsKept, AcksStay, TakenOnce, OneRevision, NothingTakenBack, KeptIsAgain, AcksAreShown, ShownStays, StateIsFold}
 use Rattle.world.proofs.Showing.{shown-fold}
 use Rattle.world.proofs.Numbers.{last_in, noted, Placed, same_bytes, last-grown}
 use Rattle.world.proofs.Histories.{AllPlaced, after, placed-take, placed-at, Makes, made_by, all_above, once, sender_same}
@@ -23,8 +23,10 @@ acks-stay world holds kept may =
     All-weaker (StandsSettled (all_shown world.board.start) world.board.order world.board.settled) (λ (ack : Ticket). ack.length ≤ kept)
     (λ t stands. omega (arith, stands.1, holds.counts.settled_shown, (left-between world holds kept may).0)) world.acks holds.acks
 
-pub taken-once : (world : World) → Holds world → TakenOnce world
-taken-once world holds = once (all_shown world.board.start) world.board.order holds.placed
+pub acks-are_shown : (world : World) → Holds world → AcksAreShown world
+acks-are_shown world holds =
+    All-weaker (StandsSettled (all_shown world.board.start) world.board.order world.board.settled) (λ (ack : Ticket). ack.length ≤ length world.published)
+    (λ t stands. omega (arith, stands.1, holds.counts.settled_shown)) world.acks holds.acks
 
 pub acks-one_revision : (world : World) → Holds world → OneRevision world
 acks-one_revision world holds i j d lt long =
@@ -38,6 +40,17 @@ held-last state command = by_found (find command.name 0 state.documents) refl
     by_found : (there : Option (ℕ × DocumentRecord)) → find command.name 0 state.documents ≡ there → last_found command.source there ≡ last_in command.name command.source (all_shown state)
     by_found None is = sym (new-last command.name command.source (all_shown state) (none-new command.name 0 state.documents is))
     by_found (Some found) is = sym (found-last command.name command.source 0 found.0 state.documents found.1 is)
+
+pub taken-once : (world : World) → Holds world → TakenOnce world
+taken-once world holds = record {
+  apart = once (all_shown world.board.start) world.board.order holds.placed;
+  anew = λ i d lt. let e = get_or world.board.order i d in
+      let same : (last_held world.board.start e.command).number ≡ (last_in e.command.name e.command.source (all_shown world.board.start)).number =
+      ap (λ (l : LastTaken). l.number) (held-last world.board.start e.command) in
+      let above : (last_in e.command.name e.command.source (all_shown world.board.start)).number < e.command.number =
+      all_above e.command.name e.command.source (all_shown world.board.start) world.board.order holds.placed i d lt (sender_same e.command e.command refl refl) in
+      omega (arith, same, above);
+}
 
 any-weaker : {A : Type 0} (P Q : A → Type 0) → ((x : A) → P x → Q x) → (list : List A) → Any P list → Any Q list
 any-weaker P Q f list there = (there.0, there.1, there.2, there.3, f there.1 there.4)

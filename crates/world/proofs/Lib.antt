@@ -7,6 +7,7 @@ pub mod Openings
 pub mod Standing
 pub mod Holding
 pub mod Clauses
+pub mod Further
 pub mod Followings
 pub mod Cutting
 pub mod Agreeing

@@ -24,8 +24,8 @@ pub record MovesAlike (board : Board Entry) : Type 0 where
 abbrev pub SameBoard : Type 0
 SameBoard = (board : Board Entry) → MovesAlike board
 
--- What a commit adds to the state without its batch is the state with it: of the two lengths that may be left while it is written,
--- one is the state that the store had, the other is that with the batch.
+-- The commands that are taken off and the next ones after them make the same state of the start at once as one after the other: a
+-- commit may add its batch to the state without it. It says nothing of crashes.
 abbrev pub BatchGoesOn : Type 0
 BatchGoesOn = (board : Board Taken) (count : ℕ)
     → fold board.start (take (board.taken + count) board.order) ≡ fold (fold board.start (take board.taken board.order)) (next_run board count)

@@ -83,6 +83,16 @@ may_lose_nothing : may_leave (after (Submit create ∷ written_once)) 0 ≡ fals
 unfolding utf16_chars encode_utf8 insert
 may_lose_nothing = refl
 
+-- And the acknowledgement stays after a crash and an opening, with that of the retry behind it.
+acknowledgements_outlive_a_crash : acks_after (Submit create ∷ written_once ++ Crash 1 ∷ Open 1 (0 ∷ []) ∷ []) ≡ (TakenAt 1, 1) ∷ []
+unfolding utf16_chars encode_utf8 insert
+acknowledgements_outlive_a_crash = refl
+
+retry_is_acknowledged_after_a_crash :
+    acks_after (Submit create ∷ written_once ++ Crash 1 ∷ Open 1 (0 ∷ []) ∷ Resend create ∷ Ack 0 ∷ []) ≡ (TakenAt 1, 1) ∷ (AgainAt 1, 1) ∷ []
+unfolding utf16_chars encode_utf8 insert
+retry_is_acknowledged_after_a_crash = refl
+
 settled_is_a_retry : tickets_after (Submit create ∷ written_once ++ Crash 1 ∷ Open 1 (0 ∷ []) ∷ Resend create ∷ []) ≡ (AgainAt 1, 1) ∷ []
 unfolding utf16_chars encode_utf8 insert
 settled_is_a_retry = refl
@@ -160,3 +170,44 @@ tickets_are_gone = refl
 failed_is_left : tickets_after (Submit create ∷ Take 1 ∷ Device Failed ∷ Open 1 (0 ∷ []) ∷ Resend create ∷ []) ≡ (AgainAt 1, 1) ∷ []
 unfolding utf16_chars encode_utf8 insert
 failed_is_left = refl
+
+-- So it is after a batch that was given up, with no crash: the store is opened with its command, or without.
+given_up_is_left : counts_after (Submit create ∷ Take 1 ∷ Device Stopped ∷ Open 1 (0 ∷ []) ∷ []) ≡ 1 ∷ 1 ∷ 1 ∷ 1 ∷ 1 ∷ []
+unfolding utf16_chars encode_utf8 insert
+given_up_is_left = refl
+
+given_up_is_lost : counts_after (Submit create ∷ Take 1 ∷ Device Stopped ∷ Open 0 [] ∷ []) ≡ 0 ∷ 0 ∷ 0 ∷ 0 ∷ 0 ∷ []
+unfolding utf16_chars encode_utf8 insert
+given_up_is_lost = refl
+
+given_up_is_taken_anew : tickets_after (Submit create ∷ Take 1 ∷ Device Stopped ∷ Open 0 [] ∷ Resend create ∷ []) ≡ (TakenAt 1, 1) ∷ []
+unfolding utf16_chars encode_utf8 insert
+given_up_is_taken_anew = refl
+
+-- Source b edits document d, and source a creates document e: each source has numbers of its own in each document, and all commands
+-- stand in one order. The first two are written in one batch. A retry of the first one waits for the third, which isn't.
+abbrev edit_by_b : Command
+edit_by_b = record { name = 100 ∷ []; source = 98 ∷ []; number = 1; action = Edit 1 (insert_text (codes "y") empty ∷ []) }
+
+abbrev create_e : Command
+create_e = record { name = 101 ∷ []; source = 97 ∷ []; number = 1; action = Create (insert_text (codes "z") empty ∷ []) }
+
+abbrev two_of_three : List Event
+two_of_three = Submit create ∷ Submit edit_by_b ∷ Submit create_e ∷ Take 2 ∷ Device Done ∷ Publish ∷ Settle ∷ Ack 0 ∷ Ack 1 ∷ Ack 2 ∷ []
+
+one_order : tickets_after (two_of_three ++ Resend create ∷ []) ≡ (TakenAt 1, 1) ∷ (TakenAt 2, 2) ∷ (TakenAt 1, 3) ∷ (AgainAt 1, 3) ∷ []
+unfolding utf16_chars encode_utf8 insert changed_by
+one_order = refl
+
+third_is_not_acknowledged : acks_after (two_of_three ++ Resend create ∷ Ack 3 ∷ []) ≡ (TakenAt 1, 1) ∷ (TakenAt 2, 2) ∷ []
+unfolding utf16_chars encode_utf8 insert changed_by
+third_is_not_acknowledged = refl
+
+-- A crash while the third is being written may lose it. Then it is taken anew, and the second stays as it was acknowledged.
+third_is_lost : tickets_after (two_of_three ++ Take 1 ∷ Crash 2 ∷ Open 2 (0 ∷ []) ∷ Resend create_e ∷ Resend edit_by_b ∷ []) ≡ (TakenAt 1, 3) ∷ (AgainAt 2, 3) ∷ []
+unfolding utf16_chars encode_utf8 insert changed_by
+third_is_lost = refl
+
+third_is_left : tickets_after (two_of_three ++ Take 1 ∷ Crash 3 ∷ Open 3 (0 ∷ 0 ∷ []) ∷ Resend create_e ∷ Resend edit_by_b ∷ []) ≡ (AgainAt 1, 3) ∷ (AgainAt 2, 3) ∷ []
+unfolding utf16_chars encode_utf8 insert changed_by
+third_is_left = refl

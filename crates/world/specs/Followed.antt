@@ -1,5 +1,5 @@
 -- One source's commands to one document, and what becomes of them in a world: numbers, revisions and lengths alone.
-use Rattle.std.specs.Prelude.{ℕ, ◌+◌, ◌-◌, ◌==◌, ◌&&◌, ◌||◌, not, nat_lt, nat_le, if◌then◌else◌, max, Bool, true, false, Option, Some, None, List, [], ◌∷◌, ◌++◌, length, take, slice_get, slice_index_or}
+use Rattle.std.specs.Prelude.{ℕ, ◌+◌, ◌-◌, ◌<◌, ◌==◌, ◌&&◌, ◌||◌, not, nat_lt, nat_le, if◌then◌else◌, max, Bool, true, false, Option, Some, None, List, [], ◌∷◌, ◌++◌, length, take, slice_get, slice_index_or}
 use Rattle.world.specs.declared.follower.Place.{Place}
 use Rattle.world.specs.declared.follower.Waiting.{Waiting}
 use Rattle.world.specs.declared.follower.Happening.{Happening}
@@ -142,3 +142,8 @@ stopped_step followed (Resend number taken_as) = followed
 
 abbrev pub followed_step : Followed → Happening → Followed
 followed_step followed event = if followed.crashed then stopped_step followed event else running followed event
+
+-- There is a ticket more, or an acknowledgement more: a command that is taken or is a retry gives a ticket, an acknowledging adds to
+-- the acknowledgements, and no other event adds to either.
+abbrev pub Adds : Followed → Followed → Type 0
+Adds before after = length before.tickets + length before.acks < length after.tickets + length after.acks

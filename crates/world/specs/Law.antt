@@ -1,5 +1,5 @@
 -- What holds of every schedule: of each world that any list of events makes of any store.
-use Rattle.std.specs.Prelude.{◌≡◌, ◌⊎◌, ℕ, ◌≤◌, true, List, length, take, Option, Some, None, All, Any, AllPairs}
+use Rattle.std.specs.Prelude.{◌≡◌, ◌⊎◌, ℕ, ◌<◌, ◌≤◌, true, List, ◌++◌, length, take, Option, Some, None, All, Any, AllPairs}
 use Rattle.revision.specs.declared.sources.LastTaken.{LastTaken}
 use Rattle.revision.specs.Sources.{last_of}
 use Rattle.revision.specs.Whole.{DocumentRecord, sources_of, State, Command, find, Repeats, Reply, TakenAt, AgainAt, Refused, answer, fold}
@@ -13,6 +13,10 @@ use Rattle.world.specs.Shown.{all_shown}
 -- P holds after each list of events, from each state that a store may begin with.
 abbrev pub OverAll : (World → Type 0) → Type 0
 OverAll P = (start : State) (events : List Event) → P (run (begun start) events)
+
+-- P holds of the world after each list of events and the world after any events more.
+abbrev pub OverAllFurther : (World → World → Type 0) → Type 0
+OverAllFurther P = (start : State) (events more : List Event) → P (run (begun start) events) (run (begun start) (events ++ more))
 
 -- P holds of each number of commands that a crash or an opening may leave of the order.
 abbrev pub HowMuchIsLeft : World → (ℕ → Type 0) → Type 0
@@ -49,9 +53,15 @@ IsKept start entries command revision =
 abbrev pub AcksStay : World → Type 0
 AcksStay world = HowMuchIsLeft world (λ kept. All (λ (ack : Ticket). ack.length ≤ kept) world.acks)
 
--- None is taken twice: no two places of the order have one number of a source in a document.
-abbrev pub TakenOnce : World → Type 0
-TakenOnce world = AllPairs (λ (a b : Entry). IsSent a.command b.command → ⊥) world.board.order
+-- No edit is acknowledged that no reader is shown.
+abbrev pub AcksAreShown : World → Type 0
+AcksAreShown world = All (λ (ack : Ticket). ack.length ≤ length world.published) world.acks
+
+-- None is taken twice: no two places of the order have one number of a source in a document, and none has a number that the start
+-- had taken already.
+pub record TakenOnce (world : World) : Type 0 where
+  pub apart : AllPairs (λ (a b : Entry). IsSent a.command b.command → ⊥) world.board.order
+  pub anew : All (λ (e : Entry). (last_held world.board.start e.command).number < e.command.number) world.board.order
 
 -- None changes its revision: all acknowledgements of one number name one revision.
 abbrev pub OneRevision : World → Type 0
@@ -71,6 +81,12 @@ KeptIsAgain world = (command : Command) (revision : ℕ) → 1 ≤ command.numbe
 pub record ShownStays (world : World) : Type 0 where
   pub beginning : world.published ≡ takens (take (length world.published) world.board.order)
   pub stays : HowMuchIsLeft world (λ kept. length world.published ≤ kept)
+
+-- Nothing that was promised is forgotten or rewritten, whatever happens after it: what is shown, with its deltas, and all
+-- acknowledgements are beginnings of what is shown and acknowledged later.
+pub record GoesOn (early late : World) : Type 0 where
+  pub shown : early.published ≡ take (length early.published) late.published
+  pub acks : early.acks ≡ take (length early.acks) late.acks
 
 -- The state shows what the order makes of the start. How far back the two hold it may differ.
 pub record StateIsFold (world : World) : Type 0 where

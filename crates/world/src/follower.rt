@@ -1,6 +1,6 @@
 //! A plain program that goes through a schedule, step by step.
 ghost use Rattle.std.specs.Prelude.{◌≡◌, [], OnOk, OnErr};
-ghost use Rattle.world.specs.Followed.{begun_followed, last_place, submitted, submitted_numbered, resent, taken_off, written, shown, settled, acknowledged, may_leave, forgotten, stopped, opened, running, followed_step};
+ghost use Rattle.world.specs.Followed.{begun_followed, last_place, submitted, submitted_numbered, resent, taken_off, written, shown, settled, acknowledged, may_leave, forgotten, stopped, opened, running, followed_step, Adds};
 
 use std::alloc::{AllocError, Global};
 use std::marker::Model;
@@ -148,6 +148,7 @@ impl Follower {
     // A command comes. One of the last number is a retry, and waits for all that is in the order.
     fn submit(&mut self, number: u64, taken_as: Option<u64>) -> Result<(), AllocError>
         ensures ok { OnOk result (self.new ≡ submitted self.old number taken_as) }
+        ensures only { OnErr result (Adds self.old (submitted self.old number taken_as)) }
         ensures unchanged { OnErr result (self.new ≡ self.old) }
     {
         let last = self.last();
@@ -177,6 +178,7 @@ impl Follower {
     // A command that may come: its number is one.
     fn submit_numbered(&mut self, number: u64, taken_as: Option<u64>) -> Result<(), AllocError>
         ensures ok { OnOk result (self.new ≡ submitted_numbered self.old number taken_as) }
+        ensures only { OnErr result (Adds self.old (submitted_numbered self.old number taken_as)) }
         ensures unchanged { OnErr result (self.new ≡ self.old) }
     {
         if number >= 1 && number <= LAST_NUMBER {
@@ -189,6 +191,7 @@ impl Follower {
     // A command that is sent again: its number is the last that was sent.
     fn resend(&mut self, number: u64, taken_as: Option<u64>) -> Result<(), AllocError>
         ensures ok { OnOk result (self.new ≡ resent self.old number taken_as) }
+        ensures only { OnErr result (Adds self.old (resent self.old number taken_as)) }
         ensures unchanged { OnErr result (self.new ≡ self.old) }
     {
         if number == self.sent {
@@ -244,6 +247,7 @@ impl Follower {
     // A ticket is acknowledged where its length is settled.
     fn acknowledge(&mut self, place: u64) -> Result<(), AllocError>
         ensures ok { OnOk result (self.new ≡ acknowledged self.old place) }
+        ensures only { OnErr result (Adds self.old (acknowledged self.old place)) }
         ensures unchanged { OnErr result (self.new ≡ self.old) }
     {
         if let Some(ticket) = self.tickets.as_slice().get(place as usize) {
@@ -299,6 +303,7 @@ impl Follower {
     // One event of a machine that runs.
     fn run(&mut self, event: Happening) -> Result<(), AllocError>
         ensures ok { OnOk result (self.new ≡ running self.old event) }
+        ensures only { OnErr result (Adds self.old (running self.old event)) }
         ensures unchanged { OnErr result (self.new ≡ self.old) }
     {
         match event {
@@ -319,9 +324,11 @@ impl Follower {
         Ok(())
     }
 
-    /// One event. One that isn't possible changes nothing, and from a crash to the next opening only an opening is.
+    /// One event. One that isn't possible changes nothing, and from a crash to the next opening only an opening is. It may
+    /// fail only where it would add a ticket or an acknowledgement, and then nothing has changed.
     pub fn step(&mut self, event: Happening) -> Result<(), AllocError>
         ensures ok { OnOk result (self.new ≡ followed_step self.old event) }
+        ensures only { OnErr result (Adds self.old (followed_step self.old event)) }
         ensures unchanged { OnErr result (self.new ≡ self.old) }
     {
         if !self.crashed {

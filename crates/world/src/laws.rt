@@ -1,17 +1,20 @@
 //! What holds of every schedule, as contracts of functions that do nothing.
 ghost use Rattle.world.specs.Boards.{SameBoard, BatchGoesOn};
 ghost use Rattle.world.specs.Following.{Follows};
-ghost use Rattle.world.specs.Law.{OverAll, AcksStay, TakenOnce, OneRevision, NothingTakenBack, KeptIsAgain, ShownStays, StateIsFold, StateAgrees};
+ghost use Rattle.world.specs.Law.{OverAll, OverAllFurther, AcksStay, AcksAreShown, TakenOnce, OneRevision, NothingTakenBack, KeptIsAgain, ShownStays, GoesOn, StateIsFold, StateAgrees};
 
 /// Over every list of events, with crashes and commands sent again, from every state that a store may begin with: no
-/// acknowledged edit is missing, none is taken twice, and none changes its revision.
+/// acknowledged edit is missing, none is taken twice, and none changes its revision. What was shown and acknowledged after some
+/// events is a beginning of what is shown and acknowledged after any events more.
 pub fn every_schedule()
     ensures acks_stay { OverAll AcksStay }
+    ensures acks_are_shown { OverAll AcksAreShown }
     ensures taken_once { OverAll TakenOnce }
     ensures one_revision { OverAll OneRevision }
     ensures nothing_taken_back { OverAll NothingTakenBack }
     ensures kept_is_again { OverAll KeptIsAgain }
     ensures shown_stays { OverAll ShownStays }
+    ensures goes_on { OverAllFurther GoesOn }
     ensures state_is_fold { OverAll StateIsFold }
     ensures state_agrees { OverAll StateAgrees }
 {}
@@ -27,7 +30,8 @@ pub fn same_board()
     ensures { SameBoard }
 {}
 
-/// While a batch is written, the two lengths of the order that a crash may leave are the state without it and with it.
+/// The commands of an order that are taken off and the next ones after them make the same state of its start at once as one after
+/// the other. Which of the two lengths a crash leaves, it doesn't say.
 pub fn batch_goes_on()
     ensures { BatchGoesOn }
 {}

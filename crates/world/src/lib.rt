@@ -7,10 +7,20 @@
 //! so every list of events is a schedule (specs/Step.antt). What the board does stands apart, in specs/Board.antt, in words that
 //! the board itself can be promised by.
 //!
-//! `laws::every_schedule` promises of every list of events: no acknowledged edit is missing, none is taken twice, and none changes
-//! its revision (specs/Law.antt). A `Follower` is a plain program that goes through a schedule of one source's commands to one
-//! document, step by step, with what the rule of acceptance says told to it; `laws::follower_follows` ties it to worlds. The crate
-//! stands on the rule of acceptance, `revision`.
+//! `laws::every_schedule` promises of every list of events: no acknowledged edit is missing, none is taken twice, none changes its
+//! revision, and what was shown and acknowledged at any moment is a beginning of what is shown and acknowledged at any later one
+//! (specs/Law.antt). A `Follower` is a plain program that goes through a schedule of one source's commands to one document, step by
+//! step, with what the rule of acceptance says told to it; `laws::follower_follows` ties it to worlds. The crate stands on the rule
+//! of acceptance, `revision`.
+//!
+//! # What the law doesn't cover
+//!
+//! - A refusal has no ticket, so it waits for nothing: that a number is old, or that a document exists, may rest on an edit that
+//!   isn't settled yet and that a crash loses.
+//! - A `Follower` doesn't know the rule of acceptance. It is told what the rule says of each command, and whether floors may be
+//!   picked at an opening.
+//! - The law is one of definitions. No code of the server runs `step`, nor a `Follower`: that the server's calls are the events of a
+//!   world, in some order, isn't promised here.
 #![tactic(auto)]
 
 mod follower;

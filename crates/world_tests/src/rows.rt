@@ -33,6 +33,13 @@ const ACKNOWLEDGED: [Happening; 6] = [
     Happening::Ack(0),
 ];
 
+// A creation's batch is given up between two device calls.
+const STOPPED: [Happening; 3] = [
+    Happening::Submit(1, Some(1)),
+    Happening::Take(1),
+    Happening::Device(false),
+];
+
 // Three revisions are settled. A fourth is taken, and its batch given up; the crash leaves three.
 const GIVEN_UP: [Happening; 12] = [
     Happening::Submit(1, Some(1)),
@@ -112,6 +119,21 @@ fn an_acknowledged_edit_stays(rt: HostRuntime) -> Result<(), Fail> {
     assert!(rt; follower.tickets() == [TAKEN, AGAIN].as_slice());
     go_on(&mut follower, &LEFT)?;
     assert!(rt; follower.tickets() == [AGAIN].as_slice());
+    // the acknowledgement is there after the crash, and that of the retry comes behind it
+    assert!(rt; follower.acks() == [TAKEN].as_slice());
+    follower.step(Happening::Ack(0))?;
+    assert!(rt; follower.acks() == [TAKEN, AGAIN].as_slice());
+    Ok(())
+}
+
+#[test]
+fn a_batch_that_was_given_up_needs_no_crash(rt: HostRuntime) -> Result<(), Fail> {
+    let mut follower = run(rt.alloc(), &STOPPED)?;
+    assert!(rt; follower.left() == (0, 1));
+    follower.step(Happening::Open(0, true))?;
+    assert!(rt; follower.left() == (0, 0));
+    follower.step(Happening::Resend(1, Some(1)))?;
+    assert!(rt; follower.tickets() == [TAKEN].as_slice());
     Ok(())
 }
 

@@ -1,10 +1,14 @@
-use Rattle.world.specs.Law.{AcksStay, TakenOnce, OneRevision, NothingTakenBack, KeptIsAgain, ShownStays, StateIsFold}
-use Rattle.world.proofs.Clauses.{acks-stay, taken-once, acks-one_revision, nothing-taken_back, kept-is_again, shown-stays, state-is_fold, over_all}
+use Rattle.world.specs.Law.{AcksStay, AcksAreShown, TakenOnce, OneRevision, NothingTakenBack, KeptIsAgain, ShownStays, StateIsFold}
+use Rattle.world.proofs.Clauses.{acks-stay, acks-are_shown, taken-once, acks-one_revision, nothing-taken_back, kept-is_again, shown-stays, state-is_fold, over_all}
+use Rattle.world.proofs.Further.{all-go_on}
 use Rattle.world.proofs.Agreeing.{all-agree}
 use Rattle.world.proofs.laws.every_schedule.Goals as goal
 
 pub returns-clause-acks_stay : goal.returns-clause-acks_stay
 returns-clause-acks_stay c = over_all AcksStay acks-stay
+
+pub returns-clause-acks_are_shown : goal.returns-clause-acks_are_shown
+returns-clause-acks_are_shown c = over_all AcksAreShown acks-are_shown
 
 pub returns-clause-taken_once : goal.returns-clause-taken_once
 returns-clause-taken_once c = over_all TakenOnce taken-once
@@ -20,6 +24,9 @@ returns-clause-kept_is_again c = over_all KeptIsAgain kept-is_again
 
 pub returns-clause-shown_stays : goal.returns-clause-shown_stays
 returns-clause-shown_stays c = over_all ShownStays shown-stays
+
+pub returns-clause-goes_on : goal.returns-clause-goes_on
+returns-clause-goes_on c = all-go_on
 
 pub returns-clause-state_is_fold : goal.returns-clause-state_is_fold
 returns-clause-state_is_fold c = over_all StateIsFold state-is_fold
