@@ -53,7 +53,7 @@ fn opened<R: AllocGlobal, D: Disk + Drop>(rt: &R, disk: D) -> Result<Store<D>, R
 fn served<R: AllocGlobal + Abort>(
     rt: &R,
     disk: MemDisk,
-    plan: Plan,
+    plan: FaultPlan,
     wanted: &str,
 ) -> Result<FaultDisk, Fail> {
     let mut desk = StoreDesk::new(opened(rt, FaultDisk::new(disk, plan))?);
@@ -64,7 +64,7 @@ fn served<R: AllocGlobal + Abort>(
 }
 
 /// Nothing goes wrong.
-fn never() -> Plan {
+fn never() -> FaultPlan {
     FaultPlan::stop(u64::MAX, Left::Nothing)
 }
 
