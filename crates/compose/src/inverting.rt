@@ -12,9 +12,9 @@ use document::Document;
 use refusal::Refusal;
 use std::alloc::Global;
 
-/// The delta that takes back another on a document: after both the document is as it was. Refused just where the document
-/// refuses the delta: as PastEnd where it reaches past the end, else as CutsPair where it parts a surrogate pair; and as
-/// NoMemory. Linear in the runs of the document and the operations; the document's text is copied once.
+/// The delta that takes back another on a document: after both the document is as it was. Refused as PastEnd where the delta
+/// reaches past the end of the document, else as CutsPair where it parts a surrogate pair of it; and as NoMemory. (That the
+/// document would have more than 2^48 units after the delta is refused by `Document::apply` alone.) Linear in the runs of the document and the operations; the document's text is copied once.
 pub fn invert(alloc: Global, delta: &Delta, document: &Document) -> Result<Delta, Refusal>
     ensures one { IfOk result (λ back. back ≡ nf (inverse (counted delta.now) document.now)) }
     ensures undoes { IfOk result (λ back. apply (apply document.now (counted delta.now)) (counted back) ≡ document.now) }
