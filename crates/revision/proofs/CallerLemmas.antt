@@ -1,4 +1,3 @@
 -- Laws of `laws`, as the proofs of other crates cite them.
-pub use Rattle.revision.proofs.Taking.{planned_grows}
-pub use Rattle.revision.proofs.Agreeing.{agrees}
+pub use Rattle.revision.proofs.Taking.{taken_grows}
 pub use Rattle.revision.proofs.Texts.{IsText-units_of}

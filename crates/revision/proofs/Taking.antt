@@ -1,57 +1,182 @@
 -- What the rule of acceptance takes continues the state.
-use Rattle.std.proofs.Common.{◌≡◌, ℕ, Bool, true, false, cond, List, [], length, Option, Some, None, refl, sym, ap, ◌∙◌, arith}
-use Rattle.std.specs.Prelude.{◌&&◌, ◌==◌, not, nat_lt, nat_le, is_none}
+use Rattle.std.proofs.Common.{◌≡◌, ℕ, suc, ◌+◌, ◌≤◌, ◌<◌, ◌^◌, Bool, true, false, cond, List, [], ◌∷◌, length, Option, Some, None, refl, sym, ap, ◌∙◌, arith}
+use Rattle.std.specs.Prelude.{◌&&◌, ◌||◌, ◌==◌, not, nat_lt, nat_le, is_none, bytes_eq, slice_get}
 use Rattle.std.proofs.lemmas.Bool.Decides.{nat_tests}
-use Rattle.refusal.specs.declared.Refusal.TheVariants.{Exists, Gap, TooManyDocuments, PastEnd, TooHeavy, TooWide}
+use Rattle.refusal.specs.declared.Refusal.TheVariants.{Exists, Gap, OldNumber, TooManySources, Future, TooOld, PastEnd, CutsPair, TooHeavy, TooWide, RevisionsSpent, NothingToUndo, TooManyDocuments}
+use Rattle.attributes.specs.Map.{empty}
+use Rattle.delta.specs.Element.{Element}
 use Rattle.delta.specs.Operation.{Operation}
-use Rattle.revision.specs.Command.{Action, Create, Command, Taken, width_of}
-use Rattle.document.specs.Making.{document_from}
-use Rattle.revision.specs.State.{DocumentRecord, State, record_of, last_of, reaches_past, weight_of, creates, grows}
-use Rattle.revision.specs.Acceptance.{Answer, Takes, Repeats, Refuses, creation, create_new, create_existing, create_answer, answer_to, answer}
+use Rattle.revision.specs.Command.{Taken, width_of, Action, Create, Edit, Undo, Command}
+use Rattle.revision.specs.State.{reaches_past, Limits, DocumentRecord, State, find, revision_of, units_of, sources_of, last_of_all, weight_after, has_place, keeps, follows, continues, grows}
+use Rattle.revision.specs.Sources.{LastTaken, Sources, last_of}
+use Rattle.revision.specs.Parting.{parts_pair}
+use Rattle.revision.specs.Late.{late}
+use Rattle.revision.specs.Past.{undo_of, deltas_of, deltas_above}
+use Rattle.revision.specs.Acceptance.{Answer, Takes, Repeats, Refuses, take_on, creation, create_new, next_revision, change, edit, undo, by_number, answer_to, TakenGrows}
 
--- where a test refuses, what is taken is not refused by it
-passed_test : (b : Bool) (refusal second : Answer) (taken : Taken) → (refusal ≡ Takes taken → ⊥) → cond b refusal second ≡ Takes taken → (b ≡ false) × (second ≡ Takes taken)
-passed_test true refusal second taken differs h = absurd (differs h)
-passed_test false refusal second taken differs h = (refl, h)
+-- where a test answers otherwise, what is taken is not stopped by it
+passed : (b : Bool) (other next : Answer) (taken : Taken) → (other ≡ Takes taken → ⊥) → cond b other next ≡ Takes taken → (b ≡ false) × (next ≡ Takes taken)
+passed true other next taken differs h = absurd (differs h)
+passed false other next taken differs h = (refl, h)
 
-tests_hold : {A : Type 0} (count docs weight heaviest width widest : ℕ) (past : Bool) (found : Option A) → found ≡ None
-    → nat_le docs count ≡ false → past ≡ false → nat_lt heaviest weight ≡ false → nat_lt widest width ≡ false
-    → (((count == count) && is_none found) && nat_lt count docs && not past && nat_le weight heaviest && nat_le width widest) ≡ true
-tests_hold count docs weight heaviest width widest past found none a stands b c =
-    let same : (count == count) ≡ true = grind (arith, nat_tests) in
-    let below : nat_lt count docs ≡ true = grind (arith, nat_tests) in
+-- a command that is taken keeps the limits, and is what was asked for
+record IsKept (limits : Limits) (units : List Element) (sources : Sources) (asked taken : Taken) : Type 0 where
+  same : asked ≡ taken
+  kept : keeps limits units sources asked ≡ true
+
+all_four : (past cut : Bool) (weight heaviest width widest : ℕ) → past ≡ false → cut ≡ false → nat_lt heaviest weight ≡ false → nat_lt widest width ≡ false
+    → (not past && not cut && nat_le weight heaviest && nat_le width widest) ≡ true
+all_four past cut weight heaviest width widest a b c d =
     let light : nat_le weight heaviest ≡ true = grind (arith, nat_tests) in
     let narrow : nat_le width widest ≡ true = grind (arith, nat_tests) in
-    rw (same, none, below, stands, light, narrow) refl
+    rw (a, b, light, narrow) refl
 
-new_grows : (state : State) (command : Command) (delta : List Operation) (taken : Taken) → record_of command.name state.documents ≡ None
+taken_kept : (limits : Limits) (units : List Element) (sources : Sources) (asked taken : Taken) → take_on limits units sources asked ≡ Takes taken → IsKept limits units sources asked taken
+taken_kept limits units sources asked taken h =
+    let past = passed (reaches_past asked.delta units) (Refuses PastEnd) _ taken (λ e. cc) h in
+    let cut = passed (parts_pair asked.delta units) (Refuses CutsPair) _ taken (λ e. cc) past.1 in
+    let heavy = passed (nat_lt limits.weight (weight_after units sources asked)) (Refuses TooHeavy) _ taken (λ e. cc) cut.1 in
+    let wide = passed (nat_lt limits.width (width_of asked)) (Refuses TooWide) _ taken (λ e. cc) heavy.1 in
+    record { same = cc; kept = all_four _ _ _ _ _ _ past.0 cut.0 heavy.0 wide.0 }
+
+-- a creation
+none_at_end : {A : Type 0} (all : List A) → slice_get all (length all) ≡ None
+none_at_end [] = refl
+none_at_end (x ∷ xs) = none_at_end xs
+
+has_room_holds : {A : Type 0} (count docs : ℕ) (found : Option A) → found ≡ None → nat_le docs count ≡ false
+    → ((count == count) && nat_lt count docs && is_none found) ≡ true
+has_room_holds count docs found none many =
+    let same : (count == count) ≡ true = grind (arith, nat_tests) in
+    let below : nat_lt count docs ≡ true = grind (arith, nat_tests) in
+    rw (same, none, below) refl
+
+both_hold : (room begin : Bool) → room ≡ true → begin ≡ true → (room && begin) ≡ true
+both_hold room begin r b = rw (r, b) refl
+
+new_grows : (state : State) (command : Command) (delta : List Operation) (taken : Taken) → find command.name 0 state.documents ≡ None
     → create_new state command delta ≡ Takes taken → grows state taken ≡ true
 new_grows state command delta taken fresh h =
-    let made = creation state command delta in
-    let gap = passed_test (nat_lt 1 command.number) (Refuses Gap) _ taken (λ e. cc) h in
-    let docs = passed_test (nat_le state.limits.docs (length state.documents)) (Refuses TooManyDocuments) _ taken (λ e. cc) gap.1 in
-    let past = passed_test (reaches_past delta []) (Refuses PastEnd) _ taken (λ e. cc) docs.1 in
-    let heavy = passed_test (nat_lt state.limits.weight (weight_of (document_from delta) 1)) (Refuses TooHeavy) _ taken (λ e. cc) past.1 in
-    let wide = passed_test (nat_lt state.limits.width (width_of made)) (Refuses TooWide) _ taken (λ e. cc) heavy.1 in
-    let is : made ≡ taken = cc in
-    let one : creates state made command.name ≡ true = tests_hold _ _ _ _ _ _ (reaches_past delta []) (record_of command.name state.documents) fresh docs.0 past.0 heavy.0 wide.0 in
-    ap (grows state) (sym is) ∙ one
+    let asked : Taken = creation state command delta in
+    let gap = passed (nat_lt 1 command.number) (Refuses Gap) _ taken (λ e. cc) h in
+    let docs = passed (nat_le state.limits.docs (length state.documents)) (Refuses TooManyDocuments) _ taken (λ e. cc) gap.1 in
+    let kept = taken_kept state.limits [] empty asked taken docs.1 in
+    let begun : continues state.limits (slice_get state.documents (length state.documents)) asked ≡ true = rw (none_at_end state.documents) kept.kept in
+    let one : grows state asked ≡ true = both_hold _ _ (has_room_holds _ _ (find command.name 0 state.documents) fresh docs.0) begun in
+    ap (grows state) (sym kept.same) ∙ one
 
-existing_takes : (found : DocumentRecord) (command : Command) (taken : Taken) → create_existing found command ≡ Takes taken → ⊥
-existing_takes found command taken = by_test (nat_lt 0 (last_of command.source found.sources).0 && (command.number == (last_of command.source found.sources).0)) _ taken where
-  by_test : (b : Bool) (revision : ℕ) (taken : Taken) → cond b (Repeats revision) (Refuses Exists) ≡ Takes taken → ⊥
-  by_test true revision taken h = cc
-  by_test false revision taken h = cc
+existing_takes : (b : Bool) (revision : ℕ) (taken : Taken) → cond b (Repeats revision) (Refuses Exists) ≡ Takes taken → ⊥
+existing_takes true revision taken h = cc
+existing_takes false revision taken h = cc
 
-create_grows : (state : State) (command : Command) (delta : List Operation) (taken : Taken) (found : Option DocumentRecord)
-    → record_of command.name state.documents ≡ found → create_answer state command delta found ≡ Takes taken → grows state taken ≡ true
-create_grows state command delta taken None fresh h = new_grows state command delta taken fresh h
-create_grows state command delta taken (Some found) is h = absurd (existing_takes found command taken h)
+-- the number and the record that were found
+abbrev number_of : Option (ℕ × DocumentRecord) → ℕ
+number_of None = 0
+number_of (Some p) = p.0
 
-answer_grows : (state : State) (command : Command) (taken : Taken) (action : Action) → command.action ≡ action → answer state command ≡ Takes taken → grows state taken ≡ true
-answer_grows state command taken (Create delta) is h =
-    create_grows state command delta taken _ refl (ap (λ (action : Action). answer_to state command action) (sym is) ∙ h)
+abbrev record_or : DocumentRecord → Option (ℕ × DocumentRecord) → DocumentRecord
+record_or other None = other
+record_or other (Some p) = p.1
 
--- what is taken continues the state
-pub planned_grows : (state : State) (command : Command) (taken : Taken) → answer state command ≡ Takes taken → grows state taken ≡ true
-planned_grows state command taken h = answer_grows state command taken command.action refl h
+-- the document that is found stands at its number
+pub found_stands : (name : List ℕ) (k : ℕ) (documents : List DocumentRecord) (number : ℕ) (found : DocumentRecord)
+    → find name k documents ≡ Some (number, found) → (d : ℕ) × (number ≡ k + d) × (slice_get documents d ≡ Some found)
+found_stands name k [] number found h = cc
+found_stands name k (first ∷ others) number found h = by_test (λ e. found_stands name (k + 1) others number found e) (bytes_eq first.name name) h
+  where
+    by_test : (find name (k + 1) others ≡ Some (number, found) → (d : ℕ) × (number ≡ (k + 1) + d) × (slice_get others d ≡ Some found)) → (b : Bool)
+        → cond b (Some (k, first)) (find name (k + 1) others) ≡ Some (number, found) → (d : ℕ) × (number ≡ k + d) × (slice_get (first ∷ others) d ≡ Some found)
+    by_test further true e =
+        let same : k ≡ number = ap number_of e in
+        (0, omega (arith, same), ap (λ p. Some (record_or first p)) e)
+    by_test further false e =
+        let found_later = further e in
+        let place : number ≡ (k + 1) + found_later.0 = found_later.1 in
+        (suc found_later.0, omega (arith, place), found_later.2)
+
+pub found_at : (name : List ℕ) (documents : List DocumentRecord) (number : ℕ) (found : DocumentRecord)
+    → find name 0 documents ≡ Some (number, found) → slice_get documents number ≡ Some found
+found_at name documents number found h =
+    let stands = found_stands name 0 documents number found h in
+    let place : number ≡ stands.0 = omega (arith, stands.1) in
+    rw place stands.2
+
+-- the number is the source's next one
+number_next : (last : LastTaken) (number : ℕ) (next : Answer) (taken : Taken) → 1 ≤ number → by_number last number next ≡ Takes taken
+    → (number ≡ last.number + 1) × (next ≡ Takes taken)
+number_next last number next taken some h =
+    let again = passed (nat_lt 0 last.number && (number == last.number)) (Repeats last.revision) _ taken (λ e. cc) h in
+    let old = passed (nat_lt number last.number) (Refuses OldNumber) _ taken (λ e. cc) again.1 in
+    let gap = passed (nat_lt (last.number + 1) number) (Refuses Gap) _ taken (λ e. cc) old.1 in
+    (next_of last.number number some again.0 old.0 gap.0, gap.1)
+  where
+    next_of : (n number : ℕ) → 1 ≤ number → (nat_lt 0 n && (number == n)) ≡ false → nat_lt number n ≡ false → nat_lt (n + 1) number ≡ false → number ≡ n + 1
+    next_of n number some again old gap = grind (arith, nat_tests)
+
+follows_holds : (revision number last : ℕ) (spent place kept : Bool) → number ≡ last + 1 → number < 2 ^ 53 → spent ≡ false → place ≡ true → kept ≡ true
+    → ((revision + 1 == revision + 1) && not spent && (number == last + 1) && nat_le number last_of_all && place && kept) ≡ true
+follows_holds revision number last spent place kept next bound s p k =
+    let same : (revision + 1 == revision + 1) ≡ true = grind (arith, nat_tests) in
+    let is_next : (number == last + 1) ≡ true = grind (arith, nat_tests) in
+    let below : nat_le number last_of_all ≡ true = grind (arith, nat_tests) in
+    rw (same, s, is_next, below, p, k) refl
+
+holds_of : (b : Bool) → not b ≡ false → b ≡ true
+holds_of true h = refl
+holds_of false h = cc
+
+module _ (state : State) (number : ℕ) (found : DocumentRecord) (command : Command) (taken : Taken)
+    (there : find command.name 0 state.documents ≡ Some (number, found)) (some : 1 ≤ command.number) (bound : command.number < 2 ^ 53) where
+  change_grows : (delta : List Operation) → has_place state.limits command.source (sources_of found) ≡ true
+      → command.number ≡ (last_of command.source (sources_of found)).number + 1
+      → change state number found command delta ≡ Takes taken → grows state taken ≡ true
+  change_grows delta place next h =
+      let asked : Taken = next_revision number found command delta in
+      let spent = passed (revision_of found == last_of_all) (Refuses RevisionsSpent) _ taken (λ e. cc) h in
+      let kept = taken_kept state.limits (units_of found) (sources_of found) asked taken spent.1 in
+      let one : follows state.limits found asked ≡ true =
+      follows_holds (revision_of found) command.number (last_of command.source (sources_of found)).number _ _ _ next bound spent.0 place kept.kept in
+      let continued : continues state.limits (slice_get state.documents number) asked ≡ true = rw (found_at command.name state.documents number found there) one in
+      ap (grows state) (sym kept.same) ∙ continued
+
+  edit_grows : (base : ℕ) (delta : List Operation) → command.number ≡ (last_of command.source (sources_of found)).number + 1
+      → edit state number found command base delta ≡ Takes taken → grows state taken ≡ true
+  edit_grows base delta next h =
+      let full = passed (not (has_place state.limits command.source (sources_of found))) (Refuses TooManySources) _ taken (λ e. cc) h in
+      let future = passed (nat_lt (revision_of found) base) (Refuses Future) _ taken (λ e. cc) full.1 in
+      let old = passed (nat_lt base found.past.floor) (Refuses TooOld) _ taken (λ e. cc) future.1 in
+      change_grows (late delta (deltas_above found.past base)) (holds_of _ full.0) next old.1
+
+  undo_grows : command.number ≡ (last_of command.source (sources_of found)).number + 1 → undo state number found command ≡ Takes taken → grows state taken ≡ true
+  undo_grows next h =
+      let last : LastTaken = last_of command.source (sources_of found) in
+      let none = passed (last.number == 0) (Refuses NothingToUndo) _ taken (λ e. cc) h in
+      let old = passed (nat_le last.revision found.past.floor) (Refuses TooOld) _ taken (λ e. cc) none.1 in
+      change_grows (undo_of found.past.floor found.past.content.units (deltas_of found.past) last.revision)
+      (place_of (last.number == 0) _ none.0) next old.1
+    where
+      place_of : (fresh room : Bool) → fresh ≡ false → (not fresh || room) ≡ true
+      place_of fresh room is = rw is refl
+
+  found_grows : (action : Action) → answer_to state command action (Some (number, found)) ≡ Takes taken → grows state taken ≡ true
+  found_grows (Create delta) h = absurd (existing_takes _ _ taken h)
+  found_grows (Edit base delta) h =
+      let next = number_next (last_of command.source (sources_of found)) command.number (edit state number found command base delta) taken some h in
+      edit_grows base delta next.0 next.1
+  found_grows Undo h =
+      let next = number_next (last_of command.source (sources_of found)) command.number (undo state number found command) taken some h in
+      undo_grows next.0 next.1
+
+fresh_grows : (state : State) (command : Command) (taken : Taken) (action : Action) → find command.name 0 state.documents ≡ None
+    → answer_to state command action None ≡ Takes taken → grows state taken ≡ true
+fresh_grows state command taken (Create delta) fresh h = new_grows state command delta taken fresh h
+fresh_grows state command taken (Edit base delta) fresh h = cc
+fresh_grows state command taken Undo fresh h = cc
+
+pub taken_grows : TakenGrows
+taken_grows state command taken some bound h = by_found (find command.name 0 state.documents) refl h
+  where
+    by_found : (there : Option (ℕ × DocumentRecord)) → find command.name 0 state.documents ≡ there
+        → answer_to state command command.action there ≡ Takes taken → grows state taken ≡ true
+    by_found None is h = fresh_grows state command taken command.action is h
+    by_found (Some found) is h = found_grows state found.0 found.1 command taken is some bound command.action h

@@ -1,11 +1,16 @@
--- The answer to a command: the first case that holds.
-use Rattle.std.specs.Prelude.{ℕ, ◌==◌, ◌&&◌, nat_lt, nat_le, if◌then◌else◌, Option, Some, None, List, [], length}
+-- The rule of acceptance: the answer to a command is the first case that holds.
+use Rattle.std.specs.Prelude.{ℕ, ◌+◌, ◌^◌, ◌≡◌, ◌≤◌, ◌<◌, ◌==◌, ◌&&◌, not, nat_lt, nat_le, if◌then◌else◌, true, Option, Some, None, List, [], length}
 use Rattle.refusal.specs.declared.Refusal.{Refusal}
-use Rattle.refusal.specs.declared.Refusal.TheVariants.{Exists, Gap, TooManyDocuments, PastEnd, TooHeavy, TooWide}
+use Rattle.refusal.specs.declared.Refusal.TheVariants.{NoDocument, Exists, Gap, OldNumber, TooManySources, Future, TooOld, PastEnd, CutsPair, TooHeavy, TooWide, RevisionsSpent, NothingToUndo, TooManyDocuments}
+use Rattle.attributes.specs.Map.{empty}
+use Rattle.delta.specs.Element.{Element}
 use Rattle.delta.specs.Operation.{Operation}
-use Rattle.revision.specs.Command.{Action, Create, Command, Taken, width_of}
-use Rattle.document.specs.Making.{document_from}
-use Rattle.revision.specs.State.{DocumentRecord, State, record_of, last_of, reaches_past, weight_of}
+use Rattle.revision.specs.Command.{Action, Create, Edit, Undo, Command, Taken, width_of}
+use Rattle.revision.specs.Sources.{LastTaken, Sources, last_of}
+use Rattle.revision.specs.Parting.{parts_pair}
+use Rattle.revision.specs.Late.{late}
+use Rattle.revision.specs.Past.{undo_of, deltas_of, deltas_above}
+use Rattle.revision.specs.State.{Limits, DocumentRecord, State, revision_of, units_of, sources_of, find, last_of_all, reaches_past, weight_after, has_place, grows, grown}
 
 pub data Answer : Type 0 where
   -- it is taken, and this is added to the state
@@ -14,13 +19,23 @@ pub data Answer : Type 0 where
   Repeats : ℕ → Answer
   Refuses : Refusal → Answer
 
--- A creation of a document that is there: the source's last number sent again, or one document too many of that name.
+-- A command to be taken on these units and sources: the units that its delta speaks of have to be there, no pair may be parted, and
+-- the limits have to be kept.
+abbrev pub take_on : Limits → List Element → Sources → Taken → Answer
+take_on limits units sources taken =
+    if reaches_past taken.delta units then Refuses PastEnd
+    else if parts_pair taken.delta units then Refuses CutsPair
+    else if nat_lt limits.weight (weight_after units sources taken) then Refuses TooHeavy
+    else if nat_lt limits.width (width_of taken) then Refuses TooWide
+    else Takes taken
+
+-- a creation of a document that is there: the source's last number sent again, or one document too many of that name
 abbrev pub create_existing : DocumentRecord → Command → Answer
 create_existing found command =
-    let last = last_of command.source found.sources in
-    if nat_lt 0 last.0 && (command.number == last.0) then Repeats last.1 else Refuses Exists
+    let last = last_of command.source (sources_of found) in
+    if nat_lt 0 last.number && (command.number == last.number) then Repeats last.revision else Refuses Exists
 
--- what a creation adds to the state
+-- what is added where a document is created
 abbrev pub creation : State → Command → List Operation → Taken
 creation state command delta = record {
   document = length state.documents;
@@ -31,24 +46,83 @@ creation state command delta = record {
   delta = delta;
 }
 
--- A creation of a new document: its number has to be 1, its delta may not speak of units that the empty document doesn't
--- have, and the limits have to be kept.
 abbrev pub create_new : State → Command → List Operation → Answer
 create_new state command delta =
     if nat_lt 1 command.number then Refuses Gap
     else if nat_le state.limits.docs (length state.documents) then Refuses TooManyDocuments
-    else if reaches_past delta [] then Refuses PastEnd
-    else if nat_lt state.limits.weight (weight_of (document_from delta) 1) then Refuses TooHeavy
-    else if nat_lt state.limits.width (width_of (creation state command delta)) then Refuses TooWide
-    else Takes (creation state command delta)
+    else take_on state.limits [] empty (creation state command delta)
 
-abbrev pub create_answer : State → Command → List Operation → Option DocumentRecord → Answer
-create_answer state command delta None = create_new state command delta
-create_answer state command delta (Some found) = create_existing found command
+-- what is added where the document of this number is changed by a delta
+abbrev pub next_revision : ℕ → DocumentRecord → Command → List Operation → Taken
+next_revision number found command delta = record {
+  document = number;
+  name = None;
+  revision = revision_of found + 1;
+  source = command.source;
+  number = command.number;
+  delta = delta;
+}
 
-abbrev pub answer_to : State → Command → Action → Answer
-answer_to state command (Create delta) = create_answer state command delta (record_of command.name state.documents)
+abbrev pub change : State → ℕ → DocumentRecord → Command → List Operation → Answer
+change state number found command delta =
+    if revision_of found == last_of_all then Refuses RevisionsSpent
+    else take_on state.limits (units_of found) (sources_of found) (next_revision number found command delta)
+
+-- an edit: late past what was taken since its base, which has to be a revision that is held
+abbrev pub edit : State → ℕ → DocumentRecord → Command → ℕ → List Operation → Answer
+edit state number found command base delta =
+    if not (has_place state.limits command.source (sources_of found)) then Refuses TooManySources
+    else if nat_lt (revision_of found) base then Refuses Future
+    else if nat_lt base found.past.floor then Refuses TooOld
+    else change state number found command (late delta (deltas_above found.past base))
+
+-- an undo of the source's last change, whose revision has to be held with the one before it
+abbrev pub undo : State → ℕ → DocumentRecord → Command → Answer
+undo state number found command =
+    let last = last_of command.source (sources_of found) in
+    if last.number == 0 then Refuses NothingToUndo
+    else if nat_le last.revision found.past.floor then Refuses TooOld
+    else change state number found command (undo_of found.past.floor found.past.content.units (deltas_of found.past) last.revision)
+
+-- the number alone decides whether a command is a retry, and whether it is the source's next one
+abbrev pub by_number : LastTaken → ℕ → Answer → Answer
+by_number last number next =
+    if nat_lt 0 last.number && (number == last.number) then Repeats last.revision
+    else if nat_lt number last.number then Refuses OldNumber
+    else if nat_lt (last.number + 1) number then Refuses Gap
+    else next
+
+-- the first case that holds
+abbrev pub answer_to : State → Command → Action → Option (ℕ × DocumentRecord) → Answer
+answer_to state command (Create delta) None = create_new state command delta
+answer_to state command (Create delta) (Some found) = create_existing found.1 command
+answer_to state command (Edit base delta) None = Refuses NoDocument
+answer_to state command (Edit base delta) (Some found) =
+    by_number (last_of command.source (sources_of found.1)) command.number (edit state found.0 found.1 command base delta)
+answer_to state command Undo None = Refuses NoDocument
+answer_to state command Undo (Some found) =
+    by_number (last_of command.source (sources_of found.1)) command.number (undo state found.0 found.1 command)
 
 -- the answer to a command
 abbrev pub answer : State → Command → Answer
-answer state command = answer_to state command command.action
+answer state command = answer_to state command command.action (find command.name 0 state.documents)
+
+-- a command's reply
+pub data Reply : Type 0 where
+  TakenAt : ℕ → Reply
+  AgainAt : ℕ → Reply
+  Refused : Refusal → Reply
+
+-- the reply of an answer, and the state after it
+abbrev pub reply_and_state : State → Answer → Reply × State
+reply_and_state state (Takes taken) = (TakenAt taken.revision, grown state taken)
+reply_and_state state (Repeats revision) = (AgainAt revision, state)
+reply_and_state state (Refuses refusal) = (Refused refusal, state)
+
+abbrev pub decide : State → Command → Reply × State
+decide state command = reply_and_state state (answer state command)
+
+-- what is taken of a command continues the state
+abbrev pub TakenGrows : Type 0
+TakenGrows = (state : State) (command : Command) (taken : Taken) → 1 ≤ command.number → command.number < 2 ^ 53
+    → answer state command ≡ Takes taken → grows state taken ≡ true

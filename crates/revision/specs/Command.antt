@@ -5,14 +5,23 @@ use Rattle.revision.specs.Name.{is_document_name, is_source_name}
 use Rattle.revision.specs.Spellable.{IsSpellable}
 use Rattle.revision.specs.Width.{delta_width}
 
--- what is to be done to a document
+-- what is asked for of a document
 pub data Action : Type 0 where
   -- make it, by a delta on the empty document
-  Create : (delta : List Operation) → Action
+  Create : List Operation → Action
+  -- change it by a delta that was made on this revision
+  Edit : ℕ → List Operation → Action
+  -- take the source's last change back
+  Undo : Action
 
 -- the delta of what is to be done stands on at most 2^44 code units, and its output has at most 2^44
+abbrev pub IsShortDelta : List Operation → Type 0
+IsShortDelta delta = (base_of delta ≤ 2 ^ 44) × (out_of delta ≤ 2 ^ 44)
+
 abbrev pub IsShort : Action → Type 0
-IsShort (Create delta) = (base_of delta ≤ 2 ^ 44) × (out_of delta ≤ 2 ^ 44)
+IsShort (Create delta) = IsShortDelta delta
+IsShort (Edit base delta) = IsShortDelta delta
+IsShort Undo = Unit {0}
 
 -- a source's command to the document of this name, with the source's number for it
 pub record Command : Type 0 where

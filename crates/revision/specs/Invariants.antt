@@ -1,11 +1,10 @@
 -- What each state is that grew from the empty one. That it is so (EmptyIsState, GrowingKeeps, AdoptingKeeps) isn't proved yet: no
 -- function promises it, and nothing rests on it.
 use Rattle.std.specs.Prelude.{◌≡◌, ℕ, ◌≤◌, ◌<◌, ◌^◌, true, List, [], Some, length, slice_get}
-use Rattle.revision.specs.State.{weight_of}
+use Rattle.revision.specs.State.{weight_of, Limits, DocumentRecord, State, last_of_all, are_sources, grows, grown, adopts, adopted}
 use Rattle.revision.specs.Command.{Taken}
 use Rattle.revision.specs.Sources.{Sources, count_of}
-use Rattle.revision.specs.Past.{StandInTurn}
-use Rattle.revision.specs.Whole.{Limits, Past, Content, DocumentRecord, State, newest, deltas_of, content_at, sources_at, last_of_all, are_sources, grows, grown, adopts, adopted}
+use Rattle.revision.specs.Past.{StandInTurn, Past, Content, newest, deltas_of, content_at, sources_at}
 
 -- the ranges of the limits
 pub record IsLimits (limits : Limits) : Type 0 where

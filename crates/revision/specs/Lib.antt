@@ -5,16 +5,15 @@ pub mod Command
 pub mod Actions
 pub mod TakenView
 pub mod State
+pub mod LimitsView
 pub mod Agree
 pub mod Acceptance
-pub mod Planned
 pub mod Late
 pub mod Past
 pub mod PastView
 pub mod Parting
 pub mod Sources
-pub mod Whole
-pub mod Agreement
+pub mod Readings
 pub mod Invariants
 mod Examples
-mod WholeExamples
+mod AcceptanceExamples

@@ -1,37 +1,55 @@
--- What a store holds: documents in order of creation, under limits.
-use Rattle.std.specs.Prelude.{ℕ, ◌+◌, ◌-◌, ◌*◌, ◌==◌, ◌&&◌, not, nat_lt, nat_le, bytes_eq, if◌then◌else◌, Bool, true, false, Option, Some, None, is_none, List, [], ◌∷◌, ◌++◌, length}
+-- What a store holds: documents in order of creation, under limits; and what continues it.
+use Rattle.std.specs.Prelude.{ℕ, zero, suc, ◌+◌, ◌-◌, ◌*◌, ◌^◌, ◌==◌, ◌&&◌, ◌||◌, not, nat_lt, nat_le, bytes_eq, if◌then◌else◌, Bool, true, false, Option, Some, None, is_none, List, [], ◌∷◌, ◌++◌, length, slice_get}
+use Rattle.attributes.specs.Map.{empty}
 use Rattle.delta.specs.Element.{Element}
 use Rattle.delta.specs.Operation.{Operation}
-use Rattle.delta.specs.Gaps.{counted, units_below}
-use Rattle.document.specs.Making.{document_from}
+use Rattle.delta.specs.Gaps.{counted, apply, units_below}
 use Rattle.document.specs.Weight as document
-use Rattle.revision.specs.declared.state.Limits.{Limits}
-use Rattle.revision.specs.declared.state.SourceEntry.{SourceEntry}
 use Rattle.revision.specs.Command.{Taken, width_of}
+use Rattle.revision.specs.Sources.{LastTaken, Sources, last_of, count_of, with_last}
+use Rattle.revision.specs.Parting.{parts_pair}
+use Rattle.revision.specs.Past.{Content, Change, Past, empty_past, newest, content_at, sources_at, with_change}
 
--- A record of a document: its name, its units at its revision, the lowest revision that is still held (the floor),
--- and for each source its last number with the revision that came of it.
+-- How much a state may hold: documents, sources of a document, a document's weight, the bytes of a command's entry in the journal,
+-- and how many revisions below the newest one are held.
+pub record Limits : Type 0 where
+  pub docs : ℕ
+  pub sources : ℕ
+  pub weight : ℕ
+  pub width : ℕ
+  pub keep : ℕ
+
+-- A record of a document: its name, and its past, from which all else comes.
 pub record DocumentRecord : Type 0 where
   pub name : List ℕ
-  pub units : List Element
-  pub revision : ℕ
-  pub floor : ℕ
-  pub sources : List SourceEntry
+  pub past : Past
+
+-- the document's newest revision, with its content, its units and its sources there
+abbrev pub revision_of : DocumentRecord → ℕ
+revision_of document = newest document.past
+
+abbrev pub content_of : DocumentRecord → Content
+content_of document = content_at document.past (revision_of document)
+
+abbrev pub units_of : DocumentRecord → List Element
+units_of document = (content_of document).units
+
+abbrev pub sources_of : DocumentRecord → Sources
+sources_of document = sources_at document.past (revision_of document)
 
 -- the records in order of creation, with the limits
 pub record State : Type 0 where
   pub limits : Limits
   pub documents : List DocumentRecord
 
--- the record of this name
-abbrev pub record_of : List ℕ → List DocumentRecord → Option DocumentRecord
-record_of name [] = None
-record_of name (first ∷ others) = if bytes_eq first.name name then Some first else record_of name others
+-- the document of a name with its number, counted from this one on
+abbrev pub find : List ℕ → ℕ → List DocumentRecord → Option (ℕ × DocumentRecord)
+find name number [] = None
+find name number (first ∷ others) = if bytes_eq first.name name then Some (number, first) else find name (number + 1) others
 
--- a source's last number and its revision, 0 and 0 where it has none
-abbrev pub last_of : List ℕ → List SourceEntry → ℕ × ℕ
-last_of source [] = (0, 0)
-last_of source (first ∷ others) = if bytes_eq first.source source then (first.number, first.revision) else last_of source others
+-- the last revision and the last number
+abbrev pub last_of_all : ℕ
+last_of_all = 2 ^ 53 - 1
 
 -- a delta speaks of units that aren't there
 abbrev pub reaches_past : List Operation → List Element → Bool
@@ -41,49 +59,122 @@ reaches_past delta units = nat_lt (length units) (units_below (counted delta))
 abbrev pub weight_of : List Element → ℕ → ℕ
 weight_of units sources = document.weight_of units + 64 * sources
 
--- a creation continues the state: it has the next document's number and a new name, its delta stands on the empty document,
--- and it keeps the limits
-abbrev pub creates : State → Taken → List ℕ → Bool
-creates state taken name =
-    (taken.revision == 1) && (taken.number == 1) && (taken.document == length state.documents)
-    && is_none (record_of name state.documents)
-    && nat_lt (length state.documents) state.limits.docs
-    && not (reaches_past taken.delta [])
-    && nat_le (weight_of (document_from taken.delta) 1) state.limits.weight
-    && nat_le (width_of taken) state.limits.width
+-- the weight of a document after a command of units and sources before it
+abbrev pub weight_after : List Element → Sources → Taken → ℕ
+weight_after units sources taken =
+    weight_of (apply units (counted taken.delta)) (count_of (with_last taken.source taken.number taken.revision sources))
 
--- a command that was taken continues the state
-abbrev pub grows_by_name : State → Taken → Option (List ℕ) → Bool
-grows_by_name state taken None = false
-grows_by_name state taken (Some name) = creates state taken name
+-- a source has its place in a document: it is there, or there is room for one more
+abbrev pub has_place : Limits → List ℕ → Sources → Bool
+has_place limits source sources = not ((last_of source sources).number == 0) || nat_lt (count_of sources) limits.sources
 
+-- what a delta keeps that is taken on these units and sources: it is defined, parts no pair, and the limits are kept
+abbrev pub keeps : Limits → List Element → Sources → Taken → Bool
+keeps limits units sources taken =
+    not (reaches_past taken.delta units) && not (parts_pair taken.delta units)
+    && nat_le (weight_after units sources taken) limits.weight && nat_le (width_of taken) limits.width
+
+-- A creation begins a document: it is revision 1, by its source's first command.
+abbrev pub begins : Limits → Taken → Bool
+begins limits taken = (taken.revision == 1) && (taken.number == 1) && keeps limits [] empty taken
+
+-- a change follows the newest revision of a document: it is the next one, and has its source's next number
+abbrev pub follows : Limits → DocumentRecord → Taken → Bool
+follows limits found taken =
+    (taken.revision == revision_of found + 1) && not (revision_of found == last_of_all)
+    && (taken.number == (last_of taken.source (sources_of found)).number + 1) && nat_le taken.number last_of_all
+    && has_place limits taken.source (sources_of found)
+    && keeps limits (units_of found) (sources_of found) taken
+
+-- A command continues a document: it creates it where it isn't there, and changes it where it is.
+abbrev pub continues_by_name : Limits → Option DocumentRecord → Taken → Option (List ℕ) → Bool
+continues_by_name limits None taken None = false
+continues_by_name limits None taken (Some name) = begins limits taken
+continues_by_name limits (Some found) taken None = follows limits found taken
+continues_by_name limits (Some found) taken (Some name) = false
+
+abbrev pub continues : Limits → Option DocumentRecord → Taken → Bool
+continues limits found taken = continues_by_name limits found taken taken.name
+
+-- the change that a command makes
+abbrev pub change_of : Taken → Change
+change_of taken = record { source = taken.source; number = taken.number; delta = taken.delta }
+
+-- the document after a command
+abbrev pub record_by_name : ℕ → Option DocumentRecord → Taken → Option (List ℕ) → Option DocumentRecord
+record_by_name keep None taken None = None
+record_by_name keep None taken (Some name) = Some (record { name = name; past = with_change keep empty_past (change_of taken) })
+record_by_name keep (Some found) taken name = Some (record found { past = with_change keep found.past (change_of taken) })
+
+abbrev pub record_after : ℕ → Option DocumentRecord → Taken → Option DocumentRecord
+record_after keep found taken = record_by_name keep found taken taken.name
+
+-- commands of one document in order: each continues it as those before have left it; and the document after them all
+abbrev pub all_continue : Limits → Option DocumentRecord → List Taken → Bool
+all_continue limits found [] = true
+all_continue limits found (first ∷ others) =
+    continues limits found first && all_continue limits (record_after limits.keep found first) others
+
+abbrev pub record_after_all : ℕ → Option DocumentRecord → List Taken → Option DocumentRecord
+record_after_all keep found [] = found
+record_after_all keep found (first ∷ others) = record_after_all keep (record_after keep found first) others
+
+-- There is room for a new document, which has the next number and a name that isn't there.
+abbrev pub has_room : State → ℕ → Option (List ℕ) → Bool
+has_room state number None = true
+has_room state number (Some name) =
+    (number == length state.documents) && nat_lt (length state.documents) state.limits.docs && is_none (find name 0 state.documents)
+
+-- A command that was taken continues the state: it continues the document of its number, and has room where it is a creation.
 abbrev pub grows : State → Taken → Bool
-grows state taken = grows_by_name state taken taken.name
+grows state taken = has_room state taken.document taken.name && continues state.limits (slice_get state.documents taken.document) taken
 
--- the record that a creation makes
-abbrev pub created : Limits → Taken → List ℕ → DocumentRecord
-created limits taken name = record {
-  name = name;
-  units = document_from taken.delta;
-  revision = taken.revision;
-  floor = taken.revision - limits.keep;
-  sources = (record { source = taken.source; number = taken.number; revision = taken.revision }) ∷ [];
-}
-
-abbrev pub grown_by_name : State → Taken → Option (List ℕ) → State
-grown_by_name state taken None = state
-grown_by_name state taken (Some name) = record state { documents = state.documents ++ created state.limits taken name ∷ [] }
+-- the documents with the one of this number set, which is there or is the next one
+abbrev pub set_document : ℕ → Option DocumentRecord → List DocumentRecord → List DocumentRecord
+set_document number None documents = documents
+set_document zero (Some document) [] = document ∷ []
+set_document (suc number) (Some document) [] = []
+set_document zero (Some document) (first ∷ others) = document ∷ others
+set_document (suc number) (Some document) (first ∷ others) = first ∷ set_document number (Some document) others
 
 -- the state with the command added
 abbrev pub grown : State → Taken → State
-grown state taken = grown_by_name state taken taken.name
+grown state taken = record state {
+  documents = set_document taken.document (record_after state.limits.keep (slice_get state.documents taken.document) taken) state.documents;
+}
 
--- the commands added in order
-abbrev pub folded : State → List Taken → State
-folded state [] = state
-folded state (first ∷ others) = folded (grown state first) others
-
--- each command continues the state that those before it have made
+-- commands in order: each continues the state that those before have made; and the state with them all added
 abbrev pub all_grow : State → List Taken → Bool
 all_grow state [] = true
 all_grow state (first ∷ others) = grows state first && all_grow (grown state first) others
+
+abbrev pub fold : State → List Taken → State
+fold state [] = state
+fold state (first ∷ others) = fold (grown state first) others
+
+-- what a source may have in a document at a revision: a number, with a revision that it may have come to
+abbrev pub is_last_taken : ℕ → LastTaken → Bool
+is_last_taken revision last =
+    nat_le 1 last.number && nat_le last.number last_of_all && nat_le 1 last.revision && nat_le last.revision revision
+
+abbrev pub are_sources : ℕ → List (List ℕ × LastTaken) → Bool
+are_sources revision [] = true
+are_sources revision (first ∷ others) = is_last_taken revision first.1 && are_sources revision others
+
+-- A document may be added at a revision, without the past before it, with its sources: the limits are kept, its name is new, and
+-- the revision and the sources are such as can be.
+abbrev pub adopts : State → List ℕ → Content → ℕ → Sources → Bool
+adopts state name content revision sources =
+    nat_lt (length state.documents) state.limits.docs && is_none (find name 0 state.documents)
+    && nat_le 1 revision && nat_le revision last_of_all
+    && nat_le (count_of sources) state.limits.sources && are_sources revision sources.entries
+    && nat_le (weight_of content.units (count_of sources)) state.limits.weight
+
+-- a document whose past begins at a revision
+abbrev pub record_at : List ℕ → Content → ℕ → Sources → DocumentRecord
+record_at name content revision sources =
+    record { name = name; past = record { floor = revision; content = content; sources = sources; changes = [] } }
+
+abbrev pub adopted : State → List ℕ → Content → ℕ → Sources → State
+adopted state name content revision sources =
+    record state { documents = state.documents ++ record_at name content revision sources ∷ [] }

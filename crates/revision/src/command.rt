@@ -1,8 +1,7 @@
 //! What a source asks for.
-ghost use Rattle.std.specs.Prelude.{◌≡◌, ◌<◌, ◌≤◌, ◌^◌, ◌↔◌, ◌⊎◌, ◌+◌, true, IsErrOf, IfErr, IfOk};
-ghost use Rattle.delta.specs.Operation.{base_of, out_of};
+ghost use Rattle.std.specs.Prelude.{◌≡◌, ◌<◌, ◌≤◌, ◌^◌, ◌↔◌, true, IsErrOf, IfErr, IfOk};
 ghost use Rattle.revision.specs.Name.{is_source_name};
-ghost use Rattle.revision.specs.Command.{Create, IsShort};
+ghost use Rattle.revision.specs.Command.{Create, Edit, Undo, IsShort, IsShortDelta};
 ghost use Rattle.revision.specs.Actions.{action_of};
 
 use crate::name::Name;
@@ -19,6 +18,10 @@ const MAX_LEN: u64 = 1 << 44;
 pub enum Action {
     /// Make it, by a delta on the empty document.
     Create(Delta),
+    /// Change it, by a delta that was made on this revision.
+    Edit { base: u64, delta: Delta },
+    /// Take the source's last change back.
+    Undo,
 }
 
 /// A source's command to a document, with the source's number for it, 1 to 2^53 - 1.
@@ -55,10 +58,10 @@ impl Command {
         requires first { 1 ≤ number }
         requires last { number < 2 ^ 53 }
         ensures ok { IfOk result (λ c. c ≡ record { name = name; source = source; number = number; action = Create delta }) }
-        ensures bad { IsErrOf result Refusal.BadOps ↔ ((2 ^ 44 < base_of delta) ⊎ (2 ^ 44 < out_of delta)) }
+        ensures bad { IsErrOf result Refusal.BadOps ↔ (¬ IsShortDelta delta) }
         ensures only { IfErr result (λ e. e ≡ Refusal.BadOps) }
     {
-        if delta.base_len() > MAX_LEN || delta.out_len() > MAX_LEN {
+        if !is_short(&delta) {
             return Err(Refusal::BadOps);
         }
         Ok(Command {
@@ -67,6 +70,49 @@ impl Command {
             number,
             action: Action::Create(delta),
         })
+    }
+
+    /// Asks that the document of this name be changed by a delta that was made on its revision `base`. The names, the
+    /// number and the delta are as those of `create`, and so is the refusal.
+    pub fn edit(
+        name: Name,
+        source: Name,
+        number: u64,
+        base: u64,
+        delta: Delta,
+    ) -> Result<Command, Refusal>
+        requires source { is_source_name source ≡ true }
+        requires first { 1 ≤ number }
+        requires last { number < 2 ^ 53 }
+        ensures ok { IfOk result (λ c. c ≡ record { name = name; source = source; number = number; action = Edit base delta }) }
+        ensures bad { IsErrOf result Refusal.BadOps ↔ (¬ IsShortDelta delta) }
+        ensures only { IfErr result (λ e. e ≡ Refusal.BadOps) }
+    {
+        if !is_short(&delta) {
+            return Err(Refusal::BadOps);
+        }
+        Ok(Command {
+            name,
+            source,
+            number,
+            action: Action::Edit { base, delta },
+        })
+    }
+
+    /// Asks that the source's last change of the document of this name be taken back. The source's name and its number are
+    /// as those of `create`. It is never refused.
+    pub fn undo(name: Name, source: Name, number: u64) -> Command
+        requires source { is_source_name source ≡ true }
+        requires first { 1 ≤ number }
+        requires last { number < 2 ^ 53 }
+        ensures { result ≡ record { name = name; source = source; number = number; action = Undo } }
+    {
+        Command {
+            name,
+            source,
+            number,
+            action: Action::Undo,
+        }
     }
 
     /// The document's name, of 1 to 64 characters.
@@ -100,4 +146,11 @@ impl Command {
     {
         &self.action
     }
+}
+
+// the delta stands on at most 2^44 code units, and its output has at most 2^44
+fn is_short(delta: &Delta) -> bool
+    ensures { (result ≡ true) ↔ IsShortDelta delta.now }
+{
+    delta.base_len() <= MAX_LEN && delta.out_len() <= MAX_LEN
 }

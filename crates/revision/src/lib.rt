@@ -12,25 +12,21 @@
 #![tactic(auto)]
 
 mod command;
-mod growing;
 mod late;
 pub mod laws;
+mod limits;
 mod name;
 mod past;
-mod planning;
 mod sources;
-mod state;
 mod taken;
 #[cfg(test)]
 mod tests;
-mod weight;
 mod widths;
 
 pub use command::{Action, Command};
+pub use limits::Limits;
 pub use name::Name;
 pub use past::{Past, Taker};
-pub use planning::Plan;
 pub use sources::{LastTaken, Sources};
-pub use state::{DocState, Limits, SourceEntry, State};
 pub use taken::Taken;
 pub use widths::delta_width;

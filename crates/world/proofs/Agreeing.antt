@@ -3,9 +3,11 @@ use Rattle.std.proofs.Common.{◌≡◌, ℕ, zero, suc, ◌+◌, ◌-◌, true,
 use Rattle.std.specs.Prelude.{◌==◌, ◌&&◌, nat_lt, nat_le, max, slice_get}
 use Rattle.std.proofs.lemmas.Bool.{and_parts, cond_both, leb-true}
 use Rattle.std.proofs.lemmas.List.{map-append}
-use Rattle.revision.specs.Command.{Taken}
-use Rattle.revision.specs.Whole.{Command, Answer, Takes, Repeats, Refuses, answer, Past, newest, empty_past, change_of, from_floor, DocumentRecord, revision_of, State, record_by_name, record_after, set_document, grown, fold}
-use Rattle.revision.specs.Agreement.{DocumentsAgree, PlacesAgree}
+use Rattle.revision.specs.Command.{Taken, Command}
+use Rattle.revision.specs.Past.{Past, newest, empty_past, from_floor}
+use Rattle.revision.specs.State.{change_of, DocumentRecord, revision_of, State, record_by_name, record_after, set_document, grown, fold}
+use Rattle.revision.specs.Acceptance.{Answer, Takes, Repeats, Refuses, answer}
+use Rattle.revision.specs.Agree.{DocumentsAgree, PlacesAgree}
 use Rattle.world.specs.Board.{Ticket, can_take, can_settle, can_ack}
 use Rattle.world.specs.Event.{Done, Failed, Stopped, Event, Submit, Take, Device, Publish, Settle, Ack, Compose, Crash, Open, Resend}
 use Rattle.world.specs.World.{Entry, entry_of, takens, World, begun, last_sent, last_composed}

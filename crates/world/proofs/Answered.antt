@@ -8,14 +8,14 @@ use Rattle.refusal.specs.declared.Refusal.TheVariants.{Exists, Gap, OldNumber, T
 use Rattle.attributes.specs.Map.{empty}
 use Rattle.delta.specs.Element.{Element}
 use Rattle.delta.specs.Operation.{Operation}
-use Rattle.revision.specs.Command.{Taken, width_of}
-use Rattle.revision.specs.State.{reaches_past}
+use Rattle.revision.specs.Command.{Taken, width_of, Action, Create, Edit, Undo, Command}
+use Rattle.revision.specs.State.{reaches_past, Limits, DocumentRecord, State, revision_of, units_of, sources_of, find, last_of_all, weight_after, has_place}
 use Rattle.revision.specs.Parting.{parts_pair}
 use Rattle.revision.specs.Late.{late}
-use Rattle.revision.specs.Past.{undo_of}
+use Rattle.revision.specs.Past.{undo_of, deltas_of, deltas_above}
 use Rattle.revision.specs.declared.sources.LastTaken.{LastTaken}
 use Rattle.revision.specs.Sources.{Sources, last_of}
-use Rattle.revision.specs.Whole.{Limits, DocumentRecord, State, Action, Create, Edit, Undo, Command, Answer, Takes, Repeats, Refuses, revision_of, units_of, sources_of, deltas_of, deltas_above, find, last_of_all, weight_after, take_on, creation, next_revision, change, has_place, edit, undo, by_number, answer_to, answer}
+use Rattle.revision.specs.Acceptance.{Answer, Takes, Repeats, Refuses, take_on, creation, next_revision, change, edit, undo, by_number, answer_to, answer}
 use Rattle.world.specs.World.{entry_of}
 use Rattle.world.specs.Shown.{Shown, shown, all_shown}
 use Rattle.world.proofs.Numbers.{last_in, nothing_yet, IsNew, IsNextAt, Placed}

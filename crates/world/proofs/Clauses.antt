@@ -5,7 +5,8 @@ use Rattle.std.proofs.lemmas.Bool.{and_parts}
 use Rattle.std.proofs.lemmas.List.{take-take, length-take, take_more, get_or-take}
 use Rattle.std.proofs.lemmas.List.Elements.{All-weaker}
 use Rattle.revision.specs.declared.sources.LastTaken.{LastTaken}
-use Rattle.revision.specs.Whole.{DocumentRecord, State, Command, find}
+use Rattle.revision.specs.Command.{Command}
+use Rattle.revision.specs.State.{DocumentRecord, State, find}
 use Rattle.world.specs.Board.{Ticket}
 use Rattle.world.specs.World.{Entry, takens, World, begun, is_of, last_sent}
 use Rattle.world.specs.Step.{run}

@@ -6,7 +6,7 @@ use Rattle.delta.specs.Element.{Element}
 use Rattle.delta.specs.Gaps.{counted, apply}
 use Rattle.compose.specs.Many.{applied}
 use Rattle.revision.specs.Sources.{Sources, with_last}
-use Rattle.revision.specs.Whole.{Change, Past, newest, deltas_of, sources_after, from_floor, with_change}
+use Rattle.revision.specs.Past.{Change, Past, newest, deltas_of, sources_after, from_floor, with_change}
 use Rattle.world.proofs.Pasts.{newest-from_floor}
 
 -- the first of the deltas, and then so many of the others

@@ -6,9 +6,10 @@ use Rattle.std.proofs.lemmas.Bool.Decides.{nat_tests}
 use Rattle.std.proofs.lemmas.List.{append-nil, get_or_default, length-append, length-drop, length-take-le, length-map, map-append, take-map}
 use Rattle.std.proofs.lemmas.List.Elements.{All-nil, All-head, All-tail, All-push, All-take}
 use Rattle.std.proofs.lemmas.Option.{slice_get-map}
-use Rattle.revision.specs.Command.{Taken}
+use Rattle.revision.specs.Command.{Taken, Command}
 use Rattle.revision.specs.declared.sources.LastTaken.{LastTaken}
-use Rattle.revision.specs.Whole.{Command, State, Answer, Takes, Repeats, Refuses, TakenAt, AgainAt, answer, last_of_all}
+use Rattle.revision.specs.State.{State, last_of_all}
+use Rattle.revision.specs.Acceptance.{Answer, Takes, Repeats, Refuses, TakenAt, AgainAt, answer}
 use Rattle.world.specs.declared.follower.Place.{Place}
 use Rattle.world.specs.declared.follower.Waiting.{Waiting}
 use Rattle.world.specs.declared.follower.Happening.{Happening}

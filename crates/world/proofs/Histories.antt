@@ -4,7 +4,7 @@ use Rattle.std.specs.Prelude.{◌⊎◌, bytes_eq, All, Any, AllPairs}
 use Rattle.std.proofs.lemmas.Bool.{and_parts, and_from, both_ways}
 use Rattle.std.proofs.lemmas.List.Elements.{All-nil, All-cons, All-weaker}
 use Rattle.revision.specs.declared.sources.LastTaken.{LastTaken}
-use Rattle.revision.specs.Whole.{Command}
+use Rattle.revision.specs.Command.{Command}
 use Rattle.world.specs.World.{Entry, takens, is_of}
 use Rattle.world.specs.Shown.{Shown}
 use Rattle.world.specs.Law.{IsSent}

@@ -5,7 +5,9 @@ use Rattle.std.proofs.lemmas.Bool.{and_parts, or_cases, cond_both, leb-true, ltb
 use Rattle.std.proofs.lemmas.List.{append-nil, take_all, take-append-drop, take-append-le, take-take, length-append, length-take-le, length-map, map-append}
 use Rattle.std.proofs.lemmas.List.Elements.{All-nil, All-push, All-weaker, All-take}
 use Rattle.std.proofs.lemmas.Option.{slice_get_within, get_or_from_slice_get}
-use Rattle.revision.specs.Whole.{Command, State, Answer, Takes, Repeats, Refuses, answer, last_of_all}
+use Rattle.revision.specs.Command.{Command}
+use Rattle.revision.specs.State.{State, last_of_all}
+use Rattle.revision.specs.Acceptance.{Answer, Takes, Repeats, Refuses, answer}
 use Rattle.world.specs.Board.{Ticket, submitted_by, ticket_by, can_take, can_settle, can_ack, taken_beyond}
 use Rattle.world.specs.Event.{Outcome, Done, Failed, Stopped, Event, Submit, Take, Device, Publish, Settle, Ack, Compose, Crash, Open, Resend}
 use Rattle.world.specs.World.{Entry, entry_of, takens, World, begun, is_of, last_sent}

@@ -3,7 +3,8 @@ use Rattle.std.proofs.Common.{◌≡◌, ℕ, ◌+◌, ◌-◌, ◌≤◌, true,
 use Rattle.std.specs.Prelude.{◌&&◌, nat_le, max}
 use Rattle.std.proofs.lemmas.Bool.{and_parts, leb-true}
 use Rattle.revision.specs.Command.{Taken}
-use Rattle.revision.specs.Whole.{from_floor, DocumentRecord, revision_of, State}
+use Rattle.revision.specs.Past.{from_floor}
+use Rattle.revision.specs.State.{DocumentRecord, revision_of, State}
 use Rattle.world.specs.World.{last_composed}
 use Rattle.world.specs.Step.{keeping_all, whole, with_floors, may_begin_at, may_pick}
 use Rattle.world.specs.Shown.{shown, all_shown}

@@ -7,7 +7,7 @@ use Rattle.delta.specs.Operation.{Operation}
 use Rattle.delta.specs.Gaps.{counted, apply}
 use Rattle.compose.specs.Many.{applied}
 use Rattle.revision.specs.Sources.{Sources, with_last}
-use Rattle.revision.specs.Whole.{Change, Past, newest, deltas_of, sources_after, content_at, sources_at, from_floor, with_change}
+use Rattle.revision.specs.Past.{Change, Past, newest, deltas_of, sources_after, content_at, sources_at, from_floor, with_change}
 
 delta_of : Change → List Operation
 delta_of change = change.delta

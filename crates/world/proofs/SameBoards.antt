@@ -2,8 +2,9 @@
 use Rattle.std.proofs.Common.{◌≡◌, ℕ, zero, suc, ◌+◌, List, [], ◌∷◌, ◌++◌, take, drop, Some, refl, sym, ap, ◌∙◌, arith}
 use Rattle.std.specs.Prelude.{◌&&◌, nat_lt, nat_le}
 use Rattle.std.proofs.lemmas.List.{length-map, map-append, take-map, drop-map}
-use Rattle.revision.specs.Command.{Taken}
-use Rattle.revision.specs.Whole.{State, Command, Answer, Takes, Repeats, Refuses, TakenAt, AgainAt, answer, grown, fold}
+use Rattle.revision.specs.Command.{Taken, Command}
+use Rattle.revision.specs.State.{State, grown, fold}
+use Rattle.revision.specs.Acceptance.{Answer, Takes, Repeats, Refuses, TakenAt, AgainAt, answer}
 use Rattle.world.specs.Board.{Board, submitted_by, ticket_by}
 use Rattle.world.specs.World.{Entry, entry_of}
 use Rattle.world.specs.Boards.{board_of, SameBoard, BatchGoesOn}

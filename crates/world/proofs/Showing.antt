@@ -6,7 +6,8 @@ use Rattle.attributes.specs.Map.{empty}
 use Rattle.delta.specs.Gaps.{counted, apply}
 use Rattle.revision.specs.Command.{Taken}
 use Rattle.revision.specs.Sources.{with_last}
-use Rattle.revision.specs.Whole.{change_of, empty_past, DocumentRecord, State, with_change, record_by_name, record_after, set_document, grown, fold}
+use Rattle.revision.specs.Past.{empty_past, with_change}
+use Rattle.revision.specs.State.{change_of, DocumentRecord, State, record_by_name, record_after, set_document, grown, fold}
 use Rattle.world.specs.Shown.{Shown, shown, all_shown}
 use Rattle.world.proofs.Pasts.{newest-with_change, units-with_change, sources-with_change}
 

@@ -1,7 +1,8 @@
 -- What stands behind the lock: the one order of the commands that were taken, and how far it is written.
 use Rattle.std.specs.Prelude.{ℕ, ◌+◌, ◌==◌, ◌&&◌, nat_lt, nat_le, Bool, Option, Some, None, List, [], ◌∷◌, ◌++◌, length, take, drop}
-use Rattle.revision.specs.Command.{Taken}
-use Rattle.revision.specs.Whole.{State, Command, Answer, Takes, Repeats, Refuses, Reply, TakenAt, AgainAt, answer, grown}
+use Rattle.revision.specs.Command.{Taken, Command}
+use Rattle.revision.specs.State.{State, grown}
+use Rattle.revision.specs.Acceptance.{Answer, Takes, Repeats, Refuses, Reply, TakenAt, AgainAt, answer}
 
 -- The state that the order begins with; the order of what was taken since; the state with all of it; and of the order how many
 -- commands were taken off to be written, and how many of these are settled. `E` is what is kept of a command.

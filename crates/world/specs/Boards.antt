@@ -1,7 +1,7 @@
 -- What ties a board of the program, and the commits of its batches, to a world.
 use Rattle.std.specs.Prelude.{◌≡◌, ℕ, ◌+◌, take}
-use Rattle.revision.specs.Command.{Taken}
-use Rattle.revision.specs.Whole.{Command, fold}
+use Rattle.revision.specs.Command.{Taken, Command}
+use Rattle.revision.specs.State.{fold}
 use Rattle.world.specs.Board.{Board, Ticket, submitted, ticket_of, can_take, next_run, taken_more, can_settle, settled_more, taken_beyond, can_ack}
 use Rattle.world.specs.World.{Entry, entry_of, takens}
 

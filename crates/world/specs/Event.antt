@@ -1,6 +1,6 @@
 -- What may happen to a server: the steps of its board, of the device under it and of its view, and crashes.
 use Rattle.std.specs.Prelude.{ℕ, List}
-use Rattle.revision.specs.Whole.{Command}
+use Rattle.revision.specs.Command.{Command}
 
 -- how the writing of a batch ends
 pub data Outcome : Type 0 where

@@ -6,7 +6,9 @@ use Rattle.refusal.specs.declared.Refusal.TheVariants.{TooOld}
 use Rattle.attributes.specs.Map.{empty, insert}
 use Rattle.attributes.specs.Attributes.{changed_by}
 use Rattle.delta.specs.Operation.{insert_text}
-use Rattle.revision.specs.Whole.{State, Action, Create, Edit, Command, Refuses, Reply, TakenAt, AgainAt, answer}
+use Rattle.revision.specs.Command.{Action, Create, Edit, Command}
+use Rattle.revision.specs.State.{State}
+use Rattle.revision.specs.Acceptance.{Refuses, Reply, TakenAt, AgainAt, answer}
 use Rattle.world.specs.Board.{Ticket}
 use Rattle.world.specs.Event.{Done, Failed, Stopped, Event, Submit, Take, Device, Publish, Settle, Ack, Compose, Crash, Open, Resend}
 use Rattle.world.specs.World.{World, begun}

@@ -4,7 +4,7 @@ use Rattle.world.specs.declared.follower.Place.{Place}
 use Rattle.world.specs.declared.follower.Waiting.{Waiting}
 use Rattle.world.specs.declared.follower.Happening.{Happening}
 use Rattle.world.specs.declared.follower.Happening.TheVariants.{Submit, Take, Device, Publish, Settle, Ack, Crash, Open, Resend}
-use Rattle.revision.specs.Whole.{last_of_all}
+use Rattle.revision.specs.State.{last_of_all}
 
 -- the order, the tickets and the acknowledgements; the greatest number that was sent; the counts and the two lengths of a world, and
 -- whether the store has failed and the machine has stopped

@@ -1,6 +1,7 @@
 -- What a program that follows one source's commands to one document has to be told of a schedule, and what it shows of a world.
 use Rattle.std.specs.Prelude.{◌≡◌, ℕ, Bool, true, false, Option, Some, None, List, [], ◌∷◌, ◌++◌, length, take, map, All}
-use Rattle.revision.specs.Whole.{State, Answer, Takes, Repeats, Refuses, Reply, TakenAt, AgainAt, Refused, answer}
+use Rattle.revision.specs.State.{State}
+use Rattle.revision.specs.Acceptance.{Answer, Takes, Repeats, Refuses, Reply, TakenAt, AgainAt, Refused, answer}
 use Rattle.world.specs.declared.follower.Place.{Place}
 use Rattle.world.specs.declared.follower.Waiting.{Waiting}
 use Rattle.world.specs.declared.follower.Happening.{Happening}

@@ -2,8 +2,10 @@
 use Rattle.std.specs.Prelude.{◌≡◌, ◌⊎◌, ℕ, ◌<◌, ◌≤◌, true, List, ◌++◌, length, take, Option, Some, None, All, Any, AllPairs}
 use Rattle.revision.specs.declared.sources.LastTaken.{LastTaken}
 use Rattle.revision.specs.Sources.{last_of}
-use Rattle.revision.specs.Whole.{DocumentRecord, sources_of, State, Command, find, Repeats, Reply, TakenAt, AgainAt, Refused, answer, fold}
-use Rattle.revision.specs.Agreement.{Agree}
+use Rattle.revision.specs.Command.{Command}
+use Rattle.revision.specs.State.{DocumentRecord, sources_of, State, find, fold}
+use Rattle.revision.specs.Acceptance.{Repeats, Reply, TakenAt, AgainAt, Refused, answer}
+use Rattle.revision.specs.Agree.{Agree}
 use Rattle.world.specs.Board.{Ticket}
 use Rattle.world.specs.Event.{Event}
 use Rattle.world.specs.World.{Entry, takens, World, begun, last_sent}

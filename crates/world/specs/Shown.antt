@@ -2,7 +2,7 @@
 use Rattle.std.specs.Prelude.{ℕ, List, map}
 use Rattle.delta.specs.Element.{Element}
 use Rattle.revision.specs.Sources.{Sources}
-use Rattle.revision.specs.Whole.{DocumentRecord, State, revision_of, units_of, sources_of}
+use Rattle.revision.specs.State.{DocumentRecord, State, revision_of, units_of, sources_of}
 
 -- a document's name, and its units, revision and sources as they are now
 pub record Shown : Type 0 where

@@ -1,7 +1,8 @@
 -- What each event makes of a world. One that isn't possible changes nothing, so every list of events is a schedule.
 use Rattle.std.specs.Prelude.{ℕ, ◌+◌, ◌-◌, ◌==◌, ◌&&◌, ◌||◌, not, nat_lt, nat_le, if◌then◌else◌, max, Bool, true, false, Option, Some, None, List, [], ◌∷◌, ◌++◌, length, take, slice_get, option_to_list}
-use Rattle.revision.specs.Command.{Taken}
-use Rattle.revision.specs.Whole.{from_floor, DocumentRecord, revision_of, State, Command, last_of_all, fold}
+use Rattle.revision.specs.Command.{Taken, Command}
+use Rattle.revision.specs.Past.{from_floor}
+use Rattle.revision.specs.State.{DocumentRecord, revision_of, State, last_of_all, fold}
 use Rattle.world.specs.Board.{Ticket, submitted, ticket_of, can_take, taken_more, can_settle, settled_more, taken_beyond, can_ack}
 use Rattle.world.specs.Event.{Outcome, Done, Failed, Stopped, Event, Submit, Take, Device, Publish, Settle, Ack, Compose, Crash, Open, Resend}
 use Rattle.world.specs.World.{entry_of, takens, World, last_sent, last_composed}

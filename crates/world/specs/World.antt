@@ -1,7 +1,7 @@
 -- All that a history of the server has made: what stands in memory, what a crash may leave, and what was promised.
 use Rattle.std.specs.Prelude.{ℕ, ◌==◌, ◌&&◌, bytes_eq, if◌then◌else◌, max, Bool, false, List, [], ◌∷◌, map}
-use Rattle.revision.specs.Command.{Taken}
-use Rattle.revision.specs.Whole.{State, Command}
+use Rattle.revision.specs.Command.{Taken, Command}
+use Rattle.revision.specs.State.{State}
 use Rattle.world.specs.Board.{Board, Ticket}
 
 -- what the order keeps: the command, and what was taken of it

@@ -9,7 +9,11 @@ use Rattle.attributes.specs.Scalar.{flag_scalar}
 use Rattle.delta.specs.Element.{Element, letters}
 use Rattle.delta.specs.Operation.{Operation, insert_text, retain, delete}
 use Rattle.revision.specs.Sources.{Sources, with_last}
-use Rattle.revision.specs.Whole.{DocumentRecord, Content, State, Action, Create, Edit, Undo, Command, Reply, TakenAt, AgainAt, Refused, decide, document_at, taken_since, adopts, adopted}
+use Rattle.revision.specs.Past.{Content}
+use Rattle.revision.specs.Command.{Action, Create, Edit, Undo, Command}
+use Rattle.revision.specs.State.{DocumentRecord, State, adopts, adopted}
+use Rattle.revision.specs.Acceptance.{Reply, TakenAt, AgainAt, Refused, decide}
+use Rattle.revision.specs.Readings.{document_at, taken_since}
 
 abbrev ins : List ℕ → Operation
 ins us = insert_text us empty

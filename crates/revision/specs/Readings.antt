@@ -1,0 +1,24 @@
+-- What is read of a document's past.
+use Rattle.std.specs.Prelude.{ℕ, nat_lt, if◌then◌else◌, Option, Some, None, Result, Ok, Err, List}
+use Rattle.refusal.specs.declared.Refusal.{Refusal}
+use Rattle.refusal.specs.declared.Refusal.TheVariants.{NoDocument, Future, TooOld}
+use Rattle.delta.specs.Element.{Element}
+use Rattle.delta.specs.Operation.{Operation}
+use Rattle.revision.specs.Past.{Past, content_at, deltas_above}
+use Rattle.revision.specs.State.{DocumentRecord, State, revision_of, find}
+
+-- what is asked of a document's past at a revision: the document has to be there, and the revision held
+abbrev pub at_revision : {X : Type 0} → ℕ → Option (ℕ × DocumentRecord) → (Past → X) → Result X Refusal
+at_revision revision None ask = Err NoDocument
+at_revision revision (Some found) ask =
+    if nat_lt (revision_of found.1) revision then Err Future
+    else if nat_lt revision found.1.past.floor then Err TooOld
+    else Ok (ask found.1.past)
+
+-- the units of a document at a revision
+abbrev pub document_at : State → List ℕ → ℕ → Result (List Element) Refusal
+document_at state name revision = at_revision revision (find name 0 state.documents) (λ past. (content_at past revision).units)
+
+-- the deltas that were taken since a revision
+abbrev pub taken_since : State → List ℕ → ℕ → Result (List (List Operation)) Refusal
+taken_since state name revision = at_revision revision (find name 0 state.documents) (λ past. deltas_above past revision)

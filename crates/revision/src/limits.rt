@@ -1,0 +1,83 @@
+//! How much a store may hold.
+ghost use Rattle.std.specs.Prelude.{◌≡◌, ◌<◌, ◌≤◌, ◌^◌};
+ghost use Rattle.revision.specs.Invariants.{IsLimits};
+
+use std::marker::Model;
+
+/// How much a store may hold, each limit included.
+#[derive(Clone, Copy, Debug, PartialEq, Eq)]
+pub struct Limits {
+    docs: u32,
+    sources: u32,
+    weight: u32,
+    width: u32,
+    keep: u32,
+}
+
+impl Model for Limits {
+    ghost use Rattle.revision.specs.State as spec;
+    ghost use Rattle.revision.specs.Invariants.{IsLimits};
+    ghost use Rattle.revision.specs.LimitsView.{limits_of, limits_from};
+
+    ghost Value = { spec.Limits };
+
+    ghost view = { limits_of };
+
+    ghost inverse = { limits_from };
+
+    ghost invariant = { λ l. IsLimits (limits_of l) };
+}
+
+impl Limits {
+    /// Limits in their ranges: 1 to 65,536 documents, 1 to 4,096 sources of a document, the weight of a document (that of its
+    /// units, `Document::weight`, and 64 for each source), the bytes of a command's entry in the journal, and how many
+    /// revisions below the newest one are held, 1 to 65,536.
+    pub fn new(docs: u32, sources: u32, weight: u32, width: u32, keep: u32) -> Limits
+        requires { IsLimits (record { docs = docs; sources = sources; weight = weight; width = width; keep = keep }) }
+        ensures { result ≡ record { docs = docs; sources = sources; weight = weight; width = width; keep = keep } }
+    {
+        Limits {
+            docs,
+            sources,
+            weight,
+            width,
+            keep,
+        }
+    }
+
+    /// Documents, 1 to 65,536.
+    pub fn docs(&self) -> u32
+        ensures docs { result ≡ self.now.docs }
+        ensures limits { IsLimits self.now }
+    {
+        self.docs
+    }
+
+    /// Sources of a document, 1 to 4,096.
+    pub fn sources(&self) -> u32
+        ensures { result ≡ self.now.sources }
+    {
+        self.sources
+    }
+
+    /// The weight of a document: that of its units, and 64 for each source.
+    pub fn weight(&self) -> u32
+        ensures { result ≡ self.now.weight }
+    {
+        self.weight
+    }
+
+    /// The bytes of a command's entry in the journal.
+    pub fn width(&self) -> u32
+        ensures { result ≡ self.now.width }
+    {
+        self.width
+    }
+
+    /// How many revisions below the newest one are held, 1 to 65,536.
+    pub fn keep(&self) -> u32
+        ensures { result ≡ self.now.keep }
+    {
+        self.keep
+    }
+}
