@@ -3,7 +3,7 @@ use Rattle.std.proofs.Common.{◌≡◌, inl, inr, ⊎_elim, ℕ, true, Option, 
 use Rattle.disk.specs.Device.{SameOutside}
 use Rattle.revision.specs.Command.{Taken}
 use Rattle.journal.specs.BatchSpelling.{IsBatch, batch}
-use Rattle.revision.specs.State.{State, folded, all_grow}
+use Rattle.revision.specs.State.{State, fold, all_grow}
 use Rattle.revision.proofs.CallerLemmas.{agrees}
 use Rattle.recovery.specs.declared.shape.Shape.{Shape}
 use Rattle.recovery.specs.declared.segments.Ring.{Ring}
@@ -38,18 +38,18 @@ module _ (old : List ℕ) (shape : Shape) (ring : Ring) (slot : Option Segment) 
   same_bodies now kept = subst (λ (b : List (List ℕ)). StandFor shape b batches state) (sym kept) stand
 
   module _ (commands : List Taken) (is_batch : IsBatch commands) (grow : all_grow state commands ≡ true) where
-    more_bodies : (now : Option Segment) → bodies_of now ≡ bodies_of slot ++ batch commands ∷ [] → StandFor shape (bodies_of now) (batches ++ commands ∷ []) (folded state commands)
-    more_bodies now kept = subst (λ (b : List (List ℕ)). StandFor shape b (batches ++ commands ∷ []) (folded state commands)) (sym kept) (stand_more shape (bodies_of slot) batches state commands stand is_batch grow)
+    more_bodies : (now : Option Segment) → bodies_of now ≡ bodies_of slot ++ batch commands ∷ [] → StandFor shape (bodies_of now) (batches ++ commands ∷ []) (fold state commands)
+    more_bodies now kept = subst (λ (b : List (List ℕ)). StandFor shape b (batches ++ commands ∷ []) (fold state commands)) (sym kept) (stand_more shape (bodies_of slot) batches state commands stand is_batch grow)
 
     -- a crash within the append
     pub with_or_without : (content : List ℕ) → IsSlotLeftByAppend ring.at ring.size old (bodies_of slot) (batch commands) content → IsWithOrWithout state commands content
     with_or_without content left =
         let there = again content left.slot left.outside left.holds in
         ⊎_elim (λ kept. inl (record { there = state; found = record { shape = shape; slot = left.slot; batches = batches; laid_out = there; stand = same_bodies left.slot kept }; agrees = agrees state }))
-        (λ added. inr (record { there = folded state commands; found = record { shape = shape; slot = left.slot; batches = batches ++ commands ∷ []; laid_out = there; stand = more_bodies left.slot added }; agrees = agrees (folded state commands) }))
+        (λ added. inr (record { there = fold state commands; found = record { shape = shape; slot = left.slot; batches = batches ++ commands ∷ []; laid_out = there; stand = more_bodies left.slot added }; agrees = agrees (fold state commands) }))
         left.kept
 
-    pub added_bodies : (now : Option Segment) → bodies_of now ≡ bodies_of slot ++ batch commands ∷ [] → StandFor shape (bodies_of now) (batches ++ commands ∷ []) (folded state commands)
+    pub added_bodies : (now : Option Segment) → bodies_of now ≡ bodies_of slot ++ batch commands ∷ [] → StandFor shape (bodies_of now) (batches ++ commands ∷ []) (fold state commands)
     added_bodies now added = more_bodies now added
 
     -- the layout after an append that is done

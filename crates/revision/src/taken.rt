@@ -115,6 +115,7 @@ impl Taken {
     /// How many bytes its entry has in the journal; 2^64 - 1 where it would have more. It takes no memory.
     pub fn width(&self) -> u64
         ensures width { result ≡ min (width_of self.now) (2 ^ 64 - 1) }
+        ensures taken { IsTaken self.now }
     {
         let name = match &self.name {
             Some(name) => 2 + name.len(),

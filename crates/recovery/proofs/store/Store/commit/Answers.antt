@@ -1,6 +1,6 @@
 use Rattle.std.proofs.Common.{◌≡◌, ◌∙◌, ⊎_elim, ℕ, true, false, List, [], ◌∷◌, ◌++◌, Err, length, take, ap, subst, sym, inl, rules}
 use Rattle.journal.specs.BatchSpelling.{batch}
-use Rattle.revision.specs.State.{DocumentRecord, folded}
+use Rattle.revision.specs.State.{DocumentRecord, fold}
 use Rattle.recovery.specs.Slot.{bodies_of}
 use Rattle.recovery.specs.Ring.{IsSlotLeftByAppend, IsSlotAppended}
 use Rattle.recovery.specs.Room.{has_room_for}
@@ -30,7 +30,7 @@ returns-in_err-absorb_all-clause-any_moment g c unfailed is_open =
 pub returns-clause-same_state : goal.returns-clause-same_state
 returns-clause-same_state g c =
     let old = c.args.self.now.state in
-    let grown : c.absorb_all.new.self ≡ folded old c.args.batch.now = c.in_ok-absorb_all.ensures.ok in
+    let grown : c.absorb_all.new.self ≡ fold old c.args.batch.now = c.in_ok-absorb_all.ensures.ok in
     let count : length c.documents-before.result.now ≡ length old.documents = ap (length {A = DocumentRecord}) c.documents-before.ensures.documents in
     c.truncate.ensures ∙ ap (λ n. record c.absorb_all.new.self { documents = take n c.absorb_all.new.self.documents }) count ∙ taken_back old c.absorb_all.new.self c.args.batch.now grown
 
