@@ -1,14 +1,21 @@
 //! A store that is open.
-ghost use Rattle.std.specs.Prelude.{◌≡◌, ◌≢◌, ◌⊎◌, ◌↔◌, ◌+◌, ◌<◌, ◌≤◌, ◌^◌, List, ℕ, true, false, length, OnOk, OnErr, IfOk, IfErr, IsErrOf};
+ghost use Rattle.std.specs.Prelude.{◌≡◌, ◌≢◌, ◌⊎◌, ◌↔◌, ◌+◌, ◌<◌, ◌≤◌, ◌^◌, List, ℕ, true, false, [], Option, length, OnOk, OnErr, IfOk, IfErr, IsErrOf};
+ghost use Rattle.disk.specs.Calls.{HasOnlyWritten, CountsFaultsAs};
+ghost use Rattle.disk.specs.Crash.{LeavesOnly};
+ghost use Rattle.journal.specs.BatchSpelling.{IsBatch, batch as spelled, batch_width};
+ghost use Rattle.recovery.specs.Slot.{Segment, bodies_of};
+ghost use Rattle.recovery.specs.Room.{has_room_for};
+ghost use Rattle.recovery.specs.Ring.{FitsSlot, IsSlotLeftByAppend, IsSlotAppended, IsSlotKept};
 
 use crate::reading::read_store;
 use crate::segments::Ring;
 use crate::shape::Shape;
 use disk::Disk;
-use journal::encode_batch;
+use journal::{batch_len, encode_batch};
 use refusal::Refusal;
 use revision::{State, Taken};
 use std::alloc::Global;
+use std::mem::replace;
 
 /// Why a device could not be opened. The device comes back.
 #[derive(Debug, Drop)]
@@ -183,9 +190,13 @@ impl<D: Disk> Store<D> {
 
     // Whether the batch fits behind what is there.
     fn has_room(&self, batch: &[Taken]) -> bool
-        ensures { result ≡ has_room self.now batch.now }
+        requires some { 1 ≤ length batch.now }
+        requires short { length batch.now < 2 ^ 32 }
+        ensures room { result ≡ has_room self.now batch.now }
+        ensures is_batch { IsBatch batch.now }
     {
-        self.ring.has_room(batch_len(batch))
+        let len = batch_len(batch);
+        len < 1 << 32 && self.ring.has_room(len)
     }
 }
 
@@ -203,10 +214,9 @@ fn append_batch<D: Disk>(
     ensures full { IsErrOf result Refusal.JournalFull → has_room_for ring.old.size ring.old.newest (batch_width batch.now) ≡ false }
     ensures only { IfErr result (λ e. (e ≡ Refusal.JournalFull) ⊎ ((e ≡ Refusal.NoMemory) ⊎ (e ≡ Refusal.Fault))) }
     ensures place { (ring.new.at ≡ ring.old.at) × (ring.new.size ≡ ring.old.size) }
-    ensures is_batch { OnOk result (IsBatch batch.now) }
 
     ensures any_moment { (slot : Option Segment) → D.unsynced disk.old ≡ [] → FitsSlot (D.seen disk.old) ring.old slot
-        → LeavesOnly ⟦<D as Disk>⟧ (IsLeftByBatch ring.old.at ring.old.size (D.seen disk.old) (bodies_of slot) batch.now) disk.old disk.new }
+        → LeavesOnly ⟦<D as Disk>⟧ (IsSlotLeftByAppend ring.old.at ring.old.size (D.seen disk.old) (bodies_of slot) (spelled batch.now)) disk.old disk.new }
     ensures done { OnOk result ((slot : Option Segment) → FitsSlot (D.seen disk.old) ring.old slot
         → IsSlotAppended (D.seen disk.old) ring.old (bodies_of slot) (spelled batch.now) (D.seen disk.new) ring.new) }
     ensures synced { OnOk result (D.unsynced disk.new ≡ []) }
