@@ -11,11 +11,11 @@ use Rattle.revision.specs.Acceptance.{Answer}
 use Rattle.recovery.specs.Found.{FoundAs}
 use Rattle.recovery.specs.Open.{IsOpen, device_of, state_of, has_failed as store_has_failed}
 use Rattle.recovery.proofs.CallerLemmas.{found_open, found_as}
-use Rattle.server.specs.declared.session.reply.Reply.{Reply}
-use Rattle.server.specs.declared.session.reply.Reply.TheVariants as reply
+use Rattle.session.specs.declared.reply.Reply.{Reply}
+use Rattle.session.specs.declared.reply.Reply.TheVariants as reply
 use Rattle.server.specs.declared.desk.StoreDesk.{StoreDesk}
 use Rattle.server.specs.Desk.{IsToldAtOnce, Commits, AnswersFromStore, store_of, has_failed}
-use Rattle.server.specs.Replies.{Exchange, Asks}
+use Rattle.session.specs.Replies.{Exchange, Asks}
 use Rattle.server.specs.Asked.{added_by, with_command, state_with, state_after, MayHold, Holds, HoldsFrom, KeepsAll}
 
 not_true : (b : Bool) → ¬ (b ≡ true) → b ≡ false

@@ -3,11 +3,11 @@ use Rattle.std.proofs.Common.{◌++◌, ℕ, List, [], Option, Some, None, Resul
 use Rattle.std.specs.Io.KnownBytes.{Appends, Consumes, Keeps}
 use Rattle.refusal.specs.declared.Refusal.{Refusal}
 use Rattle.revision.specs.Command.{Command}
-use Rattle.server.specs.declared.session.reply.Reply.{Reply}
-use Rattle.server.specs.Session.{Session}
-use Rattle.server.specs.Replies.{Feeds, Stops}
+use Rattle.session.specs.declared.reply.Reply.{Reply}
+use Rattle.session.specs.Session.{Session}
+use Rattle.session.specs.Replies.{Feeds, Stops}
 use Rattle.server.specs.Serving.{Serves, WasAsked}
-use Rattle.server.proofs.Feeding.{feeds-nothing, feeds-joined, asks-joined}
+use Rattle.session.proofs.CallerLemmas.{feeds-nothing, feeds-joined, asks-joined}
 
 pub keeps-same : (a : Option (List ℕ)) → Keeps a a
 keeps-same None = tt

@@ -9,11 +9,11 @@ use Rattle.revision.specs.State.{State, folded}
 use Rattle.revision.specs.Acceptance.{Answer, Takes, Repeats, Refuses, answer}
 use Rattle.recovery.specs.Found.{FoundAs}
 use Rattle.recovery.specs.Open.{IsOpen, device_of, state_of, has_failed as store_has_failed}
-use Rattle.server.specs.declared.session.reply.Reply.{Reply}
-use Rattle.server.specs.declared.session.reply.Reply.TheVariants as reply
+use Rattle.session.specs.declared.reply.Reply.{Reply}
+use Rattle.session.specs.declared.reply.Reply.TheVariants as reply
 use Rattle.server.specs.declared.desk.StoreDesk.{StoreDesk}
 use Rattle.server.specs.Desk.{AnswersFromStore, store_of, has_failed}
-use Rattle.server.specs.Replies.{Exchange, Asks}
+use Rattle.session.specs.Replies.{Exchange, Asks}
 
 -- what an answer adds to the state
 abbrev pub added_by : Answer → List Taken

@@ -10,8 +10,8 @@ use Rattle.revision.specs.State.{folded}
 use Rattle.revision.specs.Acceptance.{Answer, Takes, Repeats, Refuses, answer}
 use Rattle.recovery.specs.declared.store.Store.{Store}
 use Rattle.recovery.specs.Open.{IsOpen, IsWithOrWithout, device_of, state_of, has_room, has_failed as store_has_failed}
-use Rattle.server.specs.declared.session.reply.Reply.{Reply}
-use Rattle.server.specs.declared.session.reply.Reply.TheVariants as reply
+use Rattle.session.specs.declared.reply.Reply.{Reply}
+use Rattle.session.specs.declared.reply.Reply.TheVariants as reply
 use Rattle.server.specs.declared.desk.StoreDesk.{StoreDesk}
 
 -- What is answered where nothing is committed: it was taken before, it is refused, or memory ran out.

@@ -3,9 +3,9 @@ use Rattle.std.specs.Prelude.{ℕ, List, [], false, Option, Some, None, Result}
 use Rattle.std.specs.Io.KnownBytes.{Consumes, IsAtEnd}
 use Rattle.refusal.specs.declared.Refusal.{Refusal}
 use Rattle.revision.specs.Command.{Command}
-use Rattle.server.specs.declared.session.reply.Reply.{Reply}
-use Rattle.server.specs.Session.{Session}
-use Rattle.server.specs.Replies.{Exchange, Asks, Feeds}
+use Rattle.session.specs.declared.reply.Reply.{Reply}
+use Rattle.session.specs.Session.{Session}
+use Rattle.session.specs.Replies.{Exchange, Asks, Feeds}
 
 -- a session at its beginning
 abbrev pub beginning : Session

@@ -1,9 +1,9 @@
 //! A desk that answers from a store.
-use crate::session::{Desk, Reply};
 use disk::Disk;
 use recovery::Store;
 use refusal::Refusal;
 use revision::{Command, Plan, Taken};
+use session::{Desk, Reply};
 use std::alloc::Global;
 
 /// Answers each command when what it changes is on the device.

@@ -4,14 +4,14 @@ ghost use Rattle.std.specs.Io.KnownBytes.{Consumes, IsAtEnd};
 ghost use Rattle.recovery.specs.Open.{IsOpen, has_failed as store_has_failed};
 ghost use Rattle.server.specs.Asked.{KeepsAll};
 ghost use Rattle.server.specs.Desk.{AnswersFromStore, store_of, has_failed};
-ghost use Rattle.server.specs.Replies.{Exchange, Asks, Feeds};
+ghost use Rattle.session.specs.Replies.{Exchange, Asks, Feeds};
 ghost use Rattle.server.specs.Serving.{Serves, IsServed, WasAsked};
 
 use crate::desk::StoreDesk;
 use crate::failure::Failure;
-use crate::session::{Desk, Session};
 use disk::Disk;
 use refusal::Refusal;
+use session::{Desk, Session};
 use std::alloc::Global;
 use std::io::{ErrorKind, Read, Write};
 

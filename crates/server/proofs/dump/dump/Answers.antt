@@ -2,7 +2,7 @@ use Rattle.std.proofs.Common.{◌≡◌, ◌<◌, length, get_or, sym, subst, �
 use Rattle.std.specs.Io.KnownBytes.{Appends}
 use Rattle.server.specs.Dump.{document_line}
 use Rattle.server.proofs.Dumps.{dump_of-more}
-use Rattle.server.proofs.Writes.{on_ok, appends-both}
+use Rattle.session.proofs.CallerLemmas.{on_ok, appends-both}
 use Rattle.server.proofs.dump.dump.Goals as goal
 
 pub loop-document-preserved : goal.loop-document-preserved

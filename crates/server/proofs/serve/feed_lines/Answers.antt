@@ -1,5 +1,5 @@
 use Rattle.std.proofs.Common.{◌++◌, ◌∙◌, ap, List, ℕ, append_assoc}
-use Rattle.server.proofs.Feeding.{feeds-joined}
+use Rattle.session.proofs.CallerLemmas.{feeds-joined}
 use Rattle.server.proofs.Streams.{asked-joined}
 use Rattle.server.proofs.serve.feed_lines.Goals as goal
 

@@ -1,5 +1,5 @@
 use Rattle.std.proofs.Common.{◌≡◌, ◌++◌, List, ℕ, length}
-use Rattle.server.specs.Replies.{Feeds}
+use Rattle.session.specs.Replies.{Feeds}
 use Rattle.server.proofs.serve.feed_lines.Given as goal
 
 -- what comes of the lines so far is written

@@ -1,0 +1,7 @@
+mod Inserts
+mod Whole
+mod Worked
+pub mod Writes
+pub mod Replying
+pub mod Feeding
+pub mod CallerLemmas

@@ -1,0 +1,39 @@
+-- What a line is replied: a JSON object with its members in ascending order and no blanks, and a line end.
+use Rattle.std.specs.Prelude.{ℕ, List, [], ◌∷◌, ◌++◌, codes}
+use Rattle.serde_json.specs.Data.{Data, object, member, no_members, number, unsigned, string}
+use Rattle.serde_json.specs.Written.{compact_text}
+use Rattle.refusal.specs.declared.Refusal.{Refusal}
+use Rattle.refusal.specs.Refusal.{number_of, name_of}
+use Rattle.session.specs.declared.reply.Reply.{Reply}
+use Rattle.session.specs.declared.reply.Reply.TheVariants.{Taken, Again}
+
+-- `{"ok":"hello"}`
+abbrev pub greeting : Data
+greeting = object (member (codes "ok") (string (codes "hello")) no_members)
+
+abbrev pub kind_of : Reply → List ℕ
+kind_of (Taken rev) = codes "taken"
+kind_of (Again rev) = codes "again"
+
+abbrev pub rev_of : Reply → ℕ
+rev_of (Taken rev) = rev
+rev_of (Again rev) = rev
+
+-- `{"doc":"d","n":1,"ok":"taken","rev":1}`
+abbrev pub acknowledgement_of : List ℕ → ℕ → List ℕ → ℕ → Data
+acknowledgement_of doc n kind rev =
+    object (member (codes "doc") (string doc) (member (codes "n") (number (unsigned n))
+    (member (codes "ok") (string kind) (member (codes "rev") (number (unsigned rev)) no_members))))
+
+-- the same of a command's reply, with `again` where it was taken before
+abbrev pub acknowledgement : List ℕ → ℕ → Reply → Data
+acknowledgement doc n reply = acknowledgement_of doc n (kind_of reply) (rev_of reply)
+
+-- `{"code":7,"error":"Exists"}`
+abbrev pub refusal_reply : Refusal → Data
+refusal_reply refusal =
+    object (member (codes "code") (number (unsigned (number_of refusal))) (member (codes "error") (string (name_of refusal)) no_members))
+
+-- the value's line
+abbrev pub line_of : Data → List ℕ
+line_of value = compact_text value ++ 10 ∷ []

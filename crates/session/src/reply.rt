@@ -1,0 +1,86 @@
+//! What a line is replied.
+ghost use Rattle.std.specs.Prelude.{◌≡◌, IfOk, false};
+ghost use Rattle.serde_json.specs.Written.{has_float};
+ghost use Rattle.std.specs.String.{string_bytes};
+ghost use Rattle.session.specs.Reply as spec;
+ghost use Rattle.serde_json.specs.View.{view};
+
+use refusal::Refusal;
+use revision::Command;
+use serde_json::{Value, json};
+use std::alloc::{AllocError, Global};
+
+/// What a command has become.
+#[derive(Clone, Copy, Debug, PartialEq, Eq)]
+pub enum Reply {
+    /// It was taken, and made this revision.
+    Taken { rev: u64 },
+    /// It was taken before, and made this revision.
+    Again { rev: u64 },
+}
+
+impl Reply {
+    fn kind(self) -> &'static str
+        ensures { result.now ≡ spec.kind_of self }
+    {
+        match self {
+            Reply::Taken { .. } => "taken",
+            Reply::Again { .. } => "again",
+        }
+    }
+
+    fn rev(self) -> u64
+        ensures { result ≡ spec.rev_of self }
+    {
+        match self {
+            Reply::Taken { rev } | Reply::Again { rev } => rev,
+        }
+    }
+}
+
+/// The reply to hello.
+pub fn greeting(alloc: Global) -> Result<String, AllocError>
+    ensures { IfOk result (λ text. string_bytes text ≡ spec.line_of spec.greeting) }
+{
+    let value = json!(in alloc; {"ok": "hello"})?;
+    line_of(alloc, &value)
+}
+
+/// The reply to a command that isn't refused.
+pub fn acknowledgement(alloc: Global, command: &Command, reply: Reply) -> Result<String, AllocError>
+    ensures { IfOk result (λ text. string_bytes text ≡
+        spec.line_of (spec.acknowledgement command.now.name command.now.number reply)) }
+{
+    let doc = command.name().as_str();
+    let value = acknowledgement_of(alloc, doc, command.number(), reply.kind(), reply.rev())?;
+    line_of(alloc, &value)
+}
+
+fn acknowledgement_of(
+    alloc: Global,
+    doc: &str,
+    number: u64,
+    kind: &str,
+    rev: u64,
+) -> Result<Value, AllocError>
+    ensures { IfOk result (λ value. view value ≡ spec.acknowledgement_of doc.now number kind.now rev) }
+{
+    json!(in alloc; {"doc": doc, "n": number, "ok": kind, "rev": rev})
+}
+
+/// The reply to a line that is refused.
+pub fn refusal_reply(alloc: Global, refusal: Refusal) -> Result<String, AllocError>
+    ensures { IfOk result (λ text. string_bytes text ≡ spec.line_of (spec.refusal_reply refusal)) }
+{
+    let value = json!(in alloc; {"code": refusal.number(), "error": refusal.name()})?;
+    line_of(alloc, &value)
+}
+
+fn line_of(alloc: Global, value: &Value) -> Result<String, AllocError>
+    ensures { IfOk result (λ text. has_float (view value.now) ≡ false
+        → string_bytes text ≡ spec.line_of (view value.now)) }
+{
+    let mut text = value.to_string(alloc)?;
+    text.push('\n')?;
+    Ok(text)
+}
