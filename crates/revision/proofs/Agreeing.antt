@@ -53,8 +53,8 @@ places-through (Some a) None c low first second = absurd first
 places-through (Some a) (Some b) None low first second = absurd second
 places-through (Some a) (Some b) (Some c) low first second = documents-through a b c low first second
 
-pub agree_same : AgreeSame
-agree_same s = record { limits = refl; documents = λ number. places-same (slice_get s.documents number) }
+pub agrees : AgreeSame
+agrees s = record { limits = refl; documents = λ number. places-same (slice_get s.documents number) }
 
 pub agree_turned : AgreeTurned
 agree_turned s t agree = record {
