@@ -8,4 +8,5 @@ pub mod Room
 pub mod Replays
 pub mod Kept
 pub mod Told
+pub mod Agreeing
 pub mod CallerLemmas
