@@ -6,7 +6,7 @@ use Rattle.disk.proofs.CallerLemmas.{synced_leaves, begins, begins_anywhere, lea
 use Rattle.refusal.specs.declared.Refusal.{Refusal}
 use Rattle.refusal.specs.declared.Refusal.TheVariants.{NoMemory, StoreFailed}
 use Rattle.revision.specs.Command.{Command}
-use Rattle.revision.specs.State.{State, folded}
+use Rattle.revision.specs.State.{State, fold}
 use Rattle.revision.specs.Acceptance.{Answer}
 use Rattle.recovery.specs.Found.{FoundAs}
 use Rattle.recovery.specs.Open.{IsOpen, device_of, state_of, has_failed as store_has_failed}
@@ -109,8 +109,8 @@ module _ {D : Type 0} (disk : Ghosts D) (old next new : StoreDesk D disk) (comma
   }
 
   module _ (result : Result Reply Refusal) (commits : Commits old command result next) where
-    added : with_command state command ≡ folded state (commits.taken ∷ [])
-    added = ap (λ (a : Answer). folded state (added_by a)) commits.due
+    added : with_command state command ≡ fold state (commits.taken ∷ [])
+    added = ap (λ (a : Answer). fold state (added_by a)) commits.due
 
     -- a crash within the commit
     within : LeavesOnly disk (MayHold state ((command, result) ∷ others)) (device_of (store_of old)) (device_of (store_of next))

@@ -5,7 +5,7 @@ use Rattle.disk.specs.Crash.{LeavesOnly, MayLeaveNow}
 use Rattle.refusal.specs.declared.Refusal.{Refusal}
 use Rattle.refusal.specs.declared.Refusal.TheVariants.{StoreFailed}
 use Rattle.revision.specs.Command.{Command, Taken}
-use Rattle.revision.specs.State.{State, folded}
+use Rattle.revision.specs.State.{State, fold}
 use Rattle.revision.specs.Acceptance.{Answer, Takes, Repeats, Refuses, answer}
 use Rattle.recovery.specs.Found.{FoundAs}
 use Rattle.recovery.specs.Open.{IsOpen, device_of, state_of, has_failed as store_has_failed}
@@ -23,7 +23,7 @@ added_by (Refuses refusal) = []
 
 -- the state with what a command adds to it
 abbrev pub with_command : State → Command → State
-with_command state command = folded state (added_by (answer state command))
+with_command state command = fold state (added_by (answer state command))
 
 -- the state after a command and what was answered to it: what was answered as taken is in it
 abbrev pub state_with : State → Command → Result Reply Refusal → State

@@ -6,7 +6,7 @@ use Rattle.disk.specs.Crash.{LeavesOnly}
 use Rattle.refusal.specs.declared.Refusal.{Refusal}
 use Rattle.refusal.specs.declared.Refusal.TheVariants.{NoMemory, StoreFailed}
 use Rattle.revision.specs.Command.{Command, Taken}
-use Rattle.revision.specs.State.{folded}
+use Rattle.revision.specs.State.{fold}
 use Rattle.revision.specs.Acceptance.{Answer, Takes, Repeats, Refuses, answer}
 use Rattle.recovery.specs.declared.store.Store.{Store}
 use Rattle.recovery.specs.Open.{IsOpen, IsWithOrWithout, device_of, state_of, has_room, has_failed as store_has_failed}
@@ -53,7 +53,7 @@ module _ {D : Type 0} {disk : Ghosts D} where
     pub due : answer (state_of (store_of old)) command ≡ Takes taken
     pub told : IsToldOf taken result
     -- what is acknowledged is in the store, and a refusal leaves the documents as they were
-    pub state : OnOk result (state_of (store_of new) ≡ folded (state_of (store_of old)) (taken ∷ []))
+    pub state : OnOk result (state_of (store_of new) ≡ fold (state_of (store_of old)) (taken ∷ []))
     pub same_state : OnErr result (state_of (store_of new) ≡ state_of (store_of old))
     pub room : OnOk result (has_room (store_of old) (taken ∷ []) ≡ true)
     pub works : OnOk result (store_has_failed (store_of new) ≡ false)
