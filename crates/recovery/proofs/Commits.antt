@@ -1,5 +1,5 @@
 -- What a content stands for after an append to the first slot.
-use Rattle.std.proofs.Common.{◌≡◌, inl, inr, ⊎_elim, ℕ, true, Option, List, [], ◌∷◌, ◌++◌, sym, subst}
+use Rattle.std.proofs.Common.{◌≡◌, refl, inl, inr, ⊎_elim, ℕ, true, Option, List, [], ◌∷◌, ◌++◌, sym, subst}
 use Rattle.disk.specs.Device.{SameOutside}
 use Rattle.revision.specs.Command.{Taken}
 use Rattle.journal.specs.BatchSpelling.{IsBatch, batch}
@@ -11,10 +11,17 @@ use Rattle.recovery.specs.Shape.{slot_place}
 use Rattle.recovery.specs.Slot.{Segment, HoldsSlot, bodies_of}
 use Rattle.recovery.specs.Layout.{IsLaidOut}
 use Rattle.recovery.specs.Found.{StandFor, FoundAs}
-use Rattle.recovery.specs.Ring.{IsSlotLeftByAppend, IsSlotAppended, IsSlotKept}
+use Rattle.recovery.specs.Ring.{IsSlotLeftByAppend, IsSlotLeftByOpening, IsSlotAppended, IsSlotKept}
 use Rattle.recovery.specs.Open.{IsWithOrWithout}
 use Rattle.recovery.proofs.Layouts.{laid_out_again}
 use Rattle.recovery.proofs.Folds.{stand_more}
+
+-- a content of which nothing was changed
+pub as_it_was : (at size : ℕ) (content : List ℕ) (slot : Option Segment) (body : List ℕ) → HoldsSlot at size content slot → IsSlotLeftByAppend at size content (bodies_of slot) body content
+as_it_was at size content slot body holds = record { outside = record { same_length = refl; before = refl; after = refl }; slot = slot; holds = holds; kept = inl refl }
+
+pub as_if_opened : (at size : ℕ) (content : List ℕ) (slot : Option Segment) → HoldsSlot at size content slot → IsSlotLeftByOpening at size content (bodies_of slot) content
+as_if_opened at size content slot holds = record { outside = record { same_length = refl; before = refl; after = refl }; slot = slot; holds = holds; kept = refl }
 
 module _ (old : List ℕ) (shape : Shape) (ring : Ring) (slot : Option Segment) (batches : List (List Taken)) (state : State)
     (at : ring.at ≡ slot_place shape 0) (size : ring.size ≡ shape.slot) (laid_out : IsLaidOut old shape slot) (stand : StandFor shape (bodies_of slot) batches state) where
@@ -36,6 +43,14 @@ module _ (old : List ℕ) (shape : Shape) (ring : Ring) (slot : Option Segment) 
   -- the same bodies stand for the same state
   pub same_bodies : (now : Option Segment) → bodies_of now ≡ bodies_of slot → StandFor shape (bodies_of now) batches state
   same_bodies now kept = subst (λ (b : List (List ℕ)). StandFor shape b batches state) (sym kept) stand
+
+  -- a crash before anything of a batch is written
+  pub opened_for : (content : List ℕ) → IsSlotLeftByOpening ring.at ring.size old (bodies_of slot) content → FoundAs content state
+  opened_for content left = record {
+    there = state;
+    found = record { shape = shape; slot = left.slot; batches = batches; laid_out = again content left.slot left.outside left.holds; stand = same_bodies left.slot left.kept };
+    agrees = agrees state;
+  }
 
   module _ (commands : List Taken) (is_batch : IsBatch commands) (grow : all_grow state commands ≡ true) where
     more_bodies : (now : Option Segment) → bodies_of now ≡ bodies_of slot ++ batch commands ∷ [] → StandFor shape (bodies_of now) (batches ++ commands ∷ []) (fold state commands)

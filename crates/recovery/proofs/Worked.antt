@@ -6,8 +6,7 @@ use Rattle.std.proofs.lemmas.List.Elements.{All-cons, All-nil}
 use Rattle.std.specs.Char.{encode_utf8}
 use Rattle.std.specs.Str.{chars, is_utf8}
 use Rattle.std.specs.Char.Utf16.{utf16_chars}
-use Rattle.attributes.specs.Map.{empty}
-use Rattle.delta.specs.Element.{lettered}
+use Rattle.attributes.specs.Map.{empty, insert}
 use Rattle.delta.specs.Operation.{insert_text}
 use Rattle.revision.specs.Spellable.{IsSpellable, IsOperation, IsPair, IsValue}
 use Rattle.revision.specs.Command.{Taken, IsTaken}
@@ -179,7 +178,7 @@ grown_first : fold (empty_state small) (creation 0 100 122 ∷ []) ≡ with_firs
 grown_first = refl
 
 first_grows : all_grow (empty_state small) (creation 0 100 122 ∷ []) ≡ true
-unfolding utf16_chars encode_utf8
+unfolding utf16_chars encode_utf8 insert
 first_grows = refl
 
 pub created_found : Found created with_first
@@ -251,7 +250,7 @@ abbrev both : List Taken
 both = creation 0 100 122 ∷ creation 1 101 120 ∷ []
 
 both_grow : all_grow (empty_state small) both ≡ true
-unfolding utf16_chars encode_utf8
+unfolding utf16_chars encode_utf8 insert
 both_grow = refl
 
 grown_both : fold (empty_state small) both ≡ with_both

@@ -5,7 +5,7 @@ ghost use Rattle.disk.specs.Crash.{LeavesOnly};
 ghost use Rattle.journal.specs.BatchSpelling.{IsBatch, batch as spelled, batch_width};
 ghost use Rattle.recovery.specs.Slot.{Segment, bodies_of};
 ghost use Rattle.recovery.specs.Room.{has_room_for};
-ghost use Rattle.recovery.specs.Ring.{FitsSlot, IsSlotLeftByAppend, IsSlotAppended, IsSlotKept};
+ghost use Rattle.recovery.specs.Ring.{FitsSlot, IsSlotLeftByAppend, IsSlotLeftByOpening, IsSlotAppended, IsSlotKept};
 
 use crate::reading::read_store;
 use crate::segments::Ring;
@@ -40,7 +40,7 @@ impl<D: Disk> Store<D> {
     ghost use Rattle.disk.specs.Crash.{LeavesOnly, MayLeaveNow, history_of};
     ghost use Rattle.revision.specs.State.{State as StateValue};
     ghost use Rattle.recovery.specs.Layout.{IsFormatted};
-    ghost use Rattle.recovery.specs.Found.{Found};
+    ghost use Rattle.recovery.specs.Found.{Found, FoundAs};
     ghost use Rattle.revision.specs.State.{fold, all_grow};
     ghost use Rattle.recovery.specs.Open.{IsOpen, WasOpen, IsUnchanged, IsWithOrWithout, device_of, state_of, has_failed, has_room};
 
@@ -153,6 +153,9 @@ impl<D: Disk> Store<D> {
         // A crash at any moment of the call leaves the state before it, or the one with the batch.
         ensures any_moment { has_failed self.old ≡ false → IsOpen self.old
             → LeavesOnly ⟦<D as Disk>⟧ (IsWithOrWithout (state_of self.old) batch.now) (device_of self.old) (device_of self.new) }
+        // Where memory ran out nothing of the batch was written: a crash at any moment leaves the state before it.
+        ensures unwritten { IsErrOf result Refusal.NoMemory → IsOpen self.old
+            → LeavesOnly ⟦<D as Disk>⟧ (λ content. FoundAs content (state_of self.old)) (device_of self.old) (device_of self.new) }
         // Once it is Ok, the device is synced and stands for the state with the batch.
         ensures done { OnOk result (IsOpen self.old → IsOpen self.new) }
         ensures kept { IfErr result (λ e. e ≢ Refusal.Fault → IsOpen self.old → IsOpen self.new) }
@@ -217,6 +220,8 @@ fn append_batch<D: Disk>(
 
     ensures any_moment { (slot : Option Segment) → D.unsynced disk.old ≡ [] → FitsSlot (D.seen disk.old) ring.old slot
         → LeavesOnly ⟦<D as Disk>⟧ (IsSlotLeftByAppend ring.old.at ring.old.size (D.seen disk.old) (bodies_of slot) (spelled batch.now)) disk.old disk.new }
+    ensures unwritten { IsErrOf result Refusal.NoMemory → (slot : Option Segment) → D.unsynced disk.old ≡ [] → FitsSlot (D.seen disk.old) ring.old slot
+        → LeavesOnly ⟦<D as Disk>⟧ (IsSlotLeftByOpening ring.old.at ring.old.size (D.seen disk.old) (bodies_of slot)) disk.old disk.new }
     ensures done { OnOk result ((slot : Option Segment) → FitsSlot (D.seen disk.old) ring.old slot
         → IsSlotAppended (D.seen disk.old) ring.old (bodies_of slot) (spelled batch.now) (D.seen disk.new) ring.new) }
     ensures synced { OnOk result (D.unsynced disk.new ≡ []) }
