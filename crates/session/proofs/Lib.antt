@@ -1,4 +1,3 @@
-mod Inserts
 mod Whole
 mod Worked
 pub mod Writes

@@ -2,10 +2,11 @@
 ghost use Rattle.std.specs.Prelude.{◌≡◌, ◌≤◌, ◌<◌, ◌++◌, ◌∷◌, ℕ, List, [], Some, length, codes};
 ghost use Rattle.refusal.specs.declared.Refusal.TheVariants.{LineTooLong, Exists};
 ghost use Rattle.session.specs.declared.reply.Reply.TheVariants.{Taken, Again};
-ghost use Rattle.session.specs.Reply.{greeting, acknowledgement, line_of};
+ghost use Rattle.session.specs.Reply.{greeting, acknowledgement, line_of, refusal_line};
 ghost use Rattle.session.specs.Line.{HasNoEnd};
 ghost use Rattle.session.specs.Session.{Session};
-ghost use Rattle.session.specs.Replies.{Exchange, Replies, IsReplied, IsLine, refusal_line};
+ghost use Rattle.session.specs.Exchange.{Exchange};
+ghost use Rattle.session.specs.Replies.{Replies, IsReplied, IsLine};
 
 /// It doesn't matter in which pieces the input comes: what comes of two pieces, one after the other, is what comes of
 /// them joined.
