@@ -1,5 +1,6 @@
 mod Whole
 mod Worked
+mod Alone
 pub mod Writes
 pub mod Replying
 pub mod Feeding

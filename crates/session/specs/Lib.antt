@@ -7,3 +7,4 @@ pub mod Fetch
 pub mod Exchange
 pub mod Session
 pub mod Replies
+pub mod Alone
