@@ -1,11 +1,9 @@
 -- Pieces of the input, one behind another.
 use Rattle.std.proofs.lemmas.List.{take_more}
-use Rattle.std.proofs.Common.{zero, suc, get_or, ◌<◌, add-zero, ◌≡◌, ◌≤◌, ◌+◌, ◌++◌, ℕ, List, [], ◌∷◌, Option, Result, length, take, refl, sym, ap, subst, ◌∙◌, append_assoc, append-nil, arith}
-use Rattle.refusal.specs.declared.Refusal.{Refusal}
-use Rattle.revision.specs.Command.{Command}
-use Rattle.session.specs.declared.reply.Reply.{Reply}
+use Rattle.std.proofs.Common.{zero, suc, get_or, ◌<◌, add-zero, ◌≡◌, ◌≤◌, ◌+◌, ◌++◌, ℕ, List, [], ◌∷◌, Option, length, take, refl, sym, ap, subst, ◌∙◌, append_assoc, append-nil, arith}
 use Rattle.session.specs.Session.{Session}
-use Rattle.session.specs.Replies.{Exchange, Replies, Asks, Feeds, Stops}
+use Rattle.session.specs.Exchange.{Exchange}
+use Rattle.session.specs.Replies.{Replies, Asks, Feeds, Stops}
 use Rattle.session.proofs.Writes.{appends-nothing, appends-both}
 
 -- what comes of two pieces comes of them joined
@@ -27,18 +25,18 @@ replies-joined (byte ∷ bytes) back old mid new a b t u (next, first, others, f
   ap (λ (l : List ℕ). l ++ u) text ∙ append_assoc f g u,
 )
 
-module _ {D : Type 0} (gives : D → Command → Result Reply Refusal → D → Type 0) where
-  pub asks-joined : (a b : List Exchange) (old mid new : D) → Asks gives old a mid → Asks gives mid b new → Asks gives old (a ++ b) new
-  asks-joined [] b old mid new is second = subst (λ (d : D). Asks gives d b new) is second
+module _ {D : Type 0} (does : D → Exchange → D → Type 0) where
+  pub asks-joined : (a b : List Exchange) (old mid new : D) → Asks does old a mid → Asks does mid b new → Asks does old (a ++ b) new
+  asks-joined [] b old mid new is second = subst (λ (d : D). Asks does d b new) is second
   asks-joined (exchange ∷ others) b old mid new (next, gave, rest) second = (next, gave, asks-joined others b next mid new rest second)
 
   -- nothing is taken
-  pub feeds-nothing : (s : Session) (d : D) (out : Option (List ℕ)) → Feeds gives s [] s d d out out
+  pub feeds-nothing : (s : Session) (d : D) (out : Option (List ℕ)) → Feeds does s [] s d d out out
   feeds-nothing s d out = record { asked = []; text = []; replies = (refl, refl, refl); asks = refl; written = appends-nothing out }
 
   -- one piece behind another
   pub feeds-joined : (front back : List ℕ) (old mid new : Session) (d e f : D) (o p q : Option (List ℕ))
-      → Feeds gives old front mid d e o p → Feeds gives mid back new e f p q → Feeds gives old (front ++ back) new d f o q
+      → Feeds does old front mid d e o p → Feeds does mid back new e f p q → Feeds does old (front ++ back) new d f o q
   feeds-joined front back old mid new d e f o p q first second = record {
     asked = first.asked ++ second.asked;
     text = first.text ++ second.text;
@@ -49,8 +47,8 @@ module _ {D : Type 0} (gives : D → Command → Result Reply Refusal → D → 
 
   -- a piece, and one behind it in which a write fails
   pub stops-behind : (front back : List ℕ) (old mid new : Session) (d e f : D) (o p : Option (List ℕ))
-      → Feeds gives old front mid d e o p → Stops gives mid back new e f → (whole : List ℕ) → (n : ℕ) → ((k : ℕ) → k ≤ length back → take (n + k) whole ≡ front ++ take k back)
-      → n + length back ≤ length whole → Stops gives old whole new d f
+      → Feeds does old front mid d e o p → Stops does mid back new e f → (whole : List ℕ) → (n : ℕ) → ((k : ℕ) → k ≤ length back → take (n + k) whole ≡ front ++ take k back)
+      → n + length back ≤ length whole → Stops does old whole new d f
   stops-behind front back old mid new d e f o p first second whole n at within = record {
     count = n + second.count;
     within = let w = second.within in omega arith;

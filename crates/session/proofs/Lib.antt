@@ -1,6 +1,6 @@
-mod Inserts
 mod Whole
 mod Worked
+mod Alone
 pub mod Writes
 pub mod Replying
 pub mod Feeding

@@ -5,17 +5,20 @@ use Rattle.std.specs.Io.KnownBytes.{Appends}
 use Rattle.refusal.specs.declared.Refusal.{Refusal}
 use Rattle.refusal.specs.declared.Refusal.TheVariants.{NoMemory, LineTooLong}
 use Rattle.revision.specs.Command.{Command}
+use Rattle.revision.specs.State.{State}
 use Rattle.session.specs.declared.reply.Reply.{Reply}
 use Rattle.session.specs.declared.line.Event.{Event}
 use Rattle.session.specs.declared.line.Event.TheVariants.{More, TooLong, Complete}
 use Rattle.session.specs.declared.request.Request.{Request}
-use Rattle.session.specs.declared.request.Request.TheVariants.{Greet, Ask}
+use Rattle.session.specs.declared.request.Request.TheVariants.{Greet, Ask, Fetch}
 use Rattle.optext.specs.Answer.{IsAnswer}
 use Rattle.session.specs.Line.{Partial, with_byte}
 use Rattle.session.specs.Request.{request_of}
-use Rattle.session.specs.Reply.{greeting, line_of}
+use Rattle.session.specs.Reply.{greeting, line_of, refusal_line}
+use Rattle.session.specs.Fetch.{shown_line}
 use Rattle.session.specs.Session.{Session}
-use Rattle.session.specs.Replies.{Exchange, refusal_line, answer_line, IsLine, text_told, IsReplied, Greeted, Asked, Refused, NotTaken, TakesByte, LineContinues, LineOverflows, LineEnds, Replies, Asks, Feeds, Stops}
+use Rattle.session.specs.Exchange.{Exchange, Answered, Shown}
+use Rattle.session.specs.Replies.{answer_line, IsLine, text_told, IsReplied, Greeted, Asked, Fetched, Refused, NotTaken, TakesByte, LineContinues, LineOverflows, LineEnds, Replies, Asks, Feeds, Stops}
 use Rattle.session.proofs.Writes.{appends-nothing}
 
 -- an answer that is no refusal is the one that is due
@@ -34,10 +37,10 @@ pub line_due : (o : Partial) (source known : Option (List ℕ)) (bytes : List �
 line_due None source known bytes r is same due = tt
 line_due (Some line) source known bytes r is same due = rw (is, same) at due
 
-module _ {D : Type 0} (gives : D → Command → Result Reply Refusal → D → Type 0) where
+module _ {D : Type 0} (does : D → Exchange → D → Type 0) where
   -- what respond owes of a line
   abbrev pub Responds : Session → Session → D → D → List ℕ → List ℕ → Type 0
-  Responds old new desk desk' text line = (asked : List Exchange) × IsReplied old.source line asked new.source text × Asks gives desk asked desk'
+  Responds old new desk desk' text line = (asked : List Exchange) × IsReplied old.source line asked new.source text × Asks does desk asked desk'
 
   pub greeted : {T E : Type 0} (bytes : T → List ℕ) (o : Partial) (old new : Session) (name : List ℕ) (result : Result T E) (desk : D) (request : Request)
       → request ≡ Greet name → IfSome o (λ line. IsAnswer (request_of old.source line) (Ok request))
@@ -50,11 +53,19 @@ module _ {D : Type 0} (gives : D → Command → Result Reply Refusal → D → 
 
   pub asked : (o : Partial) (old : Session) (command : Command) (text : List ℕ) (desk desk' : D) (request : Request)
       → request ≡ Ask command → IfSome o (λ line. IsAnswer (request_of old.source line) (Ok request))
-      → ((answer : Result Reply Refusal) × gives desk command answer desk' × IsLine (answer_line command answer) text)
+      → ((answer : Result Reply Refusal) × does desk (Answered command answer) desk' × IsLine (answer_line command answer) text)
       → IfSome o (Responds old old desk desk' text)
   asked None old command text desk desk' request is due told = tt
   asked (Some line) old command text desk desk' request is due told =
-      ((command, told.0) ∷ [], Asked command told.0 text (due_ok _ _ due ∙ ap (λ (r : Request). Ok r) is) told.2, (desk', told.1, refl))
+      (Answered command told.0 ∷ [], Asked command told.0 text (due_ok _ _ due ∙ ap (λ (r : Request). Ok r) is) told.2, (desk', told.1, refl))
+
+  pub fetched : (o : Partial) (old : Session) (doc text : List ℕ) (desk desk' : D) (request : Request)
+      → request ≡ Fetch doc → IfSome o (λ line. IsAnswer (request_of old.source line) (Ok request))
+      → ((shown : Option State) × does desk (Shown shown) desk' × IsLine (shown_line doc shown) text)
+      → IfSome o (Responds old old desk desk' text)
+  fetched None old doc text desk desk' request is due told = tt
+  fetched (Some line) old doc text desk desk' request is due told =
+      (Shown told.0 ∷ [], Fetched doc told.0 text (due_ok _ _ due ∙ ap (λ (r : Request). Ok r) is) told.2, (desk', told.1, refl))
 
   refused_line : {T E : Type 0} (bytes : T → List ℕ) (old : Session) (line : List ℕ) (refusal : Refusal) (result : Result T E)
       → IsAnswer (request_of old.source line) (Err refusal) → IfOk result (λ t. bytes t ≡ refusal_line refusal)
@@ -88,10 +99,10 @@ pair line = (Complete, line)
 pub one_byte : (old new : Session) (byte : ℕ) (asked : List Exchange) (text : List ℕ) → TakesByte old byte asked new text → Replies old (byte ∷ []) asked new text
 one_byte old new byte asked text takes = (new, asked, [], text, [], takes, (refl, refl, refl), sym (append-nil asked), sym (append-nil text))
 
-module _ {D : Type 0} (gives : D → Command → Result Reply Refusal → D → Type 0) where
+module _ {D : Type 0} (does : D → Exchange → D → Type 0) where
   -- the line goes on
   pub goes_on : (old new : Session) (byte : ℕ) (desk : D) (out : Option (List ℕ)) → with_byte old.line byte ≡ (More, new.line)
-      → new ≡ record old { line = new.line } → Feeds gives old (byte ∷ []) new desk desk out out
+      → new ≡ record old { line = new.line } → Feeds does old (byte ∷ []) new desk desk out out
   goes_on old new byte desk out event others = record {
     asked = [];
     text = [];
@@ -107,13 +118,13 @@ module _ {D : Type 0} (gives : D → Command → Result Reply Refusal → D → 
       one_byte old new byte [] text (subst (λ n. TakesByte old byte [] n text) (sym others) (LineOverflows new.line text event line))
 
   pub overflow_fed : (old new sent : Session) (byte : ℕ) (text : List ℕ) (desk : D) (out out' : Option (List ℕ)) → with_byte old.line byte ≡ (TooLong, new.line)
-      → new ≡ record old { line = new.line } → IsLine (refusal_line LineTooLong) text → sent ≡ new → Appends out out' text → Feeds gives old (byte ∷ []) sent desk desk out out'
+      → new ≡ record old { line = new.line } → IsLine (refusal_line LineTooLong) text → sent ≡ new → Appends out out' text → Feeds does old (byte ∷ []) sent desk desk out out'
   overflow_fed old new sent byte text desk out out' event others line is written =
       let replies : Replies old (byte ∷ []) [] sent text = subst (λ n. Replies old (byte ∷ []) [] n text) (sym is) (overflows old new byte text event others line) in
       record { asked = []; text = text; replies = replies; asks = refl; written = written }
 
   pub overflow_stopped : (old new ended : Session) (byte : ℕ) (text : List ℕ) (desk : D) → with_byte old.line byte ≡ (TooLong, new.line)
-      → new ≡ record old { line = new.line } → IsLine (refusal_line LineTooLong) text → ended ≡ record new { ended = true } → Stops gives old (byte ∷ []) ended desk desk
+      → new ≡ record old { line = new.line } → IsLine (refusal_line LineTooLong) text → ended ≡ record new { ended = true } → Stops does old (byte ∷ []) ended desk desk
   overflow_stopped old new ended byte text desk event others line is = record {
     count = 1;
     within = omega arith;
@@ -134,8 +145,8 @@ module _ {D : Type 0} (gives : D → Command → Result Reply Refusal → D → 
         next ∙ ap (λ (b : Bool). record { line = Some []; source = answered.source; ended = b })
         (ap (λ (s : Session). s.ended) source ∙ ap (λ (s : Session). s.ended) others)
 
-    ends_at : (line : Partial) → read.line ≡ line → IfSome line (Responds gives read answered desk desk' text)
-        → (asked : List Exchange) × Replies old (byte ∷ []) asked new text × Asks gives desk asked desk'
+    ends_at : (line : Partial) → read.line ≡ line → IfSome line (Responds does read answered desk desk' text)
+        → (asked : List Exchange) × Replies old (byte ∷ []) asked new text × Asks does desk asked desk'
     ends_at None none responds = absurd (some_line old.line byte (event ∙ ap (λ (l : Partial). pair l) none))
     ends_at (Some line) is responds =
         let reply : IsReplied old.source line responds.0 answered.source text =
@@ -147,14 +158,14 @@ module _ {D : Type 0} (gives : D → Command → Result Reply Refusal → D → 
           responds.2,
         )
 
-    pub end_fed : (sent : Session) (out out' : Option (List ℕ)) → IfSome read.line (Responds gives read answered desk desk' text) → sent ≡ new → Appends out out' text
-        → Feeds gives old (byte ∷ []) sent desk desk' out out'
+    pub end_fed : (sent : Session) (out out' : Option (List ℕ)) → IfSome read.line (Responds does read answered desk desk' text) → sent ≡ new → Appends out out' text
+        → Feeds does old (byte ∷ []) sent desk desk' out out'
     end_fed sent out out' responds is written =
         let e = ends_at read.line refl responds in
         record { asked = e.0; text = text; replies = subst (λ n. Replies old (byte ∷ []) e.0 n text) (sym is) e.1; asks = e.2; written = written }
 
-    pub end_stopped : (ended : Session) → IfSome read.line (Responds gives read answered desk desk' text) → ended ≡ record new { ended = true }
-        → Stops gives old (byte ∷ []) ended desk desk'
+    pub end_stopped : (ended : Session) → IfSome read.line (Responds does read answered desk desk' text) → ended ≡ record new { ended = true }
+        → Stops does old (byte ∷ []) ended desk desk'
     end_stopped ended responds is =
         let e = ends_at read.line refl responds in
         record { count = 1; within = omega arith; asked = e.0; text = text; next = new; replies = e.1; ended = is; asks = e.2 }

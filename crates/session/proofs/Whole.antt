@@ -7,7 +7,9 @@ use Rattle.session.specs.declared.line.Event.{Event}
 use Rattle.session.specs.declared.line.Event.TheVariants.{More, TooLong, Complete}
 use Rattle.session.specs.Line.{Partial, with_byte, HasNoEnd}
 use Rattle.session.specs.Session.{Session}
-use Rattle.session.specs.Replies.{Exchange, refusal_line, IsLine, IsReplied, TakesByte, LineContinues, LineOverflows, LineEnds, Replies}
+use Rattle.session.specs.Exchange.{Exchange}
+use Rattle.session.specs.Reply.{refusal_line}
+use Rattle.session.specs.Replies.{IsLine, IsReplied, TakesByte, LineContinues, LineOverflows, LineEnds, Replies}
 
 -- what a byte makes of a line
 more_of : (front : List ℕ) (byte : ℕ) → byte ≢ 10 → length front < 65536 → with_byte (Some front) byte ≡ (More, Some (front ++ byte ∷ []))

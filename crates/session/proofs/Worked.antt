@@ -5,8 +5,7 @@ use Rattle.std.specs.Fmt.{digits}
 use Rattle.serde_json.proofs.OnLiterals.{serde_json_on_literals}
 use Rattle.refusal.specs.declared.Refusal.TheVariants.{Exists}
 use Rattle.session.specs.declared.reply.Reply.TheVariants.{Taken, Again}
-use Rattle.session.specs.Reply.{greeting, acknowledgement, line_of}
-use Rattle.session.specs.Replies.{refusal_line}
+use Rattle.session.specs.Reply.{greeting, acknowledgement, line_of, refusal_line}
 
 pub hello : line_of greeting ≡ codes "{\"ok\":\"hello\"}\n"
 unfolding serde_json_on_literals digits

@@ -9,6 +9,12 @@ pub data Message : Type 0 where
   Hello : (source : List ℕ) → Message
   -- a document is to be made, under the source's number for it, by these operations
   Create : (doc : List ℕ) (number : ℕ) (operations : Items) → Message
+  -- a document is to be changed, under the source's number, by operations that were made on its revision `base`
+  Edit : (doc : List ℕ) (number base : ℕ) (operations : Items) → Message
+  -- the source's last change of a document is to be taken back, under the source's number
+  Undo : (doc : List ℕ) (number : ℕ) → Message
+  -- a document is asked for
+  Fetch : (doc : List ℕ) → Message
 
 -- the member of this name, where it is a text
 abbrev pub text_at : List ℕ → Data → Option (List ℕ)
@@ -21,6 +27,14 @@ command_number n = if nat_lt 0 n && nat_lt n (2 ^ 53) then Some n else None
 -- the member of this name, where it is such a number
 abbrev pub number_at : List ℕ → Data → Option ℕ
 number_at name value = option_and_then command_number (option_and_then as_u64 (option_and_then as_number (get name value)))
+
+-- a revision is 0 to 2^53 - 1
+abbrev pub revision_number : ℕ → Option ℕ
+revision_number n = if nat_lt n (2 ^ 53) then Some n else None
+
+-- the member of this name, where it is such a revision
+abbrev pub revision_at : List ℕ → Data → Option ℕ
+revision_at name value = option_and_then revision_number (option_and_then as_u64 (option_and_then as_number (get name value)))
 
 -- the member of this name, where it is an array
 abbrev pub array_at : List ℕ → Data → Option Items
@@ -38,17 +52,44 @@ create_of value =
     (text_at (codes "doc") value)
     else None
 
+-- `{"base":..,"do":"edit","doc":..,"n":..,"ops":[..]}`
+abbrev pub edit_of : Data → Option Message
+edit_of value =
+    if member_count value == 5 then
+    option_and_then
+    (λ doc. option_and_then
+    (λ n. option_and_then (λ base. option_map (Edit doc n base) (array_at (codes "ops") value)) (revision_at (codes "base") value))
+    (number_at (codes "n") value))
+    (text_at (codes "doc") value)
+    else None
+
+-- `{"do":"undo","doc":..,"n":..}`
+abbrev pub undo_of : Data → Option Message
+undo_of value =
+    if member_count value == 3 then option_and_then (λ doc. option_map (Undo doc) (number_at (codes "n") value)) (text_at (codes "doc") value)
+    else None
+
+-- `{"do":"fetch","doc":..}`
+abbrev pub fetch_of : Data → Option Message
+fetch_of value = if member_count value == 2 then option_map Fetch (text_at (codes "doc") value) else None
+
 abbrev pub message_called : List ℕ → Data → Option Message
 message_called kind value =
     if bytes_eq kind (codes "hello") then hello_of value
     else if bytes_eq kind (codes "create") then create_of value
+    else if bytes_eq kind (codes "edit") then edit_of value
+    else if bytes_eq kind (codes "undo") then undo_of value
+    else if bytes_eq kind (codes "fetch") then fetch_of value
     else None
 
 -- the message that a value is: its member `do` says of which kind, and it has just the members of that kind
 abbrev pub message_of : Data → Option Message
 message_of value = option_and_then (λ kind. message_called kind value) (text_at (codes "do") value)
 
--- what every message keeps: the number of a command is 1 to 2^53 - 1
+-- what every message keeps: the number of a command is 1 to 2^53 - 1, and the revision that an edit was made on below 2^53
 abbrev pub IsNumbered : Message → Type 0
 IsNumbered (Hello source) = Unit {0}
 IsNumbered (Create doc n operations) = (1 ≤ n) × (n < 2 ^ 53)
+IsNumbered (Edit doc n base operations) = (1 ≤ n) × (n < 2 ^ 53) × (base < 2 ^ 53)
+IsNumbered (Undo doc n) = (1 ≤ n) × (n < 2 ^ 53)
+IsNumbered (Fetch doc) = Unit {0}

@@ -4,21 +4,16 @@ use Rattle.std.specs.Io.KnownBytes.{Appends}
 use Rattle.refusal.specs.declared.Refusal.{Refusal}
 use Rattle.refusal.specs.declared.Refusal.TheVariants.{NoMemory, LineTooLong}
 use Rattle.revision.specs.Command.{Command}
+use Rattle.revision.specs.State.{State}
 use Rattle.session.specs.declared.reply.Reply.{Reply}
 use Rattle.session.specs.declared.line.Event.TheVariants.{More, TooLong, Complete}
-use Rattle.session.specs.declared.request.Request.TheVariants.{Greet, Ask}
+use Rattle.session.specs.declared.request.Request.TheVariants.{Greet, Ask, Fetch}
 use Rattle.session.specs.Line.{Partial, with_byte}
 use Rattle.session.specs.Request.{request_of}
-use Rattle.session.specs.Reply.{greeting, acknowledgement, refusal_reply, line_of}
+use Rattle.session.specs.Reply.{greeting, acknowledgement, line_of, refusal_line}
+use Rattle.session.specs.Fetch.{shown_line}
+use Rattle.session.specs.Exchange.{Exchange, Answered, Shown}
 use Rattle.session.specs.Session.{Session}
-
--- a command, and what the desk answered to it
-abbrev pub Exchange : Type 0
-Exchange = Command × Result Reply Refusal
-
--- the line of a refusal
-abbrev pub refusal_line : Refusal → List ℕ
-refusal_line refusal = line_of (refusal_reply refusal)
 
 -- the line of what the desk answered to a command
 abbrev pub answer_line : Command → Result Reply Refusal → List ℕ
@@ -41,7 +36,10 @@ pub data IsReplied (source : Option (List ℕ)) (line : List ℕ) : List Exchang
   Greeted : (name : List ℕ) → request_of source line ≡ Ok (Greet name) → IsReplied source line [] (Some name) (line_of greeting)
   -- the desk is asked once, for the command that the line is, and the reply tells its answer
   Asked : (command : Command) (answer : Result Reply Refusal) (text : List ℕ) → request_of source line ≡ Ok (Ask command)
-      → IsLine (answer_line command answer) text → IsReplied source line ((command, answer) ∷ []) source text
+      → IsLine (answer_line command answer) text → IsReplied source line (Answered command answer ∷ []) source text
+  -- the desk shows its state once, and the reply tells of it what is asked for
+  Fetched : (doc : List ℕ) (shown : Option State) (text : List ℕ) → request_of source line ≡ Ok (Fetch doc)
+      → IsLine (shown_line doc shown) text → IsReplied source line (Shown shown ∷ []) source text
   -- the first refusal that holds
   Refused : (refusal : Refusal) → request_of source line ≡ Err refusal → IsReplied source line [] source (refusal_line refusal)
   -- for want of memory the line is not taken
@@ -65,11 +63,12 @@ Replies old (byte ∷ bytes) asked new text =
     (next : Session) × (first : List Exchange) × (others : List Exchange) × (front : List ℕ) × (back : List ℕ)
     × TakesByte old byte first next front × Replies next bytes others new back × (asked ≡ first ++ others) × (text ≡ front ++ back)
 
-module _ {D : Type 0} (gives : D → Command → Result Reply Refusal → D → Type 0) where
-  -- the desk was asked these commands in order, gave these answers, and came from its old state to the new one
+-- by which exchanges a desk of old state comes to which new one
+module _ {D : Type 0} (does : D → Exchange → D → Type 0) where
+  -- these passed in order, and the desk came from its old state to the new one
   abbrev pub Asks : D → List Exchange → D → Type 0
   Asks old [] new = new ≡ old
-  Asks old (exchange ∷ others) new = (next : D) × gives old exchange.0 exchange.1 next × Asks next others new
+  Asks old (exchange ∷ others) new = (next : D) × does old exchange next × Asks next others new
 
   -- A session has taken a piece of its input: what was written is what comes of it, with the answers of the desk.
   pub record Feeds (old : Session) (piece : List ℕ) (new : Session) (desk : D) (desk' : D) (out out' : Option (List ℕ)) : Type 0 where

@@ -1,7 +1,11 @@
 -- What a line is replied: a JSON object with its members in ascending order and no blanks, and a line end.
 use Rattle.std.specs.Prelude.{ℕ, List, [], ◌∷◌, ◌++◌, codes}
-use Rattle.serde_json.specs.Data.{Data, object, member, no_members, number, unsigned, string}
+use Rattle.serde_json.specs.Data.{Data, object, array, member, no_members, number, unsigned, string}
 use Rattle.serde_json.specs.Written.{compact_text}
+use Rattle.delta.specs.Element.{Element}
+use Rattle.delta.specs.Gaps.{End}
+use Rattle.delta.specs.Normal.{nf}
+use Rattle.optext.specs.Printed.{printed}
 use Rattle.refusal.specs.declared.Refusal.{Refusal}
 use Rattle.refusal.specs.Refusal.{number_of, name_of}
 use Rattle.session.specs.declared.reply.Reply.{Reply}
@@ -29,6 +33,16 @@ acknowledgement_of doc n kind rev =
 abbrev pub acknowledgement : List ℕ → ℕ → Reply → Data
 acknowledgement doc n reply = acknowledgement_of doc n (kind_of reply) (rev_of reply)
 
+-- `{"doc":"d","ok":"doc","ops":[{"insert":"z"}],"rev":1}`, with the operations printed
+abbrev pub document_with : List ℕ → Data → ℕ → Data
+document_with doc operations rev =
+    object (member (codes "doc") (string doc) (member (codes "ok") (string (codes "doc"))
+    (member (codes "ops") operations (member (codes "rev") (number (unsigned rev)) no_members))))
+
+-- the same of a document's units: the operations are those that make them of the empty document
+abbrev pub document_reply : List ℕ → List Element → ℕ → Data
+document_reply doc units rev = document_with doc (array (printed (nf (End units)))) rev
+
 -- `{"code":7,"error":"Exists"}`
 abbrev pub refusal_reply : Refusal → Data
 refusal_reply refusal =
@@ -37,3 +51,7 @@ refusal_reply refusal =
 -- the value's line
 abbrev pub line_of : Data → List ℕ
 line_of value = compact_text value ++ 10 ∷ []
+
+-- the line of a refusal
+abbrev pub refusal_line : Refusal → List ℕ
+refusal_line refusal = line_of (refusal_reply refusal)

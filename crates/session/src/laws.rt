@@ -2,10 +2,13 @@
 ghost use Rattle.std.specs.Prelude.{◌≡◌, ◌≤◌, ◌<◌, ◌++◌, ◌∷◌, ℕ, List, [], Some, length, codes};
 ghost use Rattle.refusal.specs.declared.Refusal.TheVariants.{LineTooLong, Exists};
 ghost use Rattle.session.specs.declared.reply.Reply.TheVariants.{Taken, Again};
-ghost use Rattle.session.specs.Reply.{greeting, acknowledgement, line_of};
+ghost use Rattle.session.specs.Reply.{greeting, acknowledgement, line_of, refusal_line};
 ghost use Rattle.session.specs.Line.{HasNoEnd};
 ghost use Rattle.session.specs.Session.{Session};
-ghost use Rattle.session.specs.Replies.{Exchange, Replies, IsReplied, IsLine, refusal_line};
+ghost use Rattle.session.specs.Exchange.{Exchange};
+ghost use Rattle.revision.specs.State.{State};
+ghost use Rattle.session.specs.Replies.{Replies, IsReplied, IsLine, Asks};
+ghost use Rattle.session.specs.Alone.{Alone, FindsMemory, of_session, replies, conversation_after};
 
 /// It doesn't matter in which pieces the input comes: what comes of two pieces, one after the other, is what comes of
 /// them joined.
@@ -38,4 +41,15 @@ pub fn worked_lines()
     ensures taken { line_of (acknowledgement (codes "d") 1 (Taken 1)) ≡ codes "{\"doc\":\"d\",\"n\":1,\"ok\":\"taken\",\"rev\":1}\n" }
     ensures again { line_of (acknowledgement (codes "d") 1 (Again 1)) ≡ codes "{\"doc\":\"d\",\"n\":1,\"ok\":\"again\",\"rev\":1}\n" }
     ensures exists { refusal_line Exists ≡ codes "{\"code\":7,\"error\":\"Exists\"}\n" }
+{}
+
+/// A session over a state alone: where memory is found, what is written of a piece of the input is what the lines in it are
+/// replied, each over what the lines before it did (`specs/Alone.antt`), and so is the state afterwards.
+pub fn replies_of_a_state()
+    ensures written { (old new : Session) (state after : State) (piece : List ℕ) (asked : List Exchange) (text : List ℕ)
+        → Replies old piece asked new text → Asks Alone state asked after → FindsMemory text
+        → text ≡ replies (of_session old state) piece }
+    ensures state { (old new : Session) (state after : State) (piece : List ℕ) (asked : List Exchange) (text : List ℕ)
+        → Replies old piece asked new text → Asks Alone state asked after → FindsMemory text
+        → of_session new after ≡ conversation_after (of_session old state) piece }
 {}

@@ -35,10 +35,10 @@
 #![tactic(auto)]
 
 mod desk;
+mod fetch;
 pub mod laws;
 mod line;
 mod message;
-mod operations;
 mod reply;
 mod request;
 mod session;

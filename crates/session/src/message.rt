@@ -1,13 +1,13 @@
 //! Messages: what a line's JSON value asks for.
 ghost use Rattle.std.specs.Prelude.{◌≡◌, ◌≤◌, ◌<◌, ◌^◌, IfSome, option_map};
 ghost use Rattle.serde_json.specs.View.{view, items_view};
-ghost use Rattle.session.specs.Message.{message_of, hello_of, create_of, text_at, number_at, array_at, IsNumbered};
+ghost use Rattle.session.specs.Message.{message_of, hello_of, create_of, edit_of, undo_of, fetch_of, text_at, number_at, revision_at, array_at, IsNumbered};
 ghost use Rattle.session.specs.MessageView.{message_view};
 
 use optext::member_count;
 use serde_json::Value;
 
-/// The last number of a command: 2^53 - 1.
+/// The last number of a command, and the last revision: 2^53 - 1.
 const MAX_NUMBER: u64 = (1 << 53) - 1;
 
 /// A message, with its parts as they stand in the line.
@@ -23,6 +23,23 @@ pub enum Message<'a> {
         number: u64,
         operations: &'a [Value],
     },
+    /// A document is to be changed, under the source's number for it, by operations that were made on its revision
+    /// `base`.
+    Edit {
+        doc: &'a str,
+        number: u64,
+        base: u64,
+        operations: &'a [Value],
+    },
+    /// The source's last change of a document is to be taken back, under the source's number for it.
+    Undo {
+        doc: &'a str,
+        number: u64,
+    },
+    /// A document is asked for.
+    Fetch {
+        doc: &'a str,
+    },
 }
 
 impl<'a> Message<'a> {
@@ -34,6 +51,9 @@ impl<'a> Message<'a> {
         match text_in(value, "do")? {
             "hello" => Message::read_hello(value),
             "create" => Message::read_create(value),
+            "edit" => Message::read_edit(value),
+            "undo" => Message::read_undo(value),
+            "fetch" => Message::read_fetch(value),
             _ => None,
         }
     }
@@ -65,6 +85,48 @@ impl<'a> Message<'a> {
             operations,
         })
     }
+
+    fn read_edit(value: &'a Value) -> Option<Message<'a>>
+        ensures message { option_map message_view result ≡ edit_of (view value.now) }
+        ensures numbered { IfSome result (λ message. IsNumbered (message_view message)) }
+    {
+        if member_count(value) != 5 {
+            return None;
+        }
+        let doc = text_in(value, "doc")?;
+        let number = number_in(value, "n")?;
+        let base = revision_in(value, "base")?;
+        let operations = array_in(value, "ops")?;
+        Some(Message::Edit {
+            doc,
+            number,
+            base,
+            operations,
+        })
+    }
+
+    fn read_undo(value: &'a Value) -> Option<Message<'a>>
+        ensures message { option_map message_view result ≡ undo_of (view value.now) }
+        ensures numbered { IfSome result (λ message. IsNumbered (message_view message)) }
+    {
+        if member_count(value) != 3 {
+            return None;
+        }
+        let doc = text_in(value, "doc")?;
+        let number = number_in(value, "n")?;
+        Some(Message::Undo { doc, number })
+    }
+
+    fn read_fetch(value: &'a Value) -> Option<Message<'a>>
+        ensures message { option_map message_view result ≡ fetch_of (view value.now) }
+        ensures numbered { IfSome result (λ message. IsNumbered (message_view message)) }
+    {
+        if member_count(value) != 2 {
+            return None;
+        }
+        let doc = text_in(value, "doc")?;
+        Some(Message::Fetch { doc })
+    }
 }
 
 fn text_in<'a>(value: &'a Value, name: &str) -> Option<&'a str>
@@ -82,6 +144,17 @@ fn number_in(value: &Value, name: &str) -> Option<u64>
         return None;
     }
     Some(number)
+}
+
+fn revision_in(value: &Value, name: &str) -> Option<u64>
+    ensures revision { result ≡ revision_at name.now (view value.now) }
+    ensures range { IfSome result (λ n. n < 2 ^ 53) }
+{
+    let revision = value.get(name)?.as_u64()?;
+    if revision > MAX_NUMBER {
+        return None;
+    }
+    Some(revision)
 }
 
 fn array_in<'a>(value: &'a Value, name: &str) -> Option<&'a [Value]>

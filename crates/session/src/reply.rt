@@ -1,12 +1,18 @@
 //! What a line is replied.
-ghost use Rattle.std.specs.Prelude.{◌≡◌, IfOk, false};
+ghost use Rattle.std.specs.Prelude.{◌≡◌, IfOk, OnOk, false};
+ghost use Rattle.delta.specs.Gaps.{End};
+ghost use Rattle.delta.specs.Normal.{nf};
+ghost use Rattle.optext.specs.Printed.{printed};
+ghost use Rattle.serde_json.specs.Data.{array};
 ghost use Rattle.serde_json.specs.Written.{has_float};
 ghost use Rattle.std.specs.String.{string_bytes};
 ghost use Rattle.session.specs.Reply as spec;
 ghost use Rattle.serde_json.specs.View.{view};
 
+use document::Document;
+use optext::write_ops;
 use refusal::Refusal;
-use revision::Command;
+use revision::{Command, Name};
 use serde_json::{Value, json};
 use std::alloc::{AllocError, Global};
 
@@ -68,9 +74,43 @@ fn acknowledgement_of(
     json!(in alloc; {"doc": doc, "n": number, "ok": kind, "rev": rev})
 }
 
+/// The reply to fetch: what stands in a document at a revision.
+pub fn document_reply(
+    alloc: Global,
+    name: &Name,
+    document: &Document,
+    rev: u64,
+) -> Result<String, AllocError>
+    ensures { IfOk result (λ text. string_bytes text ≡ spec.line_of (spec.document_reply name.now document.now rev)) }
+{
+    let operations = operations_of(alloc, document)?;
+    let value = document_with(alloc, name.as_str(), operations, rev)?;
+    line_of(alloc, &value)
+}
+
+fn document_with(alloc: Global, doc: &str, operations: Value, rev: u64) -> Result<Value, AllocError>
+    ensures { IfOk result (λ value. view value ≡ spec.document_with doc.now (view operations) rev) }
+{
+    json!(in alloc; {"doc": doc, "ok": "doc", "ops": operations, "rev": rev})
+}
+
+// The operations that make the document of the empty one.
+fn operations_of(alloc: Global, document: &Document) -> Result<Value, AllocError>
+    ensures printed { IfOk result (λ value. view value ≡ array (printed (nf (End document.now)))) }
+    ensures plain { OnOk result (has_float (array (printed (nf (End document.now)))) ≡ false) }
+{
+    let Ok(delta) = document.as_delta(alloc) else {
+        return Err(AllocError);
+    };
+    let Ok(operations) = write_ops(alloc, &delta) else {
+        return Err(AllocError);
+    };
+    Ok(operations)
+}
+
 /// The reply to a line that is refused.
 pub fn refusal_reply(alloc: Global, refusal: Refusal) -> Result<String, AllocError>
-    ensures { IfOk result (λ text. string_bytes text ≡ spec.line_of (spec.refusal_reply refusal)) }
+    ensures { IfOk result (λ text. string_bytes text ≡ spec.refusal_line refusal) }
 {
     let value = json!(in alloc; {"code": refusal.number(), "error": refusal.name()})?;
     line_of(alloc, &value)

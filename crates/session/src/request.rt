@@ -4,13 +4,12 @@ ghost use Rattle.std.specs.Option.{ForSome};
 ghost use Rattle.serde_json.specs.View.{items_view};
 ghost use Rattle.revision.specs.Name.{is_source_name};
 ghost use Rattle.optext.specs.Answer.{IsAnswer};
-ghost use Rattle.session.specs.Message.{Create, IsNumbered};
+ghost use Rattle.session.specs.Message.{Create, Edit, Undo, IsNumbered};
 ghost use Rattle.session.specs.MessageView.{message_view};
 ghost use Rattle.session.specs.Request as spec;
 
 use crate::message::Message;
-use crate::operations::read_inserts;
-use optext::read_json;
+use optext::{read_json, read_ops};
 use refusal::Refusal;
 use revision::{Command, Name};
 use serde_json::Value;
@@ -23,6 +22,8 @@ pub enum Request {
     Greet(Name),
     /// To ask the desk.
     Ask(Command),
+    /// To tell the document of this name.
+    Fetch(Name),
 }
 
 impl Request {
@@ -46,38 +47,94 @@ impl Request {
         ensures due { IsAnswer (spec.request_in (option_copied source.entry) (message_view message.entry)) result }
         ensures greets { IfOk result spec.GreetsSource }
     {
-        match (message, source) {
-            (Message::Hello { source }, None) => Ok(Request::Greet(Name::source(alloc, source)?)),
-            (Message::Hello { .. }, Some(_)) => Err(Refusal::BadMessage),
-            (Message::Create { .. }, None) => Err(Refusal::NoHello),
-            (
-                Message::Create {
-                    doc,
-                    number,
-                    operations,
-                },
-                Some(source),
-            ) => Request::creation(alloc, source, doc, number, operations),
+        match source {
+            None => Request::before_hello(alloc, message),
+            Some(source) => Request::after_hello(alloc, source, message),
         }
     }
 
-    fn creation(
-        alloc: Global,
-        source: &Name,
-        doc: &str,
-        number: u64,
-        operations: &[Value],
-    ) -> Result<Request, Refusal>
-        requires source { is_source_name source.now ≡ true }
-        requires first { 1 ≤ number }
-        requires last { number < 2 ^ 53 }
-        ensures due { IsAnswer (spec.request_in (Some source.now)
-            (Create doc.now number (items_view operations.now))) result }
-        ensures asks { IfOk result spec.GreetsSource }
+    fn before_hello(alloc: Global, message: Message<'_>) -> Result<Request, Refusal>
+        ensures due { IsAnswer (spec.before_hello (message_view message.entry)) result }
+        ensures greets { IfOk result spec.GreetsSource }
     {
-        let name = Name::doc(alloc, doc)?;
-        let delta = read_inserts(alloc, operations)?;
-        let source = source.copy(alloc)?;
-        Ok(Request::Ask(Command::create(name, source, number, delta)?))
+        match message {
+            Message::Hello { source } => Ok(Request::Greet(Name::source(alloc, source)?)),
+            _ => Err(Refusal::NoHello),
+        }
     }
+
+    fn after_hello(alloc: Global, source: &Name, message: Message<'_>) -> Result<Request, Refusal>
+        requires source { is_source_name source.now ≡ true }
+        requires numbered { IsNumbered (message_view message) }
+        ensures due { IsAnswer (spec.after_hello source.now (message_view message.entry)) result }
+        ensures greets { IfOk result spec.GreetsSource }
+    {
+        match message {
+            Message::Hello { .. } => Err(Refusal::BadMessage),
+            Message::Create {
+                doc,
+                number,
+                operations,
+            } => creation(alloc, source, doc, number, operations),
+            Message::Edit {
+                doc,
+                number,
+                base,
+                operations,
+            } => edit(alloc, source, doc, number, base, operations),
+            Message::Undo { doc, number } => undo(alloc, source, doc, number),
+            Message::Fetch { doc } => Ok(Request::Fetch(Name::doc(alloc, doc)?)),
+        }
+    }
+}
+
+fn creation(
+    alloc: Global,
+    source: &Name,
+    doc: &str,
+    number: u64,
+    operations: &[Value],
+) -> Result<Request, Refusal>
+    requires source { is_source_name source.now ≡ true }
+    requires first { 1 ≤ number }
+    requires last { number < 2 ^ 53 }
+    ensures due { IsAnswer (spec.after_hello source.now (Create doc.now number (items_view operations.now))) result }
+    ensures greets { IfOk result spec.GreetsSource }
+{
+    let name = Name::doc(alloc, doc)?;
+    let delta = read_ops(alloc, operations)?;
+    let source = source.copy(alloc)?;
+    Ok(Request::Ask(Command::create(name, source, number, delta)?))
+}
+
+fn edit(
+    alloc: Global,
+    source: &Name,
+    doc: &str,
+    number: u64,
+    base: u64,
+    operations: &[Value],
+) -> Result<Request, Refusal>
+    requires source { is_source_name source.now ≡ true }
+    requires first { 1 ≤ number }
+    requires last { number < 2 ^ 53 }
+    ensures due { IsAnswer (spec.after_hello source.now (Edit doc.now number base (items_view operations.now))) result }
+    ensures greets { IfOk result spec.GreetsSource }
+{
+    let name = Name::doc(alloc, doc)?;
+    let delta = read_ops(alloc, operations)?;
+    let source = source.copy(alloc)?;
+    Ok(Request::Ask(Command::edit(name, source, number, base, delta)?))
+}
+
+fn undo(alloc: Global, source: &Name, doc: &str, number: u64) -> Result<Request, Refusal>
+    requires source { is_source_name source.now ≡ true }
+    requires first { 1 ≤ number }
+    requires last { number < 2 ^ 53 }
+    ensures due { IsAnswer (spec.after_hello source.now (Undo doc.now number)) result }
+    ensures greets { IfOk result spec.GreetsSource }
+{
+    let name = Name::doc(alloc, doc)?;
+    let source = source.copy(alloc)?;
+    Ok(Request::Ask(Command::undo(name, source, number)))
 }

@@ -1,5 +1,5 @@
 //! A session: lines of messages to lines of replies.
-ghost use Rattle.std.specs.Prelude.{◌≡◌, Some, None, List, [], ◌∷◌, true, false, Result, IfOk, IfErr, IfSome, IsErr, OnOk, OnErr};
+ghost use Rattle.std.specs.Prelude.{◌≡◌, Option, Some, None, List, [], ◌∷◌, true, false, Result, IfOk, IfErr, IfSome, IsErr, OnOk, OnErr};
 ghost use Rattle.std.specs.String.{string_bytes};
 ghost use Rattle.std.specs.Io.KnownBytes.{Appends};
 ghost use Rattle.refusal.specs.declared.Refusal as refusal;
@@ -8,10 +8,14 @@ ghost use Rattle.revision.specs.Name.{is_source_name};
 ghost use Rattle.optext.specs.Answer.{IsAnswer};
 ghost use Rattle.session.specs.Line.{with_byte};
 ghost use Rattle.session.specs.Request.{request_of, GreetsSource};
-ghost use Rattle.session.specs.Reply.{greeting as spec_greeting, line_of};
-ghost use Rattle.session.specs.Replies.{Exchange, IsLine, IsReplied, Asks, Feeds, Stops, answer_line, text_told};
+ghost use Rattle.revision.specs.State as state;
+ghost use Rattle.session.specs.Reply.{greeting as spec_greeting, line_of, refusal_line};
+ghost use Rattle.session.specs.Fetch.{shown_line};
+ghost use Rattle.session.specs.Exchange.{Exchange, Answered, Shown};
+ghost use Rattle.session.specs.Replies.{IsLine, IsReplied, Asks, Feeds, Stops, answer_line, text_told};
 
 use crate::desk::Desk;
+use crate::fetch::fetch;
 use crate::line::{Event, Line};
 use crate::reply::{acknowledgement, greeting, refusal_reply};
 use crate::request::Request;
@@ -81,11 +85,11 @@ impl Session {
         ensures idle { self.old.ended ≡ true → desk.new ≡ desk.old }
 
         // What is written is what comes of the piece, with the answers of the desk.
-        ensures fed { OnOk result (Feeds D.gives self.old piece.now self.new desk.old desk.new
+        ensures fed { OnOk result (Feeds D.does self.old piece.now self.new desk.old desk.new
             (W.contents out.old) (W.contents out.new)) }
         // A write that fails ends the session. The desk was asked for the front of the piece, each command once.
         ensures stopped { OnErr result (self.old.ended ≡ false
-            → Stops D.gives self.old piece.now self.new desk.old desk.new) }
+            → Stops D.does self.old piece.now self.new desk.old desk.new) }
         ensures ok { OnOk result (self.new.ended ≡ false) }
         ensures err { OnErr result (self.new.ended ≡ true) }
     {
@@ -107,9 +111,9 @@ impl Session {
         desk: &mut D,
     ) -> Result<(), SessionEnded>
         requires { self.old.ended ≡ false }
-        ensures fed { OnOk result (Feeds D.gives self.old (byte ∷ []) self.new desk.old desk.new
+        ensures fed { OnOk result (Feeds D.does self.old (byte ∷ []) self.new desk.old desk.new
             (W.contents out.old) (W.contents out.new)) }
-        ensures stopped { OnErr result (Stops D.gives self.old (byte ∷ []) self.new desk.old desk.new) }
+        ensures stopped { OnErr result (Stops D.does self.old (byte ∷ []) self.new desk.old desk.new) }
         ensures ok { OnOk result (self.new.ended ≡ false) }
         ensures err { OnErr result (self.new.ended ≡ true) }
     {
@@ -144,11 +148,12 @@ impl Session {
         ensures others { self.new ≡ record self.old { source = self.new.source } }
         ensures replied { IfSome self.old.line (λ line. (asked : List Exchange)
             × IsReplied self.old.source line asked self.new.source (text_told (λ t. string_bytes t) result)
-            × Asks D.gives desk.old asked desk.new) }
+            × Asks D.does desk.old asked desk.new) }
     {
         match self.request(alloc) {
             Ok(Request::Greet(source)) => self.greet(alloc, source),
             Ok(Request::Ask(command)) => ask(alloc, desk, &command),
+            Ok(Request::Fetch(name)) => read(alloc, desk, &name),
             Err(refusal) => refusal_reply(alloc, refusal),
         }
     }
@@ -195,11 +200,22 @@ impl Session {
 
 // Asks the desk once, and tells what it answers.
 fn ask<D: Desk>(alloc: Global, desk: &mut D, command: &Command) -> Result<String, AllocError>
-    ensures { (answer : Result reply.Reply refusal.Refusal) × D.gives desk.old command.now answer desk.new
+    ensures { (answer : Result reply.Reply refusal.Refusal) × D.does desk.old (Answered command.now answer) desk.new
         × IsLine (answer_line command.now answer) (text_told (λ t. string_bytes t) result) }
 {
     match desk.ask(alloc, command) {
         Ok(reply) => acknowledgement(alloc, command, reply),
+        Err(refusal) => refusal_reply(alloc, refusal),
+    }
+}
+
+// Has the desk show its state once, and tells the document of this name.
+fn read<D: Desk>(alloc: Global, desk: &mut D, name: &Name) -> Result<String, AllocError>
+    ensures { (shown : Option state.State) × D.does desk.old (Shown shown) desk.new
+        × IsLine (shown_line name.now shown) (text_told (λ t. string_bytes t) result) }
+{
+    match desk.view(|state| fetch(alloc, state, name)) {
+        Ok(reply) => reply,
         Err(refusal) => refusal_reply(alloc, refusal),
     }
 }

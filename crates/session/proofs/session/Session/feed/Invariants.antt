@@ -8,5 +8,5 @@ invariant-loop-byte g l =
     let contents = g.W.Write.contents in
     record {
       works : l.self.ended ≡ false;
-      fed : Feeds g.D.Desk.gives l.fn.self (take l.byte-index l.piece) l.self l.fn.desk l.desk (contents l.fn.out) (contents l.out);
+      fed : Feeds g.D.Desk.does l.fn.self (take l.byte-index l.piece) l.self l.fn.desk l.desk (contents l.fn.out) (contents l.out);
     }

@@ -1,22 +1,28 @@
 use Rattle.std.specs.String.{string_bytes}
-use Rattle.session.proofs.Replying.{greeted, asked, refused_any}
+use Rattle.session.proofs.Replying.{greeted, asked, fetched, refused_any}
 use Rattle.session.proofs.session.Session.respond.Goals as goal
 
 pub returns-in-Ok-Greet-clause-replied : goal.returns-in-Ok-Greet-clause-replied
 returns-in-Ok-Greet-clause-replied g c =
     let session = c.args.self.now in
     let greets = c.greet.ensures in
-    greeted g.D.Desk.gives (λ t. string_bytes t) session.line session c.greet.new.self c.in-Ok-Greet.source c.greet.result c.args.desk.now
+    greeted g.D.Desk.does (λ t. string_bytes t) session.line session c.greet.new.self c.in-Ok-Greet.source c.greet.result c.args.desk.now
     c.in-Ok-Greet.field-0 c.in-Ok-Greet.field-0-is c.in-Ok-Greet.ensures.due greets.greeted greets.presented greets.unchanged
 
 pub returns-in-Ok-Ask-clause-replied : goal.returns-in-Ok-Ask-clause-replied
 returns-in-Ok-Ask-clause-replied g c =
     let session = c.args.self.now in
-    asked g.D.Desk.gives session.line session c.in-Ok-Ask.command _ c.args.desk.now c.ask.new.desk
+    asked g.D.Desk.does session.line session c.in-Ok-Ask.command _ c.args.desk.now c.ask.new.desk
     c.in-Ok-Ask.field-0 c.in-Ok-Ask.field-0-is c.in-Ok-Ask.ensures.due c.ask.ensures
 
 pub returns-in-Err-clause-replied : goal.returns-in-Err-clause-replied
 returns-in-Err-clause-replied g c =
     let session = c.args.self.now in
-    refused_any g.D.Desk.gives (λ t. string_bytes t) session.line session c.in-Err.refusal c.refusal_reply.result c.args.desk.now
+    refused_any g.D.Desk.does (λ t. string_bytes t) session.line session c.in-Err.refusal c.refusal_reply.result c.args.desk.now
     c.in-Err.ensures.due c.refusal_reply.ensures
+
+pub returns-in-Ok-Fetch-clause-replied : goal.returns-in-Ok-Fetch-clause-replied
+returns-in-Ok-Fetch-clause-replied g c =
+    let session = c.args.self.now in
+    fetched g.D.Desk.does session.line session c.in-Ok-Fetch.name _ c.args.desk.now c.read.new.desk
+    c.in-Ok-Fetch.field-0 c.in-Ok-Fetch.field-0-is c.in-Ok-Fetch.ensures.due c.read.ensures

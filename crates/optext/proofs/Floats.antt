@@ -8,7 +8,6 @@ use Rattle.attributes.specs.Scalar.{Scalar, text_scalar, whole_scalar, flag_scal
 use Rattle.attributes.specs.Attributes.{Attributes}
 use Rattle.delta.specs.Operation.{Operation, insert_text, insert_embed, retain, delete}
 use Rattle.optext.specs.Printed.{printed_scalar, printed_change, printed_entries, attributes_member, then_member, printed_operation, printed}
-use Rattle.algebra.specs.Text.{content}
 
 -- neither is true
 or-false : (a b : Bool) → a ≡ false → b ≡ false → (a || b) ≡ false
@@ -63,9 +62,6 @@ has_float-operation (retain n c) =
     (have_float-attributes (printed_entries printed_change c.entries) (have_float-entries printed_change has_float-change c.entries)) refl
 has_float-operation (delete n) = refl
 
-have_float-printed : (ops : List Operation) → items_have_float (printed ops) ≡ false
+pub have_float-printed : (ops : List Operation) → items_have_float (printed ops) ≡ false
 have_float-printed [] = refl
 have_float-printed (op ∷ ops) = or-false _ _ (has_float-operation op) (have_float-printed ops)
-
-pub has_float-content : (ops : List Operation) → has_float (content ops) ≡ false
-has_float-content ops = or-false _ _ (have_float-printed ops) refl
