@@ -94,7 +94,7 @@ module _ (keep : ℕ) (a b : DocumentRecord) (change : Change) (agree : Document
 abbrev pub ListsAgree : List DocumentRecord → List DocumentRecord → Type 0
 ListsAgree xs ys = (number : ℕ) → PlacesAgree (slice_get xs number) (slice_get ys number)
 
-lists-length : (xs ys : List DocumentRecord) → ListsAgree xs ys → length xs ≡ length ys
+pub lists-length : (xs ys : List DocumentRecord) → ListsAgree xs ys → length xs ≡ length ys
 lists-length [] [] each = refl
 lists-length [] (b ∷ ys) each = absurd (each 0)
 lists-length (a ∷ xs) [] each = absurd (each 0)

@@ -11,4 +11,5 @@ pub mod Told
 pub mod Changing
 pub mod Agreeing
 pub mod Keeping
+pub mod Alike
 pub mod CallerLemmas
