@@ -1,5 +1,5 @@
 -- States that agree are continued by the same commands, and agree after them.
-use Rattle.std.proofs.Common.{◌≡◌, ℕ, zero, suc, ◌+◌, ◌-◌, ◌≤◌, max, Bool, true, false, cond, List, [], ◌∷◌, ◌++◌, length, Option, Some, None, length-append, refl, sym, ap, subst, ◌∙◌, arith}
+use Rattle.std.proofs.Common.{◌≡◌, ℕ, zero, suc, ◌+◌, ◌≤◌, max, Bool, true, false, cond, List, [], ◌∷◌, length, Option, Some, None, refl, sym, ap, subst, ◌∙◌, arith}
 use Rattle.std.specs.Prelude.{◌==◌, ◌&&◌, not, nat_lt, nat_le, is_none, bytes_eq, slice_get}
 use Rattle.delta.specs.Element.{Element}
 use Rattle.revision.specs.Command.{Taken}
@@ -7,7 +7,8 @@ use Rattle.revision.specs.Sources.{Sources, last_of}
 use Rattle.revision.specs.Past.{Change, Past, newest, empty_past, from_floor, with_change}
 use Rattle.revision.specs.State.{Limits, DocumentRecord, State, revision_of, find, last_of_all, has_place, keeps, follows, begins, continues_by_name, change_of, record_by_name, has_room, grows, set_document, grown}
 use Rattle.revision.specs.Agree.{DocumentsAgree, PlacesAgree, Agree, AgreeSame, AgreeTurned, AgreeThrough, AgreeingGrow, floor_of}
-use Rattle.revision.proofs.Floors.{newest-from, from-from, from-more}
+use Rattle.revision.proofs.Floors.{from-from, from-more}
+use Rattle.revision.proofs.Changing.{longer, newest-with_change, with_change-from}
 
 -- documents of one name and revision that hold the same agree
 pub documents-agree : (a b : DocumentRecord) → a.name ≡ b.name → revision_of a ≡ revision_of b
@@ -69,23 +70,11 @@ agree_through s t u low first second = record {
       (first.documents number) (second.documents number);
 }
 
--- one change more, before any is let go of
-abbrev longer : Past → Change → Past
-longer past change = record past { changes = past.changes ++ change ∷ [] }
-
-newest-longer : (past : Past) (change : Change) → newest (longer past change) ≡ newest past + 1
-newest-longer past change = omega (arith, length-append past.changes (change ∷ []))
-
-pub newest-with_change : (keep : ℕ) (past : Past) (change : Change) → newest (with_change keep past change) ≡ newest past + 1
-newest-with_change keep past change =
-    newest-from (longer past change) (max past.floor (newest past + 1 - keep)) (omega arith) (omega (arith, newest-longer past change))
-    ∙ newest-longer past change
-
 -- from a floor on, it is what was held from a lower one on, and the change
-with_change-from : (keep : ℕ) (past : Past) (change : Change) (low floor : ℕ) → past.floor ≤ low → low ≤ newest past → low ≤ floor
+change-from_both : (keep : ℕ) (past : Past) (change : Change) (low floor : ℕ) → past.floor ≤ low → low ≤ newest past → low ≤ floor
     → (with_change keep past change).floor ≤ floor → from_floor (with_change keep past change) floor ≡ from_floor (longer (from_floor past low) change) floor
-with_change-from keep past change low floor above within under risen =
-    from-from (longer past change) (max past.floor (newest past + 1 - keep)) (omega arith) floor risen
+change-from_both keep past change low floor above within under risen =
+    with_change-from past change keep floor risen
     ∙ (sym (from-from (longer past change) low above floor under)
     ∙ ap (λ (p : Past). from_floor p floor) (sym (from-more past low above (change ∷ []) within)))
 
@@ -93,19 +82,19 @@ module _ (keep : ℕ) (a b : DocumentRecord) (change : Change) (agree : Document
   pub documents-after : DocumentsAgree (record a { past = with_change keep a.past change }) (record b { past = with_change keep b.past change })
   documents-after =
       documents-agree (record a { past = with_change keep a.past change }) (record b { past = with_change keep b.past change }) agree.name
-      (newest-with_change keep a.past change ∙ (ap (λ n. n + 1) agree.revision ∙ sym (newest-with_change keep b.past change)))
+      (newest-with_change a.past change keep ∙ (ap (λ n. n + 1) agree.revision ∙ sym (newest-with_change b.past change keep)))
       (λ floor over other within.
       let low : ℕ = max a.past.floor b.past.floor in
       let both : from_floor a.past low ≡ from_floor b.past low = agree.past low (omega arith) (omega arith) (omega (arith, agree.revision)) in
-      with_change-from keep a.past change low floor (omega arith) (omega (arith, agree.revision)) (omega (arith, over, other)) over
+      change-from_both keep a.past change low floor (omega arith) (omega (arith, agree.revision)) (omega (arith, over, other)) over
       ∙ (ap (λ (p : Past). from_floor (longer p change) floor) both
-      ∙ sym (with_change-from keep b.past change low floor (omega arith) (omega (arith, agree.revision)) (omega (arith, over, other)) other)))
+      ∙ sym (change-from_both keep b.past change low floor (omega arith) (omega (arith, agree.revision)) (omega (arith, over, other)) other)))
 
 -- place by place
 abbrev pub ListsAgree : List DocumentRecord → List DocumentRecord → Type 0
 ListsAgree xs ys = (number : ℕ) → PlacesAgree (slice_get xs number) (slice_get ys number)
 
-lists-length : (xs ys : List DocumentRecord) → ListsAgree xs ys → length xs ≡ length ys
+pub lists-length : (xs ys : List DocumentRecord) → ListsAgree xs ys → length xs ≡ length ys
 lists-length [] [] each = refl
 lists-length [] (b ∷ ys) each = absurd (each 0)
 lists-length (a ∷ xs) [] each = absurd (each 0)

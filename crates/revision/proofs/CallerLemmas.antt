@@ -2,3 +2,5 @@
 pub use Rattle.revision.proofs.Taking.{taken_grows}
 pub use Rattle.revision.proofs.Texts.{IsText-units_of}
 pub use Rattle.revision.proofs.Agreeing.{agrees, agree_turned, agree_through, agreeing_grow}
+pub use Rattle.revision.proofs.Alike.{agreeing_answer, agreeing_answer_held}
+pub use Rattle.revision.proofs.Keeping.{empty_is_state, growing_keeps, adopting_keeps}

@@ -8,5 +8,8 @@ pub mod Room
 pub mod Replays
 pub mod Kept
 pub mod Told
+pub mod Changing
 pub mod Agreeing
+pub mod Keeping
+pub mod Alike
 pub mod CallerLemmas

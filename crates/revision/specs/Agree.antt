@@ -1,6 +1,6 @@
 -- When two states hold the same. How far back they hold it, their floors, may differ: a state that is recovered may hold fewer
 -- revisions than the one that was lost, or more. What is said of all states at the end is promised by functions of
--- src/laws.rt; AgreeingAnswer and AgreeingAnswerHeld aren't proved yet, and nothing rests on them.
+-- src/laws.rt.
 use Rattle.std.specs.Prelude.{◌≡◌, ◌⊎◌, ◌≤◌, ◌<◌, ℕ, max, List, Option, Some, None, slice_get}
 use Rattle.refusal.specs.declared.Refusal.TheVariants.{TooOld}
 use Rattle.revision.specs.Command.{Taken, Action, Create, Edit, Undo, Command}

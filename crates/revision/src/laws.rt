@@ -5,7 +5,8 @@ ghost use Rattle.utf16.specs.Units.{units_of};
 ghost use Rattle.revision.specs.Spellable.{IsText};
 ghost use Rattle.revision.specs.Acceptance.{TakenGrows};
 ghost use Rattle.revision.specs.Parting.{PartsTold};
-ghost use Rattle.revision.specs.Agree.{AgreeSame, AgreeTurned, AgreeThrough, AgreeingGrow};
+ghost use Rattle.revision.specs.Agree.{AgreeSame, AgreeTurned, AgreeThrough, AgreeingGrow, AgreeingAnswer, AgreeingAnswerHeld};
+ghost use Rattle.revision.specs.Invariants.{EmptyIsState, GrowingKeeps, AdoptingKeeps};
 ghost use Rattle.revision.specs.Late.{InsertedStay, LightInserts, RoomForCommands, RoomForUndo};
 
 /// What the rule of acceptance takes continues the state.
@@ -46,4 +47,17 @@ pub fn agree()
 /// States that agree are continued by the same commands, and agree after them.
 pub fn agreeing_grow()
     ensures { AgreeingGrow }
+{}
+
+/// States that agree answer a command alike, unless one of them no longer holds the revision that it stands on.
+pub fn agreeing_answer()
+    ensures all { AgreeingAnswer }
+    ensures held { AgreeingAnswerHeld }
+{}
+
+/// What each state is: the empty one is so, and stays so by the commands that continue it and by the documents that it adopts.
+pub fn states_stay()
+    ensures begin { EmptyIsState }
+    ensures grow { GrowingKeeps }
+    ensures adopt { AdoptingKeeps }
 {}
