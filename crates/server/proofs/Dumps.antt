@@ -15,4 +15,4 @@ pub dump_of-more : (documents : List PendingDocument) (i : ℕ) (next : PendingD
     → dump_of (map held (take (i + 1) documents)) ≡ dump_of (map held (take i documents)) ++ document_line (held next)
 dump_of-more documents i next within is =
     ap (λ (ds : List PendingDocument). dump_of (map held ds)) (take_more documents i next within ∙ ap (λ (d : PendingDocument). take i documents ++ d ∷ []) (sym is))
-    ∙ ap dump_of (map_push held next (take i documents)) ∙ dump_of-last (map held (take i documents)) (held next)
+    ∙ ap dump_of (map_push held (take i documents) next) ∙ dump_of-last (map held (take i documents)) (held next)

@@ -1,5 +1,5 @@
 -- A desk that answers from a store: what it answers a command, and what that leaves.
-use Rattle.std.specs.Prelude.{◌≡◌, ◌⊎◌, ◌↔◌, Bool, true, false, [], ◌∷◌, Result, Ok, Err, OnOk, OnErr}
+use Rattle.std.specs.Prelude.{◌≡◌, ◌⊎◌, ◌↔◌, Bool, true, false, [], ◌∷◌, Some, Result, Ok, Err, OnOk, OnErr}
 use Rattle.disk.specs.declared.device.Disk.{Ghosts}
 use Rattle.disk.specs.Device.{Rose}
 use Rattle.disk.specs.Crash.{LeavesOnly}
@@ -12,6 +12,7 @@ use Rattle.recovery.specs.declared.store.Store.{Store}
 use Rattle.recovery.specs.Open.{IsOpen, IsWithOrWithout, device_of, state_of, has_room, has_failed as store_has_failed}
 use Rattle.session.specs.declared.reply.Reply.{Reply}
 use Rattle.session.specs.declared.reply.Reply.TheVariants as reply
+use Rattle.session.specs.Exchange.{Exchange, Answered, Shown}
 use Rattle.server.specs.declared.desk.StoreDesk.{StoreDesk}
 
 -- What is answered where nothing is committed: it was taken before, it is refused, or memory ran out.
@@ -76,3 +77,9 @@ module _ {D : Type 0} {disk : Ghosts D} where
   AnswersFromStore old command result new =
       ((has_failed old ≡ true) × (result ≡ Err StoreFailed) × (new ≡ old))
       ⊎ ((has_failed old ≡ false) × (Stays old command result new ⊎ Commits old command result new))
+
+  -- What passes between such a desk and a session, and what that leaves: a command is answered from the store, and the state that
+  -- is shown is the store's.
+  abbrev pub PassesAtStore : StoreDesk D disk → Exchange → StoreDesk D disk → Type 0
+  PassesAtStore old (Answered command result) new = AnswersFromStore old command result new
+  PassesAtStore old (Shown shown) new = (shown ≡ Some (state_of (store_of old))) × (new ≡ old)

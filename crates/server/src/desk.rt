@@ -2,7 +2,7 @@
 use disk::Disk;
 use recovery::Store;
 use refusal::Refusal;
-use revision::{Command, Plan, Taken};
+use revision::{Command, Plan, State, Taken};
 use session::{Desk, Reply};
 use std::alloc::Global;
 
@@ -91,9 +91,9 @@ impl<D: Disk> StoreDesk<D> {
 }
 
 impl<D: Disk> Desk for StoreDesk<D> {
-    ghost use Rattle.server.specs.Desk.{AnswersFromStore};
+    ghost use Rattle.server.specs.Desk.{PassesAtStore};
 
-    ghost gives = { AnswersFromStore };
+    ghost does = { PassesAtStore };
 
     fn ask(&mut self, alloc: Global, command: &Command) -> Result<Reply, Refusal> {
         if self.failed {
@@ -103,5 +103,9 @@ impl<D: Disk> Desk for StoreDesk<D> {
             Plan::Taken(taken) => self.commit(alloc, taken),
             Plan::Again { rev } => Ok(Reply::Again { rev }),
         }
+    }
+
+    fn view<R, F: Drop + FnOnce(&State) -> R>(&mut self, read: F) -> Result<R, Refusal> {
+        Ok(read(self.store.state()))
     }
 }

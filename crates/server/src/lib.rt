@@ -15,7 +15,7 @@
 //! ghost use Rattle.std.specs.Prelude.{◌≡◌, List, false, IfOk};
 //! ghost use Rattle.recovery.specs.Open.{IsOpen, has_failed, state_of};
 //! ghost use Rattle.server.specs.Asked.{state_after};
-//! ghost use Rattle.session.specs.Replies.{Exchange};
+//! ghost use Rattle.session.specs.Exchange.{Exchange};
 //!
 //! use disk::Disk;
 //! use recovery::Store;

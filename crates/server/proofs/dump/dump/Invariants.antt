@@ -7,4 +7,4 @@ use Rattle.server.proofs.dump.dump.Given as goal
 -- the lines of the documents so far are written
 abbrev pub invariant-loop-document : goal.invariant-loop-document
 invariant-loop-document g l =
-    Appends (g.W.Write.contents l.fn.output) (g.W.Write.contents l.output) (spec.dump_of (map held (take l.document-index l.documents)))
+    Appends (g.W.Write.contents l.fn.output) (g.W.Write.contents l.output) (spec.dump_of (map held (take l.document-index l.document-items)))
