@@ -1,0 +1,6 @@
+pub mod Slot
+pub mod Numbers
+pub mod Table
+pub mod Order
+pub mod Ring
+mod Examples
