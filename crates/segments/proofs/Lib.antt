@@ -1,0 +1,5 @@
+pub mod Places
+pub mod Slots
+pub mod Numbering
+pub mod Tables
+pub mod Rings

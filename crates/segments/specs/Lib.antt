@@ -3,4 +3,5 @@ pub mod Numbers
 pub mod Table
 pub mod Order
 pub mod Ring
+pub mod steps
 mod Examples

@@ -1,5 +1,5 @@
 //! The numbers of a ring's slots, None where a slot's gate is closed.
-ghost use Rattle.std.specs.Prelude.{◌≡◌, ◌≢◌, ℕ, ◌<◌, ◌^◌, None, length, IfSome};
+ghost use Rattle.std.specs.Prelude.{◌≡◌, ◌≢◌, ◌↔◌, ℕ, ◌<◌, ◌^◌, None, length, IfSome};
 ghost use Rattle.segments.specs.Numbers.{newest_number, open_count, number_at, IsFull, IsNext, IsOldest};
 
 /// The highest number, 0 where no slot is open.
@@ -42,4 +42,48 @@ pub fn next_slot(numbers: &[Option<u64>]) -> Option<(usize, u64)>
     }
     let slot = lowest_closed(numbers)?;
     Some((slot, newest + 1))
+}
+
+/// How many slots are open.
+fn open_count(numbers: &[Option<u64>]) -> usize
+    ensures { result ≡ open_count numbers.now }
+{
+    let mut count = 0;
+    for slot in 0..numbers.len() {
+        if numbers[slot].is_some() {
+            count += 1;
+        }
+    }
+    count
+}
+
+/// The open slot of the lowest number.
+fn oldest(numbers: &[Option<u64>]) -> Option<usize>
+    ensures oldest { IfSome result (λ slot. (number : ℕ) × IsOldest numbers.now slot number) }
+    ensures there { IfSome result (λ slot. slot < length numbers.now) }
+    ensures closed { result ≡ None → (slot : ℕ) → number_at numbers.now slot ≡ None }
+{
+    let mut oldest = None;
+    for slot in 0..numbers.len() {
+        if let Some(number) = numbers[slot] {
+            oldest = match oldest {
+                Some((known, lowest)) if lowest <= number => Some((known, lowest)),
+                _ => Some((slot, number)),
+            };
+        }
+    }
+    let (slot, _) = oldest?;
+    Some(slot)
+}
+
+/// The open slot of the lowest number, where two or more are open.
+pub fn oldest_of_two(numbers: &[Option<u64>]) -> Option<usize>
+    ensures oldest { IfSome result (λ slot. (number : ℕ) × IsOldest numbers.now slot number) }
+    ensures there { IfSome result (λ slot. slot < length numbers.now) }
+    ensures few { result ≡ None ↔ (open_count numbers.now < 2) }
+{
+    if open_count(numbers) < 2 {
+        return None;
+    }
+    oldest(numbers)
 }
