@@ -1,13 +1,13 @@
 -- The rings of contents, and what a call makes of them.
-use Rattle.std.proofs.Common.{◌≡◌, ◌≢◌, ◌⊎◌, inl, inr, ⊎_elim, ℕ, ◌+◌, ◌-◌, ◌*◌, ◌≤◌, ◌<◌, ◌^◌, Option, Some, None, List, [], ◌∷◌, ◌++◌, length, map, set, get_or, take, drop, refl, sym, ◌∙◌, ap, subst, arith}
+use Rattle.std.proofs.Common.{◌≡◌, inl, inr, ⊎_elim, ℕ, ◌+◌, ◌-◌, ◌≤◌, ◌<◌, ◌^◌, Option, Some, None, List, [], ◌∷◌, length, set, refl, sym, ◌∙◌, ap, subst, arith}
 use Rattle.std.proofs.lemmas.List.{get_or-set_same}
 use Rattle.disk.specs.Device.{overwritten, SameOutside}
-use Rattle.journal.specs.Area.{open_gate, IsGated, Place, entries}
-use Rattle.segments.specs.Slot.{Segment, HoldsSlot, empty_segment, number_of}
-use Rattle.segments.specs.Numbers.{number_at, NumbersDiffer, IsNext, IsNewest}
+use Rattle.journal.specs.Area.{open_gate, IsGated, Place}
+use Rattle.segments.specs.Slot.{Segment, HoldsSlot, empty_segment}
+use Rattle.segments.specs.Numbers.{NumbersDiffer, IsNext, IsNewest}
 use Rattle.segments.specs.Table.{slot_place, slot_at, slot_bytes, numbers_of, HoldsTable, IsOpened}
 use Rattle.segments.specs.declared.ring.Ring.{Ring}
-use Rattle.segments.specs.Ring.{at_of, size_of, known_numbers, ring_size, end_of, IsNewestArea, KnowsNewest, Fits, FitsNow, HoldsInRing, IsLeftByOpening}
+use Rattle.segments.specs.Ring.{known_numbers, ring_size, end_of, KnowsNewest, Fits, FitsNow, HoldsInRing, IsLeftByOpening}
 use Rattle.segments.proofs.Places.{slot_before}
 use Rattle.segments.proofs.Slots.{head_of, opening_slot, opened_slot, opened_outside}
 use Rattle.segments.proofs.Numbering.{next_differs, next_newest}
@@ -64,15 +64,19 @@ module _ (old : List ℕ) (ring : Ring) (table : List (Option Segment)) (fits : 
         let left = opening_slot (slot_place ring.at ring.size slot) ring.size number old ring.size_low inside (omega (arith, next.above)) in_range closed_before content gated in
         let outside : SameOutside ring.at (ring_size ring) old content = within_ring ring.at ring.size slot (length (known_numbers ring)) old content next.free.there left.0 in
         ⊎_elim
-            (λ shut. inl (record {
-              outside = outside;
-              holds = kept ring.at ring.size slot old content table fits.holds left.0 (subst (λ (o : Option Segment). HoldsSlot (slot_bytes ring.at ring.size content slot) o) (sym empty_before) shut);
-            }))
-            (λ held. inr (with_slot, opened, record {
-              outside = outside;
-              holds = changed ring.at ring.size slot old content table fits.holds left.0 (Some (empty_segment number)) there held differ_now;
-            }))
-            left.1
+        (λ shut. inl (record {
+          outside = outside;
+          holds = kept ring.at ring.size slot old content table fits.holds left.0 (subst (λ (o : Option Segment). HoldsSlot (slot_bytes ring.at ring.size content slot) o) (sym empty_before) shut);
+        }))
+        (λ held. inr (
+          with_slot,
+          opened,
+          record {
+            outside = outside;
+            holds = changed ring.at ring.size slot old content table fits.holds left.0 (Some (empty_segment number)) there held differ_now;
+          },
+        ))
+        left.1
 
     -- and then
     pub opened_ring : (new : List ℕ) (later : Ring) (area : Place) → new ≡ overwritten (overwritten old (slot_place ring.at ring.size slot + 1) (head_of number)) (slot_place ring.at ring.size slot) (open_gate ∷ [])
@@ -84,20 +88,23 @@ module _ (old : List ℕ) (ring : Ring) (table : List (Option Segment)) (fits : 
         let outside : SameOutside place ring.size old new = subst (λ (l : List ℕ). SameOutside place ring.size old l) (sym is) (opened_outside place ring.size number old ring.size_low inside) in
         let held : HoldsSlot (slot_bytes ring.at ring.size new slot) (Some (empty_segment number)) =
         subst (λ (l : List ℕ). HoldsSlot (slot_bytes ring.at ring.size l slot) (Some (empty_segment number))) (sym is)
-            (opened_slot place ring.size number old ring.size_low inside (omega (arith, next.above)) in_range) in
-        let now : numbers_of with_slot ≡ set (numbers_of table) slot (Some number) = numbers_set table slot (Some (empty_segment number)) in
-        (with_slot, opened, record {
-          outside = within_ring ring.at ring.size slot (length (known_numbers ring)) old new next.free.there outside;
-          fits = fits_later ring.at ring.size new later with_slot (Some area) at size newest
-              (changed ring.at ring.size slot old new table fits.holds outside (Some (empty_segment number)) there held differ_now)
-              (numbers ∙ ap (λ (l : List (Option ℕ)). set l slot (Some number)) fits.numbers ∙ sym now)
-              (record {
-                slot = slot;
-                segment = empty_segment number;
-                has = get_or-set_same table slot (Some (empty_segment number)) None there;
-                newest = subst (λ (l : List (Option ℕ)). IsNewest l slot number) (sym now) (next_newest (numbers_of table) slot number next_here);
-                begins = begins;
-                long = long;
-                next = first;
-              });
-        })
+        (opened_slot place ring.size number old ring.size_low inside (omega (arith, next.above)) in_range) in
+        let now : numbers_of with_slot ≡ set (numbers_of table) slot (Some number) = numbers_set table slot (Some (empty_segment number)) in (
+          with_slot,
+          opened,
+          record {
+            outside = within_ring ring.at ring.size slot (length (known_numbers ring)) old new next.free.there outside;
+            fits = fits_later ring.at ring.size new later with_slot (Some area) at size newest
+                (changed ring.at ring.size slot old new table fits.holds outside (Some (empty_segment number)) there held differ_now)
+                (numbers ∙ ap (λ (l : List (Option ℕ)). set l slot (Some number)) fits.numbers ∙ sym now)
+                (record {
+                  slot = slot;
+                  segment = empty_segment number;
+                  has = get_or-set_same table slot (Some (empty_segment number)) None there;
+                  newest = subst (λ (l : List (Option ℕ)). IsNewest l slot number) (sym now) (next_newest (numbers_of table) slot number next_here);
+                  begins = begins;
+                  long = long;
+                  next = first;
+                });
+          },
+        )

@@ -1,8 +1,8 @@
 -- What a slot holds after the writes of a call.
-use Rattle.std.proofs.Common.{◌≡◌, ◌≢◌, ◌⊎◌, inl, inr, ℕ, ◌+◌, ◌-◌, ◌≤◌, ◌<◌, ◌^◌, Option, Some, None, List, [], ◌∷◌, ◌++◌, length, take, drop, get_or, refl, sym, ◌∙◌, ap, subst, arith, append_assoc}
+use Rattle.std.proofs.Common.{◌≡◌, ◌≢◌, ◌⊎◌, inl, inr, ℕ, ◌+◌, ◌-◌, ◌≤◌, ◌<◌, ◌^◌, Some, None, List, [], ◌∷◌, ◌++◌, length, take, drop, get_or, refl, sym, ◌∙◌, ap, subst, arith}
 use Rattle.std.specs.Int.{w64, to_le_bytes}
 use Rattle.std.proofs.lemmas.Bool.{cases_eq}
-use Rattle.std.proofs.lemmas.List.{take_at, drop_at, take-take, drop-take, drop-drop, get_or-take, get_or-drop}
+use Rattle.std.proofs.lemmas.List.{take_at, drop_at, take-take, drop-take, drop-drop, get_or-take}
 use Rattle.std.proofs.Math.Seq.{take-append-add}
 use Rattle.disk.specs.Device.{overwritten, SameOutside}
 use Rattle.disk.proofs.CallerLemmas.{length_overwritten, drop_overwritten, overwritten_same_outside, same_outside_wider, same_outside_then}
@@ -72,16 +72,18 @@ module _ (q size number : ℕ) (old : List ℕ) (large : 256 ≤ size) (within :
   opening_slot from_one in_range closed content (inl same) = (
     same_outside_wider q size (q + 1) (length (head_of number)) old content (omega arith) (omega (arith, head_long number)) same,
     inl (λ is. closed (
-    first_byte q size old (omega arith)
-    ∙ sym (get_or-take (q + 1) old q 0 (omega arith)) ∙ sym (ap (λ (l : List ℕ). get_or l q 0) same.before) ∙ get_or-take (q + 1) content q 0 (omega arith)
-    ∙ sym (first_byte q size content (omega arith)) ∙ is)),
+        first_byte q size old (omega arith)
+        ∙ sym (get_or-take (q + 1) old q 0 (omega arith)) ∙ sym (ap (λ (l : List ℕ). get_or l q 0) same.before) ∙ get_or-take (q + 1) content q 0 (omega arith)
+        ∙ sym (first_byte q size content (omega arith)) ∙ is)),
   )
   opening_slot from_one in_range closed content (inr (value, is)) =
-      subst (λ (l : List ℕ). SameOutside q size old l × (HoldsSlot (take size (drop q l)) None ⊎ HoldsSlot (take size (drop q l)) (Some (empty_segment number)))) (sym is)
-      (headed_outside value, elim (cases_eq value open_gate) [
-        | inl open_there ↦ inr (subst (λ v. HoldsSegment (take size (drop q (headed v))) (empty_segment number)) (sym open_there) (opened_slot from_one in_range))
-        | inr shut ↦ inl (λ gate. shut (sym (headed_gate value) ∙ gate))
-      ])
+      subst (λ (l : List ℕ). SameOutside q size old l × (HoldsSlot (take size (drop q l)) None ⊎ HoldsSlot (take size (drop q l)) (Some (empty_segment number)))) (sym is) (
+        headed_outside value,
+        elim (cases_eq value open_gate) [
+          | inl open_there ↦ inr (subst (λ v. HoldsSegment (take size (drop q (headed v))) (empty_segment number)) (sym open_there) (opened_slot from_one in_range))
+          | inr shut ↦ inl (λ gate. shut (sym (headed_gate value) ∙ gate))
+        ],
+      )
 
 -- a slot's gate alone is written
 pub gate_written : (q size : ℕ) (old content : List ℕ) (segment : Segment) → 256 ≤ size → SameOutside q 1 old content → HoldsSegment (take size (drop q old)) segment

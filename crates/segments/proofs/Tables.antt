@@ -1,7 +1,7 @@
 -- Tables of slots, of which one changes.
-use Rattle.std.proofs.Common.{◌≡◌, ◌≢◌, ◌⊎◌, inl, inr, ℕ, ◌+◌, ◌-◌, ◌*◌, ◌≤◌, ◌<◌, Option, Some, None, List, length, map, set, get_or, take, drop, refl, sym, ◌∙◌, ap, subst, arith}
-use Rattle.std.proofs.lemmas.Bool.{cases_eq}
-use Rattle.std.proofs.lemmas.List.{get_or-set_same, get_or-set_other, length-map, length-set, map-set}
+use Rattle.std.proofs.Common.{◌≡◌, inl, inr, ℕ, ◌+◌, ◌*◌, ◌<◌, Option, Some, None, List, length, set, refl, sym, ◌∙◌, subst, arith}
+use Rattle.std.proofs.lemmas.Bool.{cases_eq, cases_lt}
+use Rattle.std.proofs.lemmas.List.{get_or-set_same, get_or-set_other, get_or_past, length-map, length-set, map-set}
 use Rattle.std.proofs.Math.ListN.{get_or-map}
 use Rattle.disk.specs.Device.{SameOutside}
 use Rattle.disk.proofs.CallerLemmas.{same_outside_wider}
@@ -24,6 +24,18 @@ numbers_long table = length-map table number_of
 pub nothing_held : (x : Option Segment) → number_of x ≡ None → x ≡ None
 nothing_held None is = refl
 nothing_held (Some segment) is = absurd cc
+
+-- a number is that of a segment
+pub segment_held : (x : Option Segment) (n : ℕ) → number_of x ≡ Some n → (segment : Segment) × (x ≡ Some segment) × (segment.number ≡ n)
+segment_held None n is = absurd cc
+segment_held (Some segment) n is = let same : segment.number ≡ n = cc in (segment, refl, same)
+
+-- what holds something is there
+pub slot_there : (table : List (Option Segment)) (k : ℕ) (segment : Segment) → slot_at table k ≡ Some segment → k < length table
+slot_there table k segment has = elim (cases_lt k (length table)) [
+  | inl inside ↦ inside
+  | inr past ↦ absurd (let is : None ≡ Some segment = sym (get_or_past table k None past) ∙ has in cc)
+]
 
 module _ (at size k : ℕ) (old new : List ℕ) (table : List (Option Segment)) (holds : HoldsTable at size old table) (same : SameOutside (at + k * size) size old new) where
   -- the slot holds what it held

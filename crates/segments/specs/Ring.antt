@@ -1,10 +1,10 @@
 -- What a ring knows of its slots, and what its calls leave of them.
-use Rattle.std.specs.Prelude.{◌≡◌, ◌⊎◌, ℕ, ◌+◌, ◌-◌, ◌*◌, ◌≤◌, nat_le, Bool, true, false, Option, Some, None, List, length}
+use Rattle.std.specs.Prelude.{◌≡◌, ◌⊎◌, ℕ, ◌+◌, ◌-◌, ◌*◌, nat_le, Bool, true, false, Option, Some, None, List, length}
 use Rattle.disk.specs.Device.{SameOutside}
 use Rattle.journal.specs.Area.{Place, entries}
 use Rattle.segments.specs.declared.ring.Ring.{Ring}
 use Rattle.segments.specs.Slot.{Segment}
-use Rattle.segments.specs.Numbers.{IsNewest, number_at}
+use Rattle.segments.specs.Numbers.{IsNewest}
 use Rattle.segments.specs.Table.{slot_place, slot_at, numbers_of, HoldsTable, IsOpened, IsAppended, IsRetired}
 
 -- where the first slot lies, how many bytes each has, and the number of each that is open
@@ -78,13 +78,19 @@ abbrev pub IsReady : Ring → ℕ → List (Option Segment) → List (Option Seg
 IsReady ring len before ready =
     ((fits_newest ring len ≡ true) × (ready ≡ before)) ⊎ ((fits_newest ring len ≡ false) × IsOpened before ready)
 
+-- What a crash before the append itself leaves: the table before, or the one that the body is appended to.
+abbrev pub IsLeftReady : List ℕ → Ring → ℕ → List (Option Segment) → List ℕ → Type 0
+IsLeftReady old ring len table content =
+    HoldsInRing old ring table content
+    ⊎ ((ready : List (Option Segment)) × IsReady ring len table ready × HoldsInRing old ring ready content)
+
 -- What a crash within an append leaves: the table before, the one that the body is appended to, or that with the body.
 abbrev pub IsLeftByAppend : List ℕ → Ring → List (Option Segment) → List ℕ → List ℕ → Type 0
 IsLeftByAppend old ring table body content =
     HoldsInRing old ring table content
     ⊎ ((ready : List (Option Segment)) × IsReady ring (length body) table ready
-      × (HoldsInRing old ring ready content
-        ⊎ ((after : List (Option Segment)) × IsAppended ready body after × HoldsInRing old ring after content)))
+    × (HoldsInRing old ring ready content
+    ⊎ ((after : List (Option Segment)) × IsAppended ready body after × HoldsInRing old ring after content)))
 
 -- What a crash while a segment is retired leaves: the table before, or without the oldest segment.
 abbrev pub IsLeftByRetiring : List ℕ → Ring → List (Option Segment) → List ℕ → Type 0

@@ -1,5 +1,5 @@
 -- A table of what each slot holds, and what opening a slot, appending a body and retiring a segment make of it.
-use Rattle.std.specs.Prelude.{◌≡◌, ◌⊎◌, ℕ, ◌+◌, ◌*◌, ◌<◌, Option, Some, None, List, [], ◌∷◌, ◌++◌, length, map, set, get_or, take, drop}
+use Rattle.std.specs.Prelude.{◌≡◌, ℕ, ◌+◌, ◌*◌, ◌<◌, Option, Some, None, List, [], ◌∷◌, ◌++◌, length, map, set, get_or, take, drop}
 use Rattle.segments.specs.Slot.{Segment, HoldsSlot, number_of, empty_segment}
 use Rattle.segments.specs.Numbers.{NumbersDiffer, IsNext, IsNewest, IsOldest}
 

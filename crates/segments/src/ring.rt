@@ -1,5 +1,5 @@
 //! The ring of slots, as it is known in memory.
-ghost use Rattle.std.specs.Prelude.{◌≡◌, ◌⊎◌, ◌↔◌, ℕ, ◌+◌, ◌-◌, ◌*◌, ◌^◌, ◌<◌, ◌≤◌, Option, Some, None, List, [], ◌∷◌, ◌++◌, set, true, false, length, OnOk, OnErr, IsErrOf, IfErr, IfOk};
+ghost use Rattle.std.specs.Prelude.{◌≡◌, ◌⊎◌, ◌↔◌, ℕ, ◌+◌, ◌-◌, ◌*◌, ◌^◌, ◌<◌, ◌≤◌, Option, Some, None, List, [], ◌∷◌, ◌++◌, set, true, false, length, OnOk, OnErr, IsErrOf, IfErr, IfOk, IfSome};
 ghost use Rattle.std.specs.Int.{w64, to_le_bytes};
 ghost use Rattle.std.specs.Option.{ForSome};
 ghost use Rattle.disk.specs.Calls.{HasOnlyWritten, CountsFaults, CountsFaultsAs};
@@ -34,7 +34,7 @@ impl Ring {
     ghost use Rattle.segments.specs.Slot.{Segment};
     ghost use Rattle.segments.specs.Numbers.{IsFull, IsNext, IsOldest, open_count};
     ghost use Rattle.segments.specs.Table.{slot_place, IsOpened, IsAppended, IsRetired};
-    ghost use Rattle.segments.specs.Ring.{at_of, size_of, known_numbers, end_of, fits_newest, Fits, FitsNow, SamePlaces, IsReady, IsLeftByOpening, IsLeftByAppend, IsLeftByRetiring};
+    ghost use Rattle.segments.specs.Ring.{at_of, size_of, known_numbers, end_of, fits_newest, Fits, FitsNow, SamePlaces, IsReady, IsLeftByOpening, IsLeftReady, IsLeftByAppend, IsLeftByRetiring};
 
     /// Opens the next slot: the lowest one whose gate is closed, under the number one above the newest segment's, 1 where
     /// none is open. `JournalFull` comes just where no slot is free, and makes no call of the device. After a `Fault`
@@ -126,22 +126,34 @@ impl Ring {
         ensures places { SamePlaces self.old self.new }
 
         ensures any_moment { (table : List (Option Segment)) → D.unsynced disk.old ≡ [] → Fits (D.seen disk.old) self.old table
-            → LeavesOnly ⟦<D as Disk>⟧ (IsLeftByOpening (D.seen disk.old) self.old table) disk.old disk.new }
-        ensures opens { fits_newest self.old len ≡ false → OnOk result ((table : List (Option Segment)) → Fits (D.seen disk.old) self.old table
-            → (after : List (Option Segment)) × IsOpened table after × FitsNow (D.seen disk.old) self.old (D.seen disk.new) self.new after) }
+            → LeavesOnly ⟦<D as Disk>⟧ (IsLeftReady (D.seen disk.old) self.old len table) disk.old disk.new }
+        ensures done { OnOk result ((table : List (Option Segment)) → Fits (D.seen disk.old) self.old table
+            → (ready : List (Option Segment)) × IsReady self.old len table ready × FitsNow (D.seen disk.old) self.old (D.seen disk.new) self.new ready) }
         ensures synced { OnOk result (D.unsynced disk.old ≡ [] → D.unsynced disk.new ≡ []) }
 
         ensures calls { length (D.past disk.new) ≤ length (D.past disk.old) + 4 }
         ensures only_written { HasOnlyWritten ⟦<D as Disk>⟧ disk.old disk.new }
         ensures faults { CountsFaultsAs ⟦<D as Disk>⟧ Refusal.Fault result disk.old disk.new }
     {
-        if let Some(area) = self.newest {
-            if area.has_room(len) {
-                return Ok(area);
-            }
+        if let Some(area) = self.newest_with_room(len) {
+            return Ok(area);
         }
         let area = self.open_next(disk)?;
         Ok(area)
+    }
+
+    // The newest segment's area, where a body of so many bytes fits into it.
+    fn newest_with_room(&self, len: u64) -> Option<Area>
+        requires { len < 2 ^ 62 }
+        ensures newest { IfSome result (λ area. self.now.newest ≡ Some area) }
+        ensures room { IfSome result (λ area. area.next + 6 + len ≤ area.size) }
+        ensures fits { IfSome result (λ _. fits_newest self.now len ≡ true) }
+        ensures no_room { result ≡ None → fits_newest self.now len ≡ false }
+    {
+        match self.newest {
+            Some(area) if area.has_room(len) => Some(area),
+            _ => None,
+        }
     }
 
     /// Retires the oldest segment: its slot is closed, and free from then on. `StillNeeded` comes just where fewer than
