@@ -5,3 +5,7 @@ pub mod Tables
 pub mod Rings
 pub mod Appending
 pub mod Retiring
+pub mod OneTable
+pub mod Orders
+pub mod CallerLemmas
+pub mod Worked

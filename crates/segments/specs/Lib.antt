@@ -3,5 +3,5 @@ pub mod Numbers
 pub mod Table
 pub mod Order
 pub mod Ring
+pub mod Laws
 pub mod steps
-mod Examples

@@ -29,6 +29,7 @@
 //! ```
 #![tactic(auto)]
 
+pub mod laws;
 mod numbers;
 mod ring;
 
