@@ -42,7 +42,9 @@ mod message;
 mod reply;
 mod request;
 mod session;
+mod state_desk;
 
 pub use desk::Desk;
 pub use reply::Reply;
 pub use session::{Session, SessionEnded};
+pub use state_desk::StateDesk;
