@@ -12,11 +12,13 @@
 #![tactic(auto)]
 
 mod command;
+mod doc_state;
 mod late;
 pub mod laws;
 mod limits;
 mod name;
 mod past;
+mod source_table;
 mod sources;
 mod taken;
 #[cfg(test)]
@@ -24,6 +26,7 @@ mod tests;
 mod widths;
 
 pub use command::{Action, Command};
+pub use doc_state::DocState;
 pub use limits::Limits;
 pub use name::Name;
 pub use past::{Past, Taker};
