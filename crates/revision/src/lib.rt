@@ -12,12 +12,16 @@
 #![tactic(auto)]
 
 mod command;
+mod documents;
+mod growing;
 mod late;
 pub mod laws;
 mod limits;
 mod name;
+mod names;
 mod past;
 mod sources;
+mod state;
 mod taken;
 #[cfg(test)]
 mod tests;
@@ -28,5 +32,6 @@ pub use limits::Limits;
 pub use name::Name;
 pub use past::{Past, Taker};
 pub use sources::{LastTaken, Sources};
+pub use state::{PreparedState, State, Unprepared};
 pub use taken::Taken;
 pub use widths::delta_width;
