@@ -10,6 +10,7 @@ pub mod Agree
 pub mod Acceptance
 pub mod Late
 pub mod Past
+pub mod Pending
 pub mod PastView
 pub mod Parting
 pub mod Sources

@@ -12,6 +12,7 @@
 #![tactic(auto)]
 
 mod command;
+mod doc_state;
 mod documents;
 mod growing;
 mod late;
@@ -20,6 +21,7 @@ mod limits;
 mod name;
 mod names;
 mod past;
+mod source_table;
 mod sources;
 mod state;
 mod taken;
@@ -28,6 +30,7 @@ mod tests;
 mod widths;
 
 pub use command::{Action, Command};
+pub use doc_state::DocState;
 pub use limits::Limits;
 pub use name::Name;
 pub use past::{Past, Taker};
