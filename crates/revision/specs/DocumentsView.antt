@@ -26,6 +26,6 @@ pub record AreDocuments (d : Inside) : Type 0 where
   pub limits : IsLimits d.limits
   pub held : d.count ≤ length d.documents.items
   pub room : length d.documents.items ≤ d.limits.docs
-  pub index : IsIndex (get_by_text d.names) (names_of d.documents.items)
+  pub index : IsIndex (get_by_text d.names.map) (names_of d.documents.items)
   pub none_twice : NoneTwice (names_of d.documents.items)
   pub rest : UntouchedRest d.touched.items d.documents.items

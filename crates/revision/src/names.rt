@@ -37,10 +37,8 @@ impl Names {
         ensures only { IsOkUnless result Refusal.NoMemory }
     {
         let text = String::from_str(alloc, name.as_str())?;
-        match self.map.insert(text, number) {
-            Ok(_) => Ok(()),
-            Err(_) => Err(Refusal::NoMemory),
-        }
+        self.map.insert(text, number)?;
+        Ok(())
     }
 
     /// Takes a name out.
