@@ -34,9 +34,9 @@ AreNextUnits prepared None = prepared.next ≡ []
 AreNextUnits prepared (Some units) = units ≡ prepared_units prepared
 
 -- what is kept beside the past is what comes of it
-pub record IsKept (past : Prepared) (units : List Element) (next : Option (List Element)) (sources : Table) : Type 0 where
-  pub units : units ≡ newest_units past.past
-  pub next : AreNextUnits past next
+pub record ComesOf (past : Prepared) (units : List Element) (next : Option (List Element)) (sources : Table) : Type 0 where
+  pub newest : units ≡ newest_units past.past
+  pub after : AreNextUnits past next
   pub held : sources.held ≡ newest_sources past.past
   pub prepared : sources.prepared ≡ prepared_sources past
 

@@ -47,7 +47,7 @@ impl Model for DocState {
 
     ghost view = { λ d. record { name = d.name; past = d.past } };
 
-    ghost invariant = { λ d. spec.IsKept d.past d.document d.next d.sources };
+    ghost invariant = { λ d. spec.ComesOf d.past d.document d.next d.sources };
 }
 
 impl DocState {
@@ -111,10 +111,7 @@ impl DocState {
         ) {
             return Err(Refusal::Stranger);
         }
-        let units = match &self.next {
-            Some(document) => document,
-            None => &self.document,
-        };
+        let units = self.next.as_ref().unwrap_or(&self.document);
         let after = kept_after(alloc, limits, units, self.sources.prepared(), taken)?;
         note(alloc, &mut self.past, &mut self.sources, taken)?;
         self.next = Some(after);
@@ -261,7 +258,7 @@ fn kept_after(
     ensures only { IfErr result (λ e. (e ≡ Refusal.Stranger) ⊎ (e ≡ Refusal.NoMemory)) }
 {
     let after = changed(alloc, document, taken.delta())?;
-    let count = sources.count_after(taken.source()) as u64;
+    let count = sources.count_after(taken.source());
     if after.weight().saturating_add(count.saturating_mul(64)) > u64::from(limits.weight()) {
         return Err(Refusal::Stranger);
     }

@@ -1,5 +1,5 @@
 //! The sources of a document.
-ghost use Rattle.std.specs.Prelude.{◌≡◌, ℕ, T, MatchResult, IfOk, OnOk, OnErr, IsOkUnless, length};
+ghost use Rattle.std.specs.Prelude.{◌≡◌, ◌-◌, ◌^◌, ℕ, T, min, MatchResult, IfOk, OnOk, OnErr, IsOkUnless, length};
 ghost use Rattle.std.specs.FinMap.Entries.{is_sorted};
 ghost use Rattle.attributes.specs.Map.{by_bytes, empty, get, remove};
 ghost use Rattle.attributes.specs.Place.{IsHere, IsFree};
@@ -101,13 +101,14 @@ impl Sources {
         }
     }
 
-    /// How many there are once a command of this source was taken.
-    pub fn count_after(&self, source: &Name) -> usize
-        ensures { (number revision : ℕ) → result ≡ count_of (with_last source.now number revision self.now) }
+    /// How many there are once a command of this source was taken; 2^64 - 1 where there are more.
+    pub fn count_after(&self, source: &Name) -> u64
+        ensures { (number revision : ℕ) → result ≡ min (count_of (with_last source.now number revision self.now)) (2 ^ 64 - 1) }
     {
+        let count = self.count() as u64;
         match self.find(source) {
-            Some(_) => self.count(),
-            None => self.count() + 1,
+            Some(_) => count,
+            None => count.saturating_add(1),
         }
     }
 
