@@ -1,6 +1,7 @@
 mod Floors
 mod Parts
 mod Halves
+mod Noted
 pub mod Sums
 pub mod Texts
 pub mod Taking
