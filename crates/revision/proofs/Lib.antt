@@ -9,4 +9,7 @@ pub mod Room
 pub mod Replays
 pub mod Kept
 pub mod Told
+pub mod Changing
+pub mod Agreeing
+pub mod Keeping
 pub mod CallerLemmas

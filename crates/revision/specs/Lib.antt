@@ -14,6 +14,11 @@ pub mod Pending
 pub mod PastView
 pub mod Parting
 pub mod Sources
+pub mod Preparing
+pub mod Index
+pub mod ChangedAt
+pub mod Documents
+pub mod DocumentsView
 pub mod Readings
 pub mod Invariants
 mod Examples
