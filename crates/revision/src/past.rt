@@ -179,8 +179,9 @@ impl Past {
         ensures { self.new ≡ record self.old { next = without_last self.old.next } }
     {
         if self.count < self.deltas.len() {
-            drop(self.takers.pop());
-            drop(self.deltas.pop());
+            let left = self.deltas.len() - 1;
+            self.takers.truncate(left);
+            self.deltas.truncate(left);
         }
     }
 
