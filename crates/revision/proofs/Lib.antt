@@ -2,6 +2,7 @@ mod Floors
 mod Parts
 mod Halves
 mod Noted
+mod Following
 pub mod Sums
 pub mod Texts
 pub mod Taking

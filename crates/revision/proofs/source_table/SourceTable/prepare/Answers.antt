@@ -1,5 +1,5 @@
 use Rattle.std.proofs.Common.{◌≡◌, List, ℕ, ◌∷◌, [], ◌++◌, sym, ap, subst, ◌∙◌}
-use Rattle.revision.specs.Sources.{Sources, EqualBut, with_last}
+use Rattle.revision.specs.Sources.{EqualBut, with_last}
 use Rattle.std.specs.Result.{OnOk}
 use Rattle.revision.proofs.Noted.{but-noted, but-same}
 use Rattle.revision.proofs.source_table.SourceTable.prepare.Goals.{then-not-self+in_ok-align_all, else-not-self}
