@@ -1,15 +1,16 @@
 -- What follows a document with the changes that are prepared.
 use Rattle.std.proofs.Common.{◌≡◌, ℕ, ◌+◌, ◌≤◌, ◌<◌, ◌^◌, Bool, true, false, List, [], ◌∷◌, ◌++◌, length, Option, Some, None, refl, sym, ap, ap₂, subst, ◌∙◌, arith}
-use Rattle.std.specs.Prelude.{◌&&◌}
+use Rattle.std.specs.Prelude.{◌&&◌, ◌==◌, not, nat_le}
 use Rattle.std.proofs.lemmas.List.{map-append}
 use Rattle.delta.specs.Element.{Element}
 use Rattle.delta.specs.Gaps.{counted, apply}
 use Rattle.compose.specs.Many.{applied}
-use Rattle.revision.specs.Command.{Taken}
-use Rattle.revision.specs.Sources.{Sources, with_last}
+use Rattle.revision.specs.Command.{Taken, width_of}
+use Rattle.revision.specs.Sources.{Sources, Table, last_of, with_last}
+use Rattle.revision.specs.Parting.{parts_pair}
 use Rattle.revision.specs.Past.{Past, Prepared, Change, newest, newest_units, deltas_in, sources_after, sources_at, content_at, with_change, with_changes, prepared_units, prepared_revision}
-use Rattle.revision.specs.State.{Limits, DocumentRecord, revision_of, units_of, sources_of, follows}
-use Rattle.revision.specs.Pending.{PendingDocument, with_prepared, newest_sources, prepared_sources, comes_next, is_kept}
+use Rattle.revision.specs.State.{Limits, DocumentRecord, change_of, revision_of, units_of, sources_of, last_of_all, has_place, reaches_past, weight_after, follows}
+use Rattle.revision.specs.Pending.{PendingDocument, with_prepared, newest_sources, prepared_sources, comes_next, is_kept, ComesOf}
 use Rattle.revision.proofs.Changing.{applied-more, sources-more, newest-with_change, units-with_change, sources-with_change}
 
 -- the past with several changes more
@@ -72,5 +73,36 @@ follows_by_halves limits d taken =
     let revision : revision_of found ≡ prepared_revision d.past = newest-with_changes limits.keep d.past.past d.past.next in
     let units : units_of found ≡ prepared_units d.past = units-with_changes limits.keep d.past.past d.past.next in
     let sources : sources_of found ≡ prepared_sources d.past = sources-with_changes limits.keep d.past.past d.past.next in
-    by_halves _ _ _ _ _ _ _ _ _
+    by_halves (nat_le (width_of taken) limits.width) (taken.revision == revision_of found + 1) (not (revision_of found == last_of_all))
+    (taken.number == (last_of taken.source (sources_of found)).number + 1) (nat_le taken.number last_of_all) (has_place limits taken.source (sources_of found))
+    (not (reaches_past taken.delta (units_of found))) (not (parts_pair taken.delta (units_of found)))
+    (nat_le (weight_after (units_of found) (sources_of found) taken) limits.weight)
     ∙ ap₂ ◌&&◌ (ap₂ (λ r s. comes_next limits r s taken) revision sources) (ap₂ (λ u s. is_kept limits u s taken) units sources)
+
+-- what is kept beside a past whose changes are accepted
+pub accepted_comes : (keep : ℕ) (past : Prepared) (units : List Element) (sources : Sources) → units ≡ prepared_units past → sources ≡ prepared_sources past
+    → ComesOf (record { past = with_changes keep past.past past.next; next = [] }) units None (record { held = sources; prepared = sources })
+accepted_comes keep past units sources units_are sources_are = record {
+  newest = units_are ∙ sym (units-with_changes keep past.past past.next);
+  after = refl;
+  held = sources_are ∙ sym (sources-with_changes keep past.past past.next);
+  prepared = sources_are ∙ sym (sources-with_changes keep past.past past.next);
+}
+
+-- what is kept beside a past with one change more prepared
+pub prepared_comes : (past : Prepared) (units after : List Element) (next : Option (List Element)) (sources : Table) (taken : Taken) → ComesOf past units next sources
+    → after ≡ apply (prepared_units past) (counted taken.delta) → taken.revision ≡ prepared_revision past + 1
+    → ComesOf (record past { next = past.next ++ change_of taken ∷ [] }) units (Some after)
+    (record sources { prepared = with_last taken.source taken.number taken.revision sources.prepared })
+prepared_comes past units after next sources taken comes after_is revision = record {
+  newest = comes.newest;
+  after = after_is ∙ sym (units-more past (change_of taken));
+  held = comes.held;
+  prepared = ap₂ (with_last taken.source taken.number) revision comes.prepared ∙ sym (sources-prepared past (change_of taken));
+}
+
+pub first_holds : (first second answer : Bool) → first ≡ true → answer ≡ second → answer ≡ (first && second)
+first_holds first second answer holds is = is ∙ ap (λ b. b && second) (sym holds)
+
+pub first_fails : (first second answer : Bool) → answer ≡ first → answer ≡ false → answer ≡ (first && second)
+first_fails first second answer is fails = fails ∙ ap (λ b. b && second) (sym fails ∙ is)

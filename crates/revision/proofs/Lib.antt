@@ -3,6 +3,7 @@ mod Parts
 mod Halves
 mod Noted
 mod Following
+mod Light
 pub mod Sums
 pub mod Texts
 pub mod Taking
