@@ -1,6 +1,9 @@
 mod Floors
 mod Parts
 mod Halves
+mod Noted
+mod Following
+mod Light
 pub mod Sums
 pub mod Texts
 pub mod Taking

@@ -12,21 +12,29 @@
 #![tactic(auto)]
 
 mod command;
+mod doc_state;
+mod documents;
+mod growing;
 mod late;
 pub mod laws;
 mod limits;
 mod name;
+mod names;
 mod past;
+mod source_table;
 mod sources;
+mod state;
 mod taken;
 #[cfg(test)]
 mod tests;
 mod widths;
 
 pub use command::{Action, Command};
+pub use doc_state::DocState;
 pub use limits::Limits;
 pub use name::Name;
 pub use past::{Past, Taker};
 pub use sources::{LastTaken, Sources};
+pub use state::{PreparedState, State, Unprepared};
 pub use taken::Taken;
 pub use widths::delta_width;
