@@ -1,0 +1,2 @@
+-- What the parts of a store stand for, computed.
+use Rattle.std.specs.Prelude.{◌≡◌, refl}
