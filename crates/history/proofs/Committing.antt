@@ -110,7 +110,7 @@ open-longer commands others (Some cell) of = cell-longer commands others cell of
 pub commits : Commits
 commits order cells entries state batch runs h =
     let same = limits-fold state batch in
-    let parts = λ number. of_document-append number order batch in
+    let parts : (number : ℕ) → of_document number (order ++ batch) ≡ of_document number order ++ of_document number batch = λ number. of_document-append number order batch in
     let grows_there = grows_by_documents state batch h in
     let goes_on : (number : ℕ) → all_continue state.limits None (of_document number order ++ of_document number batch) ≡ true = λ number.
         let shown = record-all state.limits [] None (of_document number order) refl (runs.is_order number) in

@@ -4,3 +4,4 @@ pub mod Counting
 pub mod OneDocument
 pub mod Recovering
 pub mod Committing
+pub mod Cells

@@ -1,5 +1,5 @@
 -- What a cell of a device holds, and which one of the two cells of a document is read.
-use Rattle.std.specs.Prelude.{ℕ, ◌≡◌, ◌≤◌, min, nat_lt, if◌then◌else◌, true, Option, Some, None, unwrap_or, List, slice_get}
+use Rattle.std.specs.Prelude.{ℕ, zero, suc, ◌≡◌, ◌≤◌, ◌⊎◌, min, nat_lt, if◌then◌else◌, true, Option, Some, None, unwrap_or, List, [], ◌∷◌, slice_get}
 use Rattle.revision.specs.Past.{Content}
 use Rattle.revision.specs.Sources.{Sources, count_of}
 use Rattle.revision.specs.State.{Limits, DocumentRecord, last_of_all, weight_of, are_sources, record_at}
@@ -26,6 +26,12 @@ no_cells = (None, None)
 abbrev pub cells_at : List Pair → ℕ → Pair
 cells_at cells number = unwrap_or (slice_get cells number) no_cells
 
+-- the pairs with the one of a document set, which is there
+abbrev pub with_pair : ℕ → Pair → List Pair → List Pair
+with_pair number pair [] = []
+with_pair zero pair (first ∷ others) = pair ∷ others
+with_pair (suc number) pair (first ∷ others) = first ∷ with_pair number pair others
+
 -- Which one of two open cells is read: the one of the higher revision, or the other. Of two of one revision the first is the older.
 pub data Pick : Type 0 where
   Newer : Pick
@@ -47,6 +53,18 @@ lowest (None, None) = 0
 lowest (None, Some second) = second.revision
 lowest (Some first, None) = first.revision
 lowest (Some first, Some second) = min first.revision second.revision
+
+-- the pair with its older cell closed where both are open
+abbrev pub freed : Pair → Pair
+freed (None, second) = (None, second)
+freed (Some first, None) = (Some first, None)
+freed (Some first, Some second) = if nat_lt second.revision first.revision then (Some first, None) else (None, Some second)
+
+-- a cell is put where one is closed, and isn't below the other one if that is open
+abbrev pub IsPut : Cell → Pair → Pair → Type 0
+IsPut cell before after =
+    lowest before ≤ cell.revision
+    × (((before.0 ≡ None) × (after ≡ (Some cell, before.1))) ⊎ ((before.1 ≡ None) × (after ≡ (before.0, Some cell))))
 
 -- what holds of each open cell of two
 abbrev pub OfOpen : (Cell → Type 0) → Option Cell → Type 0

@@ -5,7 +5,7 @@ use Rattle.revision.specs.State.{Limits, State, all_continue, record_after_all, 
 use Rattle.revision.specs.Agree.{Agree}
 use Rattle.revision.specs.Invariants.{IsLimits, IsState}
 use Rattle.history.specs.Entries.{of_document}
-use Rattle.history.specs.Cell.{Cell, Pair, no_cells, cells_at, lowest, Pick, OfBoth}
+use Rattle.history.specs.Cell.{Cell, Pair, no_cells, cells_at, with_pair, lowest, freed, IsPut, Pick, OfBoth}
 use Rattle.history.specs.Shown.{StateShows}
 use Rattle.history.specs.Found.{StandFor}
 use Rattle.history.specs.Running.{IsCellOf, Runs}
@@ -44,6 +44,23 @@ Reopens = (order : List Taken) (cells : List Pair) (entries : List Taken) (state
 -- A store without commands runs with its empty state.
 abbrev pub Begins : Type 0
 Begins = (limits : Limits) → IsLimits limits → Runs [] (replicate limits.docs no_cells) [] (record { limits = limits; documents = [] })
+
+-- The two cells of a document may be others: cells of it, of which the lower one isn't below what the lower one was.
+abbrev pub ChangesCells : Type 0
+ChangesCells = (order : List Taken) (cells : List Pair) (entries : List Taken) (state : State) (number : ℕ) (pair : Pair) → Runs order cells entries state
+    → number < length cells → OfBoth (IsCellOf (of_document number order)) pair → lowest (cells_at cells number) ≤ lowest pair
+    → Runs order (with_pair number pair cells) entries state
+
+-- The older one of two open cells is closed.
+abbrev pub Frees : Type 0
+Frees = (order : List Taken) (cells : List Pair) (entries : List Taken) (state : State) (number : ℕ) → Runs order cells entries state
+    → number < length cells → Runs order (with_pair number (freed (cells_at cells number)) cells) entries state
+
+-- A cell of the document is put where one is closed.
+abbrev pub Puts : Type 0
+Puts = (order : List Taken) (cells : List Pair) (entries : List Taken) (state : State) (number : ℕ) (cell : Cell) (pair : Pair)
+    → Runs order cells entries state → number < length cells → IsCellOf (of_document number order) cell → IsPut cell (cells_at cells number) pair
+    → Runs order (with_pair number pair cells) entries state
 
 -- A batch that the state grows by goes to the order and to the entries.
 abbrev pub Commits : Type 0
