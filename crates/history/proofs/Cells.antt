@@ -1,17 +1,16 @@
 -- A running store with other cells, with fewer entries, and with nothing.
-use Rattle.std.proofs.Common.{◌≡◌, ◌⊎◌, ℕ, zero, suc, ◌+◌, ◌≤◌, ◌<◌, Bool, true, false, cond, List, [], ◌∷◌, ◌++◌, length, Option, Some, None, length-append, refl, sym, ap, subst, ◌∙◌, ⊎_elim, arith}
-use Rattle.std.specs.Prelude.{◌==◌, nat_lt, min, replicate, unwrap_or, slice_get, All}
-use Rattle.std.proofs.lemmas.Bool.{and_parts, eqb-true, ltb-true, ltb-false, cond_both, cases_eq}
+use Rattle.std.proofs.Common.{◌≡◌, ℕ, zero, suc, ◌+◌, ◌≤◌, ◌<◌, true, List, [], ◌∷◌, ◌++◌, length, Option, Some, None, length-append, refl, sym, ap, subst, ◌∙◌, ⊎_elim, arith}
+use Rattle.std.specs.Prelude.{◌==◌, nat_lt, min, replicate, All}
+use Rattle.std.proofs.lemmas.Bool.{and_parts, eqb-true, cond_both, cases_eq}
 use Rattle.std.proofs.lemmas.List.{append_assoc, length-replicate}
 use Rattle.std.proofs.lemmas.List.Elements.{All-nil, All-cons, All-head, All-tail}
 use Rattle.revision.specs.Command.{Taken}
-use Rattle.revision.specs.State.{Limits, DocumentRecord, State, continues, record_after, all_continue, record_after_all}
-use Rattle.revision.specs.Invariants.{IsLimits}
+use Rattle.revision.specs.State.{Limits, DocumentRecord, continues, record_after, all_continue, record_after_all}
 use Rattle.revision.proofs.CallerLemmas.{empty_is_state}
 use Rattle.history.specs.Entries.{of_document}
-use Rattle.history.specs.Cell.{Cell, Pair, no_cells, cells_at, with_pair, lowest, freed, IsPut, OfOpen, OfBoth}
+use Rattle.history.specs.Cell.{Cell, Pair, no_cells, cells_at, with_pair, lowest, freed, IsPut, OfBoth}
 use Rattle.history.specs.Shown.{RecordShows}
-use Rattle.history.specs.Running.{IsCellOf, Runs}
+use Rattle.history.specs.Running.{IsCellOf}
 use Rattle.history.specs.Law.{ChangesCells, Frees, Puts, IsCovered, Retires, Begins}
 use Rattle.history.proofs.Showing.{record-more, record-all, next-revision}
 use Rattle.history.proofs.Counting.{of_document-append, continue-split}
@@ -85,15 +84,17 @@ put-of : (P : Cell → Type 0) (cell : Cell) (before after : Pair) → IsPut cel
 put-of P cell before after put here both =
     ⊎_elim
     (λ first.
-      let closed : (None, before.1) ≡ before = λ i. (sym first.0 i, before.1) in
-      let le : lowest (None, before.1) ≤ cell.revision = subst (λ p. lowest p ≤ cell.revision) (sym closed) put.0 in
-      (subst (OfBoth P) (sym first.1) (here, both.1),
-      subst (λ p. lowest before ≤ lowest p) (sym first.1) (subst (λ p. lowest p ≤ lowest (Some cell, before.1)) closed (put-lowest-first cell before.1 le))))
+    let closed : (None, before.1) ≡ before = λ i. (sym first.0 i, before.1) in
+    let le : lowest (None, before.1) ≤ cell.revision = subst (λ p. lowest p ≤ cell.revision) (sym closed) put.0 in (
+      subst (OfBoth P) (sym first.1) (here, both.1),
+      subst (λ p. lowest before ≤ lowest p) (sym first.1) (subst (λ p. lowest p ≤ lowest (Some cell, before.1)) closed (put-lowest-first cell before.1 le)),
+    ))
     (λ second.
-      let closed : (before.0, None) ≡ before = λ i. (before.0, sym second.0 i) in
-      let le : lowest (before.0, None) ≤ cell.revision = subst (λ p. lowest p ≤ cell.revision) (sym closed) put.0 in
-      (subst (OfBoth P) (sym second.1) (both.0, here),
-      subst (λ p. lowest before ≤ lowest p) (sym second.1) (subst (λ p. lowest p ≤ lowest (before.0, Some cell)) closed (put-lowest-second cell before.0 le))))
+    let closed : (before.0, None) ≡ before = λ i. (before.0, sym second.0 i) in
+    let le : lowest (before.0, None) ≤ cell.revision = subst (λ p. lowest p ≤ cell.revision) (sym closed) put.0 in (
+      subst (OfBoth P) (sym second.1) (both.0, here),
+      subst (λ p. lowest before ≤ lowest p) (sym second.1) (subst (λ p. lowest p ≤ lowest (before.0, Some cell)) closed (put-lowest-second cell before.0 le)),
+    ))
     put.1
 
 pub puts : Puts
@@ -111,7 +112,7 @@ covered-of cells number (first ∷ others) all =
     cond_both (first.document == number) (first ∷ of_document number others) (of_document number others)
     (All (λ (t : Taken). t.revision ≤ lowest (cells_at cells number)))
     (λ e. All-cons (λ (t : Taken). t.revision ≤ lowest (cells_at cells number)) first (of_document number others)
-      (subst (λ n. first.revision ≤ lowest (cells_at cells n)) (eqb-true first.document number e) here) later)
+    (subst (λ n. first.revision ≤ lowest (cells_at cells n)) (eqb-true first.document number e) here) later)
     (λ e. later)
 
 covered-count : (limits : Limits) (before : List Taken) (found : Option DocumentRecord) (others : List Taken) (low : ℕ) → RecordShows before found
@@ -138,7 +139,7 @@ retires order cells oldest others state runs all = record {
       let first : List Taken = of_document number runs.retired in
       let gone : List Taken = of_document number oldest in
       let parts : of_document number order ≡ first ++ (gone ++ of_document number others) =
-          ap (of_document number) runs.held ∙ (of_document-append number runs.retired (oldest ++ others) ∙ ap (λ l. first ++ l) (of_document-append number oldest others)) in
+      ap (of_document number) runs.held ∙ (of_document-append number runs.retired (oldest ++ others) ∙ ap (λ l. first ++ l) (of_document-append number oldest others)) in
       let split = continue-split state.limits None first (gone ++ of_document number others) (subst (λ l. all_continue state.limits None l ≡ true) parts (runs.is_order number)) in
       let goes_on = continue-split state.limits (record_after_all state.limits.keep None first) gone (of_document number others) split.1 in
       subst (λ (l : List Taken). length l ≤ lowest (cells_at cells number)) (sym (of_document-append number runs.retired oldest))

@@ -1,20 +1,19 @@
 -- A state that grows, document by document, and a running store whose state does.
-use Rattle.std.proofs.Common.{◌≡◌, ◌⊎◌, ℕ, zero, suc, ◌+◌, ◌≤◌, ◌<◌, Bool, true, false, cond, List, [], ◌∷◌, ◌++◌, length, take, Option, Some, None, length-append, refl, sym, ap, subst, ◌∙◌, ⊎_elim, arith}
+use Rattle.std.proofs.Common.{◌≡◌, ℕ, zero, suc, ◌≤◌, true, List, [], ◌∷◌, ◌++◌, length, Option, Some, None, length-append, refl, sym, ap, subst, ◌∙◌, arith}
 use Rattle.std.specs.Prelude.{◌&&◌, ◌==◌, nat_lt, is_none, slice_get}
-use Rattle.std.proofs.lemmas.Bool.{and_parts, and_from, eqb-true, eqb-false, eq-eqb, cases_Bool, cond_both}
-use Rattle.std.proofs.lemmas.List.{append_assoc, append-nil, take-append-le}
+use Rattle.std.proofs.lemmas.Bool.{and_parts, and_from, eqb-true, eqb-false, cond_both}
+use Rattle.std.proofs.lemmas.List.{append_assoc, take-append-le}
 use Rattle.std.proofs.lemmas.Option.{slice_get_within}
 use Rattle.revision.specs.Command.{Taken}
 use Rattle.revision.specs.State.{Limits, DocumentRecord, State, find, continues_by_name, continues, record_by_name, record_after, all_continue, record_after_all, has_room, grows, set_document, grown, all_grow, fold}
-use Rattle.revision.specs.Agree.{PlacesAgree}
 use Rattle.revision.specs.Invariants.{IsState}
 use Rattle.revision.proofs.CallerLemmas.{growing_keeps, agreeing_continue}
 use Rattle.history.specs.Entries.{of_document}
-use Rattle.history.specs.Cell.{Cell, record_of_cell, Pair, cells_at, OfOpen, OfBoth}
-use Rattle.history.specs.Shown.{Shows, RecordShows, StateShows}
-use Rattle.history.specs.Running.{IsCellOf, Runs}
+use Rattle.history.specs.Cell.{Cell, record_of_cell, cells_at, OfOpen, OfBoth}
+use Rattle.history.specs.Shown.{Shows, RecordShows}
+use Rattle.history.specs.Running.{IsCellOf}
 use Rattle.history.specs.Law.{GrowsByDocuments, Commits}
-use Rattle.history.proofs.Showing.{record-more, record-all, records-agree}
+use Rattle.history.proofs.Showing.{record-all, records-agree}
 use Rattle.history.proofs.Counting.{after-append, of_document-append, continue-join}
 
 -- a document set, and the others
@@ -64,12 +63,13 @@ grows-one : (state : State) (taken : Taken) → grows state taken ≡ true → (
     × (slice_get (grown state taken).documents number ≡ record_after_all state.limits.keep (slice_get state.documents number) (one_of number taken))
 grows-one state taken h number =
     cond_both (taken.document == number) (taken ∷ []) [] (λ l. (all_continue state.limits (slice_get state.documents number) l ≡ true)
-      × (slice_get (grown state taken).documents number ≡ record_after_all state.limits.keep (slice_get state.documents number) l))
+    × (slice_get (grown state taken).documents number ≡ record_after_all state.limits.keep (slice_get state.documents number) l))
     (λ e.
-      let same : taken.document ≡ number = eqb-true taken.document number e in
-      let parts = and_parts (has_room state taken.document taken.name) _ h in
-      (and_from _ _ (subst (λ n. continues state.limits (slice_get state.documents n) taken ≡ true) same parts.1) refl,
-      subst (λ n. slice_get (grown state taken).documents n ≡ record_after state.limits.keep (slice_get state.documents n) taken) same (grown-own state taken h)))
+    let same : taken.document ≡ number = eqb-true taken.document number e in
+    let parts = and_parts (has_room state taken.document taken.name) _ h in (
+      and_from _ _ (subst (λ n. continues state.limits (slice_get state.documents n) taken ≡ true) same parts.1) refl,
+      subst (λ n. slice_get (grown state taken).documents n ≡ record_after state.limits.keep (slice_get state.documents n) taken) same (grown-own state taken h),
+    ))
     (λ e. (refl, set-other taken.document _ state.documents number (eqb-false taken.document number e)))
 
 pub grows_by_documents : GrowsByDocuments
@@ -78,13 +78,14 @@ grows_by_documents state (first ∷ others) h number =
     let parts = and_parts (grows state first) (all_grow (grown state first) others) h in
     let one = grows-one state first parts.0 number in
     let later = grows_by_documents (grown state first) others parts.1 number in
-    let split : of_document number (first ∷ others) ≡ one_of number first ++ of_document number others = of_document-append number (first ∷ []) others in
-    (subst (λ l. all_continue state.limits (slice_get state.documents number) l ≡ true) (sym split)
-    (continue-join state.limits (slice_get state.documents number) (one_of number first) (of_document number others) one.0
-    (subst (λ o. all_continue state.limits o (of_document number others) ≡ true) one.1 later.0)),
-    later.1 ∙ (ap (λ o. record_after_all state.limits.keep o (of_document number others)) one.1
-    ∙ (sym (after-append state.limits.keep (slice_get state.documents number) (one_of number first) (of_document number others))
-    ∙ ap (record_after_all state.limits.keep (slice_get state.documents number)) (sym split))))
+    let split : of_document number (first ∷ others) ≡ one_of number first ++ of_document number others = of_document-append number (first ∷ []) others in (
+      subst (λ l. all_continue state.limits (slice_get state.documents number) l ≡ true) (sym split)
+          (continue-join state.limits (slice_get state.documents number) (one_of number first) (of_document number others) one.0
+          (subst (λ o. all_continue state.limits o (of_document number others) ≡ true) one.1 later.0)),
+      later.1 ∙ (ap (λ o. record_after_all state.limits.keep o (of_document number others)) one.1
+          ∙ (sym (after-append state.limits.keep (slice_get state.documents number) (one_of number first) (of_document number others))
+          ∙ ap (record_after_all state.limits.keep (slice_get state.documents number)) (sym split))),
+    )
 
 limits-fold : (state : State) (commands : List Taken) → (fold state commands).limits ≡ state.limits
 limits-fold state [] = refl
@@ -113,11 +114,11 @@ commits order cells entries state batch runs h =
     let parts : (number : ℕ) → of_document number (order ++ batch) ≡ of_document number order ++ of_document number batch = λ number. of_document-append number order batch in
     let grows_there = grows_by_documents state batch h in
     let goes_on : (number : ℕ) → all_continue state.limits None (of_document number order ++ of_document number batch) ≡ true = λ number.
-        let shown = record-all state.limits [] None (of_document number order) refl (runs.is_order number) in
-        let agree = records-agree (of_document number order) (slice_get state.documents number) (record_after_all state.limits.keep None (of_document number order)) (runs.shows number) shown in
-        continue-join state.limits None (of_document number order) (of_document number batch) (runs.is_order number)
-        (sym (agreeing_continue state.limits (slice_get state.documents number) (record_after_all state.limits.keep None (of_document number order)) (of_document number batch) agree).0
-        ∙ (grows_there number).0) in
+    let shown = record-all state.limits [] None (of_document number order) refl (runs.is_order number) in
+    let agree = records-agree (of_document number order) (slice_get state.documents number) (record_after_all state.limits.keep None (of_document number order)) (runs.shows number) shown in
+    continue-join state.limits None (of_document number order) (of_document number batch) (runs.is_order number)
+    (sym (agreeing_continue state.limits (slice_get state.documents number) (record_after_all state.limits.keep None (of_document number order)) (of_document number batch) agree).0
+    ∙ (grows_there number).0) in
     record {
       retired = runs.retired;
       held = ap (λ l. l ++ batch) runs.held ∙ append_assoc runs.retired entries batch;
@@ -129,7 +130,9 @@ commits order cells entries state batch runs h =
           (subst (RecordShows (of_document number order ++ of_document number batch)) (sym (grows_there number).1)
           (record-all state.limits (of_document number order) (slice_get state.documents number) (of_document number batch) (runs.shows number) (grows_there number).0));
       cells_are = λ number. subst (λ l. OfBoth (IsCellOf l) (cells_at cells number)) (sym (parts number))
-          ((open-longer (of_document number order) (of_document number batch) (cells_at cells number).0 (runs.cells_are number).0,
-          open-longer (of_document number order) (of_document number batch) (cells_at cells number).1 (runs.cells_are number).1));
+          ((
+            open-longer (of_document number order) (of_document number batch) (cells_at cells number).0 (runs.cells_are number).0,
+            open-longer (of_document number order) (of_document number batch) (cells_at cells number).1 (runs.cells_are number).1,
+          ));
       covered = runs.covered;
     }

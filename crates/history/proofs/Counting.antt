@@ -1,6 +1,6 @@
 -- The commands of a document, in two parts, and by their revisions.
-use Rattle.std.proofs.Common.{◌≡◌, ℕ, zero, suc, ◌+◌, ◌-◌, ◌≤◌, ◌<◌, Bool, true, false, cond, List, [], ◌∷◌, ◌++◌, length, drop, Option, Some, None, length-append, refl, sym, ap, subst, ◌∙◌, ⊎_elim, arith}
-use Rattle.std.specs.Prelude.{◌&&◌, ◌==◌, nat_lt}
+use Rattle.std.proofs.Common.{◌≡◌, ℕ, zero, suc, ◌+◌, ◌-◌, ◌≤◌, ◌<◌, Bool, true, false, cond, List, [], ◌∷◌, ◌++◌, length, drop, Option, length-append, refl, sym, ap, ◌∙◌, ⊎_elim, arith}
+use Rattle.std.specs.Prelude.{◌==◌, nat_lt}
 use Rattle.std.proofs.lemmas.Bool.{and_parts, and_from, lt-ltb, le-ltb, cases_lt}
 use Rattle.revision.specs.Command.{Taken}
 use Rattle.revision.specs.State.{Limits, DocumentRecord, continues, record_after, all_continue, record_after_all}
@@ -48,7 +48,7 @@ above-none limits before found (first ∷ others) revision shows h below =
     let number : first.revision ≡ length before + 1 = next-revision limits before found first shows parts.0 in
     let kept : nat_lt revision first.revision ≡ true = lt-ltb revision first.revision (omega (arith, number, below)) in
     let later = above-none limits (before ++ first ∷ []) (record_after limits.keep found first) others revision
-        (record-more limits before found first shows parts.0) parts.1 (omega (arith, below, length-append before (first ∷ []))) in
+    (record-more limits before found first shows parts.0) parts.1 (omega (arith, below, length-append before (first ∷ []))) in
     ap (λ b. cond b (first ∷ above revision others) (above revision others)) kept ∙ ap (λ l. first ∷ l) later
 
 pub above-drop : (limits : Limits) (before : List Taken) (found : Option DocumentRecord) (others : List Taken) (revision : ℕ) → RecordShows before found
@@ -65,15 +65,15 @@ above-drop limits before found (first ∷ others) revision shows h over =
     let longer : length (before ++ first ∷ []) ≡ length before + 1 = length-append before (first ∷ []) in
     ⊎_elim
     (λ (under : revision < length before + 1).
-      let kept : nat_lt revision first.revision ≡ true = lt-ltb revision first.revision (omega (arith, number, under)) in
-      let none : revision - length before ≡ 0 = omega (arith, under, over) in
-      ap (λ b. cond b (first ∷ above revision others) (above revision others)) kept
-      ∙ (ap (λ l. first ∷ l) (above-none limits (before ++ first ∷ []) (record_after limits.keep found first) others revision next parts.1 (omega (arith, under, longer)))
-      ∙ sym (ap (λ n. drop n (first ∷ others)) none)))
+    let kept : nat_lt revision first.revision ≡ true = lt-ltb revision first.revision (omega (arith, number, under)) in
+    let none : revision - length before ≡ 0 = omega (arith, under, over) in
+    ap (λ b. cond b (first ∷ above revision others) (above revision others)) kept
+    ∙ (ap (λ l. first ∷ l) (above-none limits (before ++ first ∷ []) (record_after limits.keep found first) others revision next parts.1 (omega (arith, under, longer)))
+    ∙ sym (ap (λ n. drop n (first ∷ others)) none)))
     (λ (past : length before + 1 ≤ revision).
-      let passed : nat_lt revision first.revision ≡ false = le-ltb revision first.revision (omega (arith, number, past)) in
-      let count : suc (revision - length (before ++ first ∷ [])) ≡ revision - length before = omega (arith, longer, past) in
-      ap (λ b. cond b (first ∷ above revision others) (above revision others)) passed
-      ∙ (above-drop limits (before ++ first ∷ []) (record_after limits.keep found first) others revision next parts.1 (omega (arith, past, longer))
-      ∙ ap (λ n. drop n (first ∷ others)) count))
+    let passed : nat_lt revision first.revision ≡ false = le-ltb revision first.revision (omega (arith, number, past)) in
+    let count : suc (revision - length (before ++ first ∷ [])) ≡ revision - length before = omega (arith, longer, past) in
+    ap (λ b. cond b (first ∷ above revision others) (above revision others)) passed
+    ∙ (above-drop limits (before ++ first ∷ []) (record_after limits.keep found first) others revision next parts.1 (omega (arith, past, longer))
+    ∙ ap (λ n. drop n (first ∷ others)) count))
     (cases_lt revision (length before + 1))

@@ -1,20 +1,19 @@
 -- A document read from a cell on, whichever it is, shows all its commands.
-use Rattle.std.proofs.Common.{◌≡◌, ℕ, zero, suc, ◌+◌, ◌-◌, ◌≤◌, true, cond, List, [], ◌∷◌, ◌++◌, length, take, drop, Option, Some, None, refl, sym, ap, subst, ◌∙◌, ⊎_elim, arith}
-use Rattle.std.specs.Prelude.{min, nat_lt, slice_get}
-use Rattle.std.proofs.lemmas.Bool.{and_from, ltb-true, ltb-false, cond_both, le-leb, lt-ltb}
+use Rattle.std.proofs.Common.{◌≡◌, ℕ, zero, suc, ◌+◌, ◌-◌, ◌≤◌, true, List, [], ◌∷◌, ◌++◌, length, take, drop, Option, Some, None, refl, sym, ap, subst, ◌∙◌, arith}
+use Rattle.std.specs.Prelude.{min, nat_lt}
+use Rattle.std.proofs.lemmas.Bool.{and_from, cond_both, le-leb, lt-ltb}
 use Rattle.std.proofs.lemmas.List.{take-append-drop}
-use Rattle.delta.specs.Element.{Element}
 use Rattle.compose.specs.Many.{applied}
 use Rattle.revision.specs.Command.{Taken}
 use Rattle.revision.specs.Sources.{Sources, count_of}
-use Rattle.revision.specs.Past.{Content, Past, newest, content_at, sources_at, sources_after}
-use Rattle.revision.specs.State.{Limits, DocumentRecord, State, revision_of, content_of, sources_of, last_of_all, weight_of, are_sources, all_continue, record_after_all}
-use Rattle.revision.specs.Agree.{DocumentsAgree, PlacesAgree}
-use Rattle.revision.specs.Invariants.{IsLimits, KeepsAt, IsPast, IsRecord, IsState}
+use Rattle.revision.specs.Past.{Content, newest, sources_after}
+use Rattle.revision.specs.State.{Limits, DocumentRecord, State, revision_of, content_of, sources_of, weight_of, are_sources, all_continue, record_after_all}
+use Rattle.revision.specs.Agree.{PlacesAgree}
+use Rattle.revision.specs.Invariants.{IsLimits, IsPast, IsRecord}
 use Rattle.revision.proofs.CallerLemmas.{agreeing_continue, continuing_keeps, empty_is_state, adopting_keeps}
 use Rattle.history.specs.Entries.{above}
 use Rattle.history.specs.Cell.{Cell, record_of_cell, Pair, Newer, Older, Pick, of_two, picked, lowest, OfOpen, OfBoth, CellKeeps}
-use Rattle.history.specs.Shown.{Shows, RecordShows}
+use Rattle.history.specs.Shown.{RecordShows}
 use Rattle.history.specs.Found.{started, unread, StandsFor}
 use Rattle.history.specs.Running.{IsCellOf}
 use Rattle.history.proofs.Showing.{record-all, records-agree}
@@ -65,8 +64,8 @@ pub cell-past : (limits : Limits) (cell : Cell) → IsLimits limits → CellKeep
 cell-past limits cell is kept =
     let nothing : State = record { limits = limits; documents = [] } in
     let adopted = adopting_keeps nothing cell.name cell.content cell.revision cell.sources (empty_is_state limits is)
-        (and_from _ _ (and_from _ _ (and_from _ _ (and_from _ _ (and_from _ _ (and_from _ _ (lt-ltb 0 limits.docs (omega (arith, is.some_document))) refl)
-        (le-leb _ _ kept.first)) (le-leb _ _ kept.last)) (le-leb _ _ kept.count)) kept.sources) (le-leb _ _ kept.weight)) in
+    (and_from _ _ (and_from _ _ (and_from _ _ (and_from _ _ (and_from _ _ (and_from _ _ (lt-ltb 0 limits.docs (omega (arith, is.some_document))) refl)
+    (le-leb _ _ kept.first)) (le-leb _ _ kept.last)) (le-leb _ _ kept.count)) kept.sources) (le-leb _ _ kept.weight)) in
     adopted.each 0 (record_of_cell cell) refl
 
 pub started-kept : (limits : Limits) (cell : Option Cell) → IsLimits limits → OfOpen (CellKeeps limits) cell → IsRecord limits (started cell)
@@ -117,20 +116,22 @@ module _ (limits : Limits) (is : IsLimits limits) (retired entries : List Taken)
       let begun = continue-split limits None retired entries h in
       let shown : RecordShows first (record_after_all limits.keep None first) = record-all limits [] None first refl split.0 in
       let agree : PlacesAgree (record_after_all limits.keep None first) (Some (record_of_cell cell)) =
-          records-agree first (record_after_all limits.keep None first) (Some (record_of_cell cell)) shown of.shows in
+      records-agree first (record_after_all limits.keep None first) (Some (record_of_cell cell)) shown of.shows in
       let same = (agreeing_continue limits (record_after_all limits.keep None first) (Some (record_of_cell cell)) others agree).0 in
       let goes_on : all_continue limits (Some (record_of_cell cell)) others ≡ true = sym same ∙ split.1 in
       let read : others ≡ above cell.revision entries =
-          drop-past retired entries cell.revision covers
-          ∙ sym (above-drop limits retired (record_after_all limits.keep None retired) entries cell.revision (record-all limits [] None retired refl begun.0) begun.1 covers) in
+      drop-past retired entries cell.revision covers
+      ∙ sym (above-drop limits retired (record_after_all limits.keep None retired) entries cell.revision (record-all limits [] None retired refl begun.0) begun.1 covers) in
       let shows : RecordShows all (record_after_all limits.keep (Some (record_of_cell cell)) others) =
-          subst (λ l. RecordShows l (record_after_all limits.keep (Some (record_of_cell cell)) others)) parts
-          (record-all limits first (Some (record_of_cell cell)) others of.shows goes_on) in
-      (record {
-        cell_keeps = agreeing-keeps limits (record_after_all limits.keep None first) cell (continuing_keeps limits None first is tt split.0) agree;
-        continue = subst (λ l. all_continue limits (Some (record_of_cell cell)) l ≡ true) read goes_on;
-        is = refl;
-      }, subst (λ l. RecordShows all (record_after_all limits.keep (Some (record_of_cell cell)) l)) read shows)
+      subst (λ l. RecordShows l (record_after_all limits.keep (Some (record_of_cell cell)) others)) parts
+      (record-all limits first (Some (record_of_cell cell)) others of.shows goes_on) in (
+        record {
+          cell_keeps = agreeing-keeps limits (record_after_all limits.keep None first) cell (continuing_keeps limits None first is tt split.0) agree;
+          continue = subst (λ l. all_continue limits (Some (record_of_cell cell)) l ≡ true) read goes_on;
+          is = refl;
+        },
+        subst (λ l. RecordShows all (record_after_all limits.keep (Some (record_of_cell cell)) l)) read shows,
+      )
 
   none-retired : (list : List Taken) → length list ≡ 0 → list ≡ []
   none-retired [] is = refl
@@ -139,7 +140,8 @@ module _ (limits : Limits) (is : IsLimits limits) (retired entries : List Taken)
   pub one-stands : (cell : Option Cell) → OfOpen (IsCellOf (retired ++ entries)) cell → Covers (length retired) cell → OneStands cell
   one-stands None of covers =
       let all : retired ++ entries ≡ entries = ap (λ l. l ++ entries) (none-retired retired covers) in
-      let goes_on : all_continue limits None entries ≡ true = subst (λ l. all_continue limits None l ≡ true) all h in
-      (record { cell_keeps = tt; continue = goes_on; is = refl },
-      subst (λ l. RecordShows l (record_after_all limits.keep None entries)) (sym all) (record-all limits [] None entries refl goes_on))
+      let goes_on : all_continue limits None entries ≡ true = subst (λ l. all_continue limits None l ≡ true) all h in (
+        record { cell_keeps = tt; continue = goes_on; is = refl },
+        subst (λ l. RecordShows l (record_after_all limits.keep None entries)) (sym all) (record-all limits [] None entries refl goes_on),
+      )
   one-stands (Some cell) of covers = from-cell cell of covers

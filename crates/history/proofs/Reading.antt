@@ -1,10 +1,6 @@
 -- States that the parts of a store stand for.
-use Rattle.std.proofs.Common.{◌≡◌, ℕ, zero, suc, List, [], ◌∷◌, length, Option, Some, None, refl, sym, ap, ◌∙◌, arith}
+use Rattle.std.proofs.Common.{◌≡◌, ℕ, suc, List, [], ◌∷◌, Some, refl, sym, ap, ◌∙◌}
 use Rattle.std.specs.Prelude.{unwrap_or, slice_get}
-use Rattle.revision.specs.Command.{Taken}
-use Rattle.revision.specs.State.{Limits, DocumentRecord, State}
-use Rattle.history.specs.Cell.{Pair, Pick}
-use Rattle.history.specs.Found.{StandFor}
 use Rattle.history.specs.Law.{AtMostOne}
 
 some_is : {A : Type 0} (x y : A) → Some x ≡ Some y → x ≡ y

@@ -1,20 +1,20 @@
 -- What the parts of a running store stand for.
 use Rattle.std.proofs.Common.{◌≡◌, ℕ, zero, suc, ◌≤◌, true, List, [], ◌∷◌, ◌++◌, length, Option, Some, None, refl, sym, ap, subst, ◌∙◌, arith}
-use Rattle.std.specs.Prelude.{unwrap_or, slice_get}
+use Rattle.std.specs.Prelude.{slice_get}
 use Rattle.revision.specs.Command.{Taken}
 use Rattle.revision.specs.State.{Limits, DocumentRecord, State, all_continue, record_after_all}
-use Rattle.revision.specs.Agree.{DocumentsAgree, PlacesAgree, Agree}
-use Rattle.revision.specs.Invariants.{IsLimits, IsPast, IsRecord, NamesDiffer, IsState}
+use Rattle.revision.specs.Agree.{PlacesAgree}
+use Rattle.revision.specs.Invariants.{IsLimits, IsPast, IsRecord, NamesDiffer}
 use Rattle.revision.proofs.CallerLemmas.{continuing_keeps}
 use Rattle.history.specs.Entries.{of_document}
-use Rattle.history.specs.Cell.{Cell, Pair, cells_at, lowest, Pick, picked, OfOpen, OfBoth}
-use Rattle.history.specs.Shown.{RecordShows, StateShows}
+use Rattle.history.specs.Cell.{Cell, Pair, cells_at, Pick, picked, OfOpen}
+use Rattle.history.specs.Shown.{RecordShows}
 use Rattle.history.specs.Found.{started, unread, StandsFor, StandFor}
 use Rattle.history.specs.Running.{IsCellOf, Runs}
 use Rattle.history.specs.Law.{StandIsState, ShowingAgree, Recovers, Reopens}
 use Rattle.history.proofs.Showing.{records-agree}
 use Rattle.history.proofs.Counting.{of_document-append}
-use Rattle.history.proofs.OneDocument.{started-kept, picked-covers, picked-of, OneStands, one-stands}
+use Rattle.history.proofs.OneDocument.{started-kept, picked-covers, picked-of, one-stands}
 
 pub showing_agree : ShowingAgree
 showing_agree order s t limits first second = record {
@@ -54,11 +54,11 @@ module _ (order : List Taken) (cells : List Pair) (entries : List Taken) (state 
       let parts = in-parts number in
       let cell = picked pick (cells_at cells number) in
       let of : OfOpen (IsCellOf (of_document number order)) cell =
-          picked-of (IsCellOf (of_document number order)) pick (cells_at cells number) (runs.cells_are number) in
+      picked-of (IsCellOf (of_document number order)) pick (cells_at cells number) (runs.cells_are number) in
       let stands = one-stands state.limits runs.is_state.limits (of_document number runs.retired) (of_document number entries)
-          (subst (λ l. all_continue state.limits None l ≡ true) parts (runs.is_order number)) cell
-          (subst (λ l. OfOpen (IsCellOf l) cell) parts of)
-          (picked-covers (length (of_document number runs.retired)) pick (cells_at cells number) (runs.covered number)) in
+      (subst (λ l. all_continue state.limits None l ≡ true) parts (runs.is_order number)) cell
+      (subst (λ l. OfOpen (IsCellOf l) cell) parts of)
+      (picked-covers (length (of_document number runs.retired)) pick (cells_at cells number) (runs.covered number)) in
       (stands.0, subst (λ l. RecordShows l (found_at number)) (sym parts) stands.1)
 
   found-agree : (number : ℕ) → PlacesAgree (found_at number) (slice_get state.documents number)
@@ -101,10 +101,10 @@ names-differ list documents each differ i j a b here there same =
 pub recovers : Recovers
 recovers order cells entries state pick runs =
     let agree : (number : ℕ) → PlacesAgree (found_at order cells entries state pick runs number) (slice_get state.documents number) =
-        found-agree order cells entries state pick runs in
+    found-agree order cells entries state pick runs in
     let list = listed (found_at order cells entries state pick runs) state.documents agree in
     let places : (number : ℕ) → PlacesAgree (slice_get list.0 number) (slice_get state.documents number) =
-        λ number. subst (λ o. PlacesAgree o (slice_get state.documents number)) (sym (list.1 number)) (agree number) in
+    λ number. subst (λ o. PlacesAgree o (slice_get state.documents number)) (sym (list.1 number)) (agree number) in
     let stand : StandFor state.limits cells entries pick (record { limits = state.limits; documents = list.0 }) = record {
       same_limits = refl;
       count = omega (arith, list.2, runs.is_state.count);

@@ -1,11 +1,11 @@
 -- What a document shows goes on with each command that continues it, and documents that show the same agree.
-use Rattle.std.proofs.Common.{◌≡◌, ℕ, zero, suc, ◌+◌, ◌-◌, ◌≤◌, max, true, List, [], ◌∷◌, ◌++◌, length, map, Option, Some, None, length-append, refl, sym, ap, subst, ◌∙◌, arith}
+use Rattle.std.proofs.Common.{◌≡◌, ℕ, ◌+◌, ◌-◌, ◌≤◌, max, true, List, [], ◌∷◌, ◌++◌, length, Option, Some, None, length-append, refl, sym, ap, subst, ◌∙◌, arith}
 use Rattle.std.specs.Prelude.{◌&&◌, ◌==◌, not, nat_le, unwrap_or}
 use Rattle.std.proofs.lemmas.Bool.{and_parts, eqb-true}
 use Rattle.std.proofs.lemmas.List.{map-append, length-map, append_assoc, append-nil}
 use Rattle.revision.specs.Command.{Taken}
 use Rattle.revision.specs.Sources.{last_of}
-use Rattle.revision.specs.Past.{Past, Change, newest, empty_past, from_floor, with_change}
+use Rattle.revision.specs.Past.{Past, newest, empty_past, from_floor, with_change}
 use Rattle.revision.specs.Floors.{longer}
 use Rattle.revision.specs.State.{Limits, DocumentRecord, revision_of, units_of, sources_of, last_of_all, has_place, keeps, continues_by_name, continues, change_of, record_by_name, record_after, all_continue, record_after_all}
 use Rattle.revision.specs.Agree.{DocumentsAgree, PlacesAgree}
@@ -83,7 +83,7 @@ shows-agree commands a b first second =
     let other = revision-shown commands b second in
     let same = number ∙ sym other in
     let there : from_floor a.past (revision_of a) ≡ from_floor b.past (revision_of b) =
-        from-shown commands a (revision_of a) first (omega arith) ∙ (ap (from_floor (past_of commands)) same ∙ sym (from-shown commands b (revision_of b) second (omega arith))) in
+    from-shown commands a (revision_of a) first (omega arith) ∙ (ap (from_floor (past_of commands)) same ∙ sym (from-shown commands b (revision_of b) second (omega arith))) in
     record {
       name = name_is a.name b.name (sym first.name ∙ second.name);
       revision = same;
@@ -117,12 +117,12 @@ next-revision limits commands found taken shows h = by_name found taken.name sho
         omega (arith, eqb-true _ _ numbers.0, ap length shows)
     by_name (Some found) None shows h =
         let kept = and_parts ((taken.revision == revision_of found + 1) && not (revision_of found == last_of_all)
-            && (taken.number == (last_of taken.source (sources_of found)).number + 1) && nat_le taken.number last_of_all
-            && has_place limits taken.source (sources_of found)) (keeps limits (units_of found) (sources_of found) taken) h in
+        && (taken.number == (last_of taken.source (sources_of found)).number + 1) && nat_le taken.number last_of_all
+        && has_place limits taken.source (sources_of found)) (keeps limits (units_of found) (sources_of found) taken) h in
         let place = and_parts ((taken.revision == revision_of found + 1) && not (revision_of found == last_of_all)
-            && (taken.number == (last_of taken.source (sources_of found)).number + 1) && nat_le taken.number last_of_all) _ kept.0 in
+        && (taken.number == (last_of taken.source (sources_of found)).number + 1) && nat_le taken.number last_of_all) _ kept.0 in
         let number = and_parts ((taken.revision == revision_of found + 1) && not (revision_of found == last_of_all)
-            && (taken.number == (last_of taken.source (sources_of found)).number + 1)) _ place.0 in
+        && (taken.number == (last_of taken.source (sources_of found)).number + 1)) _ place.0 in
         let next = and_parts ((taken.revision == revision_of found + 1) && not (revision_of found == last_of_all)) _ number.0 in
         let first = and_parts (taken.revision == revision_of found + 1) _ next.0 in
         eqb-true _ _ first.0 ∙ ap (λ n. n + 1) (revision-shown commands found shows)

@@ -1,5 +1,5 @@
 -- What holds of what the parts of a store stand for.
-use Rattle.std.specs.Prelude.{ℕ, ◌≡◌, ◌≤◌, ◌<◌, true, None, Some, List, [], ◌++◌, length, replicate, slice_get, All}
+use Rattle.std.specs.Prelude.{ℕ, ◌≡◌, ◌≤◌, ◌<◌, true, List, [], ◌++◌, length, replicate, slice_get, All}
 use Rattle.revision.specs.Command.{Taken}
 use Rattle.revision.specs.State.{Limits, State, all_continue, record_after_all, all_grow, fold}
 use Rattle.revision.specs.Agree.{Agree}

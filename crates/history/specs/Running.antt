@@ -1,7 +1,7 @@
 -- What a running store keeps: its parts are of one order of commands, which its state shows.
-use Rattle.std.specs.Prelude.{ℕ, ◌≡◌, ◌≤◌, true, None, List, [], ◌++◌, length, take}
+use Rattle.std.specs.Prelude.{ℕ, ◌≡◌, ◌≤◌, true, None, List, ◌++◌, length, take}
 use Rattle.revision.specs.Command.{Taken}
-use Rattle.revision.specs.State.{Limits, State, all_continue}
+use Rattle.revision.specs.State.{State, all_continue}
 use Rattle.revision.specs.Invariants.{IsState}
 use Rattle.history.specs.Entries.{of_document}
 use Rattle.history.specs.Cell.{Cell, record_of_cell, Pair, cells_at, lowest, OfBoth}

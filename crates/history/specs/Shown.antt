@@ -3,7 +3,7 @@ use Rattle.std.specs.Prelude.{ℕ, ◌≡◌, ◌≤◌, Option, Some, None, Lis
 use Rattle.attributes.specs.Map.{empty}
 use Rattle.revision.specs.Command.{Taken}
 use Rattle.revision.specs.Past.{Past, from_floor}
-use Rattle.revision.specs.State.{Limits, DocumentRecord, State, change_of}
+use Rattle.revision.specs.State.{DocumentRecord, State, change_of}
 use Rattle.history.specs.Entries.{of_document}
 
 -- the past that the commands make of nothing, of which nothing is let go
