@@ -6,6 +6,7 @@ pub mod Actions
 pub mod TakenView
 pub mod State
 pub mod LimitsView
+pub mod Floors
 pub mod Agree
 pub mod Acceptance
 pub mod Late

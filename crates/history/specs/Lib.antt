@@ -1,0 +1,7 @@
+pub mod Entries
+pub mod Cell
+pub mod Shown
+pub mod Found
+pub mod Running
+pub mod Law
+mod Examples
