@@ -35,10 +35,11 @@
 #![tactic(auto)]
 
 mod desk;
-mod fetch;
 pub mod laws;
 mod line;
 mod message;
+mod question;
+mod reads;
 mod reply;
 mod request;
 mod session;
