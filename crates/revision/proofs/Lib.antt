@@ -5,6 +5,7 @@ mod Noted
 pub mod Sums
 pub mod Texts
 pub mod Taking
+pub mod Admitting
 pub mod Room
 pub mod Replays
 pub mod Kept
