@@ -1,6 +1,6 @@
 -- What the answers to edits and undos stand on: what a source has, and what is taken on a document.
-use Rattle.std.proofs.Common.{◌≡◌, ℕ, ◌+◌, ◌-◌, ◌*◌, ◌^◌, ◌<◌, ◌≤◌, ◌⊎◌, ◌↔◌, ⊎_elim, min, Result, Ok, Err, Bool, true, false, cond, List, [], ◌∷◌, length, Option, Some, None, refl, sym, ap, subst, ◌∙◌, arith}
-use Rattle.std.specs.Prelude.{◌&&◌, nat_le, nat_lt, unwrap_or}
+use Rattle.std.proofs.Common.{◌≡◌, ℕ, ◌+◌, ◌-◌, ◌*◌, ◌^◌, ◌<◌, ◌≤◌, ◌⊎◌, ◌↔◌, ⊎_elim, min, IfOk, Result, Ok, Err, Bool, true, false, cond, List, [], ◌∷◌, length, Option, Some, None, refl, sym, ap, subst, ◌∙◌, arith}
+use Rattle.std.specs.Prelude.{◌&&◌, ◌==◌, nat_le, nat_lt, unwrap_or}
 use Rattle.refusal.specs.declared.Refusal.{Refusal}
 use Rattle.refusal.specs.declared.Refusal.TheVariants.{PastEnd, CutsPair, TooHeavy, TooWide}
 use Rattle.delta.specs.Element.{Element}
@@ -9,20 +9,23 @@ use Rattle.delta.specs.Operation.{Operation}
 use Rattle.delta.specs.Places.{IsDefined}
 use Rattle.document.specs.Places.{Cuts}
 use Rattle.document.specs.Weight as document
-use Rattle.revision.specs.Acceptance.{take_on, Takes, Refuses}
-use Rattle.revision.specs.Command.{Taken, width_of}
+use Rattle.revision.specs.Acceptance.{Answer, answer, take_on, Takes, Refuses, change, create_new, next_revision, creation}
+use Rattle.revision.specs.Command.{Command, Taken, width_of}
 use Rattle.revision.specs.Parting.{parts_pair}
-use Rattle.revision.specs.Planned.{IsAsked}
+use Rattle.revision.specs.Planned.{IsAsked, Gives, PlanGrows}
+use Rattle.revision.specs.declared.planning.Plan as program
+use Rattle.revision.specs.declared.planning.Plan.TheVariants as plans
 use Rattle.revision.proofs.Told.{parts_told}
 use Rattle.std.specs.FinMap.Entries.{find as entry_of}
 use Rattle.std.specs.Ordering.{eq_by_cmp}
 use Rattle.std.proofs.lemmas.Bool.{and_parts, leb-true, ltb-true, lt-ltb, cases_lt, false_from_ne_true}
-use Rattle.attributes.specs.Map.{by_bytes}
+use Rattle.attributes.specs.Map.{by_bytes, empty}
 use Rattle.revision.specs.Sources.{LastTaken, Sources, last_of, count_of, with_last}
 use Rattle.revision.specs.Past.{Past, newest}
-use Rattle.revision.specs.State.{Limits, DocumentRecord, State, find, sources_of, is_last_taken, are_sources, last_of_all, reaches_past, weight_after}
+use Rattle.revision.specs.Width.{delta_width}
+use Rattle.revision.specs.State.{Limits, DocumentRecord, State, find, revision_of, units_of, sources_of, is_last_taken, are_sources, last_of_all, reaches_past, weight_after}
 use Rattle.revision.specs.Invariants.{IsPast, IsState}
-use Rattle.revision.proofs.Taking.{found_at}
+use Rattle.revision.proofs.Taking.{found_at, taken_grows}
 
 -- what a source has came of a revision that is there
 entry_within : (revision : ℕ) (source : List ℕ) (entries : List (List ℕ × LastTaken)) → are_sources revision entries ≡ true
@@ -121,3 +124,56 @@ module _ (limits : Limits) (units : List Element) (sources : Sources) (asked : T
         let wide : nat_lt limits.width (width_of asked) ≡ false =
             false_from_ne_true _ (λ more. absurd (omega (arith, narrow, short, is.width, ltb-true limits.width (width_of asked) more))) in
         rw (past, cut, light_enough within, wide) refl
+
+-- what is answered to a change of a document, and to a creation, where the tests before have passed
+module _ (state : State) (command : Command) (delta : List Operation) (limits : Limits) (units : List Element) (sources : Sources) (same_limits : limits ≡ state.limits) where
+  pub change_answers : (number : ℕ) (found : DocumentRecord) → units ≡ units_of found → sources ≡ sources_of found → (answer : Answer)
+      → (revision_of found == last_of_all) ≡ false → take_on limits units sources (next_revision number found command delta) ≡ answer
+      → change state number found command delta ≡ answer
+  change_answers number found same_units same_sources answer fresh taken =
+      let asked = next_revision number found command delta in
+      let same : take_on limits units sources asked ≡ take_on state.limits (units_of found) (sources_of found) asked =
+          ap (λ l. take_on l units sources asked) same_limits
+          ∙ (ap (λ u. take_on state.limits u sources asked) same_units ∙ ap (λ s. take_on state.limits (units_of found) s asked) same_sources) in
+      rw fresh (sym same ∙ taken)
+
+  pub new_answers : units ≡ [] → sources ≡ empty → (answer : Answer) → nat_lt 1 command.number ≡ false → nat_le state.limits.docs (length state.documents) ≡ false
+      → take_on limits units sources (creation state command delta) ≡ answer → create_new state command delta ≡ answer
+  new_answers same_units same_sources answer first room taken =
+      let asked = creation state command delta in
+      let same : take_on limits units sources asked ≡ take_on state.limits [] empty asked =
+          ap (λ l. take_on l units sources asked) same_limits
+          ∙ (ap (λ u. take_on state.limits u sources asked) same_units ∙ ap (λ s. take_on state.limits [] s asked) same_sources) in
+      rw (first, room) (sym same ∙ taken)
+
+pub asked_next : (number : ℕ) (found : DocumentRecord) (command : Command) (delta : List Operation) (source : List ℕ) (width : ℕ) → source ≡ command.source
+    → width ≡ min (23 + length source + 0 + delta_width delta) (2 ^ 64 - 1) → IsAsked (next_revision number found command delta) source delta width
+asked_next number found command delta source width same wide =
+    record { source = sym same; delta = refl; width = wide ∙ ap (λ (s : List ℕ). min (23 + length s + 0 + delta_width delta) (2 ^ 64 - 1)) same }
+
+pub asked_new : (state : State) (command : Command) (delta : List Operation) (name source : List ℕ) (width : ℕ) → name ≡ command.name → source ≡ command.source
+    → width ≡ min (23 + length source + (2 + length name) + delta_width delta) (2 ^ 64 - 1) → IsAsked (creation state command delta) source delta width
+asked_new state command delta name source width same_name same wide = record {
+  source = sym same;
+  delta = refl;
+  width = omega (arith, wide, ap length same, ap length same_name);
+}
+
+pub same_next : (number : ℕ) (found : DocumentRecord) (command : Command) (delta : List Operation) (revision given : ℕ) (source : List ℕ) (taken : Taken)
+    → taken ≡ record { document = number; name = None; revision = revision + 1; source = source; number = given; delta = delta }
+    → revision ≡ revision_of found → source ≡ command.source → given ≡ command.number → next_revision number found command delta ≡ taken
+same_next number found command delta revision given source taken is same_revision same_source same_number =
+    sym (is ∙ (λ i. record { document = number; name = None; revision = same_revision i + 1; source = same_source i; number = same_number i; delta = delta }))
+
+-- what is planned continues the state
+pub plan_grows : (state : State) (command : Command) (result : Result program.Plan Refusal) → 1 ≤ command.number → command.number < 2 ^ 53
+    → Gives result (answer state command) → IfOk result (PlanGrows state)
+plan_grows state command (Ok (plans.Taken taken)) first last due = taken_grows state command taken first last due
+plan_grows state command (Ok (plans.Again revision)) first last due = tt
+plan_grows state command (Err refusal) first last due = tt
+
+pub same_new : (state : State) (command : Command) (delta given : List Operation) (count : ℕ) (name source : List ℕ) (taken : Taken)
+    → taken ≡ record { document = count; name = Some name; revision = 1; source = source; number = 1; delta = given }
+    → count ≡ length state.documents → name ≡ command.name → source ≡ command.source → given ≡ delta → creation state command delta ≡ taken
+same_new state command delta given count name source taken is same_count same_name same_source same_delta =
+    sym (is ∙ (λ i. record { document = same_count i; name = Some (same_name i); revision = 1; source = same_source i; number = 1; delta = same_delta i }))

@@ -58,6 +58,33 @@ impl State {
         ensures due { Gives result (answer self.now command.now) }
         ensures grows { IfOk result (PlanGrows self.now) }
     {
+        // its number is in range
+        let _ = command.number();
+        self.answer_to(alloc, command)
+    }
+
+    /// Answers a command, and adds what is taken. The reply and the refusals are those of `plan`; refused, the state is as it
+    /// was. specs/Acceptance.antt states it as `decide`.
+    pub fn decide(&mut self, alloc: Global, command: &Command) -> Result<Reply, Refusal>
+        ensures { IsDecided self.old command.now result self.new }
+    {
+        match self.plan(alloc, command)? {
+            Plan::Again { rev } => Ok(Reply::Again { rev }),
+            Plan::Taken(taken) => {
+                self.absorb(alloc, &taken)?;
+                Ok(Reply::Taken {
+                    rev: taken.revision(),
+                })
+            }
+        }
+    }
+
+    // the answer to a command
+    fn answer_to(&self, alloc: Global, command: &Command) -> Result<Plan, Refusal>
+        ensures { Gives result (answer self.now command.now) }
+    {
+        // a document that it holds has a past
+        let _ = self.limits();
         let found = self.find(command.name());
         match command.action() {
             Action::Create(delta) => match found {
@@ -74,22 +101,6 @@ impl State {
                 None => Err(Refusal::NoDocument),
                 Some((number, found)) => plan_undo(alloc, self, number, found, command),
             },
-        }
-    }
-
-    /// Answers a command, and adds what is taken. The reply and the refusals are those of `plan`; refused, the state is as it
-    /// was. specs/Acceptance.antt states it as `decide`.
-    pub fn decide(&mut self, alloc: Global, command: &Command) -> Result<Reply, Refusal>
-        ensures { IsDecided self.old command.now result self.new }
-    {
-        match self.plan(alloc, command)? {
-            Plan::Again { rev } => Ok(Reply::Again { rev }),
-            Plan::Taken(taken) => {
-                self.absorb(alloc, &taken)?;
-                Ok(Reply::Taken {
-                    rev: taken.revision(),
-                })
-            }
         }
     }
 }
@@ -124,7 +135,9 @@ fn plan_new(
     let width = creation_width(command.name(), command.source(), delta);
     let document = Document::empty(alloc);
     let sources = Sources::new(alloc);
-    admit(limits, &document, &sources, command.source(), delta, width)?;
+    if let Err(refusal) = admit(limits, &document, &sources, command.source(), delta, width) {
+        return Err(refusal);
+    }
     let name = command.name().copy(alloc)?;
     let source = command.source().copy(alloc)?;
     let delta = delta.copy(alloc)?;
@@ -144,8 +157,10 @@ fn plan_edit(
     requires short { IsShortDelta delta.now }
     ensures { Gives result (by_number (last_of command.now.source (sources_of (held found.now))) command.now.number (edit state.now number (held found.now) command.now base delta.now)) }
 {
-    if let Some(rev) = turn(found.last(command.source()), command.number())? {
-        return Ok(Plan::Again { rev });
+    match turn(found.last(command.source()), command.number()) {
+        Ok(None) => {}
+        Ok(Some(rev)) => return Ok(Plan::Again { rev }),
+        Err(refusal) => return Err(refusal),
     }
     if !has_place(state.limits(), found.sources(), command.source()) {
         return Err(Refusal::TooManySources);
@@ -171,8 +186,10 @@ fn plan_undo(
     ensures { Gives result (by_number (last_of command.now.source (sources_of (held found.now))) command.now.number (undo state.now number (held found.now) command.now)) }
 {
     let last = found.last(command.source());
-    if let Some(rev) = turn(last, command.number())? {
-        return Ok(Plan::Again { rev });
+    match turn(last, command.number()) {
+        Ok(None) => {}
+        Ok(Some(rev)) => return Ok(Plan::Again { rev }),
+        Err(refusal) => return Err(refusal),
     }
     if last.number == 0 {
         return Err(Refusal::NothingToUndo);
@@ -202,14 +219,10 @@ fn plan_change(
     }
     let source = command.source();
     let width = edit_width(source, &delta);
-    admit(
-        state.limits(),
-        found.document(),
-        found.sources(),
-        source,
-        &delta,
-        width,
-    )?;
+    let limits = state.limits();
+    if let Err(refusal) = admit(limits, found.document(), found.sources(), source, &delta, width) {
+        return Err(refusal);
+    }
     let source = source.copy(alloc)?;
     Ok(Plan::Taken(Taken::edit(
         number,

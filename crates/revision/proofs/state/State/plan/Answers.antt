@@ -1,10 +1,8 @@
-use Rattle.std.proofs.Common.{ap, sym, ◌∙◌}
-use Rattle.revision.specs.Pending.{held}
-use Rattle.revision.proofs.Admitting.{found_past}
+use Rattle.std.proofs.Common.{arith}
+use Rattle.revision.proofs.Admitting.{plan_grows}
 use Rattle.revision.proofs.state.State.plan.Goals as goal
 
-pub plan_edit-requires-clause-past : goal.plan_edit-requires-clause-past
-plan_edit-requires-clause-past c = ?
-
-pub plan_undo-requires : goal.plan_undo-requires
-plan_undo-requires c = ?
+pub returns-clause-grows : goal.returns-clause-grows
+returns-clause-grows c =
+    plan_grows c.args.self.now c.args.command.now c.answer_to.result (omega (arith, c.number.ensures.number, c.number.ensures.first))
+    (omega (arith, c.number.ensures.number, c.number.ensures.last)) c.answer_to.ensures
