@@ -7,6 +7,7 @@ mod Light
 pub mod Sums
 pub mod Texts
 pub mod Taking
+pub mod Admitting
 pub mod Room
 pub mod Replays
 pub mod Kept

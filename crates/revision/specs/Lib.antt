@@ -21,6 +21,7 @@ pub mod ChangedAt
 pub mod Documents
 pub mod DocumentsView
 pub mod Readings
+pub mod Planned
 pub mod Invariants
 mod Examples
 mod AcceptanceExamples
