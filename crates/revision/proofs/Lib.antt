@@ -1,6 +1,9 @@
 mod Floors
 mod Parts
 mod Halves
+mod ChangedAt
+mod Untouched
+mod Indexed
 mod Noted
 pub mod Sums
 pub mod Texts
