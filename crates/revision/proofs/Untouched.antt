@@ -1,6 +1,7 @@
 -- Documents of which nothing is prepared.
-use Rattle.std.proofs.Common.{◌≡◌, ◌≢◌, ℕ, zero, suc, ◌<◌, ◌⊎◌, inl, inr, List, [], ◌∷◌, ◌++◌, map, Some, refl, sym, ap, ap₂, ◌∙◌, arith}
+use Rattle.std.proofs.Common.{◌≡◌, ◌≢◌, ℕ, zero, suc, ◌<◌, ◌⊎◌, inl, inr, List, [], ◌∷◌, ◌++◌, map, take, Some, refl, sym, ap, ap₂, ◌∙◌, arith}
 use Rattle.std.specs.Prelude.{slice_get}
+use Rattle.std.proofs.lemmas.Option.{none-some}
 use Rattle.revision.specs.ChangedAt.{changed_at, changed_at_all, IsAmong}
 use Rattle.revision.specs.Past.{Change, Past, with_changes}
 use Rattle.revision.specs.Pending.{PendingDocument, held, with_prepared}
@@ -66,3 +67,12 @@ held-with_prepared keep (d ∷ others) none =
     ap₂ (λ (e : DocumentRecord) es. e ∷ es)
     (ap (λ (next : List Change). record { name = d.name; past = with_changes keep d.past.past next }) (sym (none 0 d refl)))
     (held-with_prepared keep others (λ i e read. none (suc i) e read))
+
+slice_get-take : {X : Type 0} (n : ℕ) (xs : List X) (i : ℕ) (x : X) → slice_get (take n xs) i ≡ Some x → slice_get xs i ≡ Some x
+slice_get-take zero xs i x read = absurd (none-some x read)
+slice_get-take (suc n) [] i x read = absurd (none-some x read)
+slice_get-take (suc n) (y ∷ ys) zero x read = read
+slice_get-take (suc n) (y ∷ ys) (suc i) x read = slice_get-take n ys i x read
+
+pub rest-take : (count : ℕ) (is : List ℕ) (documents : List PendingDocument) → UntouchedRest is documents → UntouchedRest is (take count documents)
+rest-take count is documents rest i d read = rest i d (slice_get-take count documents i d read)

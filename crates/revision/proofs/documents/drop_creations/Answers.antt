@@ -27,6 +27,6 @@ loop-documents-preserved-in-Some c =
       some = omega (arith, c.loop-documents-test.true, c.len.ensures, c.in-Some.ensures.len);
       index = index-less (get_by_text c.loop-documents.names.map) (get_by_text c.remove.new.self.map) (names_of c.pop.new.self.items) c.in-Some.document.name
           (λ q. c.loop-documents.invariant.index q ∙ ap (λ ns. number_of q 0 ns) names) once
-          (λ q. c.remove.ensures q ∙ ap (λ n. cond (bytes_eq n q) None (get_by_text c.loop-documents.names.map q)) (c.name.ensures ∙ ap (λ (d : PendingDocument). d.name) c.document.view_is));
+          (λ q. c.remove.ensures q ∙ ap (λ n. cond (bytes_eq n q) None (get_by_text c.loop-documents.names.map q)) c.name.ensures);
       once = (last_is_new (names_of c.pop.new.self.items) c.in-Some.document.name once).0;
     }
