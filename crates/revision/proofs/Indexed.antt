@@ -1,10 +1,13 @@
 -- An index of names, as names come and go at the end.
-use Rattle.std.proofs.Common.{◌≡◌, ◌≢◌, ℕ, zero, suc, ◌+◌, ◌<◌, ◌≤◌, Bool, true, false, cond, List, [], ◌∷◌, ◌++◌, length, map, take, Option, Some, None, refl, sym, ap, ap₂, ◌∙◌, arith, true≢false}
-use Rattle.std.specs.Prelude.{bytes_eq, slice_get, option_map}
+use Rattle.std.proofs.Common.{◌≡◌, ◌≢◌, ℕ, zero, suc, ◌+◌, ◌<◌, ◌≤◌, Bool, true, false, ◌&&◌, cond, List, [], ◌∷◌, ◌++◌, length, map, take, Option, Some, None, refl, sym, ap, ap₂, ◌∙◌, arith, true≢false}
+use Rattle.std.specs.Prelude.{bytes_eq, slice_get, option_map, is_none}
 use Rattle.std.proofs.lemmas.Bool.{cases_Bool}
 use Rattle.std.proofs.lemmas.Option.{none-some, same_Some}
 use Rattle.std.proofs.lemmas.Slice.Eq.{bytes_eq-Decides}
 use Rattle.revision.specs.Index.{number_of, NoneTwice, IsIndex}
+use Rattle.revision.specs.DocumentsView.{names_of}
+use Rattle.revision.specs.Pending.{PendingDocument, held, with_prepared}
+use Rattle.revision.specs.State.{find}
 
 same_name : (a b : List ℕ) → bytes_eq a b ≡ true → a ≡ b
 same_name a b = (bytes_eq-Decides a b).0
@@ -92,3 +95,30 @@ pub take_init : {X : Type 0} (n : ℕ) (xs : List X) (x : X) → n ≤ length xs
 take_init zero xs x within = refl
 take_init (suc n) [] x within = absurd (omega (arith, within))
 take_init (suc n) (y ∷ ys) x within = ap (λ zs. y ∷ zs) (take_init n ys x (omega (arith, within)))
+
+-- a name without a number is no document's
+chosen_none : {A B : Type 0} (t : Bool) (a : A) (b : B) (o : Option A) (p : Option B) → is_none o ≡ is_none p → is_none (cond t (Some a) o) ≡ is_none (cond t (Some b) p)
+chosen_none true a b o p same = refl
+chosen_none false a b o p same = same
+
+pub number-found : (keep : ℕ) (q : List ℕ) (k : ℕ) (ds : List PendingDocument)
+    → is_none (number_of q k (names_of ds)) ≡ is_none (find q k (map (with_prepared keep) ds))
+number-found keep q k [] = refl
+number-found keep q k (d ∷ ds) =
+    chosen_none (bytes_eq d.name q) k (k, with_prepared keep d) (number_of q (k + 1) (names_of ds)) (find q (k + 1) (map (with_prepared keep) ds))
+    (number-found keep q (k + 1) ds)
+
+pub none_from_test : {A : Type 0} (o : Option A) → is_none o ≡ true → o ≡ None
+none_from_test None is = refl
+none_from_test (Some x) is = absurd (true≢false (sym is))
+
+-- what there is where there is room
+pub room_parts : (a b c : Bool) → (a && b && c) ≡ true → (a ≡ true) × (b ≡ true) × (c ≡ true)
+room_parts true true true is = (refl, refl, refl)
+room_parts true true false is = absurd (true≢false (sym is))
+room_parts true false c is = absurd (true≢false (sym is))
+room_parts false b c is = absurd (true≢false (sym is))
+
+pub names_length : (ds : List PendingDocument) → length (names_of ds) ≡ length ds
+names_length [] = refl
+names_length (d ∷ ds) = ap suc (names_length ds)

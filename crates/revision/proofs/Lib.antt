@@ -4,6 +4,7 @@ mod Halves
 mod ChangedAt
 mod Untouched
 mod Indexed
+mod OneMore
 mod Noted
 pub mod Sums
 pub mod Texts

@@ -1,5 +1,5 @@
 -- Documents of which nothing is prepared.
-use Rattle.std.proofs.Common.{◌≡◌, ◌≢◌, ℕ, zero, suc, ◌<◌, ◌⊎◌, inl, inr, List, [], ◌∷◌, ◌++◌, map, take, Some, refl, sym, ap, ap₂, ◌∙◌, arith}
+use Rattle.std.proofs.Common.{◌≡◌, ◌≢◌, ℕ, zero, suc, ◌<◌, ◌⊎◌, inl, inr, List, [], ◌∷◌, ◌++◌, length, map, take, Some, refl, sym, ap, ap₂, ◌∙◌, arith}
 use Rattle.std.specs.Prelude.{slice_get}
 use Rattle.std.proofs.lemmas.Option.{none-some}
 use Rattle.revision.specs.ChangedAt.{changed_at, changed_at_all, IsAmong}
@@ -76,3 +76,20 @@ slice_get-take (suc n) (y ∷ ys) (suc i) x read = slice_get-take n ys i x read
 
 pub rest-take : (count : ℕ) (is : List ℕ) (documents : List PendingDocument) → UntouchedRest is documents → UntouchedRest is (take count documents)
 rest-take count is documents rest i d read = rest i d (slice_get-take count documents i d read)
+
+-- a document more, which is touched
+read_of_more : {X : Type 0} (xs : List X) (x : X) (i : ℕ) (y : X) → slice_get (xs ++ x ∷ []) i ≡ Some y → (slice_get xs i ≡ Some y) ⊎ (i ≡ length xs)
+read_of_more [] x zero y read = inr refl
+read_of_more [] x (suc i) y read = absurd (none-some y read)
+read_of_more (z ∷ zs) x zero y read = inl read
+read_of_more (z ∷ zs) x (suc i) y read = further (read_of_more zs x i y read) where
+  further : (slice_get zs i ≡ Some y) ⊎ (i ≡ length zs) → (slice_get zs i ≡ Some y) ⊎ (suc i ≡ suc (length zs))
+  further (inl there) = inl there
+  further (inr last) = inr (ap suc last)
+
+pub rest-more : (is : List ℕ) (number : ℕ) (documents : List PendingDocument) (d : PendingDocument) → number ≡ length documents
+    → UntouchedRest is documents → UntouchedRest (is ++ number ∷ []) (documents ++ d ∷ [])
+rest-more is number documents d last rest i e read = by_place (read_of_more documents d i e read) where
+  by_place : (slice_get documents i ≡ Some e) ⊎ (i ≡ length documents) → IsAmong i (is ++ number ∷ []) ⊎ (e.past.next ≡ [])
+  by_place (inl there) = rest-touch is number documents rest i e there
+  by_place (inr here) = inl (rw (here ∙ sym last) (among-last is number))

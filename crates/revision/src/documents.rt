@@ -8,7 +8,7 @@ ghost use Rattle.revision.specs.Index.{IsIndex, NoneTwice};
 ghost use Rattle.revision.specs.Invariants.{IsLimits};
 ghost use Rattle.revision.specs.Pending.{held, with_prepared};
 ghost use Rattle.revision.specs.Preparing.{accepted, forgotten, with_next, begun};
-ghost use Rattle.revision.specs.State.{State, begins, change_of, continues_by_name, grows, grown, all_grow, fold, find};
+ghost use Rattle.revision.specs.State.{begins, has_room, change_of, continues_by_name, grows, grown, all_grow, fold, find};
 
 use crate::doc_state::DocState;
 use crate::limits::Limits;
@@ -94,10 +94,10 @@ impl Documents {
         ensures only { IfErr result (λ e. (e ≡ Refusal.Stranger) ⊎ (e ≡ Refusal.NoMemory)) }
         ensures unchanged { OnErr result (self.new ≡ self.old) }
     {
-        self.touched.push(taken.document())?;
         match taken.name() {
             Some(name) => self.create(alloc, taken, name),
             None => {
+                self.touched.push(taken.document())?;
                 change(alloc, &mut self.documents, self.limits, taken)?;
                 Ok(())
             }
@@ -114,13 +114,11 @@ impl Documents {
         ensures unchanged { OnErr result (self.new ≡ self.old) }
     {
         let number = taken.document();
-        if number as usize != self.documents.len()
-            || number >= self.limits.docs()
-            || self.names.number(name).is_some()
-        {
+        if !self.has_room_for(number, name) {
             return Err(Refusal::Stranger);
         }
         let document = begin(alloc, self.limits, taken, name)?;
+        self.touched.push(number)?;
         push_named(
             alloc,
             &mut self.documents,
@@ -130,6 +128,16 @@ impl Documents {
             number,
         )?;
         Ok(())
+    }
+
+    // whether there is room for a new document of this number and name
+    fn has_room_for(&self, number: u32, name: &Name) -> bool
+        ensures { result ≡ has_room self.now.after number (Some name.now) }
+    {
+        let count = self.documents.len() as u64;
+        u64::from(number) == count
+            && count < u64::from(self.limits.docs())
+            && self.names.number(name).is_none()
     }
 
     /// Prepares commands in order. What it is refused with, and when, `prepare` says; then the first of them may be

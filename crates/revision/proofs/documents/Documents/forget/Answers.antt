@@ -50,7 +50,7 @@ invariant_of-self c = record {
 pub returns : goal.returns
 returns c =
     let all : map held (take c.self.inside.count c.forget_each.new.documents.items) ≡ map held (take c.self.inside.count c.self.inside.documents.items) =
-      ap (map held) (take_all _ _ (omega (arith, count_is c))) ∙ same_held c in
+    ap (map held) (take_all _ _ (omega (arith, count_is c))) ∙ same_held c in
     ap₂ (λ (b a : List DocumentRecord). record { before = record { limits = c.self.inside.limits; documents = b }; after = record { limits = c.self.inside.limits; documents = a } })
     all (sym (held-with_prepared c.self.inside.limits.keep _ (emptied c)) ∙ same_held c)
     ∙ ap (λ (p : PreparedState). unprepared p.before) c.self.view_is
