@@ -1,6 +1,10 @@
 mod Floors
 mod Parts
 mod Halves
+mod ChangedAt
+mod Untouched
+mod Indexed
+mod OneMore
 mod Noted
 mod Following
 mod Light

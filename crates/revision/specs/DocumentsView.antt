@@ -1,7 +1,8 @@
 -- The documents of the program, without where they lie in memory.
-use Rattle.std.specs.Prelude.{◌≡◌, ◌⊎◌, ◌≤◌, ℕ, List, [], Some, length, take, map, slice_get, Contains}
+use Rattle.std.specs.Prelude.{◌≡◌, ◌⊎◌, ◌≤◌, ℕ, List, [], Some, length, take, map, slice_get}
 use Rattle.std.specs.BTreeMap.{get_by_text}
 use Rattle.revision.specs.declared.documents.Documents.TheInside.{Inside}
+use Rattle.revision.specs.ChangedAt.{IsAmong}
 use Rattle.revision.specs.Documents.{PreparedState}
 use Rattle.revision.specs.Index.{IsIndex, NoneTwice}
 use Rattle.revision.specs.Invariants.{IsLimits}
@@ -20,7 +21,7 @@ names_of documents = map (λ d. d.name) documents
 -- nothing is prepared of a document that isn't touched
 abbrev pub UntouchedRest : List ℕ → List PendingDocument → Type 0
 UntouchedRest touched documents =
-    (i : ℕ) (d : PendingDocument) → slice_get documents i ≡ Some d → Contains touched i ⊎ (d.past.next ≡ [])
+    (i : ℕ) (d : PendingDocument) → slice_get documents i ≡ Some d → IsAmong i touched ⊎ (d.past.next ≡ [])
 
 pub record AreDocuments (d : Inside) : Type 0 where
   pub limits : IsLimits d.limits

@@ -3,10 +3,12 @@ ghost use Rattle.std.specs.Prelude.{◌≡◌, ◌⊎◌, ◌≤◌, ◌∷◌, 
 ghost use Rattle.std.specs.BTreeMap.{get_by_text};
 ghost use Rattle.revision.specs.ChangedAt.{changed_at, changed_at_all};
 ghost use Rattle.revision.specs.Documents.{unprepared};
+ghost use Rattle.revision.specs.DocumentsView.{names_of};
+ghost use Rattle.revision.specs.Index.{IsIndex, NoneTwice};
 ghost use Rattle.revision.specs.Invariants.{IsLimits};
 ghost use Rattle.revision.specs.Pending.{held, with_prepared};
 ghost use Rattle.revision.specs.Preparing.{accepted, forgotten, with_next, begun};
-ghost use Rattle.revision.specs.State.{State, begins, change_of, continues_by_name, grows, grown, all_grow, fold, find};
+ghost use Rattle.revision.specs.State.{begins, has_room, change_of, continues_by_name, grows, grown, all_grow, fold, find};
 
 use crate::doc_state::DocState;
 use crate::limits::Limits;
@@ -92,10 +94,13 @@ impl Documents {
         ensures only { IfErr result (λ e. (e ≡ Refusal.Stranger) ⊎ (e ≡ Refusal.NoMemory)) }
         ensures unchanged { OnErr result (self.new ≡ self.old) }
     {
-        self.touched.push(taken.document())?;
         match taken.name() {
             Some(name) => self.create(alloc, taken, name),
-            None => change(alloc, &mut self.documents, self.limits, taken),
+            None => {
+                self.touched.push(taken.document())?;
+                change(alloc, &mut self.documents, self.limits, taken)?;
+                Ok(())
+            }
         }
     }
 
@@ -109,13 +114,11 @@ impl Documents {
         ensures unchanged { OnErr result (self.new ≡ self.old) }
     {
         let number = taken.document();
-        if number as usize != self.documents.len()
-            || number >= self.limits.docs()
-            || self.names.number(name).is_some()
-        {
+        if !self.has_room_for(number, name) {
             return Err(Refusal::Stranger);
         }
         let document = begin(alloc, self.limits, taken, name)?;
+        self.touched.push(number)?;
         push_named(
             alloc,
             &mut self.documents,
@@ -123,7 +126,18 @@ impl Documents {
             document,
             name,
             number,
-        )
+        )?;
+        Ok(())
+    }
+
+    // whether there is room for a new document of this number and name
+    fn has_room_for(&self, number: u32, name: &Name) -> bool
+        ensures { result ≡ has_room self.now.after number (Some name.now) }
+    {
+        let count = self.documents.len() as u64;
+        u64::from(number) == count
+            && count < u64::from(self.limits.docs())
+            && self.names.number(name).is_none()
     }
 
     /// Prepares commands in order. What it is refused with, and when, `prepare` says; then the first of them may be
@@ -178,7 +192,8 @@ fn change(
     if number >= documents.len() {
         return Err(Refusal::Stranger);
     }
-    documents[number].prepare(alloc, limits, taken)
+    documents[number].prepare(alloc, limits, taken)?;
+    Ok(())
 }
 
 // the document that a creation begins, with its first change prepared
@@ -210,11 +225,11 @@ fn push_named(
     ensures names_unchanged { OnErr result ((q : List ℕ) → get_by_text names.new.map q ≡ get_by_text names.old.map q) }
 {
     documents.push(document)?;
-    let named = names.insert(alloc, name, number);
-    if named.is_err() {
+    if names.insert(alloc, name, number).is_err() {
         drop(documents.pop());
+        return Err(Refusal::NoMemory);
     }
-    named
+    Ok(())
 }
 
 fn accept_each(documents: &mut Vec<DocState>, touched: &[u32], limits: Limits)
@@ -251,7 +266,12 @@ fn forget_one(documents: &mut Vec<DocState>, number: usize)
 
 // takes the last documents away, with their names, so that `count` are left
 fn drop_creations(documents: &mut Vec<DocState>, names: &mut Names, count: usize)
+    requires some { count ≤ length documents.old.items }
+    requires index { IsIndex (get_by_text names.old.map) (names_of documents.old.items) }
+    requires once { NoneTwice (names_of documents.old.items) }
     ensures documents { documents.new.items ≡ take count documents.old.items }
+    ensures index { IsIndex (get_by_text names.new.map) (names_of documents.new.items) }
+    ensures once { NoneTwice (names_of documents.new.items) }
 {
     while documents.len() > count {
         if let Some(document) = documents.pop() {
