@@ -4,6 +4,7 @@ mod Halves
 mod Noted
 mod Following
 mod Light
+mod LettingGo
 pub mod Sums
 pub mod Texts
 pub mod Taking
