@@ -1,5 +1,5 @@
 -- What is seen of a past that lets go of what lies below its floor.
-use Rattle.std.proofs.Common.{◌≡◌, ℕ, zero, suc, ◌+◌, ◌-◌, ◌≤◌, ◌<◌, ◌^◌, List, [], ◌∷◌, length, take, drop, get_or, add-one, refl, sym, ap, ap₂, subst, ◌∙◌, arith}
+use Rattle.std.proofs.Common.{◌≡◌, ℕ, zero, suc, ◌+◌, ◌-◌, ◌≤◌, ◌<◌, List, [], ◌∷◌, length, take, drop, get_or, add-one, refl, sym, ap, ap₂, ◌∙◌, arith}
 use Rattle.std.proofs.lemmas.List.{drop-take, drop-drop, take-take, length-drop}
 use Rattle.delta.specs.Element.{Element}
 use Rattle.delta.specs.Operation.{Operation}
@@ -7,11 +7,11 @@ use Rattle.delta.specs.Gaps.{counted, apply}
 use Rattle.compose.specs.Many.{applied}
 use Rattle.revision.specs.Sources.{Sources, with_last}
 use Rattle.revision.specs.declared.past.Taker.{Taker}
-use Rattle.revision.specs.Past.{Parts, AreParts, Past, Content, Change, deltas_of, sources_at, sources_after, changes_by, whole_past, from_floor, seen}
+use Rattle.revision.specs.Past.{Parts, AreParts, Past, Change, deltas_of, sources_at, sources_after, changes_by, whole_past, from_floor, seen}
 use Rattle.revision.proofs.Replays.{stand-drop}
 use Rattle.revision.proofs.Kept.{short-drop}
 use Rattle.revision.proofs.Floors.{from-from}
-use Rattle.revision.proofs.Parts.{changes-take, changes-length, whole-deltas}
+use Rattle.revision.proofs.Parts.{changes-take, whole-deltas}
 
 pub changes-drop : (n : ℕ) (takers : List Taker) (deltas : List (List Operation)) → changes_by (drop n takers) (drop n deltas) ≡ drop n (changes_by takers deltas)
 changes-drop zero takers deltas = refl

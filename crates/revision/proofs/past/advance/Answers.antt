@@ -1,7 +1,7 @@
-use Rattle.std.proofs.Common.{◌≡◌, ◌+◌, ◌<◌, ◌∷◌, length, take, drop, add-one, sym, ap, subst, ◌∙◌, arith}
+use Rattle.std.proofs.Common.{◌≡◌, ◌+◌, ◌<◌, length, take, drop, add-one, sym, ap, subst, ◌∙◌, arith}
 use Rattle.delta.specs.Gaps.{counted, apply}
 use Rattle.compose.specs.Many.{applied}
-use Rattle.revision.specs.Sources.{Sources, with_last}
+use Rattle.revision.specs.Sources.{Sources}
 use Rattle.revision.specs.Past.{StandInTurn, sources_after, changes_by}
 use Rattle.revision.proofs.Replays.{drop-here}
 use Rattle.revision.proofs.LettingGo.{applied-next, sources-here}

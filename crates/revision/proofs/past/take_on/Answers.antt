@@ -1,4 +1,4 @@
-use Rattle.std.proofs.Common.{◌≡◌, List, ℕ, ap, ◌∙◌}
+use Rattle.std.proofs.Common.{List, ℕ, ap, ◌∙◌}
 use Rattle.revision.specs.Sources.{LastTaken, with_last}
 use Rattle.revision.proofs.Noted.{noted-twice}
 use Rattle.revision.proofs.past.take_on.Goals as goal
