@@ -8,6 +8,7 @@ mod OneMore
 mod Noted
 mod Following
 mod Light
+mod LettingGo
 pub mod Sums
 pub mod Texts
 pub mod Taking

@@ -22,7 +22,6 @@ use Rattle.revision.proofs.Told.{parts_told}
 module _ (delta : List Operation) (units : List Element) (weighed : Result ℕ Refusal)
     (past_end : (weighed ≡ Err PastEnd) ↔ (¬ (IsDefined units (counted delta))))
     (cuts : (weighed ≡ Err CutsPair) ↔ (IsDefined units (counted delta) × Cuts units (counted delta))) where
-
   -- where a weight is given, both tests pass
   pub reaches : (weight : ℕ) → weighed ≡ Ok weight → reaches_past delta units ≡ false
   reaches weight is = by_test (reaches_past delta units) refl where

@@ -1,11 +1,10 @@
 -- Sources after one of them was noted or dropped.
-use Rattle.std.proofs.Common.{◌≡◌, ℕ, zero, suc, ◌+◌, ◌<◌, Bool, true, false, cond, List, [], ◌∷◌, length, drop, get_or, Option, Some, None, Result, Ok, Err, ◌++◌, refl, sym, ap, subst, ◌∙◌, arith}
+use Rattle.std.proofs.Common.{◌≡◌, ℕ, zero, suc, ◌+◌, Bool, true, false, cond, List, [], ◌∷◌, length, drop, Option, Some, None, Result, Ok, Err, ◌++◌, refl, sym, ap, ◌∙◌}
 use Rattle.std.specs.Prelude.{◌||◌, is_some}
 use Rattle.std.specs.Result.{OnOk, OnErr}
-use Rattle.std.specs.Ordering.{eq_by_cmp}
 use Rattle.std.specs.Cmp.Lexicographic.{nat_list_cmp_total}
 use Rattle.std.specs.FinMap.Entries.{length-put}
-use Rattle.attributes.specs.Map.{by_bytes, get, insert, remove}
+use Rattle.attributes.specs.Map.{by_bytes, get, insert}
 use Rattle.attributes.proofs.Maps.{is_name, same_name_from, same_map, get-insert, get-remove}
 use Rattle.attributes.proofs.Places.{entries-insert}
 use Rattle.revision.specs.Sources.{Sources, LastTaken, count_of, with_last, with_entry, is_among, EqualBut}

@@ -280,7 +280,8 @@ fn after_taken(alloc: Global, document: &Document, taken: &Delta) -> Result<Docu
     }
 }
 
-// Prepares a change in the past and in the table of sources. Refused for want of memory alone, and then both are unchanged.
+// Prepares a change in the past and in the table of sources. Refused for want of memory alone, and then both are unchanged. What
+// lies below the floor is let go of, as far as memory goes.
 fn note(
     alloc: Global,
     past: &mut Past,
@@ -296,6 +297,7 @@ fn note(
     ensures sources_unchanged { OnErr result (sources.new ≡ sources.old) }
     ensures only { IsOkUnless result Refusal.NoMemory }
 {
+    past.let_go(alloc);
     let source = taken.source().copy(alloc)?;
     let delta = taken.delta().copy(alloc)?;
     past.prepare(source, taken.number(), delta)?;
