@@ -98,7 +98,7 @@ fold-is-state state (first ∷ others) is h =
     fold-is-state (grown state first) others (growing_keeps state first is parts.0) parts.1
 
 -- a cell of a document stays one as the document goes on
-cell-longer : (commands others : List Taken) (cell : Cell) → IsCellOf commands cell → IsCellOf (commands ++ others) cell
+pub cell-longer : (commands others : List Taken) (cell : Cell) → IsCellOf commands cell → IsCellOf (commands ++ others) cell
 cell-longer commands others cell of = record {
   reached = omega (arith, of.reached, length-append commands others);
   shows = subst (λ l. Shows l (record_of_cell cell)) (sym (take-append-le cell.revision commands others of.reached)) of.shows;

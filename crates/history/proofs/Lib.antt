@@ -5,3 +5,4 @@ pub mod OneDocument
 pub mod Recovering
 pub mod Committing
 pub mod Cells
+pub mod HeldCells
