@@ -1,4 +1,4 @@
-pub mod Reading
+pub mod OneState
 pub mod Showing
 pub mod Counting
 pub mod OneDocument
@@ -6,3 +6,5 @@ pub mod Recovering
 pub mod Committing
 pub mod Cells
 pub mod HeldCells
+pub mod ReadingOn
+pub mod ReadingAll
