@@ -8,3 +8,4 @@ pub mod Cells
 pub mod HeldCells
 pub mod ReadingOn
 pub mod ReadingAll
+pub mod CallerLemmas
