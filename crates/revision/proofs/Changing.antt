@@ -51,12 +51,12 @@ units-newest past =
 pub sources-newest : (past : Past) → sources_at past (newest past) ≡ sources_after past.floor past.sources past.changes
 sources-newest past = ap (sources_after past.floor past.sources) (all_taken past.floor past.changes)
 
-applied-more : (units : List Element) (changes : List Change) (change : Change)
+pub applied-more : (units : List Element) (changes : List Change) (change : Change)
     → applied units (map (λ (c : Change). c.delta) (changes ++ change ∷ [])) ≡ apply (applied units (map (λ (c : Change). c.delta) changes)) (counted change.delta)
 applied-more units [] change = refl
 applied-more units (first ∷ others) change = applied-more (apply units (counted first.delta)) others change
 
-sources-more : (floor there : ℕ) (sources : Sources) (changes : List Change) (change : Change) → there ≡ floor + length changes
+pub sources-more : (floor there : ℕ) (sources : Sources) (changes : List Change) (change : Change) → there ≡ floor + length changes
     → sources_after floor sources (changes ++ change ∷ []) ≡ with_last change.source change.number (there + 1) (sources_after floor sources changes)
 sources-more floor there sources [] change is = ap (λ r. with_last change.source change.number (r + 1) sources) (sym (is ∙ none floor))
   where

@@ -1,9 +1,17 @@
 mod Floors
 mod Parts
 mod Halves
+mod ChangedAt
+mod Untouched
+mod Indexed
+mod OneMore
+mod Noted
+mod Following
+mod Light
 pub mod Sums
 pub mod Texts
 pub mod Taking
+pub mod Admitting
 pub mod Room
 pub mod Replays
 pub mod Kept

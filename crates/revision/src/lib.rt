@@ -12,21 +12,32 @@
 #![tactic(auto)]
 
 mod command;
+mod doc_state;
+mod documents;
+mod growing;
 mod late;
 pub mod laws;
 mod limits;
 mod name;
+mod names;
 mod past;
+mod planning;
+mod reading;
+mod source_table;
 mod sources;
+mod state;
 mod taken;
 #[cfg(test)]
 mod tests;
 mod widths;
 
 pub use command::{Action, Command};
+pub use doc_state::DocState;
 pub use limits::Limits;
 pub use name::Name;
 pub use past::{Past, Taker};
+pub use planning::{Plan, Reply};
 pub use sources::{LastTaken, Sources};
+pub use state::{PreparedState, State, Unprepared};
 pub use taken::Taken;
 pub use widths::delta_width;

@@ -5,7 +5,7 @@ ghost use Rattle.delta.specs.Gaps.{counted, apply};
 ghost use Rattle.document.specs.Outcome.{IsAccepted};
 ghost use Rattle.compose.specs.Many.{applied};
 ghost use Rattle.revision.specs.Late.{late as late_edit, all_inserted, HasCommandRoom};
-ghost use Rattle.revision.specs.Past.{StandInTurn, newest, content_at, deltas_of, deltas_above, undo_of, way_back, way_back_late, with_changes, prepared_units, prepared_revision};
+ghost use Rattle.revision.specs.Past.{StandInTurn, newest, content_at, deltas_of, deltas_above, undo_of, way_back, way_back_late, with_changes, prepared_units, prepared_revision, without_last};
 
 use crate::late::{late, past_all};
 use crate::name::Name;
@@ -172,6 +172,17 @@ impl Past {
         let taker = Taker { source, number };
         push_both(&mut self.takers, &mut self.deltas, taker, delta)?;
         Ok(())
+    }
+
+    /// Drops the last change that was prepared, where one was.
+    pub fn take_back(&mut self)
+        ensures { self.new ≡ record self.old { next = without_last self.old.next } }
+    {
+        if self.count < self.deltas.len() {
+            let left = self.deltas.len() - 1;
+            self.takers.truncate(left);
+            self.deltas.truncate(left);
+        }
     }
 
     /// Accepts what was prepared: each change is the next revision, and the floor rises to `keep` below the newest one where it
