@@ -36,7 +36,7 @@ set-other zero (Some document) (first ∷ others) (suc other) differ = refl
 set-other (suc number) (Some document) (first ∷ others) zero differ = refl
 set-other (suc number) (Some document) (first ∷ others) (suc other) differ = set-other number (Some document) others other (λ e. differ (ap suc e))
 
-grown-own : (state : State) (taken : Taken) → grows state taken ≡ true
+pub grown-own : (state : State) (taken : Taken) → grows state taken ≡ true
     → slice_get (grown state taken).documents taken.document ≡ record_after state.limits.keep (slice_get state.documents taken.document) taken
 grown-own state taken h =
     let parts = and_parts (has_room state taken.document taken.name) _ h in
@@ -87,18 +87,18 @@ grows_by_documents state (first ∷ others) h number =
           ∙ ap (record_after_all state.limits.keep (slice_get state.documents number)) (sym split))),
     )
 
-limits-fold : (state : State) (commands : List Taken) → (fold state commands).limits ≡ state.limits
+pub limits-fold : (state : State) (commands : List Taken) → (fold state commands).limits ≡ state.limits
 limits-fold state [] = refl
 limits-fold state (first ∷ others) = limits-fold (grown state first) others
 
-fold-is-state : (state : State) (commands : List Taken) → IsState state → all_grow state commands ≡ true → IsState (fold state commands)
+pub fold-is-state : (state : State) (commands : List Taken) → IsState state → all_grow state commands ≡ true → IsState (fold state commands)
 fold-is-state state [] is h = is
 fold-is-state state (first ∷ others) is h =
     let parts = and_parts (grows state first) (all_grow (grown state first) others) h in
     fold-is-state (grown state first) others (growing_keeps state first is parts.0) parts.1
 
 -- a cell of a document stays one as the document goes on
-cell-longer : (commands others : List Taken) (cell : Cell) → IsCellOf commands cell → IsCellOf (commands ++ others) cell
+pub cell-longer : (commands others : List Taken) (cell : Cell) → IsCellOf commands cell → IsCellOf (commands ++ others) cell
 cell-longer commands others cell of = record {
   reached = omega (arith, of.reached, length-append commands others);
   shows = subst (λ l. Shows l (record_of_cell cell)) (sym (take-append-le cell.revision commands others of.reached)) of.shows;

@@ -69,7 +69,7 @@ record-all limits commands found (first ∷ others) shows h =
     (record-all limits (commands ++ first ∷ []) (record_after limits.keep found first) others (record-more limits commands found first shows parts.0) parts.1)
 
 -- from a floor on that isn't below its own, a document that shows the commands holds their past
-from-shown : (commands : List Taken) (found : DocumentRecord) (floor : ℕ) → Shows commands found → found.past.floor ≤ floor
+pub from-shown : (commands : List Taken) (found : DocumentRecord) (floor : ℕ) → Shows commands found → found.past.floor ≤ floor
     → from_floor found.past floor ≡ from_floor (past_of commands) floor
 from-shown commands found floor shows above =
     ap (λ (p : Past). from_floor p floor) shows.past ∙ from_twice (past_of commands) found.past.floor floor (omega arith) above

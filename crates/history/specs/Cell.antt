@@ -1,6 +1,6 @@
 -- What a cell of a device holds, and which one of the two cells of a document is read.
 use Rattle.std.specs.Prelude.{ℕ, zero, suc, ◌≡◌, ◌≤◌, ◌⊎◌, min, nat_lt, if◌then◌else◌, true, Option, Some, None, unwrap_or, List, [], ◌∷◌, slice_get}
-use Rattle.revision.specs.Past.{Content}
+use Rattle.revision.specs.Past.{Content, content_at, sources_at}
 use Rattle.revision.specs.Sources.{Sources, count_of}
 use Rattle.revision.specs.State.{Limits, DocumentRecord, last_of_all, weight_of, are_sources, record_at}
 
@@ -14,6 +14,11 @@ pub record Cell : Type 0 where
 -- the document whose past begins there
 abbrev pub record_of_cell : Cell → DocumentRecord
 record_of_cell cell = record_at cell.name cell.content cell.revision cell.sources
+
+-- the cell of a document at a revision that it holds
+abbrev pub cell_of : DocumentRecord → ℕ → Cell
+cell_of found revision =
+    record { name = found.name; revision = revision; content = content_at found.past revision; sources = sources_at found.past revision }
 
 -- a document's two cells, None where one isn't open
 abbrev pub Pair : Type 0

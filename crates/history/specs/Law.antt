@@ -1,11 +1,11 @@
 -- What holds of what the parts of a store stand for.
-use Rattle.std.specs.Prelude.{ℕ, ◌≡◌, ◌≤◌, ◌<◌, true, List, [], ◌++◌, length, replicate, slice_get, All}
+use Rattle.std.specs.Prelude.{ℕ, ◌≡◌, ◌≤◌, ◌<◌, true, Some, List, [], ◌++◌, length, replicate, slice_get, All}
 use Rattle.revision.specs.Command.{Taken}
-use Rattle.revision.specs.State.{Limits, State, all_continue, record_after_all, all_grow, fold}
+use Rattle.revision.specs.State.{Limits, DocumentRecord, State, revision_of, all_continue, record_after_all, all_grow, fold}
 use Rattle.revision.specs.Agree.{Agree}
 use Rattle.revision.specs.Invariants.{IsLimits, IsState}
 use Rattle.history.specs.Entries.{of_document}
-use Rattle.history.specs.Cell.{Cell, Pair, no_cells, cells_at, with_pair, lowest, freed, IsPut, Pick, OfBoth}
+use Rattle.history.specs.Cell.{Cell, cell_of, Pair, no_cells, cells_at, with_pair, lowest, freed, IsPut, Pick, OfBoth}
 use Rattle.history.specs.Shown.{StateShows}
 use Rattle.history.specs.Found.{StandFor}
 use Rattle.history.specs.Running.{IsCellOf, Runs}
@@ -74,3 +74,13 @@ IsCovered cells taken = taken.revision ≤ lowest (cells_at cells taken.document
 abbrev pub Retires : Type 0
 Retires = (order : List Taken) (cells : List Pair) (oldest others : List Taken) (state : State) → Runs order cells (oldest ++ others) state
     → All (IsCovered cells) oldest → Runs order cells others state
+
+-- What a document has at a revision that it holds is a cell of it, and a cell of it stays one as the order goes on.
+abbrev pub HeldIsCell : Type 0
+HeldIsCell = (order : List Taken) (state : State) (number : ℕ) (found : DocumentRecord) (revision : ℕ) → StateShows order state
+    → slice_get state.documents number ≡ Some found → found.past.floor ≤ revision → 1 ≤ revision → revision ≤ revision_of found
+    → IsCellOf (of_document number order) (cell_of found revision)
+
+abbrev pub CellsStay : Type 0
+CellsStay = (order batch : List Taken) (number : ℕ) (cell : Cell) → IsCellOf (of_document number order) cell
+    → IsCellOf (of_document number (order ++ batch)) cell

@@ -4,4 +4,5 @@ pub mod Shown
 pub mod Found
 pub mod Running
 pub mod Law
+pub mod Reading
 mod Examples

@@ -1,5 +1,6 @@
 //! What holds of what the parts of a store stand for, as contracts of functions that do nothing.
-ghost use Rattle.history.specs.Law.{AtMostOne, StandIsState, ShowingAgree, GrowsByDocuments, Recovers, Reopens, Begins, ChangesCells, Frees, Puts, Commits, Retires};
+ghost use Rattle.history.specs.Law.{AtMostOne, StandIsState, ShowingAgree, GrowsByDocuments, Recovers, Reopens, Begins, ChangesCells, Frees, Puts, Commits, Retires, HeldIsCell, CellsStay};
+ghost use Rattle.history.specs.Reading.{ReadingBegins, ReadingGoesOn, ReadingEnds, ReadingFinds};
 
 /// The parts of a store stand for one state at most, which is as all that grew from the empty one are.
 pub fn stand()
@@ -33,4 +34,19 @@ pub fn runs_on()
     ensures free { Frees }
     ensures put { Puts }
     ensures retire { Retires }
+{}
+
+/// What a document has at a revision that it holds is a cell of it, and a cell of it stays one as the order goes on.
+pub fn cells()
+    ensures held { HeldIsCell }
+    ensures stay { CellsStay }
+{}
+
+/// What the parts stand for is found document by document, and where a test fails on the way, or something is left behind the last
+/// document, they stand for no state.
+pub fn reading()
+    ensures begin { ReadingBegins }
+    ensures next { ReadingGoesOn }
+    ensures end { ReadingEnds }
+    ensures all { ReadingFinds }
 {}

@@ -1,4 +1,4 @@
-use Rattle.history.proofs.Reading.{at_most_one}
+use Rattle.history.proofs.OneState.{at_most_one}
 use Rattle.history.proofs.Recovering.{stand_is_state}
 use Rattle.history.proofs.laws.stand.Goals as goal
 
