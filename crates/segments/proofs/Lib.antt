@@ -9,3 +9,5 @@ pub mod OneTable
 pub mod Orders
 pub mod CallerLemmas
 pub mod Worked
+pub mod SlotsRead
+pub mod TablesRead

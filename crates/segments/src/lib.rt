@@ -31,6 +31,7 @@
 
 pub mod laws;
 mod numbers;
+mod reading;
 mod ring;
 
 pub use ring::Ring;
