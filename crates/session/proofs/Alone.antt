@@ -7,8 +7,8 @@ use Rattle.session.specs.Exchange.{Exchange}
 use Rattle.session.specs.Reads.{shown_line}
 use Rattle.session.specs.Reply.{refusal_line}
 use Rattle.session.specs.Session.{Session}
-use Rattle.session.specs.Replies.{answer_line, IsLine, IsReplied, Greeted, Asked, WasRead, Refused, NotTaken, TakesByte, LineContinues, LineOverflows, LineEnds, Replies, Asks}
-use Rattle.session.specs.Alone.{answered, Alone, Conversation, Told, told, told_of, by_event, with_input_byte, replies, conversation_after, FindsMemory, of_session}
+use Rattle.session.specs.Replies.{answer_line, IsLine, IsReplied, Greeted, Asked, WasRead, Refused, NotTaken, TakesByte, LineContinues, LineOverflows, LineEnds, Replies, Asks, Feeds}
+use Rattle.session.specs.Alone.{answered, Alone, Conversation, Told, told, told_of, by_event, with_input_byte, replies, conversation_after, FindsMemory, FedAlone, of_session}
 
 -- memory is found in each of two texts where it is found in both
 finds_front : (front back : List ℕ) → FindsMemory (front ++ back) → FindsMemory front
@@ -72,7 +72,7 @@ parted (exchange ∷ others) b old new (next, does, rest) =
     let p = parted others b next new rest in
     (p.0, (next, does, p.1), p.2)
 
-pub written : (old new : Session) (state after : State) (piece : List ℕ) (asked : List Exchange) (text : List ℕ)
+written : (old new : Session) (state after : State) (piece : List ℕ) (asked : List Exchange) (text : List ℕ)
     → Replies old piece asked new text → Asks Alone state asked after → FindsMemory text
     → (text ≡ replies (of_session old state) piece) × (of_session new after ≡ conversation_after (of_session old state) piece)
 written old new state after [] asked text (nothing, is, no_text) asks finds =
@@ -87,3 +87,12 @@ written old new state after (byte ∷ bytes) asked text (next, first, others, fr
           ∙ ap (λ (r : List ℕ × Conversation). r.0 ++ replies r.1 bytes) (sym step),
       behind.1 ∙ ap (λ (r : List ℕ × Conversation). conversation_after r.1 bytes) (sym step),
     )
+
+pub fed_alone : (old new : Session) (state after : State) (piece : List ℕ) (out out' : Option (List ℕ)) → Feeds Alone old piece new state after out out'
+    → FedAlone (of_session old state) piece (of_session new after) out out'
+fed_alone old new state after piece out out' fed = record {
+  text = fed.text;
+  written = fed.written;
+  replied = λ finds. (written old new state after piece fed.asked fed.text fed.replies fed.asks finds).0;
+  goes_on = λ finds. (written old new state after piece fed.asked fed.text fed.replies fed.asks finds).1;
+}

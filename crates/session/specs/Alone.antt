@@ -1,5 +1,6 @@
 -- A session over a state alone: what each line is replied, and what it does to the state.
 use Rattle.std.specs.Prelude.{◌≡◌, ◌⊎◌, ℕ, List, [], ◌∷◌, ◌++◌, Option, Some, Result, Ok, Err}
+use Rattle.std.specs.Io.KnownBytes.{Appends}
 use Rattle.refusal.specs.declared.Refusal.{Refusal}
 use Rattle.refusal.specs.declared.Refusal.TheVariants.{NoMemory, LineTooLong}
 use Rattle.revision.specs.State.{State}
@@ -82,3 +83,11 @@ conversation_after c (byte ∷ bytes) = conversation_after (with_input_byte c by
 -- nowhere in a text stands the line of NoMemory
 abbrev pub FindsMemory : List ℕ → Type 0
 FindsMemory text = (front back : List ℕ) → text ≡ front ++ (refusal_line NoMemory ++ back) → ⊥
+
+-- A piece of the input was taken: where memory is found, what was written is what is replied to it, and the conversation goes on
+-- as it does after it.
+pub record FedAlone (old : Conversation) (piece : List ℕ) (new : Conversation) (out out' : Option (List ℕ)) : Type 0 where
+  pub text : List ℕ
+  pub written : Appends out out' text
+  pub replied : FindsMemory text → text ≡ replies old piece
+  pub goes_on : FindsMemory text → new ≡ conversation_after old piece
