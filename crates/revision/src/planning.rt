@@ -68,14 +68,15 @@ impl State {
     pub fn decide(&mut self, alloc: Global, command: &Command) -> Result<Reply, Refusal>
         ensures { IsDecided self.old command.now result self.new }
     {
-        match self.plan(alloc, command)? {
-            Plan::Again { rev } => Ok(Reply::Again { rev }),
-            Plan::Taken(taken) => {
-                self.absorb(alloc, &taken)?;
-                Ok(Reply::Taken {
+        match self.plan(alloc, command) {
+            Ok(Plan::Again { rev }) => Ok(Reply::Again { rev }),
+            Ok(Plan::Taken(taken)) => match self.absorb(alloc, &taken) {
+                Ok(()) => Ok(Reply::Taken {
                     rev: taken.revision(),
-                })
-            }
+                }),
+                Err(refusal) => Err(refusal),
+            },
+            Err(refusal) => Err(refusal),
         }
     }
 
