@@ -187,21 +187,26 @@ replied_with reply = Ok reply
 abbrev not_replied : Refusal → Result replied.Reply Refusal
 not_replied refusal = Err refusal
 
-pub decided_again : (state : State) (command : Command) (revision : ℕ) → answer state command ≡ Repeats revision
+pub decided_again : (state : State) (command : Command) (plan : program.Plan) (revision : ℕ) → plan ≡ plans.Again revision → Gives (Ok plan) (answer state command)
     → IsDecided state command (replied_with (replies.Again revision)) state
-decided_again state command revision due = inl (ap (reply_and_state state) due)
+decided_again state command plan revision is due = again (subst (λ p. Gives (Ok p) (answer state command)) is due)
+  where
+    again : answer state command ≡ Repeats revision → IsDecided state command (replied_with (replies.Again revision)) state
+    again repeats = inl (ap (reply_and_state state) repeats)
 
 pub decided_refused : (state : State) (command : Command) (refusal : Refusal) → (refusal ≡ NoMemory) ⊎ (answer state command ≡ Refuses refusal)
     → IsDecided state command (not_replied refusal) state
 decided_refused state command refusal due = ⊎_elim (λ full. inr (ap not_replied full, refl)) (λ refused. inl (ap (reply_and_state state) refused)) due
 
-pub decided_taken : (state new : State) (command : Command) (taken : Taken) (revision : ℕ) → answer state command ≡ Takes taken → new ≡ grown state taken
-    → revision ≡ taken.revision → IsDecided state command (replied_with (replies.Taken revision)) new
-decided_taken state new command taken revision due after same =
-    inl (ap (reply_and_state state) due ∙ sym (λ i. (TakenAt (same i), after i)))
+pub decided_taken : (state new : State) (command : Command) (plan : program.Plan) (taken : Taken) (revision : ℕ) → plan ≡ plans.Taken taken
+    → Gives (Ok plan) (answer state command) → new ≡ grown state taken → revision ≡ taken.revision → IsDecided state command (replied_with (replies.Taken revision)) new
+decided_taken state new command plan taken revision is due after same = now (subst (λ p. Gives (Ok p) (answer state command)) is due)
+  where
+    now : answer state command ≡ Takes taken → IsDecided state command (replied_with (replies.Taken revision)) new
+    now takes = inl (ap (reply_and_state state) takes ∙ sym (λ i. (TakenAt (same i), after i)))
 
-pub decided_without_memory : (state new : State) (command : Command) (taken : Taken) (refusal : Refusal) → grows state taken ≡ true
+pub decided_without_memory : (state new : State) (command : Command) (plan : program.Plan) (taken : Taken) (refusal : Refusal) → plan ≡ plans.Taken taken → PlanGrows state plan
     → (refusal ≡ Stranger) ⊎ (refusal ≡ NoMemory) → (refusal ≡ Stranger → grows state taken ≡ false) → new ≡ state
     → IsDecided state command (not_replied refusal) new
-decided_without_memory state new command taken refusal grow only stranger same =
-    ⊎_elim (λ strange. absurd (false≢true (sym (stranger strange) ∙ grow))) (λ full. inr (ap not_replied full, same)) only
+decided_without_memory state new command plan taken refusal is grow only stranger same =
+    ⊎_elim (λ strange. absurd (false≢true (sym (stranger strange) ∙ subst (PlanGrows state) is grow))) (λ full. inr (ap not_replied full, same)) only
