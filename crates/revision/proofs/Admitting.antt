@@ -1,29 +1,31 @@
 -- What the answers to edits and undos stand on: what a source has, and what is taken on a document.
-use Rattle.std.proofs.Common.{◌≡◌, ℕ, ◌+◌, ◌-◌, ◌*◌, ◌^◌, ◌<◌, ◌≤◌, ◌⊎◌, ◌↔◌, ⊎_elim, min, IfOk, Result, Ok, Err, Bool, true, false, cond, List, [], ◌∷◌, length, Option, Some, None, refl, sym, ap, subst, ◌∙◌, arith}
+use Rattle.std.proofs.Common.{◌≡◌, ℕ, ◌+◌, ◌-◌, ◌*◌, ◌^◌, ◌<◌, ◌≤◌, ◌⊎◌, ◌↔◌, ⊎_elim, min, IfOk, inl, inr, Result, Ok, Err, Bool, true, false, cond, List, [], ◌∷◌, length, Option, Some, None, refl, sym, ap, subst, ◌∙◌, arith}
 use Rattle.std.specs.Prelude.{◌&&◌, ◌==◌, nat_le, nat_lt, unwrap_or}
 use Rattle.refusal.specs.declared.Refusal.{Refusal}
-use Rattle.refusal.specs.declared.Refusal.TheVariants.{PastEnd, CutsPair, TooHeavy, TooWide}
+use Rattle.refusal.specs.declared.Refusal.TheVariants.{PastEnd, CutsPair, TooHeavy, TooWide, Stranger, NoMemory}
 use Rattle.delta.specs.Element.{Element}
 use Rattle.delta.specs.Gaps.{counted, apply, units_below}
 use Rattle.delta.specs.Operation.{Operation}
 use Rattle.delta.specs.Places.{IsDefined}
 use Rattle.document.specs.Places.{Cuts}
 use Rattle.document.specs.Weight as document
-use Rattle.revision.specs.Acceptance.{Answer, answer, take_on, Takes, Refuses, change, create_new, next_revision, creation}
+use Rattle.revision.specs.Acceptance.{Answer, answer, reply_and_state, TakenAt, take_on, Takes, Repeats, Refuses, change, create_new, next_revision, creation}
 use Rattle.revision.specs.Command.{Command, Taken, width_of}
 use Rattle.revision.specs.Parting.{parts_pair}
-use Rattle.revision.specs.Planned.{IsAsked, Gives, PlanGrows}
+use Rattle.revision.specs.Planned.{IsAsked, Gives, PlanGrows, IsDecided}
+use Rattle.revision.specs.declared.planning.Reply as replied
+use Rattle.revision.specs.declared.planning.Reply.TheVariants as replies
 use Rattle.revision.specs.declared.planning.Plan as program
 use Rattle.revision.specs.declared.planning.Plan.TheVariants as plans
 use Rattle.revision.proofs.Told.{parts_told}
 use Rattle.std.specs.FinMap.Entries.{find as entry_of}
 use Rattle.std.specs.Ordering.{eq_by_cmp}
-use Rattle.std.proofs.lemmas.Bool.{and_parts, leb-true, ltb-true, lt-ltb, cases_lt, false_from_ne_true}
+use Rattle.std.proofs.lemmas.Bool.{false≢true, and_parts, leb-true, ltb-true, lt-ltb, cases_lt, false_from_ne_true}
 use Rattle.attributes.specs.Map.{by_bytes, empty}
 use Rattle.revision.specs.Sources.{LastTaken, Sources, last_of, count_of, with_last}
 use Rattle.revision.specs.Past.{Past, newest}
 use Rattle.revision.specs.Width.{delta_width}
-use Rattle.revision.specs.State.{Limits, DocumentRecord, State, find, revision_of, units_of, sources_of, is_last_taken, are_sources, last_of_all, reaches_past, weight_after}
+use Rattle.revision.specs.State.{Limits, DocumentRecord, State, grows, grown, find, revision_of, units_of, sources_of, is_last_taken, are_sources, last_of_all, reaches_past, weight_after}
 use Rattle.revision.specs.Invariants.{IsPast, IsState}
 use Rattle.revision.proofs.Taking.{found_at, taken_grows}
 
@@ -177,3 +179,34 @@ pub same_new : (state : State) (command : Command) (delta given : List Operation
     → count ≡ length state.documents → name ≡ command.name → source ≡ command.source → given ≡ delta → creation state command delta ≡ taken
 same_new state command delta given count name source taken is same_count same_name same_source same_delta =
     sym (is ∙ (λ i. record { document = same_count i; name = Some (same_name i); revision = 1; source = same_source i; number = 1; delta = same_delta i }))
+
+-- what is decided: again, refused, taken, and where no memory was left to take it
+abbrev replied_with : replied.Reply → Result replied.Reply Refusal
+replied_with reply = Ok reply
+
+abbrev not_replied : Refusal → Result replied.Reply Refusal
+not_replied refusal = Err refusal
+
+pub decided_again : (state : State) (command : Command) (plan : program.Plan) (revision : ℕ) → plan ≡ plans.Again revision → Gives (Ok plan) (answer state command)
+    → IsDecided state command (replied_with (replies.Again revision)) state
+decided_again state command plan revision is due = again (subst (λ p. Gives (Ok p) (answer state command)) is due)
+  where
+    again : answer state command ≡ Repeats revision → IsDecided state command (replied_with (replies.Again revision)) state
+    again repeats = inl (ap (reply_and_state state) repeats)
+
+pub decided_refused : (state : State) (command : Command) (refusal : Refusal) → (refusal ≡ NoMemory) ⊎ (answer state command ≡ Refuses refusal)
+    → IsDecided state command (not_replied refusal) state
+decided_refused state command refusal due = ⊎_elim (λ full. inr (ap not_replied full, refl)) (λ refused. inl (ap (reply_and_state state) refused)) due
+
+pub decided_taken : (state new : State) (command : Command) (plan : program.Plan) (taken : Taken) (revision : ℕ) → plan ≡ plans.Taken taken
+    → Gives (Ok plan) (answer state command) → new ≡ grown state taken → revision ≡ taken.revision → IsDecided state command (replied_with (replies.Taken revision)) new
+decided_taken state new command plan taken revision is due after same = now (subst (λ p. Gives (Ok p) (answer state command)) is due)
+  where
+    now : answer state command ≡ Takes taken → IsDecided state command (replied_with (replies.Taken revision)) new
+    now takes = inl (ap (reply_and_state state) takes ∙ sym (λ i. (TakenAt (same i), after i)))
+
+pub decided_without_memory : (state new : State) (command : Command) (plan : program.Plan) (taken : Taken) (refusal : Refusal) → plan ≡ plans.Taken taken → PlanGrows state plan
+    → (refusal ≡ Stranger) ⊎ (refusal ≡ NoMemory) → (refusal ≡ Stranger → grows state taken ≡ false) → new ≡ state
+    → IsDecided state command (not_replied refusal) new
+decided_without_memory state new command plan taken refusal is grow only stranger same =
+    ⊎_elim (λ strange. absurd (false≢true (sym (stranger strange) ∙ subst (PlanGrows state) is grow))) (λ full. inr (ap not_replied full, same)) only

@@ -68,15 +68,17 @@ impl State {
     pub fn decide(&mut self, alloc: Global, command: &Command) -> Result<Reply, Refusal>
         ensures { IsDecided self.old command.now result self.new }
     {
-        match self.plan(alloc, command)? {
-            Plan::Again { rev } => Ok(Reply::Again { rev }),
-            Plan::Taken(taken) => {
-                self.absorb(alloc, &taken)?;
-                Ok(Reply::Taken {
-                    rev: taken.revision(),
-                })
-            }
+        let taken = match self.plan(alloc, command) {
+            Ok(Plan::Taken(taken)) => taken,
+            Ok(Plan::Again { rev }) => return Ok(Reply::Again { rev }),
+            Err(refusal) => return Err(refusal),
+        };
+        if let Err(refusal) = self.absorb(alloc, &taken) {
+            return Err(refusal);
         }
+        Ok(Reply::Taken {
+            rev: taken.revision(),
+        })
     }
 
     // the answer to a command

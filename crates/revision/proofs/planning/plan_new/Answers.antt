@@ -13,7 +13,7 @@ pub returns-in-Err : goal.returns-in-Err
 returns-in-Err c =
     let state = c.args.state.now in
     let asked = creation state c.args.command.now c.args.delta.now in
-    let count : length c.documents-count.result.now ≡ length state.documents = sym (length-map held c.documents-count.result.now) ∙ ap length c.documents-count.ensures.documents in
+    let count : length c.documents-count.result.now ≡ length state.documents = sym (length-map c.documents-count.result.now held) ∙ ap length c.documents-count.ensures.documents in
     let first : nat_lt 1 c.args.command.now.number ≡ false =
         false_from_ne_true _ (λ more. absurd (omega (arith, ltb-true 1 c.args.command.now.number more, c.if-number-gt1.false, c.number.ensures.number))) in
     let room : nat_le state.limits.docs (length state.documents) ≡ false =
@@ -29,7 +29,7 @@ pub returns : goal.returns
 returns c =
     let state = c.args.state.now in
     let asked = creation state c.args.command.now c.args.delta.now in
-    let count : length c.documents-count.result.now ≡ length state.documents = sym (length-map held c.documents-count.result.now) ∙ ap length c.documents-count.ensures.documents in
+    let count : length c.documents-count.result.now ≡ length state.documents = sym (length-map c.documents-count.result.now held) ∙ ap length c.documents-count.ensures.documents in
     let first : nat_lt 1 c.args.command.now.number ≡ false =
         false_from_ne_true _ (λ more. absurd (omega (arith, ltb-true 1 c.args.command.now.number more, c.if-number-gt1.false, c.number.ensures.number))) in
     let room : nat_le state.limits.docs (length state.documents) ≡ false =
