@@ -1,6 +1,6 @@
 -- An index of names, as names come and go at the end.
 use Rattle.std.proofs.Common.{◌≡◌, ◌≢◌, ℕ, zero, suc, ◌+◌, ◌<◌, ◌≤◌, Bool, true, false, ◌&&◌, cond, List, [], ◌∷◌, ◌++◌, length, map, take, Option, Some, None, refl, sym, ap, ap₂, ◌∙◌, arith, true≢false}
-use Rattle.std.specs.Prelude.{bytes_eq, slice_get, option_map, is_none}
+use Rattle.std.specs.Prelude.{bytes_eq, slice_get, option_map, is_none, is_some, not}
 use Rattle.std.proofs.lemmas.Bool.{cases_Bool}
 use Rattle.std.proofs.lemmas.Option.{none-some, same_Some}
 use Rattle.std.proofs.lemmas.Slice.Eq.{bytes_eq-Decides}
@@ -122,3 +122,9 @@ room_parts false b c is = absurd (true≢false (sym is))
 pub names_length : (ds : List PendingDocument) → length (names_of ds) ≡ length ds
 names_length [] = refl
 names_length (d ∷ ds) = ap suc (names_length ds)
+
+pub none_told : {A : Type 0} (o : Option A) (b : Bool) → is_some o ≡ not b → b ≡ is_none o
+none_told None true is = refl
+none_told None false is = absurd (true≢false (sym is))
+none_told (Some x) true is = absurd (true≢false is)
+none_told (Some x) false is = refl
