@@ -78,10 +78,13 @@ impl Documents {
         ensures { option_map (λ p. (p.0, held p.1.now)) result ≡ find name.now 0 self.now.before.documents }
     {
         match self.names.number(name) {
-            Some(number) if (number as usize) < self.count => {
+            Some(number) => {
+                if number as usize >= self.count {
+                    return None;
+                }
                 Some((number, &self.documents[number as usize]))
             }
-            _ => None,
+            None => None,
         }
     }
 
