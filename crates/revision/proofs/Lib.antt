@@ -6,6 +6,9 @@ mod Untouched
 mod Indexed
 mod OneMore
 mod Noted
+mod Following
+mod Light
+mod LettingGo
 pub mod Sums
 pub mod Texts
 pub mod Taking
@@ -13,4 +16,7 @@ pub mod Room
 pub mod Replays
 pub mod Kept
 pub mod Told
+pub mod Changing
+pub mod Agreeing
+pub mod Keeping
 pub mod CallerLemmas

@@ -1,6 +1,7 @@
 -- Sources after one of them was noted or dropped.
-use Rattle.std.proofs.Common.{◌≡◌, ℕ, zero, suc, ◌+◌, ◌<◌, Bool, true, false, cond, List, [], ◌∷◌, length, drop, get_or, Option, Some, None, refl, sym, ap, subst, ◌∙◌, arith}
+use Rattle.std.proofs.Common.{◌≡◌, ℕ, zero, suc, ◌+◌, ◌<◌, Bool, true, false, cond, List, [], ◌∷◌, length, drop, get_or, Option, Some, None, Result, Ok, Err, ◌++◌, refl, sym, ap, subst, ◌∙◌, arith}
 use Rattle.std.specs.Prelude.{◌||◌, is_some}
+use Rattle.std.specs.Result.{OnOk, OnErr}
 use Rattle.std.specs.Ordering.{eq_by_cmp}
 use Rattle.std.specs.Cmp.Lexicographic.{nat_list_cmp_total}
 use Rattle.std.specs.FinMap.Entries.{length-put}
@@ -15,6 +16,16 @@ pub count-noted : (source : List ℕ) (number revision : ℕ) (sources : Sources
 count-noted source number revision sources =
     let last : LastTaken = record { number = number; revision = revision } in
     ap length (entries-insert sources source last) ∙ length-put by_bytes nat_list_cmp_total source last sources.entries sources.ascending
+
+pub count-there : (source : List ℕ) (number revision : ℕ) (sources : Sources) (last : LastTaken) → get sources source ≡ Some last
+    → count_of (with_last source number revision sources) ≡ count_of sources
+count-there source number revision sources last is =
+    count-noted source number revision sources ∙ ap (λ found. cond (is_some found) (count_of sources) (count_of sources + 1)) is
+
+pub count-new : (source : List ℕ) (number revision : ℕ) (sources : Sources) → get sources source ≡ None
+    → count_of (with_last source number revision sources) ≡ count_of sources + 1
+count-new source number revision sources is =
+    count-noted source number revision sources ∙ ap (λ found. cond (is_some found) (count_of sources) (count_of sources + 1)) is
 
 chosen_twice : (b : Bool) (x y : Option LastTaken) (z : Option LastTaken) → cond b y (cond b x z) ≡ cond b y z
 chosen_twice true x y z = refl
@@ -64,14 +75,33 @@ but-more (suc n) [] one other but = but
 but-more (suc n) (first ∷ others) one other but =
     λ name absent. but-more n others one other but name (later (is_name name first) (is_among name others) absent)
 
--- the same but for one more
-pub but-noted : (source : List ℕ) (names : List (List ℕ)) (last : LastTaken) (one other : Sources) → EqualBut names one other
-    → (more : List (List ℕ)) → ((name : List ℕ) → is_among name more ≡ false → (is_name name source ≡ false) × (is_among name names ≡ false))
-    → EqualBut more one (insert other source last)
-but-noted source names last one other but more split name absent =
-    let parts = split name absent in
-    but name parts.1 ∙ (sym (ap (λ b. cond b (Some last) (get other name)) parts.0) ∙ sym (get-insert other source last name))
+first_of_both : (a b : Bool) → (a || b) ≡ false → a ≡ false
+first_of_both true b h = h
+first_of_both false b h = refl
+
+-- a name that is not among them and one more
+among-more : (name : List ℕ) (names : List (List ℕ)) (source : List ℕ) → is_among name (names ++ source ∷ []) ≡ false
+    → (is_among name names ≡ false) × (is_name name source ≡ false)
+among-more name [] source absent = (refl, first_of_both (is_name name source) false absent)
+among-more name (first ∷ others) source absent =
+    let rest = among-more name others source (later (is_name name first) (is_among name (others ++ source ∷ [])) absent) in
+    let here = first_of_both (is_name name first) (is_among name (others ++ source ∷ [])) absent in
+    (neither (is_name name first) (is_among name others) here rest.0, rest.1)
+
+-- the same but for one more, which was noted or wasn't
+pub but-noted : {E : Type 0} (source : List ℕ) (last : LastTaken) (names : List (List ℕ)) (one other after : Sources) (done : Result (Unit {0}) E)
+    → OnOk done (after ≡ insert other source last) → OnErr done (after ≡ other) → EqualBut names one other → EqualBut (names ++ source ∷ []) one after
+but-noted source last names one other after (Ok _) taken left but = λ name absent.
+    let parts = among-more name names source absent in
+    but name parts.0
+    ∙ (sym (ap (λ b. cond b (Some last) (get other name)) parts.1)
+    ∙ (sym (get-insert other source last name) ∙ ap (λ (m : Sources). get m name) (sym taken)))
+but-noted source last names one other after (Err _) taken left but = λ name absent.
+    but name (among-more name names source absent).0 ∙ ap (λ (m : Sources). get m name) (sym left)
 
 -- the other way round
 pub but-turned : (names : List (List ℕ)) (one other : Sources) → EqualBut names one other → EqualBut names other one
 but-turned names one other but name absent = sym (but name absent)
+
+pub but-same : (names : List (List ℕ)) (one other : Sources) → other ≡ one → EqualBut names one other
+but-same names one other same = λ name absent. ap (λ (m : Sources). get m name) (sym same)

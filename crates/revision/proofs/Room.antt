@@ -191,7 +191,7 @@ pub room_for_undo : RoomForUndo
 room_for_undo units deltas short count each = omega (arith, short, count, inserted-all deltas each)
 
 -- each unit weighs 12 at least
-weight-some : (units : List Element) → 12 * length units ≤ weight_of units
+pub weight-some : (units : List Element) → 12 * length units ≤ weight_of units
 weight-some [] = omega arith
 weight-some (x ∷ d) = omega (arith, weight-some d)
 

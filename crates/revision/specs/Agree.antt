@@ -1,6 +1,6 @@
 -- When two states hold the same. How far back they hold it, their floors, may differ: a state that is recovered may hold fewer
--- revisions than the one that was lost, or more. What is said of all states at the end (AgreeThrough, AgreeingGrow, AgreeingAnswer,
--- AgreeingAnswerHeld) isn't proved yet: no function promises it, and nothing rests on it.
+-- revisions than the one that was lost, or more. What is said of all states at the end is promised by functions of
+-- src/laws.rt; AgreeingAnswer and AgreeingAnswerHeld aren't proved yet, and nothing rests on them.
 use Rattle.std.specs.Prelude.{◌≡◌, ◌⊎◌, ◌≤◌, ◌<◌, ℕ, max, List, Option, Some, None, slice_get}
 use Rattle.refusal.specs.declared.Refusal.TheVariants.{TooOld}
 use Rattle.revision.specs.Command.{Taken, Action, Create, Edit, Undo, Command}
@@ -37,6 +37,13 @@ floor_of (Some document) = document.past.floor
 
 abbrev pub floor_at : State → ℕ → ℕ
 floor_at state number = floor_of (slice_get state.documents number)
+
+-- each state agrees with itself, and with each that agrees with it
+abbrev pub AgreeSame : Type 0
+AgreeSame = (s : State) → Agree s s
+
+abbrev pub AgreeTurned : Type 0
+AgreeTurned = (s t : State) → Agree s t → Agree t s
 
 -- two states that agree with a third agree, where no floor of the third is above both of theirs
 abbrev pub AgreeThrough : Type 0

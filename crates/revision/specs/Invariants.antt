@@ -1,5 +1,4 @@
--- What each state is that grew from the empty one. That it is so (EmptyIsState, GrowingKeeps, AdoptingKeeps) isn't proved yet: no
--- function promises it, and nothing rests on it.
+-- What each state is that grew from the empty one. That it is so is promised by `laws::states_stay`.
 use Rattle.std.specs.Prelude.{◌≡◌, ℕ, ◌≤◌, ◌<◌, ◌^◌, true, List, [], Some, length, slice_get}
 use Rattle.revision.specs.State.{weight_of, Limits, DocumentRecord, State, last_of_all, are_sources, grows, grown, adopts, adopted}
 use Rattle.revision.specs.Command.{Taken}

@@ -1,5 +1,5 @@
 //! A document as a state holds it.
-ghost use Rattle.std.specs.Prelude.{◌≡◌, ◌+◌, ◌≤◌, ◌<◌, ◌^◌, ◌⊎◌, ◌∷◌, ◌++◌, true, false, [], length, IfOk, IfErr, OnOk, OnErr, IsErrOf, IsOkUnless};
+ghost use Rattle.std.specs.Prelude.{◌≡◌, ◌↔◌, ◌+◌, ◌≤◌, ◌<◌, ◌^◌, ◌⊎◌, ◌∷◌, ◌++◌, true, false, [], length, IfOk, IfErr, OnOk, OnErr, IsErrOf, IsOkUnless};
 ghost use Rattle.delta.specs.Operation.{base_of, out_of};
 ghost use Rattle.delta.specs.Gaps.{counted, apply};
 ghost use Rattle.revision.specs.Late.{late as late_edit, HasCommandRoom};
@@ -99,23 +99,37 @@ impl DocState {
     ) -> Result<(), Refusal>
         ensures ok { OnOk result (self.new ≡ record self.old { past = record self.old.past { next = self.old.past.next ++ change_of taken.now ∷ [] } }) }
         ensures follows { OnOk result (follows limits (with_prepared limits.keep self.old) taken.now ≡ true) }
-        ensures stranger { IsErrOf result Refusal.Stranger → follows limits (with_prepared limits.keep self.old) taken.now ≡ false }
+        ensures stranger { IsErrOf result Refusal.Stranger ↔ (follows limits (with_prepared limits.keep self.old) taken.now ≡ false) }
         ensures only { IfErr result (λ e. (e ≡ Refusal.Stranger) ⊎ (e ≡ Refusal.NoMemory)) }
         ensures unchanged { OnErr result (self.new ≡ self.old) }
     {
-        if !comes_next(
-            limits,
-            self.past.prepared_revision(),
-            self.sources.prepared(),
-            taken,
-        ) {
+        if !self.is_followed(limits, taken) {
             return Err(Refusal::Stranger);
         }
-        let units = self.next.as_ref().unwrap_or(&self.document);
-        let after = kept_after(alloc, limits, units, self.sources.prepared(), taken)?;
+        let after = after_taken(alloc, self.ahead(), taken.delta())?;
         note(alloc, &mut self.past, &mut self.sources, taken)?;
         self.next = Some(after);
         Ok(())
+    }
+
+    // what stands in it after what is prepared
+    fn ahead(&self) -> &Document
+        ensures { result.now ≡ prepared_units self.now.past }
+    {
+        self.next.as_ref().unwrap_or(&self.document)
+    }
+
+    // whether a change follows what is prepared
+    fn is_followed(&self, limits: Limits, taken: &Taken) -> bool
+        ensures follows { result ≡ follows limits (with_prepared limits.keep self.now) taken.now }
+        ensures revision { result ≡ true → taken.now.revision ≡ prepared_revision self.now.past + 1 }
+        ensures bound { result ≡ true → prepared_revision self.now.past + 1 < 2 ^ 53 }
+        ensures accepted { result ≡ true → IsAccepted (prepared_units self.now.past) (counted taken.now.delta) }
+        ensures short { result ≡ true → length (apply (prepared_units self.now.past) (counted taken.now.delta)) ≤ 2 ^ 29 }
+    {
+        let sources = self.sources.prepared();
+        comes_next(limits, self.past.prepared_revision(), sources, taken)
+            && stays_light(limits, self.ahead(), sources, taken)
     }
 
     /// Accepts what was prepared: each change is the next revision, and the floor rises to `keep` below the newest one where it
@@ -241,46 +255,33 @@ fn comes_next(limits: Limits, revision: u64, sources: &Sources, taken: &Taken) -
         && taken.width() <= u64::from(limits.width())
 }
 
-// The document after a change, where that is defined, parts no pair and is no heavier than it may be; else refused with
-// `Stranger`.
-fn kept_after(
-    alloc: Global,
-    limits: Limits,
-    document: &Document,
-    sources: &Sources,
-    taken: &Taken,
-) -> Result<Document, Refusal>
-    ensures document { IfOk result (λ after. after ≡ apply document.now (counted taken.now.delta)) }
-    ensures accepted { OnOk result (IsAccepted document.now (counted taken.now.delta)) }
-    ensures short { IfOk result (λ after. length after ≤ 2 ^ 29) }
-    ensures kept { OnOk result (is_kept limits document.now sources.now taken.now ≡ true) }
-    ensures stranger { IsErrOf result Refusal.Stranger → is_kept limits document.now sources.now taken.now ≡ false }
-    ensures only { IfErr result (λ e. (e ≡ Refusal.Stranger) ⊎ (e ≡ Refusal.NoMemory)) }
+// whether a change's delta is defined on the document, parts no pair, and leaves what is no heavier than it may be
+fn stays_light(limits: Limits, document: &Document, sources: &Sources, taken: &Taken) -> bool
+    ensures kept { result ≡ is_kept limits document.now sources.now taken.now }
+    ensures accepted { result ≡ true → IsAccepted document.now (counted taken.now.delta) }
+    ensures short { result ≡ true → length (apply document.now (counted taken.now.delta)) ≤ 2 ^ 29 }
 {
-    let after = changed(alloc, document, taken.delta())?;
-    let count = sources.count_after(taken.source());
-    if after.weight().saturating_add(count.saturating_mul(64)) > u64::from(limits.weight()) {
-        return Err(Refusal::Stranger);
-    }
-    Ok(after)
-}
-
-// the document after a delta, or `Stranger` where the delta isn't accepted on it
-fn changed(alloc: Global, document: &Document, delta: &Delta) -> Result<Document, Refusal>
-    ensures document { IfOk result (λ after. after ≡ apply document.now (counted delta.now)) }
-    ensures accepted { OnOk result (IsAccepted document.now (counted delta.now)) }
-    ensures stranger { IsErrOf result Refusal.Stranger → ¬ (IsAccepted document.now (counted delta.now)) }
-    ensures only { IfErr result (λ e. (e ≡ Refusal.Stranger) ⊎ (e ≡ Refusal.NoMemory)) }
-{
-    let mut after = document.copy(alloc)?;
-    match after.apply(alloc, delta) {
-        Ok(()) => Ok(after),
-        Err(Refusal::NoMemory) => Err(Refusal::NoMemory),
-        Err(_) => Err(Refusal::Stranger),
+    let beside = sources.count_after(taken.source()).saturating_mul(64);
+    match document.weigh(taken.delta()) {
+        Ok(units) => units.saturating_add(beside) <= u64::from(limits.weight()),
+        Err(_) => false,
     }
 }
 
-// Prepares a change in the past and in the table of sources. Refused for want of memory alone, and then both are unchanged.
+// the document after a delta that was taken on it
+fn after_taken(alloc: Global, document: &Document, taken: &Delta) -> Result<Document, Refusal>
+    requires { IsAccepted document.now (counted taken.now) }
+    ensures document { IfOk result (λ after. after ≡ apply document.now (counted taken.now)) }
+    ensures only { IsOkUnless result Refusal.NoMemory }
+{
+    match document.after(alloc, taken) {
+        Ok(after) => Ok(after),
+        Err(refusal) => Err(refusal),
+    }
+}
+
+// Prepares a change in the past and in the table of sources. Refused for want of memory alone, and then both are unchanged. What
+// lies below the floor is let go of, as far as memory goes.
 fn note(
     alloc: Global,
     past: &mut Past,
@@ -296,6 +297,7 @@ fn note(
     ensures sources_unchanged { OnErr result (sources.new ≡ sources.old) }
     ensures only { IsOkUnless result Refusal.NoMemory }
 {
+    past.let_go(alloc);
     let source = taken.source().copy(alloc)?;
     let delta = taken.delta().copy(alloc)?;
     past.prepare(source, taken.number(), delta)?;

@@ -5,6 +5,8 @@ ghost use Rattle.utf16.specs.Units.{units_of};
 ghost use Rattle.revision.specs.Spellable.{IsText};
 ghost use Rattle.revision.specs.Acceptance.{TakenGrows};
 ghost use Rattle.revision.specs.Parting.{PartsTold};
+ghost use Rattle.revision.specs.Agree.{AgreeSame, AgreeTurned, AgreeThrough, AgreeingGrow};
+ghost use Rattle.revision.specs.Invariants.{EmptyIsState, GrowingKeeps, AdoptingKeeps};
 ghost use Rattle.revision.specs.Late.{InsertedStay, LightInserts, RoomForCommands, RoomForUndo};
 
 /// What the rule of acceptance takes continues the state.
@@ -32,4 +34,24 @@ pub fn late_room()
 /// The test of a parted pair tells just where a delta cuts one.
 pub fn parts_told()
     ensures { PartsTold }
+{}
+
+/// A state agrees with itself, with each state that agrees with it, and with what agrees with one that agrees with it and holds as
+/// much as one of the two.
+pub fn agree()
+    ensures same { AgreeSame }
+    ensures turned { AgreeTurned }
+    ensures through { AgreeThrough }
+{}
+
+/// States that agree are continued by the same commands, and agree after them.
+pub fn agreeing_grow()
+    ensures { AgreeingGrow }
+{}
+
+/// What each state is: the empty one is so, and stays so by the commands that continue it and by the documents that it adopts.
+pub fn states_stay()
+    ensures begin { EmptyIsState }
+    ensures grow { GrowingKeeps }
+    ensures adopt { AdoptingKeeps }
 {}

@@ -1,0 +1,342 @@
+-- What each state is stays so, as commands continue it and as it adopts documents.
+use Rattle.std.proofs.Common.{◌≡◌, ◌⊎◌, inl, inr, ℕ, zero, suc, ◌+◌, ◌≤◌, ◌<◌, Bool, true, false, cond, List, [], ◌∷◌, ◌++◌, length, Option, Some, None, Less, Greater, Equal, refl, sym, ap, subst, ◌∙◌, ⊎_elim, length-append, arith}
+use Rattle.std.specs.Prelude.{◌&&◌, ◌||◌, ◌==◌, not, nat_lt, nat_le, is_none, is_some, bytes_eq, slice_get, unwrap_or}
+use Rattle.std.specs.Cmp.Lexicographic.{nat_list_cmp_total}
+use Rattle.std.specs.FinMap.Entries.{put, length-put, by_order}
+use Rattle.std.proofs.lemmas.Bool.{and_parts, and_from, both_ways, not-true, ltb-true, ltb-false, leb-true, eqb-true, eqb-false, le-leb, lt-ltb, cases_lt}
+use Rattle.std.proofs.lemmas.Option.{slice_get_within}
+use Rattle.std.proofs.lemmas.Slice.Eq.{bytes_eq-Decides}
+use Rattle.attributes.specs.Map.{by_bytes, empty, insert, get}
+use Rattle.delta.specs.Element.{Element}
+use Rattle.delta.specs.Gaps.{counted, apply, units_below}
+use Rattle.document.specs.Outcome.{IsAccepted}
+use Rattle.document.specs.Places.{Cuts}
+use Rattle.revision.specs.Command.{Taken, width_of}
+use Rattle.revision.specs.Sources.{LastTaken, Sources, last_of, count_of, with_last}
+use Rattle.revision.specs.Parting.{parts_pair}
+use Rattle.revision.specs.Past.{StandInTurn, deltas_of, Content, Change, Past, empty_past, newest, content_at, sources_at, with_change}
+use Rattle.revision.specs.State.{Limits, DocumentRecord, State, revision_of, units_of, sources_of, find, last_of_all, reaches_past, weight_of, weight_after, has_place, keeps, begins, follows, continues_by_name, change_of, record_by_name, has_room, set_document, is_last_taken, are_sources, record_at}
+use Rattle.revision.specs.Invariants.{IsLimits, KeepsAt, IsPast, IsState, EmptyIsState, GrowingKeeps, AdoptingKeeps}
+use Rattle.revision.proofs.Room.{weight-some}
+use Rattle.revision.proofs.Told.{parts_told}
+use Rattle.revision.proofs.Changing.{units-newest, sources-newest, newest-with_change, with_change-from, units-with_change, sources-with_change, units-before, sources-before, stand-with_change, count-with_change}
+
+pub empty_is_state : EmptyIsState
+empty_is_state limits is = record {
+  limits = is;
+  count = omega arith;
+  names = λ i j a b here there same. absurd (cc);
+  each = λ number found here. absurd (cc);
+}
+
+-- the parts of tests
+four : (a b c d : Bool) → (a && b && c && d) ≡ true → (a ≡ true) × (b ≡ true) × (c ≡ true) × (d ≡ true)
+four a b c d h =
+    let last = and_parts (a && b && c) d h in
+    let third = and_parts (a && b) c last.0 in
+    let second = and_parts a b third.0 in
+    (second.0, second.1, third.1, last.1)
+
+six : (a b c d e f : Bool) → (a && b && c && d && e && f) ≡ true → (a ≡ true) × (b ≡ true) × (c ≡ true) × (d ≡ true) × (e ≡ true) × (f ≡ true)
+six a b c d e f h =
+    let last = and_parts (a && b && c && d && e) f h in
+    let fifth = and_parts (a && b && c && d) e last.0 in
+    let first = four a b c d fifth.0 in
+    (first.0, first.1, first.2, first.3, fifth.1, last.1)
+
+-- what a source has at a revision it may have at later ones
+last-later : (revision later : ℕ) (last : LastTaken) → revision ≤ later → is_last_taken revision last ≡ true → is_last_taken later last ≡ true
+last-later revision later last le h =
+    let parts = and_parts (nat_le 1 last.number && nat_le last.number last_of_all && nat_le 1 last.revision) (nat_le last.revision revision) h in
+    and_from _ _ parts.0 (le-leb last.revision later (omega (arith, le, leb-true last.revision revision parts.1)))
+
+sources-later : (revision later : ℕ) (entries : List (List ℕ × LastTaken)) → revision ≤ later → are_sources revision entries ≡ true → are_sources later entries ≡ true
+sources-later revision later [] le h = refl
+sources-later revision later (first ∷ others) le h =
+    let parts = and_parts (is_last_taken revision first.1) (are_sources revision others) h in
+    and_from _ _ (last-later revision later first.1 le parts.0) (sources-later revision later others le parts.1)
+
+sources-put : (revision : ℕ) (source : List ℕ) (last : LastTaken) (entries : List (List ℕ × LastTaken)) → is_last_taken revision last ≡ true
+    → are_sources revision entries ≡ true → are_sources revision (put by_bytes source last entries) ≡ true
+sources-put revision source last [] is h = and_from _ _ is refl
+sources-put revision source last (first ∷ others) is h =
+    let parts = and_parts (is_last_taken revision first.1) (are_sources revision others) h in
+    elim (by_bytes source first.0) as (λ o. are_sources revision (by_order o ((source, last) ∷ first ∷ others) ((first.0, last) ∷ others) (first ∷ put by_bytes source last others)) ≡ true) [
+      | Less ↦ and_from _ _ is h
+      | Equal ↦ and_from _ _ is parts.1
+      | Greater ↦ and_from _ _ parts.0 (sources-put revision source last others is parts.1)
+    ]
+
+sources-noted : (revision later number : ℕ) (source : List ℕ) (sources : Sources) → revision ≤ later → 1 ≤ later → 1 ≤ number → number ≤ last_of_all
+    → are_sources revision sources.entries ≡ true → are_sources later (with_last source number later sources).entries ≡ true
+unfolding insert
+sources-noted revision later number source sources le some one bound h =
+    sources-put later source (record { number = number; revision = later }) sources.entries
+    (and_from _ _ (and_from _ _ (and_from _ _ (le-leb 1 number one) (le-leb number last_of_all bound)) (le-leb 1 later some)) (le-leb later later (omega arith)))
+    (sources-later revision later sources.entries le h)
+
+-- where a source has its place, there are no more sources than there may be with it noted
+count-noted : (limits : Limits) (source : List ℕ) (number revision : ℕ) (sources : Sources) → has_place limits source sources ≡ true
+    → count_of sources ≤ limits.sources → count_of (with_last source number revision sources) ≤ limits.sources
+unfolding insert
+count-noted limits source number revision sources place held =
+    let last : LastTaken = record { number = number; revision = revision } in
+    let count = length-put by_bytes nat_list_cmp_total source last sources.entries sources.ascending in
+    subst (λ n. n ≤ limits.sources) (sym count) (by_entry (get sources source) place)
+  where
+    by_entry : (there : Option LastTaken) → (not ((unwrap_or there (record { number = 0; revision = 0 })).number == 0) || nat_lt (count_of sources) limits.sources) ≡ true
+        → cond (is_some there) (length sources.entries) (length sources.entries + 1) ≤ limits.sources
+    by_entry None h = omega (arith, ltb-true (count_of sources) limits.sources h)
+    by_entry (Some last) h = held
+
+-- a delta that keeps the limits is accepted
+kept-accepted : (limits : Limits) (units : List Element) (sources : Sources) (taken : Taken) → IsLimits limits → keeps limits units sources taken ≡ true
+    → IsAccepted units (counted taken.delta) × (weight_after units sources taken ≤ limits.weight)
+kept-accepted limits units sources taken is h =
+    let parts = four (not (reaches_past taken.delta units)) (not (parts_pair taken.delta units)) (nat_le (weight_after units sources taken) limits.weight)
+    (nat_le (width_of taken) limits.width) h in
+    let there : units_below (counted taken.delta) ≤ length units = ltb-false _ _ (not-true _ parts.0) in
+    let light : weight_after units sources taken ≤ limits.weight = leb-true _ _ parts.2 in
+    let whole : ¬ (Cuts units (counted taken.delta)) =
+    λ cut. both_ways (parts_pair taken.delta units) (not-true _ parts.1) ((parts_told taken.delta units).1 cut) in
+    ((there, whole, omega (arith, light, is.weight, weight-some (apply units (counted taken.delta)))), light)
+
+-- what is kept at a revision comes of what is held there
+keeps-same : (limits : Limits) (a b : Past) (revision : ℕ) → (content_at b revision).units ≡ (content_at a revision).units → sources_at b revision ≡ sources_at a revision
+    → KeepsAt limits a revision → KeepsAt limits b revision
+keeps-same limits a b revision units sources kept = record {
+  weight = subst (λ u. weight_of u (count_of (sources_at b revision)) ≤ limits.weight) (sym units)
+      (subst (λ s. weight_of (content_at a revision).units (count_of s) ≤ limits.weight) (sym sources) kept.weight);
+  count = subst (λ s. count_of s ≤ limits.sources) (sym sources) kept.count;
+  sources = subst (λ (s : Sources). are_sources revision s.entries ≡ true) (sym sources) kept.sources;
+}
+
+-- A change that keeps the limits, with its source's next number, makes of a past one that keeps them.
+module _ (limits : Limits) (past : Past) (taken : Taken) (is : IsLimits limits)
+    (stand : StandInTurn past.content.units (deltas_of past))
+    (count : length past.changes ≤ limits.keep) (last : newest past + 1 ≤ last_of_all)
+    (each : (revision : ℕ) → past.floor ≤ revision → revision ≤ newest past → KeepsAt limits past revision)
+    (next : taken.revision ≡ newest past + 1) (some : 1 ≤ taken.number) (bound : taken.number ≤ last_of_all)
+    (place : has_place limits taken.source (sources_at past (newest past)) ≡ true)
+    (kept : keeps limits (content_at past (newest past)).units (sources_at past (newest past)) taken ≡ true) where
+  change : Change
+  change = change_of taken
+
+  keeps-newest : KeepsAt limits (with_change limits.keep past (change_of taken)) (newest past + 1)
+  keeps-newest =
+      let here = each (newest past) (omega arith) (omega arith) in
+      let units = units-with_change past (change_of taken) limits.keep in
+      let sources = sources-with_change past (change_of taken) limits.keep in
+      let before = sources_at past (newest past) in
+      let light = (kept-accepted limits (content_at past (newest past)).units before taken is kept).1 in
+      let weight : weight_of (apply (content_at past (newest past)).units (counted taken.delta)) (count_of (with_last taken.source taken.number (newest past + 1) before)) ≤ limits.weight =
+      subst (λ r. weight_of (apply (content_at past (newest past)).units (counted taken.delta)) (count_of (with_last taken.source taken.number r before)) ≤ limits.weight) next light in
+      record {
+        weight = subst (λ u. weight_of u (count_of (sources_at (with_change limits.keep past (change_of taken)) (newest past + 1))) ≤ limits.weight) (sym units)
+            (subst (λ s. weight_of (apply (content_at past (newest past)).units (counted taken.delta)) (count_of s) ≤ limits.weight) (sym sources) weight);
+        count = subst (λ s. count_of s ≤ limits.sources) (sym sources) (count-noted limits taken.source taken.number (newest past + 1) before place here.count);
+        sources = subst (λ (s : Sources). are_sources (newest past + 1) s.entries ≡ true) (sym sources)
+            (sources-noted (newest past) (newest past + 1) taken.number taken.source before (omega arith) (omega arith) some bound here.sources);
+      }
+
+  keeps-each : (revision : ℕ) → (with_change limits.keep past (change_of taken)).floor ≤ revision → revision ≤ newest (with_change limits.keep past (change_of taken))
+      → KeepsAt limits (with_change limits.keep past (change_of taken)) revision
+  keeps-each revision risen there =
+      let from = with_change-from past (change_of taken) limits.keep revision risen in
+      let number = newest-with_change past (change_of taken) limits.keep in
+      ⊎_elim
+      (λ (below : revision < newest past + 1).
+      let held : revision ≤ newest past = omega (arith, below) in
+      let above : past.floor ≤ revision = omega (arith, risen) in
+      keeps-same limits past (with_change limits.keep past (change_of taken)) revision
+      (ap (λ (p : Past). p.content.units) from ∙ units-before past (change_of taken) revision above held)
+      (ap (λ (p : Past). p.sources) from ∙ sources-before past (change_of taken) revision above held)
+      (each revision above held))
+      (λ (top : newest past + 1 ≤ revision).
+      let newest_one : newest past + 1 ≡ revision = omega (arith, top, there, number) in
+      subst (KeepsAt limits (with_change limits.keep past (change_of taken))) newest_one keeps-newest)
+      (cases_lt revision (newest past + 1))
+
+  past-after : IsPast limits (with_change limits.keep past (change_of taken))
+  past-after =
+      let number = newest-with_change past (change_of taken) limits.keep in
+      record {
+        stand = stand-with_change past (change_of taken) limits.keep stand (kept-accepted limits (content_at past (newest past)).units (sources_at past (newest past)) taken is kept).0;
+        count = count-with_change past (change_of taken) limits.keep is.some_revision count;
+        first = omega (arith, number);
+        last = omega (arith, number, last);
+        each = keeps-each;
+      }
+
+-- the past that a creation makes
+begun-past : (limits : Limits) (taken : Taken) → IsLimits limits → begins limits taken ≡ true → IsPast limits (with_change limits.keep empty_past (change_of taken))
+begun-past limits taken is h =
+    let last = and_parts ((taken.revision == 1) && (taken.number == 1)) (keeps limits [] empty taken) h in
+    let numbers = and_parts (taken.revision == 1) (taken.number == 1) last.0 in
+    let one : taken.number ≡ 1 = eqb-true _ _ numbers.1 in
+    past-after limits empty_past taken is tt (omega (arith, is.some_revision)) (omega arith) nothing (eqb-true _ _ numbers.0) (omega (arith, one)) (omega (arith, one))
+    (free limits is) last.1
+  where
+    nothing : (revision : ℕ) → 0 ≤ revision → revision ≤ newest empty_past → KeepsAt limits empty_past revision
+    nothing zero above there = record { weight = omega arith; count = omega arith; sources = refl }
+    nothing (suc revision) above there = absurd (omega (arith, there))
+
+    free : (limits : Limits) → IsLimits limits → has_place limits taken.source (sources_at empty_past (newest empty_past)) ≡ true
+    free limits is = lt-ltb 0 limits.sources (omega (arith, is.some_source))
+
+followed-past : (limits : Limits) (found : DocumentRecord) (taken : Taken) → IsLimits limits → IsPast limits found.past → follows limits found taken ≡ true
+    → IsPast limits (with_change limits.keep found.past (change_of taken))
+followed-past limits found taken is past h =
+    let parts = six (taken.revision == revision_of found + 1) (not (revision_of found == last_of_all))
+    (taken.number == (last_of taken.source (sources_of found)).number + 1) (nat_le taken.number last_of_all)
+    (has_place limits taken.source (sources_of found)) (keeps limits (units_of found) (sources_of found) taken) h in
+    let number : taken.number ≡ (last_of taken.source (sources_of found)).number + 1 = eqb-true _ _ parts.2 in
+    past-after limits found.past taken is past.stand past.count (below (revision_of found) past.last (not-true _ parts.1)) past.each (eqb-true _ _ parts.0)
+    (omega (arith, number)) (leb-true _ _ parts.3) parts.4 parts.5
+  where
+    below : (revision : ℕ) → revision ≤ last_of_all → (revision == last_of_all) ≡ false → revision + 1 ≤ last_of_all
+    below revision le other = ⊎_elim (λ (h : revision < last_of_all). omega (arith, h)) (λ (h : last_of_all ≤ revision). absurd (eqb-false revision last_of_all other (omega (arith, le, h))))
+        (cases_lt revision last_of_all)
+
+-- the list with one of its documents set, or one more
+some_is : {A : Type 0} (x y : A) → Some x ≡ Some y → x ≡ y
+some_is x y h = ap (λ o. unwrap_or o x) h
+
+set-at : (number : ℕ) (new : DocumentRecord) (documents : List DocumentRecord) (i : ℕ) (a : DocumentRecord)
+    → slice_get (set_document number (Some new) documents) i ≡ Some a → ((i ≡ number) × (new ≡ a)) ⊎ (slice_get documents i ≡ Some a)
+set-at zero new [] zero a h = inl (refl, some_is new a h)
+set-at zero new [] (suc i) a h = absurd (cc)
+set-at (suc number) new [] i a h = absurd (cc)
+set-at zero new (first ∷ others) zero a h = inl (refl, some_is new a h)
+set-at zero new (first ∷ others) (suc i) a h = inr h
+set-at (suc number) new (first ∷ others) zero a h = inr h
+set-at (suc number) new (first ∷ others) (suc i) a h =
+    ⊎_elim (λ there. inl (ap suc there.0, there.1)) (λ other. inr other) (set-at number new others i a h)
+
+pub length-set : (number : ℕ) (new : DocumentRecord) (documents : List DocumentRecord) → number < length documents
+    → length (set_document number (Some new) documents) ≡ length documents
+length-set number new [] lt = absurd (omega (arith, lt))
+length-set zero new (first ∷ others) lt = refl
+length-set (suc number) new (first ∷ others) lt = ap suc (length-set number new others (omega (arith, lt)))
+
+pub set-end : (new : DocumentRecord) (documents : List DocumentRecord) → set_document (length documents) (Some new) documents ≡ documents ++ new ∷ []
+set-end new [] = refl
+set-end new (first ∷ others) = ap (λ l. first ∷ l) (set-end new others)
+
+-- a name that isn't found is no document's
+abbrev IsUnnamed : List ℕ → List DocumentRecord → Type 0
+IsUnnamed name documents = (i : ℕ) (a : DocumentRecord) → slice_get documents i ≡ Some a → a.name ≡ name → ⊥
+
+unnamed-more : (name : List ℕ) (first : DocumentRecord) (others : List DocumentRecord) → bytes_eq first.name name ≡ false → IsUnnamed name others
+    → IsUnnamed name (first ∷ others)
+unnamed-more name first others other later zero a here same =
+    both_ways (bytes_eq first.name name) other ((bytes_eq-Decides first.name name).1 (ap (λ (d : DocumentRecord). d.name) (some_is first a here) ∙ same))
+unnamed-more name first others other later (suc i) a here same = later i a here same
+
+unnamed : (name : List ℕ) (number : ℕ) (documents : List DocumentRecord) → is_none (find name number documents) ≡ true → IsUnnamed name documents
+unnamed name number [] none = λ i a here same. absurd (cc)
+unnamed name number (first ∷ others) none = by_test (bytes_eq first.name name) refl none (λ later. unnamed name (number + 1) others later)
+  where
+    by_test : (b : Bool) → bytes_eq first.name name ≡ b → is_none (cond b (Some (number, first)) (find name (number + 1) others)) ≡ true
+        → (is_none (find name (number + 1) others) ≡ true → IsUnnamed name others) → IsUnnamed name (first ∷ others)
+    by_test true is none further = absurd (cc)
+    by_test false is none further = unnamed-more name first others is (further none)
+
+-- a document of a new name is added
+pub added-is-state : (state : State) (new : DocumentRecord) → IsState state → length state.documents < state.limits.docs
+    → is_none (find new.name 0 state.documents) ≡ true → IsPast state.limits new.past
+    → IsState (record state { documents = set_document (length state.documents) (Some new) state.documents })
+added-is-state state new is room fresh past = record {
+  limits = is.limits;
+  count = omega (arith, room, ap length (set-end new state.documents), length-append state.documents (new ∷ []));
+  names = λ i j a b here there same.
+      ⊎_elim
+      (λ new_here. ⊎_elim
+      (λ new_there. new_here.0 ∙ sym new_there.0)
+      (λ old_there. absurd (unnamed new.name 0 state.documents fresh j b old_there (sym same ∙ ap (λ (d : DocumentRecord). d.name) (sym new_here.1))))
+      (set-at (length state.documents) new state.documents j b there))
+      (λ old_here. ⊎_elim
+      (λ new_there. absurd (unnamed new.name 0 state.documents fresh i a old_here (same ∙ ap (λ (d : DocumentRecord). d.name) (sym new_there.1))))
+      (λ old_there. is.names i j a b old_here old_there same)
+      (set-at (length state.documents) new state.documents j b there))
+      (set-at (length state.documents) new state.documents i a here);
+  each = λ number found here. ⊎_elim
+      (λ new_here. subst (λ (d : DocumentRecord). IsPast state.limits d.past) new_here.1 past)
+      (λ old_here. is.each number found old_here)
+      (set-at (length state.documents) new state.documents number found here);
+}
+
+-- a document that is there is set to one of its name
+changed-is-state : (state : State) (number : ℕ) (old new : DocumentRecord) → IsState state → slice_get state.documents number ≡ Some old → new.name ≡ old.name
+    → IsPast state.limits new.past → IsState (record state { documents = set_document number (Some new) state.documents })
+changed-is-state state number old new is there name past = record {
+  limits = is.limits;
+  count = omega (arith, is.count, length-set number new state.documents (slice_get_within state.documents number old there));
+  names = λ i j a b here other same.
+      let name_of = λ (d : DocumentRecord). d.name in
+      ⊎_elim
+      (λ new_here. ⊎_elim
+      (λ new_there. new_here.0 ∙ sym new_there.0)
+      (λ old_there. new_here.0 ∙ is.names number j old b there old_there (sym name ∙ (ap name_of new_here.1 ∙ same)))
+      (set-at number new state.documents j b other))
+      (λ old_here. ⊎_elim
+      (λ new_there. is.names i number a old old_here there (same ∙ (ap name_of (sym new_there.1) ∙ name)) ∙ sym new_there.0)
+      (λ old_there. is.names i j a b old_here old_there same)
+      (set-at number new state.documents j b other))
+      (set-at number new state.documents i a here);
+  each = λ place found here. ⊎_elim
+      (λ new_here. subst (λ (d : DocumentRecord). IsPast state.limits d.past) new_here.1 past)
+      (λ old_here. is.each place found old_here)
+      (set-at number new state.documents place found here);
+}
+
+pub growing_keeps : GrowingKeeps
+growing_keeps state taken is h =
+    let parts = and_parts (has_room state taken.document taken.name) _ h in
+    by_kind (slice_get state.documents taken.document) taken.name refl parts.0 parts.1
+  where
+    by_kind : (found : Option DocumentRecord) (name : Option (List ℕ)) → slice_get state.documents taken.document ≡ found → has_room state taken.document name ≡ true
+        → continues_by_name state.limits found taken name ≡ true
+        → IsState (record state { documents = set_document taken.document (record_by_name state.limits.keep found taken name) state.documents })
+    by_kind None None there room next = absurd (cc)
+    by_kind (Some found) (Some name) there room next = absurd (cc)
+    by_kind (Some found) None there room next =
+        changed-is-state state taken.document found (record found { past = with_change state.limits.keep found.past (change_of taken) }) is there refl
+        (followed-past state.limits found taken is.limits (is.each taken.document found there) next)
+    by_kind None (Some name) there room next =
+        let fresh = and_parts ((taken.document == length state.documents) && nat_lt (length state.documents) state.limits.docs) (is_none (find name 0 state.documents)) room in
+        let place = and_parts (taken.document == length state.documents) (nat_lt (length state.documents) state.limits.docs) fresh.0 in
+        let new : DocumentRecord = record { name = name; past = with_change state.limits.keep empty_past (change_of taken) } in
+        subst (λ n. IsState (record state { documents = set_document n (Some new) state.documents })) (sym (eqb-true _ _ place.0))
+        (added-is-state state new is (ltb-true _ _ place.1) fresh.1 (begun-past state.limits taken is.limits next))
+
+-- a document that is adopted keeps the limits
+adopted-past : (limits : Limits) (content : Content) (revision : ℕ) (sources : Sources) → 1 ≤ revision → revision ≤ last_of_all
+    → count_of sources ≤ limits.sources → are_sources revision sources.entries ≡ true → weight_of content.units (count_of sources) ≤ limits.weight
+    → IsPast limits (record { floor = revision; content = content; sources = sources; changes = [] })
+adopted-past limits content revision sources some bound count are light =
+    let past : Past = record { floor = revision; content = content; sources = sources; changes = [] } in
+    let here : KeepsAt limits past (newest past) = record {
+      weight = subst (λ u. weight_of u (count_of (sources_at past (newest past))) ≤ limits.weight) (sym (units-newest past))
+          (subst (λ s. weight_of content.units (count_of s) ≤ limits.weight) (sym (sources-newest past)) light);
+      count = subst (λ s. count_of s ≤ limits.sources) (sym (sources-newest past)) count;
+      sources = subst (λ (s : Sources). are_sources (newest past) s.entries ≡ true) (sym (sources-newest past)) (sources-later revision (newest past) sources.entries (omega arith) are);
+    } in
+    record {
+      stand = tt;
+      count = omega arith;
+      first = omega (arith, some);
+      last = omega (arith, bound);
+      each = λ place above there. subst (KeepsAt limits past) (omega (arith, above, there)) here;
+    }
+
+pub adopting_keeps : AdoptingKeeps
+adopting_keeps state name content revision sources is h =
+    let light = and_parts (nat_lt (length state.documents) state.limits.docs && is_none (find name 0 state.documents) && nat_le 1 revision && nat_le revision last_of_all
+    && nat_le (count_of sources) state.limits.sources && are_sources revision sources.entries) (nat_le (weight_of content.units (count_of sources)) state.limits.weight) h in
+    let parts = six (nat_lt (length state.documents) state.limits.docs) (is_none (find name 0 state.documents)) (nat_le 1 revision) (nat_le revision last_of_all)
+    (nat_le (count_of sources) state.limits.sources) (are_sources revision sources.entries) light.0 in
+    let new : DocumentRecord = record_at name content revision sources in
+    subst (λ l. IsState (record state { documents = l })) (set-end new state.documents)
+    (added-is-state state new is (ltb-true _ _ parts.0) parts.1
+    (adopted-past state.limits content revision sources (leb-true _ _ parts.2) (leb-true _ _ parts.3) (leb-true _ _ parts.4) parts.5 (leb-true _ _ light.1)))
