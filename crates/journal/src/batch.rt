@@ -8,4 +8,4 @@ mod unread;
 mod writing;
 
 pub use reading::{decode_batch, read_delta};
-pub use writing::{encode_batch, write_delta};
+pub use writing::{batch_len, encode_batch, write_delta};

@@ -44,6 +44,6 @@ pub mod laws;
 mod scan;
 
 pub use area::{AppendError, Area};
-pub use batch::{decode_batch, encode_batch, read_delta, write_delta};
+pub use batch::{batch_len, decode_batch, encode_batch, read_delta, write_delta};
 pub use gate::{CLOSED, OPEN, write_gated};
 pub use scan::{Scan, ScanError};

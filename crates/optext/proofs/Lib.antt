@@ -1,5 +1,6 @@
 pub mod Deltas
 pub mod Embeds
+pub mod Floats
 pub mod Members
 pub mod ReadBack
 pub mod Spelled

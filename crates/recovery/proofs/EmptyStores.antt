@@ -86,7 +86,7 @@ empty_store shape content in_range is gate = record { laid_out = laid_out; found
       slot = None;
       batches = [];
       laid_out = laid_out;
-      stand = record { spelled = refl; each = All-nil IsBatch; grow = refl; fold = refl };
+      stand = record { spelled = refl; each = All-nil IsBatch; grow = refl; is_fold = refl };
     }
 
 -- so whatever a crash leaves in that gate

@@ -7,19 +7,19 @@ use Rattle.std.proofs.lemmas.List.Elements.{All-from_recursion, recursion_from_A
 use Rattle.revision.specs.Command.{Taken}
 use Rattle.journal.specs.Scan.{items_of}
 use Rattle.journal.specs.BatchSpelling.{IsBatch, batch}
-use Rattle.revision.specs.State.{State, folded, all_grow}
+use Rattle.revision.specs.State.{State, fold, all_grow}
 use Rattle.journal.proofs.CallerLemmas.{one_spelling}
 use Rattle.recovery.specs.declared.shape.Shape.{Shape}
 use Rattle.recovery.specs.Found.{StandFor, empty_state, commands_of}
 use Rattle.recovery.specs.steps.Reading.{Continues}
-use Rattle.recovery.proofs.Folds.{folded-append, all_grow-append}
+use Rattle.recovery.proofs.Folds.{fold-append, all_grow-append}
 
 -- the batches that bodies spell lead from the first state to the last
 pub record LeadsBy (state : State) (bodies : List (List ℕ)) (batches : List (List Taken)) (final : State) : Type 0 where
   pub spelled : bodies ≡ map batch batches
   pub each : AllByRecursion IsBatch batches
   pub grow : all_grow state (commands_of batches) ≡ true
-  pub fold : final ≡ folded state (commands_of batches)
+  pub is_fold : final ≡ fold state (commands_of batches)
 
 pub record Leads (state : State) (bodies : List (List ℕ)) (final : State) : Type 0 where
   pub batches : List (List Taken)
@@ -35,7 +35,7 @@ batch_same a b is_a is_b same = (one_spelling a b [] [] is_a is_b (ap (λ (l : L
 
 -- where there is no body, all stays as it is
 pub leads_none : (state : State) → Leads state [] state
-leads_none state = record { batches = []; by = record { spelled = refl; each = tt; grow = refl; fold = refl } }
+leads_none state = record { batches = []; by = record { spelled = refl; each = tt; grow = refl; is_fold = refl } }
 
 -- the first body continues the state, and the others lead on from there
 pub record LeadsOn (state : State) (body : List ℕ) (others : List (List ℕ)) (final : State) : Type 0 where
@@ -49,27 +49,27 @@ leads_on state body others final leads = on leads.batches leads.by
     on : (batches : List (List Taken)) → LeadsBy state (body ∷ others) batches final → LeadsOn state body others final
     on [] by = absurd cc
     on (a ∷ more) by =
-        let both = and_parts (all_grow state a) (all_grow (folded state a) (commands_of more)) (sym (all_grow-append state a (commands_of more)) ∙ by.grow) in
+        let both = and_parts (all_grow state a) (all_grow (fold state a) (commands_of more)) (sym (all_grow-append state a (commands_of more)) ∙ by.grow) in
         let here : body ≡ batch a = cc in
         let there : others ≡ map batch more = cc in
         record {
-          next = folded state a;
-          first = record { commands = a; is_batch = by.each.0; spelled = here; grow = both.0; fold = refl };
-          rest = record { batches = more; by = record { spelled = there; each = by.each.1; grow = both.1; fold = by.fold ∙ folded-append state a (commands_of more) } };
+          next = fold state a;
+          first = record { commands = a; is_batch = by.each.0; spelled = here; grow = both.0; is_fold = refl };
+          rest = record { batches = more; by = record { spelled = there; each = by.each.1; grow = both.1; is_fold = by.is_fold ∙ fold-append state a (commands_of more) } };
         }
 
 pub leads_before : (state next : State) (body : List ℕ) (others : List (List ℕ)) (final : State) → Continues state body next → Leads next others final → Leads state (body ∷ others) final
 leads_before state next body others final first leads =
     let a = first.commands in
     let more = leads.batches in
-    let here : LeadsBy (folded state a) others more final = subst (λ (s : State). LeadsBy s others more final) first.fold leads.by in
+    let here : LeadsBy (fold state a) others more final = subst (λ (s : State). LeadsBy s others more final) first.is_fold leads.by in
     record {
       batches = a ∷ more;
       by = record {
         spelled = ap (λ (l : List ℕ). l ∷ others) first.spelled ∙ ap (λ (l : List (List ℕ)). batch a ∷ l) here.spelled;
         each = (first.is_batch, here.each);
-        grow = all_grow-append state a (commands_of more) ∙ ap (λ (t : Bool). t && all_grow (folded state a) (commands_of more)) first.grow ∙ here.grow;
-        fold = here.fold ∙ sym (folded-append state a (commands_of more));
+        grow = all_grow-append state a (commands_of more) ∙ ap (λ (t : Bool). t && all_grow (fold state a) (commands_of more)) first.grow ∙ here.grow;
+        is_fold = here.is_fold ∙ sym (fold-append state a (commands_of more));
       };
     }
 
@@ -77,7 +77,7 @@ leads_before state next body others final first leads =
 pub continues_same : (state a b : State) (body : List ℕ) → Continues state body a → Continues state body b → a ≡ b
 continues_same state a b body is_a is_b =
     let same = batch_same is_a.commands is_b.commands is_a.is_batch is_b.is_batch (sym is_a.spelled ∙ is_b.spelled) in
-    is_a.fold ∙ ap (λ (commands : List Taken). folded state commands) same ∙ sym is_b.fold
+    is_a.is_fold ∙ ap (λ (commands : List Taken). fold state commands) same ∙ sym is_b.is_fold
 
 pub leads_after : (state next : State) (body : List ℕ) (others : List (List ℕ)) (final : State) → Continues state body next → Leads state (body ∷ others) final → Leads next others final
 leads_after state next body others final first leads =
@@ -89,7 +89,7 @@ pub leads_same : (state : State) (bodies : List (List ℕ)) (a b : State) → Le
 leads_same state [] a b is_a is_b = nowhere is_a.batches a is_a.by ∙ sym (nowhere is_b.batches b is_b.by)
   where
     nowhere : (batches : List (List Taken)) (final : State) → LeadsBy state [] batches final → final ≡ state
-    nowhere [] final by = by.fold
+    nowhere [] final by = by.is_fold
     nowhere (x ∷ more) final by = absurd cc
 leads_same state (body ∷ others) a b is_a is_b =
     let on = leads_on state body others a is_a in
@@ -97,10 +97,10 @@ leads_same state (body ∷ others) a b is_a is_b =
 
 -- what bodies stand for is where they lead from a store without documents
 pub stand_leads : (shape : Shape) (bodies : List (List ℕ)) (batches : List (List Taken)) (state : State) → StandFor shape bodies batches state → Leads (empty_state shape) bodies state
-stand_leads shape bodies batches state stand = record { batches = batches; by = record { spelled = stand.spelled; each = recursion_from_All IsBatch batches stand.each; grow = stand.grow; fold = stand.fold } }
+stand_leads shape bodies batches state stand = record { batches = batches; by = record { spelled = stand.spelled; each = recursion_from_All IsBatch batches stand.each; grow = stand.grow; is_fold = stand.is_fold } }
 
 pub leads_stand : (shape : Shape) (bodies : List (List ℕ)) (state : State) → Leads (empty_state shape) bodies state → (batches : List (List Taken)) × StandFor shape bodies batches state
-leads_stand shape bodies state leads = (leads.batches, record { spelled = leads.by.spelled; each = All-from_recursion IsBatch leads.batches leads.by.each; grow = leads.by.grow; fold = leads.by.fold })
+leads_stand shape bodies state leads = (leads.batches, record { spelled = leads.by.spelled; each = All-from_recursion IsBatch leads.batches leads.by.each; grow = leads.by.grow; is_fold = leads.by.is_fold })
 
 -- one body more of those that are left
 pub items_more : (xs : List (Vec ℕ Global)) (i : ℕ) (x : Vec ℕ Global) → i < length xs → x ≡ get_or xs i x → items_of (drop i xs) ≡ x.items ∷ items_of (drop (i + 1) xs)

@@ -3,7 +3,7 @@ use Rattle.std.proofs.Common.{◌≡◌, inl, inr, ℕ, ◌+◌, ◌<◌, List, 
 use Rattle.std.proofs.lemmas.List.{take_more, take_all}
 use Rattle.disk.specs.declared.device.Disk.{Ghosts}
 use Rattle.revision.specs.Command.{Taken}
-use Rattle.revision.specs.State.{State, folded}
+use Rattle.revision.specs.State.{State, fold}
 use Rattle.revision.proofs.CallerLemmas.{agrees}
 use Rattle.recovery.specs.declared.run.StoreStep.{StoreStep}
 use Rattle.recovery.specs.declared.store.Store.{Store}
@@ -25,14 +25,14 @@ found_as content state found = record { there = state; found = found; agrees = a
 
 pub state_after-append : (state : State) (first second : List StoreStep) → state_after state (first ++ second) ≡ state_after (state_after state first) second
 state_after-append state [] second = refl
-state_after-append state (step ∷ first) second = state_after-append (folded state (batch_of step)) first second
+state_after-append state (step ∷ first) second = state_after-append (fold state (batch_of step)) first second
 
 module _ (state : State) (steps : List StoreStep) (i : ℕ) (step : StoreStep) (inside : i < length steps) (is : step ≡ get_or steps i step) where
   -- the state after one step more
-  pub state_after-more : state_after state (take (i + 1) steps) ≡ folded (state_after state (take i steps)) (batch_of step)
+  pub state_after-more : state_after state (take (i + 1) steps) ≡ fold (state_after state (take i steps)) (batch_of step)
   state_after-more =
       ap (state_after state) (take_more steps i step inside) ∙ state_after-append state (take i steps) (get_or steps i step ∷ [])
-      ∙ ap (λ (s : StoreStep). folded (state_after state (take i steps)) (batch_of s)) (sym is)
+      ∙ ap (λ (s : StoreStep). fold (state_after state (take i steps)) (batch_of s)) (sym is)
 
   -- within a step: before it, or after it
   pub within_step : (now : State) (batch : List Taken) (content : List ℕ) → now ≡ state_after state (take i steps) → batch ≡ batch_of step → IsWithOrWithout now batch content → IsAfterSome i state steps content
@@ -41,7 +41,7 @@ module _ (state : State) (steps : List StoreStep) (i : ℕ) (step : StoreStep) (
     count = i + 1;
     enough = omega arith;
     within = omega arith;
-    found = subst (FoundAs content) (ap (λ (s : State). folded s batch) here ∙ ap (folded (state_after state (take i steps))) same ∙ sym state_after-more) found;
+    found = subst (FoundAs content) (ap (λ (s : State). fold s batch) here ∙ ap (fold (state_after state (take i steps))) same ∙ sym state_after-more) found;
   }
 
 -- no fewer than some are no fewer than none

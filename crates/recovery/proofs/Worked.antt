@@ -6,15 +6,14 @@ use Rattle.std.proofs.lemmas.List.Elements.{All-cons, All-nil}
 use Rattle.std.specs.Char.{encode_utf8}
 use Rattle.std.specs.Str.{chars, is_utf8}
 use Rattle.std.specs.Char.Utf16.{utf16_chars}
-use Rattle.attributes.specs.Map.{empty}
-use Rattle.delta.specs.Element.{lettered}
+use Rattle.attributes.specs.Map.{empty, insert}
 use Rattle.delta.specs.Operation.{insert_text}
 use Rattle.revision.specs.Spellable.{IsSpellable, IsOperation, IsPair, IsValue}
 use Rattle.revision.specs.Command.{Taken, IsTaken}
 use Rattle.journal.specs.Spelling.{number, text16, text32}
 use Rattle.journal.specs.BatchSpelling.{IsBatch, created_name, entry, batch}
 use Rattle.journal.specs.DeltaSpelling.{value, pairs, operation, delta}
-use Rattle.revision.specs.State.{State, DocumentRecord, folded, all_grow}
+use Rattle.revision.specs.State.{State, DocumentRecord, fold, all_grow}
 use Rattle.recovery.specs.declared.shape.Shape.{Shape}
 use Rattle.recovery.specs.Shape.{superblock, layout_length, cell_place, slot_place}
 use Rattle.recovery.specs.Slot.{Segment, HoldsSegment}
@@ -76,7 +75,7 @@ formatted_found = record {
   slot = None;
   batches = [];
   laid_out = formatted_laid_out;
-  stand = record { spelled = refl; each = All-nil IsBatch; grow = refl; fold = refl };
+  stand = record { spelled = refl; each = All-nil IsBatch; grow = refl; is_fold = refl };
 }
 
 -- a creation of this document, in order of creation, with this text of one letter, by the source "a"
@@ -144,7 +143,15 @@ created_laid_out = record {
 
 -- the record of a document of one letter that a source made
 abbrev record_with : ℕ → ℕ → DocumentRecord
-record_with name letter = record { name = name ∷ []; units = lettered letter empty ∷ []; revision = 1; floor = 0; sources = (record { source = 97 ∷ []; number = 1; revision = 1 }) ∷ [] }
+record_with name letter = record {
+  name = name ∷ [];
+  past = record {
+    floor = 0;
+    content = record { units = [] };
+    sources = empty;
+    changes = record { source = 97 ∷ []; number = 1; delta = insert_text (letter ∷ []) empty ∷ [] } ∷ [];
+  };
+}
 
 abbrev with_first : State
 with_first = record { limits = limits_of small; documents = record_with 100 122 ∷ [] }
@@ -167,11 +174,11 @@ spellable_first = record {
 taken_first : IsTaken (creation 0 100 122)
 taken_first = record { document = lit< tt; source = refl; kind = refl; delta = spellable_first }
 
-grown_first : folded (empty_state small) (creation 0 100 122 ∷ []) ≡ with_first
+grown_first : fold (empty_state small) (creation 0 100 122 ∷ []) ≡ with_first
 grown_first = refl
 
 first_grows : all_grow (empty_state small) (creation 0 100 122 ∷ []) ≡ true
-unfolding utf16_chars encode_utf8
+unfolding utf16_chars encode_utf8 insert
 first_grows = refl
 
 pub created_found : Found created with_first
@@ -184,7 +191,7 @@ created_found = record {
     spelled = ap (λ (b : List ℕ). b ∷ []) (sym spelled_first);
     each = All-cons IsBatch (creation 0 100 122 ∷ []) [] (is_batch 0 100 122 taken_first) (All-nil IsBatch);
     grow = first_grows;
-    fold = sym grown_first;
+    is_fold = sym grown_first;
   };
 }
 
@@ -243,10 +250,10 @@ abbrev both : List Taken
 both = creation 0 100 122 ∷ creation 1 101 120 ∷ []
 
 both_grow : all_grow (empty_state small) both ≡ true
-unfolding utf16_chars encode_utf8
+unfolding utf16_chars encode_utf8 insert
 both_grow = refl
 
-grown_both : folded (empty_state small) both ≡ with_both
+grown_both : fold (empty_state small) both ≡ with_both
 grown_both = refl
 
 pub created_twice_found : Found created_twice with_both
@@ -261,6 +268,6 @@ created_twice_found = record {
         All-cons IsBatch (creation 0 100 122 ∷ []) ((creation 1 101 120 ∷ []) ∷ []) (is_batch 0 100 122 taken_first)
         (All-cons IsBatch (creation 1 101 120 ∷ []) [] (is_batch 1 101 120 taken_second) (All-nil IsBatch));
     grow = both_grow;
-    fold = sym grown_both;
+    is_fold = sym grown_both;
   };
 }

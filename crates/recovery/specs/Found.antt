@@ -3,9 +3,8 @@ use Rattle.std.specs.Prelude.{◌≡◌, ℕ, ◌-◌, true, Option, List, [], m
 use Rattle.std.specs.List.{flat_map}
 use Rattle.revision.specs.Command.{Taken}
 use Rattle.journal.specs.BatchSpelling.{IsBatch, batch}
-use Rattle.revision.specs.State.{State, folded, all_grow}
+use Rattle.revision.specs.State.{Limits, State, fold, all_grow}
 use Rattle.revision.specs.Agree.{Agree}
-use Rattle.revision.specs.declared.state.Limits.{Limits}
 use Rattle.recovery.specs.declared.shape.Shape.{Shape}
 use Rattle.recovery.specs.Slot.{Segment, bodies_of}
 use Rattle.recovery.specs.Layout.{IsLaidOut}
@@ -27,7 +26,7 @@ pub record StandFor (shape : Shape) (bodies : List (List ℕ)) (batches : List (
   pub spelled : bodies ≡ map batch batches
   pub each : All IsBatch batches
   pub grow : all_grow (empty_state shape) (commands_of batches) ≡ true
-  pub fold : state ≡ folded (empty_state shape) (commands_of batches)
+  pub is_fold : state ≡ fold (empty_state shape) (commands_of batches)
 
 -- The state that the whole content of a device stands for. Where a rule fails there is none.
 pub record Found (content : List ℕ) (state : State) : Type 0 where

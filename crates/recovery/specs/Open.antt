@@ -3,7 +3,7 @@ use Rattle.std.specs.Prelude.{◌≡◌, ◌⊎◌, ℕ, Bool, Option, List, []}
 use Rattle.disk.specs.declared.device.Disk.{Ghosts}
 use Rattle.revision.specs.Command.{Taken}
 use Rattle.journal.specs.BatchSpelling.{batch_width}
-use Rattle.revision.specs.State.{State, folded}
+use Rattle.revision.specs.State.{State, fold}
 use Rattle.recovery.specs.declared.store.Store.{Store}
 use Rattle.recovery.specs.Shape.{slot_place}
 use Rattle.recovery.specs.Slot.{Segment, bodies_of}
@@ -14,7 +14,7 @@ use Rattle.recovery.specs.Room.{has_room_for}
 
 -- a content that stands for a state that agrees with the one before a batch, or with the one with it
 abbrev pub IsWithOrWithout : State → List Taken → List ℕ → Type 0
-IsWithOrWithout state batch content = FoundAs content state ⊎ FoundAs content (folded state batch)
+IsWithOrWithout state batch content = FoundAs content state ⊎ FoundAs content (fold state batch)
 
 module _ {D : Type 0} {disk : Ghosts D} where
   -- the device under a store

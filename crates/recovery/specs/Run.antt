@@ -1,7 +1,7 @@
 -- Runs of steps, and what a crash within one leaves.
 use Rattle.std.specs.Prelude.{◌≤◌, ℕ, List, [], ◌∷◌, length, take, map, get_or}
 use Rattle.revision.specs.Command.{Taken}
-use Rattle.revision.specs.State.{State, folded}
+use Rattle.revision.specs.State.{State, fold}
 use Rattle.recovery.specs.declared.run.StoreStep.{StoreStep}
 use Rattle.recovery.specs.declared.run.StoreStep.TheVariants.{Commit}
 use Rattle.recovery.specs.Found.{FoundAs}
@@ -17,7 +17,7 @@ batch_at steps at = get_or (map batch_of steps) at []
 -- the state after steps in order
 abbrev pub state_after : State → List StoreStep → State
 state_after state [] = state
-state_after state (step ∷ steps) = state_after (folded state (batch_of step)) steps
+state_after state (step ∷ steps) = state_after (fold state (batch_of step)) steps
 
 -- A content stands for a state that agrees with the one after some of the steps, the first ones of them, and no fewer
 -- than so many.

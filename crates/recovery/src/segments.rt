@@ -65,6 +65,9 @@ impl Ring {
         // Whatever bodies the slot held: a crash at any moment leaves them with the new one or without.
         ensures any_moment { (slot : Option Segment) → D.unsynced disk.old ≡ [] → FitsSlot (D.seen disk.old) self.old slot
             → LeavesOnly ⟦<D as Disk>⟧ (IsSlotLeftByAppend self.old.at self.old.size (D.seen disk.old) (bodies_of slot) body.now) disk.old disk.new }
+        // Want of memory comes before anything of the body is written: at most a slot is opened.
+        ensures unwritten { IsErrOf result Refusal.NoMemory → (slot : Option Segment) → D.unsynced disk.old ≡ [] → FitsSlot (D.seen disk.old) self.old slot
+            → LeavesOnly ⟦<D as Disk>⟧ (IsSlotLeftByOpening self.old.at self.old.size (D.seen disk.old) (bodies_of slot)) disk.old disk.new }
         ensures done { OnOk result ((slot : Option Segment) → FitsSlot (D.seen disk.old) self.old slot
             → IsSlotAppended (D.seen disk.old) self.old (bodies_of slot) body.now (D.seen disk.new) self.new) }
         ensures synced { OnOk result (D.unsynced disk.new ≡ []) }

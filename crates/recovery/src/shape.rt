@@ -61,13 +61,13 @@ impl Shape {
         requires { is_in_range self.now ≡ true }
         ensures { result ≡ limits_of self.now }
     {
-        Limits {
-            docs: self.docs,
-            sources: self.sources,
-            weight: self.cell - 128,
-            width: self.slot - 19,
-            keep: self.keep,
-        }
+        Limits::new(
+            self.docs,
+            self.sources,
+            self.cell - 128,
+            self.slot - 19,
+            self.keep,
+        )
     }
 }
 

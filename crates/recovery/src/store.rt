@@ -1,14 +1,21 @@
 //! A store that is open.
-ghost use Rattle.std.specs.Prelude.{◌≡◌, ◌≢◌, ◌⊎◌, ◌↔◌, ◌+◌, ◌<◌, ◌≤◌, ◌^◌, List, ℕ, true, false, length, OnOk, OnErr, IfOk, IfErr, IsErrOf};
+ghost use Rattle.std.specs.Prelude.{◌≡◌, ◌≢◌, ◌⊎◌, ◌↔◌, ◌+◌, ◌<◌, ◌≤◌, ◌^◌, List, ℕ, true, false, [], Option, length, OnOk, OnErr, IfOk, IfErr, IsErrOf};
+ghost use Rattle.disk.specs.Calls.{HasOnlyWritten, CountsFaultsAs};
+ghost use Rattle.disk.specs.Crash.{LeavesOnly};
+ghost use Rattle.journal.specs.BatchSpelling.{IsBatch, batch as spelled, batch_width};
+ghost use Rattle.recovery.specs.Slot.{Segment, bodies_of};
+ghost use Rattle.recovery.specs.Room.{has_room_for};
+ghost use Rattle.recovery.specs.Ring.{FitsSlot, IsSlotLeftByAppend, IsSlotLeftByOpening, IsSlotAppended, IsSlotKept};
 
 use crate::reading::read_store;
 use crate::segments::Ring;
 use crate::shape::Shape;
 use disk::Disk;
-use journal::encode_batch;
+use journal::{batch_len, encode_batch};
 use refusal::Refusal;
 use revision::{State, Taken};
 use std::alloc::Global;
+use std::mem::replace;
 
 /// Why a device could not be opened. The device comes back.
 #[derive(Debug, Drop)]
@@ -33,8 +40,8 @@ impl<D: Disk> Store<D> {
     ghost use Rattle.disk.specs.Crash.{LeavesOnly, MayLeaveNow, history_of};
     ghost use Rattle.revision.specs.State.{State as StateValue};
     ghost use Rattle.recovery.specs.Layout.{IsFormatted};
-    ghost use Rattle.recovery.specs.Found.{Found};
-    ghost use Rattle.revision.specs.State.{folded, all_grow};
+    ghost use Rattle.recovery.specs.Found.{Found, FoundAs};
+    ghost use Rattle.revision.specs.State.{fold, all_grow};
     ghost use Rattle.recovery.specs.Open.{IsOpen, WasOpen, IsUnchanged, IsWithOrWithout, device_of, state_of, has_failed, has_room};
 
     /// Opens a formatted device: syncs it, then reads, and writes nothing. `NotFormatted` comes just where the
@@ -115,21 +122,20 @@ impl<D: Disk> Store<D> {
     }
 
     /// Writes a batch, and answers once it is on the disk: two syncs, and two more where the first slot is opened for
-    /// it. `JournalFull` comes where the batch doesn't fit behind what is there, then `Stranger` where it doesn't
-    /// continue the state, `NoMemory` before anything of it is written, and `Fault`, after which the store has failed:
-    /// every later call answers `Fault`, until the device is opened again. A refusal leaves the state as it was.
+    /// it. `JournalFull` comes just where the batch doesn't fit behind what is there, which its width tells before anything
+    /// is spelled, then `Stranger` where it doesn't continue the state, `NoMemory` before anything of it is written, and
+    /// `Fault`, after which the store has failed: every later call answers `Fault`, until the device is opened again. The
+    /// documents change only once the batch is on the disk, and no refusal changes them.
     pub fn commit(&mut self, alloc: Global, batch: &[Taken]) -> Result<(), Refusal>
         requires some { 1 ≤ length batch.now }
         requires short { length batch.now < 2 ^ 32 }
 
-        // When each refusal comes. Want of memory may be told in place of the first two.
+        // When each refusal comes. Want of memory may be told in place of `Stranger`.
         ensures failed_before { has_failed self.old ≡ true → (IsErrOf result Refusal.Fault) × ((device_of self.new ≡ device_of self.old) × (has_failed self.new ≡ true)) }
-        ensures full { IsErrOf result Refusal.JournalFull → has_room self.old batch.now ≡ false }
+        ensures full { has_failed self.old ≡ false → (IsErrOf result Refusal.JournalFull ↔ (has_room self.old batch.now ≡ false)) }
         ensures room { OnOk result (has_room self.old batch.now ≡ true) }
-        ensures stranger { IsErrOf result Refusal.Stranger → (all_grow (state_of self.old) batch.now ≡ false) × (has_room self.old batch.now ≡ true) }
+        ensures stranger { IsErrOf result Refusal.Stranger → all_grow (state_of self.old) batch.now ≡ false }
         ensures grow { OnOk result (all_grow (state_of self.old) batch.now ≡ true) }
-        ensures no_room { has_failed self.old ≡ false → has_room self.old batch.now ≡ false
-            → (IsErrOf result Refusal.JournalFull) ⊎ (IsErrOf result Refusal.NoMemory) }
         ensures no_growth { has_failed self.old ≡ false → has_room self.old batch.now ≡ true → all_grow (state_of self.old) batch.now ≡ false
             → (IsErrOf result Refusal.Stranger) ⊎ (IsErrOf result Refusal.NoMemory) }
         ensures fault { IsErrOf result Refusal.Fault → has_failed self.old ≡ false
@@ -137,7 +143,7 @@ impl<D: Disk> Store<D> {
         ensures only { IfErr result (λ e. ((e ≡ Refusal.JournalFull) ⊎ (e ≡ Refusal.Stranger)) ⊎ ((e ≡ Refusal.NoMemory) ⊎ (e ≡ Refusal.Fault))) }
 
         // What each answer leaves.
-        ensures state { OnOk result (state_of self.new ≡ folded (state_of self.old) batch.now) }
+        ensures state { OnOk result (state_of self.new ≡ fold (state_of self.old) batch.now) }
         ensures same_state { OnErr result (state_of self.new ≡ state_of self.old) }
         ensures fails { has_failed self.old ≡ false → (has_failed self.new ≡ true ↔ IsErrOf result Refusal.Fault) }
         ensures works { OnOk result (has_failed self.new ≡ false) }
@@ -147,6 +153,9 @@ impl<D: Disk> Store<D> {
         // A crash at any moment of the call leaves the state before it, or the one with the batch.
         ensures any_moment { has_failed self.old ≡ false → IsOpen self.old
             → LeavesOnly ⟦<D as Disk>⟧ (IsWithOrWithout (state_of self.old) batch.now) (device_of self.old) (device_of self.new) }
+        // Where memory ran out nothing of the batch was written: a crash at any moment leaves the state before it.
+        ensures unwritten { IsErrOf result Refusal.NoMemory → IsOpen self.old
+            → LeavesOnly ⟦<D as Disk>⟧ (λ content. FoundAs content (state_of self.old)) (device_of self.old) (device_of self.new) }
         // Once it is Ok, the device is synced and stands for the state with the batch.
         ensures done { OnOk result (IsOpen self.old → IsOpen self.new) }
         ensures kept { IfErr result (λ e. e ≢ Refusal.Fault → IsOpen self.old → IsOpen self.new) }
@@ -158,19 +167,71 @@ impl<D: Disk> Store<D> {
         if self.failed {
             return Err(Refusal::Fault);
         }
-        let body = encode_batch(alloc, batch)?;
-        if !self.ring.has_room(body.len() as u64) {
+        if !self.has_room(batch) {
             return Err(Refusal::JournalFull);
         }
-        let before = self.state.documents().len();
-        self.state.absorb_all(alloc, batch)?;
-        match self.ring.append(alloc, &mut self.device, &body) {
-            Ok(()) => Ok(()),
+        let empty = State::new(alloc, self.state.limits());
+        let prepared = match replace(&mut self.state, empty).prepare(alloc, batch) {
+            Ok(prepared) => prepared,
+            Err(unprepared) => {
+                self.state = unprepared.state;
+                return Err(unprepared.refusal);
+            }
+        };
+        match append_batch(alloc, &mut self.ring, &mut self.device, batch) {
+            Ok(()) => {
+                self.state = prepared.accept();
+                Ok(())
+            }
             Err(refusal) => {
-                self.state.truncate(before);
+                self.state = prepared.forget();
                 self.failed = refusal == Refusal::Fault;
                 Err(refusal)
             }
         }
     }
+
+    // Whether the batch fits behind what is there.
+    fn has_room(&self, batch: &[Taken]) -> bool
+        requires some { 1 ≤ length batch.now }
+        requires short { length batch.now < 2 ^ 32 }
+        ensures room { result ≡ has_room self.now batch.now }
+        ensures is_batch { IsBatch batch.now }
+    {
+        let len = batch_len(batch);
+        len < 1 << 32 && self.ring.has_room(len)
+    }
+}
+
+// Spells the batch and appends it. `NoMemory` comes before anything of it is written.
+fn append_batch<D: Disk>(
+    alloc: Global,
+    ring: &mut Ring,
+    disk: &mut D,
+    batch: &[Taken],
+) -> Result<(), Refusal>
+    requires within { ring.old.at + ring.old.size ≤ length (D.seen disk.old) }
+    requires some { 1 ≤ length batch.now }
+    requires short { length batch.now < 2 ^ 32 }
+
+    ensures full { IsErrOf result Refusal.JournalFull → has_room_for ring.old.size ring.old.newest (batch_width batch.now) ≡ false }
+    ensures only { IfErr result (λ e. (e ≡ Refusal.JournalFull) ⊎ ((e ≡ Refusal.NoMemory) ⊎ (e ≡ Refusal.Fault))) }
+    ensures place { (ring.new.at ≡ ring.old.at) × (ring.new.size ≡ ring.old.size) }
+
+    ensures any_moment { (slot : Option Segment) → D.unsynced disk.old ≡ [] → FitsSlot (D.seen disk.old) ring.old slot
+        → LeavesOnly ⟦<D as Disk>⟧ (IsSlotLeftByAppend ring.old.at ring.old.size (D.seen disk.old) (bodies_of slot) (spelled batch.now)) disk.old disk.new }
+    ensures unwritten { IsErrOf result Refusal.NoMemory → (slot : Option Segment) → D.unsynced disk.old ≡ [] → FitsSlot (D.seen disk.old) ring.old slot
+        → LeavesOnly ⟦<D as Disk>⟧ (IsSlotLeftByOpening ring.old.at ring.old.size (D.seen disk.old) (bodies_of slot)) disk.old disk.new }
+    ensures done { OnOk result ((slot : Option Segment) → FitsSlot (D.seen disk.old) ring.old slot
+        → IsSlotAppended (D.seen disk.old) ring.old (bodies_of slot) (spelled batch.now) (D.seen disk.new) ring.new) }
+    ensures synced { OnOk result (D.unsynced disk.new ≡ []) }
+    ensures given_up { IsErrOf result Refusal.NoMemory → (slot : Option Segment) → D.unsynced disk.old ≡ [] → FitsSlot (D.seen disk.old) ring.old slot
+        → IsSlotKept (D.seen disk.old) ring.old (bodies_of slot) (D.seen disk.new) ring.new × (D.unsynced disk.new ≡ []) }
+
+    ensures calls { length (D.past disk.new) ≤ length (D.past disk.old) + 8 }
+    ensures only_written { HasOnlyWritten ⟦<D as Disk>⟧ disk.old disk.new }
+    ensures faults { CountsFaultsAs ⟦<D as Disk>⟧ Refusal.Fault result disk.old disk.new }
+{
+    let body = encode_batch(alloc, batch)?;
+    ring.append(alloc, disk, &body)
 }

@@ -12,6 +12,7 @@ mod LettingGo
 pub mod Sums
 pub mod Texts
 pub mod Taking
+pub mod Admitting
 pub mod Room
 pub mod Replays
 pub mod Kept
@@ -19,4 +20,5 @@ pub mod Told
 pub mod Changing
 pub mod Agreeing
 pub mod Keeping
+pub mod Alike
 pub mod CallerLemmas

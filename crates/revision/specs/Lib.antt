@@ -6,6 +6,7 @@ pub mod Actions
 pub mod TakenView
 pub mod State
 pub mod LimitsView
+pub mod Floors
 pub mod Agree
 pub mod Acceptance
 pub mod Late
@@ -20,6 +21,7 @@ pub mod ChangedAt
 pub mod Documents
 pub mod DocumentsView
 pub mod Readings
+pub mod Planned
 pub mod Invariants
 mod Examples
 mod AcceptanceExamples

@@ -5,8 +5,9 @@ ghost use Rattle.utf16.specs.Units.{units_of};
 ghost use Rattle.revision.specs.Spellable.{IsText};
 ghost use Rattle.revision.specs.Acceptance.{TakenGrows};
 ghost use Rattle.revision.specs.Parting.{PartsTold};
-ghost use Rattle.revision.specs.Agree.{AgreeSame, AgreeTurned, AgreeThrough, AgreeingGrow};
-ghost use Rattle.revision.specs.Invariants.{EmptyIsState, GrowingKeeps, AdoptingKeeps};
+ghost use Rattle.revision.specs.Agree.{AgreeSame, AgreeTurned, AgreeThrough, AgreeingContinue, AgreeingGrow, AgreeingAnswer, AgreeingAnswerHeld};
+ghost use Rattle.revision.specs.Invariants.{EmptyIsState, GrowingKeeps, AdoptingKeeps, ContinuingKeeps};
+ghost use Rattle.revision.specs.Floors.{FromItself, FromTwice, FromNewest, FromLonger};
 ghost use Rattle.revision.specs.Late.{InsertedStay, LightInserts, RoomForCommands, RoomForUndo};
 
 /// What the rule of acceptance takes continues the state.
@@ -44,9 +45,16 @@ pub fn agree()
     ensures through { AgreeThrough }
 {}
 
-/// States that agree are continued by the same commands, and agree after them.
+/// What agrees is continued by the same commands, and agrees after them: states, and single documents.
 pub fn agreeing_grow()
-    ensures { AgreeingGrow }
+    ensures states { AgreeingGrow }
+    ensures documents { AgreeingContinue }
+{}
+
+/// States that agree answer a command alike, unless one of them no longer holds the revision that it stands on.
+pub fn agreeing_answer()
+    ensures all { AgreeingAnswer }
+    ensures held { AgreeingAnswerHeld }
 {}
 
 /// What each state is: the empty one is so, and stays so by the commands that continue it and by the documents that it adopts.
@@ -54,4 +62,13 @@ pub fn states_stay()
     ensures begin { EmptyIsState }
     ensures grow { GrowingKeeps }
     ensures adopt { AdoptingKeeps }
+    ensures documents { ContinuingKeeps }
+{}
+
+/// A past from higher floors on, and with a change more.
+pub fn floors()
+    ensures itself { FromItself }
+    ensures twice { FromTwice }
+    ensures newest { FromNewest }
+    ensures longer { FromLonger }
 {}

@@ -1,5 +1,6 @@
 //! What a store holds: documents in order of creation, under limits.
 ghost use Rattle.std.specs.Prelude.{◌≡◌, ◌≤◌, [], length, map, option_map};
+ghost use Rattle.revision.specs.Invariants.{IsState};
 ghost use Rattle.revision.specs.Pending.{held};
 ghost use Rattle.revision.specs.State.{find};
 
@@ -44,7 +45,8 @@ impl State {
 
     /// The limits.
     pub fn limits(&self) -> Limits
-        ensures { result ≡ self.now.limits }
+        ensures limits { result ≡ self.now.limits }
+        ensures state { IsState self.now }
     {
         self.documents.limits()
     }

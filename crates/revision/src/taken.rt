@@ -115,6 +115,7 @@ impl Taken {
     /// How many bytes its entry has in the journal; 2^64 - 1 where it would have more. It takes no memory.
     pub fn width(&self) -> u64
         ensures width { result ≡ min (width_of self.now) (2 ^ 64 - 1) }
+        ensures taken { IsTaken self.now }
     {
         let name = match &self.name {
             Some(name) => 2 + name.len(),
@@ -130,4 +131,12 @@ pub(crate) fn creation_width(name: &Name, source: &Name, delta: &Delta) -> u64
     ensures short { result < 2 ^ 32 → IsSpellable delta.now }
 {
     delta_width(delta).saturating_add(25 + source.len() + name.len())
+}
+
+/// How many bytes an edit or an undo would take in the journal; 2^64 - 1 where it would be more.
+pub(crate) fn edit_width(source: &Name, delta: &Delta) -> u64
+    ensures width { result ≡ min (23 + length source.now + 0 + wide.delta_width delta.now) (2 ^ 64 - 1) }
+    ensures short { result < 2 ^ 32 → IsSpellable delta.now }
+{
+    delta_width(delta).saturating_add(23 + source.len())
 }

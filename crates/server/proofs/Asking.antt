@@ -6,16 +6,17 @@ use Rattle.disk.proofs.CallerLemmas.{synced_leaves, begins, begins_anywhere, lea
 use Rattle.refusal.specs.declared.Refusal.{Refusal}
 use Rattle.refusal.specs.declared.Refusal.TheVariants.{NoMemory, StoreFailed}
 use Rattle.revision.specs.Command.{Command}
-use Rattle.revision.specs.State.{State, folded}
+use Rattle.revision.specs.State.{State, fold}
 use Rattle.revision.specs.Acceptance.{Answer}
 use Rattle.recovery.specs.Found.{FoundAs}
 use Rattle.recovery.specs.Open.{IsOpen, device_of, state_of, has_failed as store_has_failed}
 use Rattle.recovery.proofs.CallerLemmas.{found_open, found_as}
-use Rattle.server.specs.declared.session.reply.Reply.{Reply}
-use Rattle.server.specs.declared.session.reply.Reply.TheVariants as reply
+use Rattle.session.specs.declared.reply.Reply.{Reply}
+use Rattle.session.specs.declared.reply.Reply.TheVariants as reply
 use Rattle.server.specs.declared.desk.StoreDesk.{StoreDesk}
-use Rattle.server.specs.Desk.{IsToldAtOnce, Commits, AnswersFromStore, store_of, has_failed}
-use Rattle.server.specs.Replies.{Exchange, Asks}
+use Rattle.server.specs.Desk.{IsToldAtOnce, Commits, AnswersFromStore, PassesAtStore, store_of, has_failed}
+use Rattle.session.specs.Exchange.{Exchange, Answered, Shown}
+use Rattle.session.specs.Replies.{Asks}
 use Rattle.server.specs.Asked.{added_by, with_command, state_with, state_after, MayHold, Holds, HoldsFrom, KeepsAll}
 
 not_true : (b : Bool) → ¬ (b ≡ true) → b ≡ false
@@ -34,9 +35,9 @@ record Rests {D : Type 0} {disk : Ghosts D} (old new : StoreDesk D disk) (asked 
   after : (state : State) → state_after state asked ≡ state
   holds : (state : State) (content : List ℕ) → FoundAs content state → Holds state asked content
 
-failed_rests : {D : Type 0} (disk : Ghosts D) (old new : StoreDesk D disk) (asked : List Exchange) → has_failed old ≡ true → Asks AnswersFromStore old asked new → Rests old new asked
+failed_rests : {D : Type 0} (disk : Ghosts D) (old new : StoreDesk D disk) (asked : List Exchange) → has_failed old ≡ true → Asks PassesAtStore old asked new → Rests old new asked
 failed_rests disk old new [] failed asks = record { same = asks; after = λ state. refl; holds = λ state content found. found }
-failed_rests disk old new ((command, result) ∷ others) failed (next, inl (still, told, same), asks) =
+failed_rests disk old new (Answered command result ∷ others) failed (next, inl (still, told, same), asks) =
     let rests = failed_rests disk next new others (ap has_failed same ∙ failed) asks in
     let stays : (state : State) → state_with state command result ≡ state = λ state. ap (state_with state command) told in
     record {
@@ -44,12 +45,15 @@ failed_rests disk old new ((command, result) ∷ others) failed (next, inl (stil
       after = λ state. ap (λ (s : State). state_after s others) (stays state) ∙ rests.after state;
       holds = λ state content found. inl (subst (λ (s : State). Holds s others content) (sym (stays state)) (rests.holds state content found));
     }
-failed_rests disk old new ((command, result) ∷ others) failed (next, inr (works, more), asks) =
+failed_rests disk old new (Answered command result ∷ others) failed (next, inr (works, more), asks) =
     let both : true ≡ false = sym failed ∙ works in
     absurd cc
+failed_rests disk old new (Shown shown ∷ others) failed (next, (is, same), asks) =
+    let rests = failed_rests disk next new others (ap has_failed same ∙ failed) asks in
+    record { same = rests.same ∙ same; after = λ state. rests.after state; holds = λ state content found. rests.holds state content found }
 
 -- what was asked, parted in two
-asks-parted : {D : Type 0} (gives : D → Command → Result Reply Refusal → D → Type 0) (answered others : List Exchange) (old new : D) → Asks gives old (answered ++ others) new
+asks-parted : {D : Type 0} (gives : D → Exchange → D → Type 0) (answered others : List Exchange) (old new : D) → Asks gives old (answered ++ others) new
     → (mid : D) × Asks gives old answered mid × Asks gives mid others new
 asks-parted gives [] others old new asks = (old, refl, asks)
 asks-parted gives (exchange ∷ answered) others old new (next, gave, rest) =
@@ -63,7 +67,7 @@ record Works {D : Type 0} {disk : Ghosts D} (desk : StoreDesk D disk) : Type 0 w
   is_open : IsOpen (store_of desk)
 
 -- a desk that hasn't failed at the end hadn't before
-not_failed_before : {D : Type 0} (disk : Ghosts D) (old new : StoreDesk D disk) (asked : List Exchange) → Asks AnswersFromStore old asked new → has_failed new ≡ false → has_failed old ≡ false
+not_failed_before : {D : Type 0} (disk : Ghosts D) (old new : StoreDesk D disk) (asked : List Exchange) → Asks PassesAtStore old asked new → has_failed new ≡ false → has_failed old ≡ false
 not_failed_before disk old new asked asks works = not_true (has_failed old) (λ failed.
     let both : true ≡ false = sym failed ∙ sym (ap has_failed (failed_rests disk old new asked failed asks).same) ∙ works in
     absurd cc)
@@ -84,10 +88,12 @@ works_next old next command (Err refusal) before (inr (still, inr commits)) goes
     commits.told
 
 -- and after all the answers, where none did
-works_after : {D : Type 0} (disk : Ghosts D) (old new : StoreDesk D disk) (asked : List Exchange) → Works old → Asks AnswersFromStore old asked new → has_failed new ≡ false → Works new
+works_after : {D : Type 0} (disk : Ghosts D) (old new : StoreDesk D disk) (asked : List Exchange) → Works old → Asks PassesAtStore old asked new → has_failed new ≡ false → Works new
 works_after disk old new [] before asks works = subst Works (sym asks) before
-works_after disk old new ((command, result) ∷ others) before (next, gave, asks) works =
+works_after disk old new (Answered command result ∷ others) before (next, gave, asks) works =
     works_after disk next new others (works_next old next command result before gave (not_failed_before disk next new others asks works)) asks works
+works_after disk old new (Shown shown ∷ others) before (next, (is, same), asks) works =
+    works_after disk next new others (subst Works (sym same) before) asks works
 
 -- what is kept over the whole run, and at its end
 record Keeps {D : Type 0} (disk : Ghosts D) (old new : StoreDesk D disk) (asked : List Exchange) : Type 0 where
@@ -101,7 +107,7 @@ module _ {D : Type 0} (disk : Ghosts D) (old next new : StoreDesk D disk) (comma
   state = state_of (store_of old)
 
   -- the desk answered at once, and goes on as it was
-  after_told : (result : Result Reply Refusal) → state_with state command result ≡ state → Keeps disk old new others → Keeps disk old new ((command, result) ∷ others)
+  after_told : (result : Result Reply Refusal) → state_with state command result ≡ state → Keeps disk old new others → Keeps disk old new (Answered command result ∷ others)
   after_told result stays rest = record {
     state = rest.state ∙ ap (λ (s : State). state_after s others) (sym stays);
     any_moment = leaves_map (λ content left. inr (inr (subst (λ (s : State). MayHold s others content) (sym stays) left))) rest.any_moment;
@@ -109,17 +115,17 @@ module _ {D : Type 0} (disk : Ghosts D) (old next new : StoreDesk D disk) (comma
   }
 
   module _ (result : Result Reply Refusal) (commits : Commits old command result next) where
-    added : with_command state command ≡ folded state (commits.taken ∷ [])
-    added = ap (λ (a : Answer). folded state (added_by a)) commits.due
+    added : with_command state command ≡ fold state (commits.taken ∷ [])
+    added = ap (λ (a : Answer). fold state (added_by a)) commits.due
 
     -- a crash within the commit
-    within : LeavesOnly disk (MayHold state ((command, result) ∷ others)) (device_of (store_of old)) (device_of (store_of next))
+    within : LeavesOnly disk (MayHold state (Answered command result ∷ others)) (device_of (store_of old)) (device_of (store_of next))
     within =
         leaves_map (λ content left. ⊎_elim (λ without. inl without) (λ with_it. inr (inl (subst (FoundAs content) (sym added) with_it))) left)
         (commits.any_moment before.store_works before.is_open)
 
     -- the desk goes on with the state that the commit left
-    after_commit : state_of (store_of next) ≡ state_with state command result → Keeps disk next new others → Keeps disk old new ((command, result) ∷ others)
+    after_commit : state_of (store_of next) ≡ state_with state command result → Keeps disk next new others → Keeps disk old new (Answered command result ∷ others)
     after_commit holds rest = record {
       state = rest.state ∙ ap (λ (s : State). state_after s others) holds;
       any_moment = goes_on_run within (leaves_map (λ content left. inr (inr (subst (λ (s : State). MayHold s others content) holds left))) rest.any_moment);
@@ -127,12 +133,12 @@ module _ {D : Type 0} (disk : Ghosts D) (old next new : StoreDesk D disk) (comma
     }
 
     -- the commit failed the desk
-    after_failure : result ≡ Err StoreFailed → state_of (store_of next) ≡ state → state_with state command result ≡ state → Rests next new others → Keeps disk old new ((command, result) ∷ others)
+    after_failure : result ≡ Err StoreFailed → state_of (store_of next) ≡ state → state_with state command result ≡ state → Rests next new others → Keeps disk old new (Answered command result ∷ others)
     after_failure failed same stays rests = record {
       state =
           ap (λ (d : StoreDesk D disk). state_of (store_of d)) rests.same ∙ same ∙ sym (rests.after state)
           ∙ ap (λ (s : State). state_after s others) (sym stays);
-      any_moment = subst (λ (d : StoreDesk D disk). LeavesOnly disk (MayHold state ((command, result) ∷ others)) (device_of (store_of old)) (device_of (store_of d))) (sym rests.same) within;
+      any_moment = subst (λ (d : StoreDesk D disk). LeavesOnly disk (MayHold state (Answered command result ∷ others)) (device_of (store_of old)) (device_of (store_of d))) (sym rests.same) within;
       after = λ content left.
           ⊎_elim (λ without. inl (subst (λ (s : State). Holds s others content) (sym stays) (rests.holds state content without)))
           (λ with_it. inr (failed, subst (FoundAs content) (sym added) with_it, ap (λ (s : State). state_after s others) stays ∙ rests.after state))
@@ -140,7 +146,7 @@ module _ {D : Type 0} (disk : Ghosts D) (old next new : StoreDesk D disk) (comma
     }
 
 -- whatever is asked
-keeps : {D : Type 0} (disk : Ghosts D) (old new : StoreDesk D disk) (asked : List Exchange) → Works old → Asks AnswersFromStore old asked new → Keeps disk old new asked
+keeps : {D : Type 0} (disk : Ghosts D) (old new : StoreDesk D disk) (asked : List Exchange) → Works old → Asks PassesAtStore old asked new → Keeps disk old new asked
 keeps {D} disk old new [] before asks =
     let is_open = before.is_open in
     let found = found_as _ _ (found_open (store_of old) is_open) in
@@ -153,20 +159,23 @@ keeps {D} disk old new [] before asks =
           let same : content ≡ disk.seen (device_of (store_of old)) = synced_leaves _ content is_open.synced (subst (λ (d : StoreDesk D disk). MayLeaveNow disk (device_of (store_of d)) content) asks left) in
           subst (λ (l : List ℕ). FoundAs l (state_of (store_of old))) (sym same) found;
     }
-keeps disk old new ((command, result) ∷ others) before (next, inl (failed, told, same), asks) =
+keeps {D} disk old new (Shown shown ∷ others) before (next, (is, same), asks) =
+    let rest = keeps disk old new others before (subst (λ (d : StoreDesk D disk). Asks PassesAtStore d others new) same asks) in
+    record { state = rest.state; any_moment = leaves_map (λ content left. left) rest.any_moment; after = λ content left. rest.after content left }
+keeps disk old new (Answered command result ∷ others) before (next, inl (failed, told, same), asks) =
     let both : true ≡ false = sym failed ∙ before.works in
     absurd cc
-keeps {D} disk old new ((command, result) ∷ others) before (next, inr (still, inl stays), asks) =
+keeps {D} disk old new (Answered command result ∷ others) before (next, inr (still, inl stays), asks) =
     after_told disk old next new command others before result (told_same _ result stays.told (state_of (store_of old)) command)
-    (keeps disk old new others before (subst (λ (d : StoreDesk D disk). Asks AnswersFromStore d others new) stays.same asks))
-keeps disk old new ((command, Ok (reply.Taken revision)) ∷ others) before (next, inr (still, inr commits), asks) =
+    (keeps disk old new others before (subst (λ (d : StoreDesk D disk). Asks PassesAtStore d others new) stays.same asks))
+keeps disk old new (Answered command (Ok (reply.Taken revision)) ∷ others) before (next, inr (still, inr commits), asks) =
     let answered : Result Reply Refusal = Ok (reply.Taken revision) in
     let goes_on : has_failed next ≡ false = not_true (has_failed next) (λ fails. let no_error = commits.fails.0 fails in absurd cc) in
     after_commit disk old next new command others before answered commits
     (commits.state ∙ sym (added disk old next new command others before answered commits))
     (keeps disk next new others (works_next old next command answered before (inr (still, inr commits)) goes_on) asks)
-keeps disk old new ((command, Ok (reply.Again revision)) ∷ others) before (next, inr (still, inr commits), asks) = absurd commits.told
-keeps disk old new ((command, Err refusal) ∷ others) before (next, inr (still, inr commits), asks) =
+keeps disk old new (Answered command (Ok (reply.Again revision)) ∷ others) before (next, inr (still, inr commits), asks) = absurd commits.told
+keeps disk old new (Answered command (Err refusal) ∷ others) before (next, inr (still, inr commits), asks) =
     ⊎_elim (λ (memory : refusal ≡ NoMemory).
     let goes_on : has_failed next ≡ false = not_true (has_failed next) (λ fails. let is = commits.fails.0 fails in absurd cc) in
     after_commit disk old next new command others before (Err refusal) commits commits.same_state
@@ -177,7 +186,7 @@ keeps disk old new ((command, Err refusal) ∷ others) before (next, inr (still,
     commits.told
 
 module _ {D : Type 0} (disk : Ghosts D) (old mid new : StoreDesk D disk) (answered others : List Exchange) (before : Works old)
-    (first : Asks AnswersFromStore old answered mid) (second : Asks AnswersFromStore mid others new) where
+    (first : Asks PassesAtStore old answered mid) (second : Asks PassesAtStore mid others new) where
   -- what a crash leaves since the first of the commands were answered, by whether the desk had failed then
   from_answer : (failed : Bool) → has_failed mid ≡ failed
       → LeavesOnly disk (HoldsFrom failed (state_of (store_of old)) answered others) (device_of (store_of mid)) (device_of (store_of new))
@@ -192,7 +201,7 @@ module _ {D : Type 0} (disk : Ghosts D) (old mid new : StoreDesk D disk) (answer
 
 -- whatever is asked, nothing acknowledged is lost
 pub keeps_all : {D : Type 0} (disk : Ghosts D) (old new : StoreDesk D disk) (asked : List Exchange)
-    → has_failed old ≡ false → store_has_failed (store_of old) ≡ false → IsOpen (store_of old) → Asks AnswersFromStore old asked new → KeepsAll disk old new asked
+    → has_failed old ≡ false → store_has_failed (store_of old) ≡ false → IsOpen (store_of old) → Asks PassesAtStore old asked new → KeepsAll disk old new asked
 keeps_all {D} disk old new asked works store_works is_open asks =
     let before : Works old = record { works = works; store_works = store_works; is_open = is_open } in
     let all = keeps disk old new asked before asks in
@@ -200,6 +209,6 @@ keeps_all {D} disk old new asked works store_works is_open asks =
       state = all.state;
       any_moment = all.any_moment;
       after = all.after;
-      each_answer = λ answered others parts. asks-parted AnswersFromStore answered others old new (subst (λ (l : List Exchange). Asks AnswersFromStore old l new) parts asks);
+      each_answer = λ answered others parts. asks-parted PassesAtStore answered others old new (subst (λ (l : List Exchange). Asks PassesAtStore old l new) parts asks);
       from_each_answer = λ answered others mid parts first second. from_answer disk old mid new answered others before first second (has_failed mid) refl;
     }

@@ -1,9 +1,4 @@
 mod Dumps
-mod Inserts
-mod Writes
-mod Replying
-mod Feeding
 mod Streams
-mod Whole
 mod Asking
 mod Worked

@@ -3,11 +3,12 @@ use Rattle.std.proofs.Common.{◌++◌, ℕ, List, [], Option, Some, None, Resul
 use Rattle.std.specs.Io.KnownBytes.{Appends, Consumes, Keeps}
 use Rattle.refusal.specs.declared.Refusal.{Refusal}
 use Rattle.revision.specs.Command.{Command}
-use Rattle.server.specs.declared.session.reply.Reply.{Reply}
-use Rattle.server.specs.Session.{Session}
-use Rattle.server.specs.Replies.{Feeds, Stops}
+use Rattle.session.specs.declared.reply.Reply.{Reply}
+use Rattle.session.specs.Session.{Session}
+use Rattle.session.specs.Exchange.{Exchange}
+use Rattle.session.specs.Replies.{Feeds, Stops}
 use Rattle.server.specs.Serving.{Serves, WasAsked}
-use Rattle.server.proofs.Feeding.{feeds-nothing, feeds-joined, asks-joined}
+use Rattle.session.proofs.CallerLemmas.{feeds-nothing, feeds-joined, asks-joined}
 
 pub keeps-same : (a : Option (List ℕ)) → Keeps a a
 keeps-same None = tt
@@ -43,33 +44,33 @@ appends-kept (Some x) None c text written kept = absurd written
 appends-kept (Some x) (Some y) None text written kept = absurd kept
 appends-kept (Some x) (Some y) (Some z) text written kept = kept ∙ written
 
-module _ {D : Type 0} (gives : D → Command → Result Reply Refusal → D → Type 0) where
-  pub feeds-kept : (piece : List ℕ) (old new : Session) (d e : D) (o p q : Option (List ℕ)) → Feeds gives old piece new d e o p → Keeps p q → Feeds gives old piece new d e o q
+module _ {D : Type 0} (does : D → Exchange → D → Type 0) where
+  pub feeds-kept : (piece : List ℕ) (old new : Session) (d e : D) (o p q : Option (List ℕ)) → Feeds does old piece new d e o p → Keeps p q → Feeds does old piece new d e o q
   feeds-kept piece old new d e o p q fed kept =
       record { asked = fed.asked; text = fed.text; replies = fed.replies; asks = fed.asks; written = appends-kept o p q fed.text fed.written kept }
 
-  pub serves-nothing : (s : Session) (d : D) (i o : Option (List ℕ)) → Serves gives s s d d i i o o
-  serves-nothing s d i o = record { bytes = []; consumed = consumes-nothing i; fed = feeds-nothing gives s d o }
+  pub serves-nothing : (s : Session) (d : D) (i o : Option (List ℕ)) → Serves does s s d d i i o o
+  serves-nothing s d i o = record { bytes = []; consumed = consumes-nothing i; fed = feeds-nothing does s d o }
 
   pub serves-joined : (old mid new : Session) (d e f : D) (i j k o p q : Option (List ℕ))
-      → Serves gives old mid d e i j o p → Serves gives mid new e f j k p q → Serves gives old new d f i k o q
+      → Serves does old mid d e i j o p → Serves does mid new e f j k p q → Serves does old new d f i k o q
   serves-joined old mid new d e f i j k o p q first second = record {
     bytes = first.bytes ++ second.bytes;
     consumed = consumes-both i j k first.bytes second.bytes first.consumed second.consumed;
-    fed = feeds-joined gives first.bytes second.bytes old mid new d e f o p q first.fed second.fed;
+    fed = feeds-joined does first.bytes second.bytes old mid new d e f o p q first.fed second.fed;
   }
 
   -- what was asked, however it ended
-  pub asked-nothing : (d : D) → WasAsked gives d d
+  pub asked-nothing : (d : D) → WasAsked does d d
   asked-nothing d = ([], refl)
 
-  pub asked-joined : (d e f : D) → WasAsked gives d e → WasAsked gives e f → WasAsked gives d f
-  asked-joined d e f first second = (first.0 ++ second.0, asks-joined gives first.0 second.0 d e f first.1 second.1)
+  pub asked-joined : (d e f : D) → WasAsked does d e → WasAsked does e f → WasAsked does d f
+  asked-joined d e f first second = (first.0 ++ second.0, asks-joined does first.0 second.0 d e f first.1 second.1)
 
-  by_end : (old : Session) (piece : List ℕ) (new : Session) (d e : D) (ended : Bool) → old.ended ≡ ended → (old.ended ≡ true → e ≡ d) → (old.ended ≡ false → Stops gives old piece new d e) → WasAsked gives d e
+  by_end : (old : Session) (piece : List ℕ) (new : Session) (d e : D) (ended : Bool) → old.ended ≡ ended → (old.ended ≡ true → e ≡ d) → (old.ended ≡ false → Stops does old piece new d e) → WasAsked does d e
   by_end old piece new d e true is idle stops = ([], idle is)
   by_end old piece new d e false is idle stops = let stopped = stops is in (stopped.asked, stopped.asks)
 
   -- a piece whose feeding failed, in a session that had ended or not
-  pub asked-stopped : (old : Session) (piece : List ℕ) (new : Session) (d e : D) → (old.ended ≡ true → e ≡ d) → (old.ended ≡ false → Stops gives old piece new d e) → WasAsked gives d e
+  pub asked-stopped : (old : Session) (piece : List ℕ) (new : Session) (d e : D) → (old.ended ≡ true → e ≡ d) → (old.ended ≡ false → Stops does old piece new d e) → WasAsked does d e
   asked-stopped old piece new d e idle stops = by_end old piece new d e old.ended refl idle stops

@@ -5,15 +5,16 @@ use Rattle.disk.specs.Crash.{LeavesOnly, MayLeaveNow}
 use Rattle.refusal.specs.declared.Refusal.{Refusal}
 use Rattle.refusal.specs.declared.Refusal.TheVariants.{StoreFailed}
 use Rattle.revision.specs.Command.{Command, Taken}
-use Rattle.revision.specs.State.{State, folded}
+use Rattle.revision.specs.State.{State, fold}
 use Rattle.revision.specs.Acceptance.{Answer, Takes, Repeats, Refuses, answer}
 use Rattle.recovery.specs.Found.{FoundAs}
 use Rattle.recovery.specs.Open.{IsOpen, device_of, state_of, has_failed as store_has_failed}
-use Rattle.server.specs.declared.session.reply.Reply.{Reply}
-use Rattle.server.specs.declared.session.reply.Reply.TheVariants as reply
+use Rattle.session.specs.declared.reply.Reply.{Reply}
+use Rattle.session.specs.declared.reply.Reply.TheVariants as reply
 use Rattle.server.specs.declared.desk.StoreDesk.{StoreDesk}
-use Rattle.server.specs.Desk.{AnswersFromStore, store_of, has_failed}
-use Rattle.server.specs.Replies.{Exchange, Asks}
+use Rattle.server.specs.Desk.{PassesAtStore, store_of, has_failed}
+use Rattle.session.specs.Exchange.{Exchange, Answered, Shown}
+use Rattle.session.specs.Replies.{Asks}
 
 -- what an answer adds to the state
 abbrev pub added_by : Answer → List Taken
@@ -23,7 +24,7 @@ added_by (Refuses refusal) = []
 
 -- the state with what a command adds to it
 abbrev pub with_command : State → Command → State
-with_command state command = folded state (added_by (answer state command))
+with_command state command = fold state (added_by (answer state command))
 
 -- the state after a command and what was answered to it: what was answered as taken is in it
 abbrev pub state_with : State → Command → Result Reply Refusal → State
@@ -31,27 +32,30 @@ state_with state command (Ok (reply.Taken revision)) = with_command state comman
 state_with state command (Ok (reply.Again revision)) = state
 state_with state command (Err refusal) = state
 
--- the state after commands with their answers, in order
+-- the state after what passed between the desk and the session, in order: what is shown leaves it
 abbrev pub state_after : State → List Exchange → State
 state_after state [] = state
-state_after state (exchange ∷ others) = state_after (state_with state exchange.0 exchange.1) others
+state_after state (Answered command result ∷ others) = state_after (state_with state command result) others
+state_after state (Shown shown ∷ others) = state_after state others
 
 -- What a crash among the commands may leave: a content that stands for the state before the first, or for that with the
 -- first, or what a crash among the others may leave.
 abbrev pub MayHold : State → List Exchange → List ℕ → Type 0
 MayHold state [] content = FoundAs content state
-MayHold state (exchange ∷ others) content =
-    FoundAs content state ⊎ (FoundAs content (with_command state exchange.0)
-    ⊎ MayHold (state_with state exchange.0 exchange.1) others content)
+MayHold state (Answered command result ∷ others) content =
+    FoundAs content state ⊎ (FoundAs content (with_command state command)
+    ⊎ MayHold (state_with state command result) others content)
+MayHold state (Shown shown ∷ others) content = MayHold state others content
 
 -- What a crash after all of them may leave: a content that stands for the state with all that was answered as taken, and
 -- at most with the one command besides whose answer was that the store has failed.
 abbrev pub Holds : State → List Exchange → List ℕ → Type 0
 Holds state [] content = FoundAs content state
-Holds state (exchange ∷ others) content =
-    Holds (state_with state exchange.0 exchange.1) others content
-    ⊎ ((exchange.1 ≡ Err StoreFailed) × FoundAs content (with_command state exchange.0)
-    × (state_after (state_with state exchange.0 exchange.1) others ≡ state))
+Holds state (Answered command result ∷ others) content =
+    Holds (state_with state command result) others content
+    ⊎ ((result ≡ Err StoreFailed) × FoundAs content (with_command state command)
+    × (state_after (state_with state command result) others ≡ state))
+Holds state (Shown shown ∷ others) content = Holds state others content
 
 -- What a crash may leave from the moment on at which the first of the commands were answered, up to the end of the
 -- others, by whether the desk had failed at that moment. If not, the others began with the state after the first ones,
@@ -70,11 +74,11 @@ pub record KeepsAll {D : Type 0} (disk : Ghosts D) (old new : StoreDesk D disk) 
   -- Wherever the commands are parted, a desk stood between: it had answered the first of them, and the others were asked
   -- of it.
   pub each_answer : (answered others : List Exchange) → asked ≡ answered ++ others
-      → (mid : StoreDesk D disk) × Asks AnswersFromStore old answered mid × Asks AnswersFromStore mid others new
+      → (mid : StoreDesk D disk) × Asks PassesAtStore old answered mid × Asks PassesAtStore mid others new
   -- And whichever desk stood there, a crash at any moment from there on, up to the end, leaves all that was answered as
   -- taken by then.
   pub from_each_answer : (answered others : List Exchange) (mid : StoreDesk D disk) → asked ≡ answered ++ others
-      → Asks AnswersFromStore old answered mid → Asks AnswersFromStore mid others new
+      → Asks PassesAtStore old answered mid → Asks PassesAtStore mid others new
       → LeavesOnly disk (HoldsFrom (has_failed mid) (state_of (store_of old)) answered others)
       (device_of (store_of mid)) (device_of (store_of new))
 
@@ -83,4 +87,4 @@ abbrev pub AskedKeepsAll : {D : Type 0} → Ghosts D → Type 0
 AskedKeepsAll {D} disk =
     (old new : StoreDesk D disk) (asked : List Exchange)
     → has_failed old ≡ false → store_has_failed (store_of old) ≡ false → IsOpen (store_of old)
-    → Asks AnswersFromStore old asked new → KeepsAll disk old new asked
+    → Asks PassesAtStore old asked new → KeepsAll disk old new asked

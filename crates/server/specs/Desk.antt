@@ -1,17 +1,18 @@
 -- A desk that answers from a store: what it answers a command, and what that leaves.
-use Rattle.std.specs.Prelude.{◌≡◌, ◌⊎◌, ◌↔◌, Bool, true, false, [], ◌∷◌, Result, Ok, Err, OnOk, OnErr}
+use Rattle.std.specs.Prelude.{◌≡◌, ◌⊎◌, ◌↔◌, Bool, true, false, [], ◌∷◌, Some, Result, Ok, Err, OnOk, OnErr}
 use Rattle.disk.specs.declared.device.Disk.{Ghosts}
 use Rattle.disk.specs.Device.{Rose}
 use Rattle.disk.specs.Crash.{LeavesOnly}
 use Rattle.refusal.specs.declared.Refusal.{Refusal}
 use Rattle.refusal.specs.declared.Refusal.TheVariants.{NoMemory, StoreFailed}
 use Rattle.revision.specs.Command.{Command, Taken}
-use Rattle.revision.specs.State.{folded}
+use Rattle.revision.specs.State.{fold}
 use Rattle.revision.specs.Acceptance.{Answer, Takes, Repeats, Refuses, answer}
 use Rattle.recovery.specs.declared.store.Store.{Store}
 use Rattle.recovery.specs.Open.{IsOpen, IsWithOrWithout, device_of, state_of, has_room, has_failed as store_has_failed}
-use Rattle.server.specs.declared.session.reply.Reply.{Reply}
-use Rattle.server.specs.declared.session.reply.Reply.TheVariants as reply
+use Rattle.session.specs.declared.reply.Reply.{Reply}
+use Rattle.session.specs.declared.reply.Reply.TheVariants as reply
+use Rattle.session.specs.Exchange.{Exchange, Answered, Shown}
 use Rattle.server.specs.declared.desk.StoreDesk.{StoreDesk}
 
 -- What is answered where nothing is committed: it was taken before, it is refused, or memory ran out.
@@ -53,7 +54,7 @@ module _ {D : Type 0} {disk : Ghosts D} where
     pub due : answer (state_of (store_of old)) command ≡ Takes taken
     pub told : IsToldOf taken result
     -- what is acknowledged is in the store, and a refusal leaves the documents as they were
-    pub state : OnOk result (state_of (store_of new) ≡ folded (state_of (store_of old)) (taken ∷ []))
+    pub state : OnOk result (state_of (store_of new) ≡ fold (state_of (store_of old)) (taken ∷ []))
     pub same_state : OnErr result (state_of (store_of new) ≡ state_of (store_of old))
     pub room : OnOk result (has_room (store_of old) (taken ∷ []) ≡ true)
     pub works : OnOk result (store_has_failed (store_of new) ≡ false)
@@ -76,3 +77,9 @@ module _ {D : Type 0} {disk : Ghosts D} where
   AnswersFromStore old command result new =
       ((has_failed old ≡ true) × (result ≡ Err StoreFailed) × (new ≡ old))
       ⊎ ((has_failed old ≡ false) × (Stays old command result new ⊎ Commits old command result new))
+
+  -- What passes between such a desk and a session, and what that leaves: a command is answered from the store, and the state that
+  -- is shown is the store's.
+  abbrev pub PassesAtStore : StoreDesk D disk → Exchange → StoreDesk D disk → Type 0
+  PassesAtStore old (Answered command result) new = AnswersFromStore old command result new
+  PassesAtStore old (Shown shown) new = (shown ≡ Some (state_of (store_of old))) × (new ≡ old)

@@ -5,7 +5,7 @@ use Rattle.std.specs.Fmt.{decimal}
 use Rattle.delta.specs.Gaps.{End}
 use Rattle.delta.specs.Normal.{nf}
 use Rattle.algebra.specs.Text.{text_of}
-use Rattle.revision.specs.State.{DocumentRecord}
+use Rattle.revision.specs.State.{DocumentRecord, revision_of, units_of}
 
 -- two parts with one blank between them
 abbrev pub blank_between : List ℕ → List ℕ → List ℕ
@@ -17,7 +17,8 @@ line_of name revision floor text = blank_between name (blank_between (decimal re
 
 -- a document's line has the operations, `{"ops":[..]}`, that make it of the empty document
 abbrev pub document_line : DocumentRecord → List ℕ
-document_line document = line_of document.name document.revision document.floor (text_of (nf (End document.units)))
+document_line document =
+    line_of document.name (revision_of document) document.past.floor (text_of (nf (End (units_of document))))
 
 -- the lines of documents in order
 abbrev pub dump_of : List DocumentRecord → List ℕ

@@ -1,12 +1,4 @@
-pub mod Operations
-pub mod Message
-pub mod MessageView
-pub mod Line
-pub mod Request
-pub mod Reply
-pub mod Session
 pub mod Desk
-pub mod Replies
 pub mod Dump
 pub mod Deltas
 pub mod Serving

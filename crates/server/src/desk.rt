@@ -1,9 +1,9 @@
 //! A desk that answers from a store.
-use crate::session::{Desk, Reply};
 use disk::Disk;
 use recovery::Store;
 use refusal::Refusal;
-use revision::{Command, Plan, Taken};
+use revision::{Command, Plan, State, Taken};
+use session::{Desk, Reply};
 use std::alloc::Global;
 
 /// Answers each command when what it changes is on the device.
@@ -19,7 +19,7 @@ pub struct StoreDesk<D: Disk> {
 impl<D: Disk> StoreDesk<D> {
     ghost use Rattle.std.specs.Prelude.{◌≡◌, ◌↔◌, [], ◌∷◌, true, false, Err, OnOk, OnErr};
     ghost use Rattle.disk.specs.Crash.{LeavesOnly};
-    ghost use Rattle.revision.specs.State.{grows, folded};
+    ghost use Rattle.revision.specs.State.{grows, fold};
     ghost use Rattle.recovery.specs.Open.{IsOpen, IsWithOrWithout, device_of, state_of, has_room, has_failed as store_has_failed};
     ghost use Rattle.server.specs.Desk.{IsToldOf, FailsCommit, store_of, has_failed};
 
@@ -55,7 +55,7 @@ impl<D: Disk> StoreDesk<D> {
         requires grows { grows (state_of (store_of self.old)) taken ≡ true }
         ensures told { IsToldOf taken result }
         ensures state { OnOk result (state_of (store_of self.new)
-            ≡ folded (state_of (store_of self.old)) (taken ∷ [])) }
+            ≡ fold (state_of (store_of self.old)) (taken ∷ [])) }
         ensures same_state { OnErr result (state_of (store_of self.new) ≡ state_of (store_of self.old)) }
         ensures room { OnOk result (has_room (store_of self.old) (taken ∷ []) ≡ true) }
         ensures works { OnOk result (store_has_failed (store_of self.new) ≡ false) }
@@ -91,9 +91,9 @@ impl<D: Disk> StoreDesk<D> {
 }
 
 impl<D: Disk> Desk for StoreDesk<D> {
-    ghost use Rattle.server.specs.Desk.{AnswersFromStore};
+    ghost use Rattle.server.specs.Desk.{PassesAtStore};
 
-    ghost gives = { AnswersFromStore };
+    ghost does = { PassesAtStore };
 
     fn ask(&mut self, alloc: Global, command: &Command) -> Result<Reply, Refusal> {
         if self.failed {
@@ -103,5 +103,9 @@ impl<D: Disk> Desk for StoreDesk<D> {
             Plan::Taken(taken) => self.commit(alloc, taken),
             Plan::Again { rev } => Ok(Reply::Again { rev }),
         }
+    }
+
+    fn view<R, F: Drop + FnOnce(&State) -> R>(&mut self, read: F) -> Result<R, Refusal> {
+        Ok(read(self.store.state()))
     }
 }

@@ -3,15 +3,16 @@ ghost use Rattle.std.specs.Prelude.{◌≡◌, ◌⊎◌, ◌≤◌, ◌<◌, �
 ghost use Rattle.std.specs.Io.KnownBytes.{Consumes, IsAtEnd};
 ghost use Rattle.recovery.specs.Open.{IsOpen, has_failed as store_has_failed};
 ghost use Rattle.server.specs.Asked.{KeepsAll};
-ghost use Rattle.server.specs.Desk.{AnswersFromStore, store_of, has_failed};
-ghost use Rattle.server.specs.Replies.{Exchange, Asks, Feeds};
+ghost use Rattle.server.specs.Desk.{PassesAtStore, store_of, has_failed};
+ghost use Rattle.session.specs.Exchange.{Exchange};
+ghost use Rattle.session.specs.Replies.{Asks, Feeds};
 ghost use Rattle.server.specs.Serving.{Serves, IsServed, WasAsked};
 
 use crate::desk::StoreDesk;
 use crate::failure::Failure;
-use crate::session::{Desk, Session};
 use disk::Disk;
 use refusal::Refusal;
+use session::{Desk, Session};
 use std::alloc::Global;
 use std::io::{ErrorKind, Read, Write};
 
@@ -27,15 +28,15 @@ pub fn serve<D: Disk, I: Read, O: Write>(
     output: &mut O,
 ) -> Result<(), Failure>
     // What is written is what comes of all the input, with the answers of the desk.
-    ensures served { OnOk result (IsServed AnswersFromStore desk.old desk.new
+    ensures served { OnOk result (IsServed PassesAtStore desk.old desk.new
         (I.remaining input.old) (I.remaining input.new) (O.contents output.old) (O.contents output.new)) }
     // Whatever ends it: the desk was asked commands one after another, and a crash at any moment, or afterwards, leaves
     // all that was acknowledged before it.
     ensures keeps { has_failed desk.old ≡ false → store_has_failed (store_of desk.old) ≡ false → IsOpen (store_of desk.old)
-        → (asked : List Exchange) × Asks AnswersFromStore desk.old asked desk.new × KeepsAll ⟦<D as Disk>⟧ desk.old desk.new asked }
+        → (asked : List Exchange) × Asks PassesAtStore desk.old asked desk.new × KeepsAll ⟦<D as Disk>⟧ desk.old desk.new asked }
     ensures works { OnOk result (has_failed desk.new ≡ false) }
     ensures failed { IsErrOf result (Failure.Refused Refusal.StoreFailed) → (has_failed desk.new ≡ true)
-        × IsServed AnswersFromStore desk.old desk.new
+        × IsServed PassesAtStore desk.old desk.new
         (I.remaining input.old) (I.remaining input.new) (O.contents output.old) (O.contents output.new) }
     ensures no_memory { IsErrOf result (Failure.Refused Refusal.NoMemory) → (desk.new ≡ desk.old)
         × (input.new ≡ input.old) × (output.new ≡ output.old) }
@@ -58,10 +59,10 @@ fn serve_all<K: Desk, I: Read, O: Write>(
     input: &mut I,
     output: &mut O,
 ) -> Result<(), Failure>
-    ensures served { OnOk result (Serves K.gives session.old session.new desk.old desk.new
+    ensures served { OnOk result (Serves K.does session.old session.new desk.old desk.new
         (I.remaining input.old) (I.remaining input.new) (O.contents output.old) (O.contents output.new)) }
     ensures at_end { OnOk result (IsAtEnd (I.remaining input.new)) }
-    ensures asked { WasAsked K.gives desk.old desk.new }
+    ensures asked { WasAsked K.does desk.old desk.new }
     ensures only { IfErr result (λ e. e ≡ Failure.Stream) }
 {
     'pieces: for _ in 0..u64::MAX {
@@ -80,10 +81,10 @@ fn serve_piece<K: Desk, I: Read, O: Write>(
     input: &mut I,
     output: &mut O,
 ) -> Result<bool, Failure>
-    ensures served { OnOk result (Serves K.gives session.old session.new desk.old desk.new
+    ensures served { OnOk result (Serves K.does session.old session.new desk.old desk.new
         (I.remaining input.old) (I.remaining input.new) (O.contents output.old) (O.contents output.new)) }
     ensures at_end { IfOk result (λ went_on. went_on ≡ false → IsAtEnd (I.remaining input.new)) }
-    ensures asked { WasAsked K.gives desk.old desk.new }
+    ensures asked { WasAsked K.does desk.old desk.new }
     ensures only { IfErr result (λ e. e ≡ Failure.Stream) }
 {
     let mut piece = [0; PIECE];
@@ -118,9 +119,9 @@ fn feed_lines<K: Desk, O: Write>(
     piece: &[u8],
     output: &mut O,
 ) -> Result<(), Failure>
-    ensures fed { OnOk result (Feeds K.gives session.old piece.now session.new desk.old desk.new
+    ensures fed { OnOk result (Feeds K.does session.old piece.now session.new desk.old desk.new
         (O.contents output.old) (O.contents output.new)) }
-    ensures asked { WasAsked K.gives desk.old desk.new }
+    ensures asked { WasAsked K.does desk.old desk.new }
     ensures only { IfErr result (λ e. e ≡ Failure.Stream) }
 {
     let mut rest = piece;
@@ -139,9 +140,9 @@ fn feed_line<K: Desk, O: Write>(
     line: &[u8],
     output: &mut O,
 ) -> Result<(), Failure>
-    ensures fed { OnOk result (Feeds K.gives session.old line.now session.new desk.old desk.new
+    ensures fed { OnOk result (Feeds K.does session.old line.now session.new desk.old desk.new
         (O.contents output.old) (O.contents output.new)) }
-    ensures asked { WasAsked K.gives desk.old desk.new }
+    ensures asked { WasAsked K.does desk.old desk.new }
     ensures only { IfErr result (λ e. e ≡ Failure.Stream) }
 {
     let Ok(()) = session.feed(alloc, line, output, desk) else {

@@ -1,4 +1,5 @@
 mod deltas;
+mod edits;
 mod files;
 mod lines;
 mod refusals;

@@ -113,14 +113,14 @@ documents-agree all a b first second = record {
   revision = ap newest first.past.is ∙ (newest-from_floor all.past a.past.floor first.past.low first.past.high
       ∙ sym (ap newest second.past.is ∙ newest-from_floor all.past b.past.floor second.past.low second.past.high));
   content = λ i. record { units = units i };
-  sources = ap (λ p. Rattle.revision.specs.Whole.sources_at p (newest p)) first.past.is ∙ (sources-from_floor all.past a.past.floor first.past.low first.past.high
-      ∙ sym (ap (λ p. Rattle.revision.specs.Whole.sources_at p (newest p)) second.past.is ∙ sources-from_floor all.past b.past.floor second.past.low second.past.high));
+  sources = ap (λ p. Rattle.revision.specs.Past.sources_at p (newest p)) first.past.is ∙ (sources-from_floor all.past a.past.floor first.past.low first.past.high
+      ∙ sym (ap (λ p. Rattle.revision.specs.Past.sources_at p (newest p)) second.past.is ∙ sources-from_floor all.past b.past.floor second.past.low second.past.high));
   past = λ floor over other within. cuts-agree all.past a.past b.past floor first.past second.past over other;
 }
   where
-    units : (Rattle.revision.specs.Whole.content_at a.past (newest a.past)).units ≡ (Rattle.revision.specs.Whole.content_at b.past (newest b.past)).units
-    units = ap (λ p. (Rattle.revision.specs.Whole.content_at p (newest p)).units) first.past.is ∙ (units-from_floor all.past a.past.floor first.past.low first.past.high
-        ∙ sym (ap (λ p. (Rattle.revision.specs.Whole.content_at p (newest p)).units) second.past.is ∙ units-from_floor all.past b.past.floor second.past.low second.past.high))
+    units : (Rattle.revision.specs.Past.content_at a.past (newest a.past)).units ≡ (Rattle.revision.specs.Past.content_at b.past (newest b.past)).units
+    units = ap (λ p. (Rattle.revision.specs.Past.content_at p (newest p)).units) first.past.is ∙ (units-from_floor all.past a.past.floor first.past.low first.past.high
+        ∙ sym (ap (λ p. (Rattle.revision.specs.Past.content_at p (newest p)).units) second.past.is ∙ units-from_floor all.past b.past.floor second.past.low second.past.high))
 
 places-agree : (all a b : Option DocumentRecord) → CutOption all a → CutOption all b → PlacesAgree a b
 places-agree None None None first second = tt

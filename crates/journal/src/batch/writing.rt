@@ -1,5 +1,5 @@
 //! Writing: each part of the spelling has one function.
-ghost use Rattle.std.specs.Prelude.{◌≡◌, ◌≤◌, ◌<◌, ◌^◌, ◌++◌, length, option_map, OnOk, IfOk};
+ghost use Rattle.std.specs.Prelude.{◌≡◌, ◌-◌, ◌≤◌, ◌<◌, ◌^◌, ◌++◌, length, min, option_map, All, OnOk, IfOk};
 ghost use Rattle.std.specs.Int.{w16, w32, w64};
 ghost use Rattle.revision.specs.Command.{IsTaken};
 ghost use Rattle.journal.specs.Spelling as spelling;
@@ -12,6 +12,18 @@ mod values;
 pub use operations::write_delta;
 use revision::{Name, Taken};
 use std::alloc::{AllocError, Global};
+
+/// How many bytes a batch takes in the journal, 2^64 - 1 where it would be more. It takes no memory.
+pub fn batch_len(batch: &[Taken]) -> u64
+    ensures len { result ≡ min (batches.batch_width batch.now) (2 ^ 64 - 1) }
+    ensures taken { All IsTaken batch.now }
+{
+    let mut len: u64 = 4;
+    for taken in batch {
+        len = len.saturating_add(taken.width());
+    }
+    len
+}
 
 /// The spelling of a batch of 1 to 2^32 - 1 commands.
 pub fn encode_batch(alloc: Global, batch: &[Taken]) -> Result<Vec<u8>, AllocError>

@@ -2,7 +2,7 @@
 use Rattle.std.specs.Prelude.{◌≡◌, ℕ, ◌+◌, ◌*◌, ◌<◌, ◌≤◌, true, Option, List, length, take, drop}
 use Rattle.revision.specs.Command.{Taken}
 use Rattle.journal.specs.BatchSpelling.{IsBatch, batch}
-use Rattle.revision.specs.State.{State, folded, all_grow}
+use Rattle.revision.specs.State.{State, fold, all_grow}
 use Rattle.recovery.specs.declared.shape.Shape.{Shape}
 use Rattle.recovery.specs.declared.segments.Ring.{Ring}
 use Rattle.recovery.specs.declared.reading.RecoveredStore.{RecoveredStore}
@@ -40,7 +40,7 @@ pub record Continues (state : State) (body : List ℕ) (new : State) : Type 0 wh
   pub is_batch : IsBatch commands
   pub spelled : body ≡ batch commands
   pub grow : all_grow state commands ≡ true
-  pub fold : new ≡ folded state commands
+  pub is_fold : new ≡ fold state commands
 
 -- A content was read so: it has this shape, it stands for this state, and the ring fits its first slot.
 pub record IsReadAs (content : List ℕ) (recovered : RecoveredStore) : Type 0 where

@@ -124,7 +124,7 @@ const ROWS: [Row; 11] = [
 const NESTED: [(usize, &str); 2] = [(127, BAD_MESSAGE), (128, BAD_LINE)];
 
 /// A line behind hello, and its reply: the first refusal that holds.
-const REFUSED: [(&str, &str); 18] = [
+const REFUSED: [(&str, &str); 22] = [
     ("{\"do\":\"hello\",\"source\":\"a\"}\n", BAD_MESSAGE),
     ("{\"do\":\"hello\",\"source\":\"a b\"}\n", BAD_MESSAGE),
     ("{\"do\":1}\n", BAD_MESSAGE),
@@ -160,21 +160,34 @@ const REFUSED: [(&str, &str); 18] = [
         BAD_NAME,
     ),
     (
-        "{\"do\":\"create\",\"doc\":\"d\",\"n\":2,\"ops\":[{\"retain\":1}]}\n",
+        "{\"do\":\"create\",\"doc\":\"d\",\"n\":2,\"ops\":[{\"retain\":-1}]}\n",
         BAD_OPS,
     ),
     (
-        "{\"do\":\"create\",\"doc\":\"d\",\"n\":2,\"ops\":[{\"delete\":1}]}\n",
+        "{\"do\":\"create\",\"doc\":\"d\",\"n\":2,\"ops\":[{\"delete\":4294967296}]}\n",
         BAD_OPS,
     ),
     (
-        "{\"do\":\"create\",\"doc\":\"d\",\"n\":2,\"ops\":[{\"insert\":{\"image\":\"u\"}}]}\n",
+        "{\"do\":\"create\",\"doc\":\"d\",\"n\":2,\"ops\":[{\"insert\":{\"image\":\"u\",\"link\":\"v\"}}]}\n",
         BAD_OPS,
     ),
     (
-        "{\"do\":\"create\",\"doc\":\"d\",\"n\":2,\"ops\":[{\"insert\":\"z\",\"attributes\":{\"bold\":true}}]}\n",
+        "{\"do\":\"create\",\"doc\":\"d\",\"n\":2,\"ops\":[{\"insert\":\"z\",\"attributes\":{\"bold\":null}}]}\n",
         BAD_OPS,
     ),
+    (
+        "{\"do\":\"create\",\"doc\":\"d\",\"n\":1,\"ops\":[{\"delete\":1}]}\n",
+        "{\"code\":14,\"error\":\"PastEnd\"}\n",
+    ),
+    (
+        "{\"base\":9007199254740992,\"do\":\"edit\",\"doc\":\"\",\"n\":1,\"ops\":[]}\n",
+        BAD_MESSAGE,
+    ),
+    (
+        "{\"do\":\"undo\",\"doc\":\"d\",\"n\":1,\"ops\":[]}\n",
+        BAD_MESSAGE,
+    ),
+    ("{\"do\":\"fetch\",\"doc\":\"d/e\"}\n", BAD_NAME),
     (
         "{\"do\":\"create\",\"doc\":\"d\",\"n\":9007199254740991,\"ops\":[{\"insert\":\"abcdef\"}]}\n",
         "{\"code\":9,\"error\":\"Gap\"}\n",

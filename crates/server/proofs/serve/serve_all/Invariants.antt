@@ -4,5 +4,5 @@ use Rattle.server.proofs.serve.serve_all.Given as goal
 -- what comes of the pieces so far is written
 abbrev pub invariant-pieces : goal.invariant-pieces
 invariant-pieces g l =
-    Serves g.K.Desk.gives l.fn.session l.session l.fn.desk l.desk (g.I.Read.remaining l.fn.input) (g.I.Read.remaining l.input)
+    Serves g.K.Desk.does l.fn.session l.session l.fn.desk l.desk (g.I.Read.remaining l.fn.input) (g.I.Read.remaining l.input)
     (g.O.Write.contents l.fn.output) (g.O.Write.contents l.output)

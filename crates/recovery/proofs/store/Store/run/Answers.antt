@@ -1,7 +1,7 @@
 use Rattle.std.proofs.Common.{◌≡◌, ◌∙◌, ◌+◌, List, ℕ, take, drop, refl, sym, ap, subst, arith}
 use Rattle.disk.specs.Crash.{history_of}
 use Rattle.disk.proofs.CallerLemmas.{synced_leaves, begins, leaves_map, goes_on_run}
-use Rattle.revision.specs.State.{State, folded}
+use Rattle.revision.specs.State.{State, fold}
 use Rattle.recovery.specs.declared.run.StoreStep.{StoreStep}
 use Rattle.std.proofs.lemmas.List.{at_drop_more, take_all}
 use Rattle.recovery.specs.Found.{FoundAs}
@@ -43,13 +43,13 @@ loop-at-preserved g c =
     let now = c.loop-at.self.state in
     let steps = c.args.steps.now in
     let at = c.loop-at.at in
-    let state : c.commit.new.self.state ≡ folded now (batch_of step) = c.in_default.ensures.state ∙ ap (folded now) c.batch.ensures in
+    let state : c.commit.new.self.state ≡ fold now (batch_of step) = c.in_default.ensures.state ∙ ap (fold now) c.batch.ensures in
     record {
       rest =
-          ap (λ (s : State). state_after s (drop (at + 1) steps)) (state ∙ ap (λ (s : StoreStep). folded now (batch_of s)) c.index-steps-at.is)
+          ap (λ (s : State). state_after s (drop (at + 1) steps)) (state ∙ ap (λ (s : StoreStep). fold now (batch_of s)) c.index-steps-at.is)
           ∙ sym (at_drop_more (state_after now) steps at step c.loop-at-test.true) ∙ c.loop-at.invariant.rest;
       so_far =
-          state ∙ ap (λ (s : State). folded s (batch_of step)) c.loop-at.invariant.so_far
+          state ∙ ap (λ (s : State). fold s (batch_of step)) c.loop-at.invariant.so_far
           ∙ sym (state_after-more c.args.self.now.state steps at step c.loop-at-test.true c.index-steps-at.is);
       faults = c.in_default.ensures.good ∙ c.loop-at.invariant.faults;
       unfailed = λ unfailed. c.in_default.ensures.works;

@@ -5,22 +5,16 @@ use Rattle.revision.specs.declared.planning.Plan.{Plan}
 use Rattle.revision.specs.declared.planning.Plan.TheVariants as plans
 use Rattle.revision.specs.Command.{Taken}
 use Rattle.revision.specs.Planned.{Gives}
-use Rattle.revision.proofs.CallerLemmas.{planned_grows}
 use Rattle.server.proofs.desk.StoreDeskDesk.ask.Goals as goal
 
 -- what a plan takes is what is due
 planned_due : (plan : Plan) (due : Answer) (taken : Taken) → Gives (Ok plan) due → plan ≡ plans.Taken taken → due ≡ Takes taken
 planned_due plan due taken h is = rw is at h
 
-pub commit-requires-clause-grows : goal.commit-requires-clause-grows
-commit-requires-clause-grows g c =
-    let due = planned_due _ _ c.in-Taken.taken c.in_ok-taken.ensures c.in-Taken.is in
-    planned_grows (state_of c.args.self.now.store) c.args.command.now _ (ap (λ s. answer s c.args.command.now) (sym c.state.ensures) ∙ due)
-
 pub returns-in-Taken : goal.returns-in-Taken
 returns-in-Taken g c =
     let e = c.commit.ensures in
-    let due = planned_due _ _ c.in-Taken.taken c.in_ok-taken.ensures c.in-Taken.is in
+    let due = planned_due _ _ c.in-Taken.taken c.in_ok-taken.ensures.due c.in-Taken.is in
     inr (
       c.if-self.false,
       inr (record {

@@ -1,0 +1,11 @@
+pub mod Places
+pub mod Slots
+pub mod Numbering
+pub mod Tables
+pub mod Rings
+pub mod Appending
+pub mod Retiring
+pub mod OneTable
+pub mod Orders
+pub mod CallerLemmas
+pub mod Worked

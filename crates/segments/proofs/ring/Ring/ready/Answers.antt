@@ -1,0 +1,20 @@
+use Rattle.std.proofs.Common.{false, ◌≡◌, inl, rules}
+use Rattle.disk.specs.Crash.{history_of}
+use Rattle.disk.proofs.CallerLemmas.{begins, leaves_map}
+use Rattle.segments.specs.Ring.{fits_newest}
+use Rattle.segments.proofs.Rings.{same_ring}
+use Rattle.segments.proofs.Appending.{opening_ready}
+use Rattle.segments.proofs.ring.Ring.ready.Goals as goal
+
+pub returns-in-Some-clause-any_moment : goal.returns-in-Some-clause-any_moment
+returns-in-Some-clause-any_moment g c table synced fits = begins (history_of g.D.Disk c.args.disk.now) synced (inl (same_ring _ _ table fits))
+
+pub returns-in_err-area-clause-any_moment : goal.returns-in_err-area-clause-any_moment
+returns-in_err-area-clause-any_moment g c table synced fits =
+    let full : fits_newest c.args.self.now c.args.len ≡ false = search rules in
+    leaves_map (opening_ready _ c.args.self.now c.args.len table full) (c.open_next.ensures.any_moment table synced fits)
+
+pub returns-clause-any_moment : goal.returns-clause-any_moment
+returns-clause-any_moment g c table synced fits =
+    let full : fits_newest c.args.self.now c.args.len ≡ false = search rules in
+    leaves_map (opening_ready _ c.args.self.now c.args.len table full) (c.open_next.ensures.any_moment table synced fits)

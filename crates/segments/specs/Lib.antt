@@ -1,0 +1,7 @@
+pub mod Slot
+pub mod Numbers
+pub mod Table
+pub mod Order
+pub mod Ring
+pub mod Laws
+pub mod steps

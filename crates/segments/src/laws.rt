@@ -1,0 +1,16 @@
+//! What follows from the definitions of a table, as contracts of functions that do nothing. The laws stand in
+//! specs/Laws.antt, and the proofs of the layers above cite them as proofs/CallerLemmas.antt has them.
+ghost use Rattle.segments.specs.Laws as law;
+
+/// A content holds one table at most.
+pub fn one_table()
+    ensures { law.OneTable }
+{}
+
+/// What the calls of a ring do to the list of all bodies: opening a slot keeps it, an append adds one at its end, and
+/// retiring a segment takes the first ones away.
+pub fn bodies_in_order()
+    ensures opened { law.OpenedBodies }
+    ensures appended { law.AppendedBodies }
+    ensures retired { law.RetiredBodies }
+{}

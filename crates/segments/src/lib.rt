@@ -1,0 +1,36 @@
+//! The ring of slots that the journal's records go into.
+//!
+//! A slot holds nothing, or a segment: a number, and an area of records. To the layer above the crate promises which slot
+//! is opened next and under which number, that a body is appended behind the newest segment's, and what a crash at any
+//! moment of a call leaves of the table of slots. It knows bytes alone: what a body stands for is the layer's above. It
+//! stands on `journal` and `disk`.
+//!
+//! A caller, with its contract, which is proved as it stands:
+//!
+//! ```text
+//! ghost use Rattle.std.specs.Prelude.{◌≡◌, ◌+◌, ◌≤◌, [], ◌∷◌, Option, List, length};
+//! ghost use Rattle.disk.specs.Crash.{LeavesOnly};
+//! ghost use Rattle.segments.specs.Slot.{Segment};
+//! ghost use Rattle.segments.specs.Ring.{Fits, IsLeftByAppend, end_of, size_of};
+//!
+//! use disk::Disk;
+//! use refusal::Refusal;
+//! use segments::Ring;
+//! use std::alloc::Global;
+//!
+//! /// Appends one byte. A crash at any moment leaves the table before, with a slot opened for it, or with it.
+//! pub fn append_byte<D: Disk>(alloc: Global, ring: &mut Ring, disk: &mut D, byte: u8) -> Result<(), Refusal>
+//!     requires within { end_of ring.old ≤ length (D.seen disk.old) }
+//!     ensures any_moment { (table : List (Option Segment)) → D.unsynced disk.old ≡ [] → Fits (D.seen disk.old) ring.old table
+//!         → LeavesOnly ⟦<D as Disk>⟧ (IsLeftByAppend (D.seen disk.old) ring.old table (byte ∷ [])) disk.old disk.new }
+//! {
+//!     ring.append(alloc, disk, &[byte])
+//! }
+//! ```
+#![tactic(auto)]
+
+pub mod laws;
+mod numbers;
+mod ring;
+
+pub use ring::Ring;

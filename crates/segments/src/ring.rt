@@ -1,0 +1,248 @@
+//! The ring of slots, as it is known in memory.
+ghost use Rattle.std.specs.Prelude.{◌≡◌, ◌⊎◌, ◌↔◌, ℕ, ◌+◌, ◌-◌, ◌*◌, ◌^◌, ◌<◌, ◌≤◌, Option, Some, None, List, [], ◌∷◌, ◌++◌, set, true, false, length, OnOk, OnErr, IsErrOf, IfErr, IfOk, IfSome};
+ghost use Rattle.std.specs.Int.{w64, to_le_bytes};
+ghost use Rattle.std.specs.Option.{ForSome};
+ghost use Rattle.disk.specs.Calls.{HasOnlyWritten, CountsFaults, CountsFaultsAs};
+
+use crate::numbers::{next_slot, oldest_of_two};
+use disk::Disk;
+use journal::{Area, CLOSED, write_gated};
+use refusal::Refusal;
+use std::alloc::Global;
+
+/// How many bytes of a slot stand before its area: the gate and the segment's number.
+const HEAD_LEN: u64 = 9;
+
+/// The slots of a device, one behind another: where the first one lies, how many bytes each has, the number of each that
+/// is open, and the area of the newest segment.
+#[derive(Debug, Drop)]
+pub struct Ring {
+    at: u64,
+    size: u64,
+    numbers: Vec<Option<u64>>,
+    newest: Option<Area>,
+    ghost size_low: { 256 ≤ size },
+    ghost size_high: { size ≤ 16777216 },
+    ghost end: { at + length numbers.items * size < 2 ^ 62 },
+    ghost newest_begins: { ForSome newest (λ area. at ≤ area.at) },
+    ghost newest_ends: { ForSome newest (λ area. area.at + area.size ≤ at + length numbers.items * size) },
+}
+
+impl Ring {
+    ghost use Rattle.disk.specs.Crash.{LeavesOnly};
+    ghost use Rattle.journal.specs.Area.{Place};
+    ghost use Rattle.segments.specs.Slot.{Segment};
+    ghost use Rattle.segments.specs.Numbers.{IsFull, IsNext, IsOldest, open_count};
+    ghost use Rattle.segments.specs.Table.{slot_place, IsOpened, IsAppended, IsRetired};
+    ghost use Rattle.segments.specs.Ring.{at_of, size_of, known_numbers, end_of, fits_newest, Fits, FitsNow, SamePlaces, IsReady, IsLeftByOpening, IsLeftReady, IsLeftByAppend, IsLeftByRetiring};
+
+    /// Opens the next slot: the lowest one whose gate is closed, under the number one above the newest segment's, 1 where
+    /// none is open. `JournalFull` comes just where no slot is free, and makes no call of the device. After a `Fault`
+    /// the slot may be open or not, and the ring is as it was.
+    pub fn open_slot<D: Disk>(&mut self, disk: &mut D) -> Result<(), Refusal>
+        requires within { end_of self.old ≤ length (D.seen disk.old) }
+
+        ensures full { IsErrOf result Refusal.JournalFull ↔ IsFull (known_numbers self.old) }
+        ensures untouched { IsErrOf result Refusal.JournalFull → disk.new ≡ disk.old }
+        ensures only { IfErr result (λ e. (e ≡ Refusal.JournalFull) ⊎ (e ≡ Refusal.Fault)) }
+        ensures err { OnErr result (self.new ≡ self.old) }
+
+        // Which slot it takes, under which number.
+        ensures takes { OnOk result ((slot : ℕ) × (number : ℕ) × IsNext (known_numbers self.old) slot number
+            × (known_numbers self.new ≡ set (known_numbers self.old) slot (Some number))) }
+        ensures places { SamePlaces self.old self.new }
+
+        // Whatever the slots held: a crash at any moment leaves that, or that with the next slot open and empty.
+        ensures any_moment { (table : List (Option Segment)) → D.unsynced disk.old ≡ [] → Fits (D.seen disk.old) self.old table
+            → LeavesOnly ⟦<D as Disk>⟧ (IsLeftByOpening (D.seen disk.old) self.old table) disk.old disk.new }
+        ensures done { OnOk result ((table : List (Option Segment)) → Fits (D.seen disk.old) self.old table
+            → (after : List (Option Segment)) × IsOpened table after × FitsNow (D.seen disk.old) self.old (D.seen disk.new) self.new after) }
+        ensures synced { OnOk result (D.unsynced disk.new ≡ []) }
+
+        // Four calls of the device at most.
+        ensures calls { length (D.past disk.new) ≤ length (D.past disk.old) + 4 }
+        ensures only_written { HasOnlyWritten ⟦<D as Disk>⟧ disk.old disk.new }
+        ensures faults { CountsFaultsAs ⟦<D as Disk>⟧ Refusal.Fault result disk.old disk.new }
+    {
+        self.open_next(disk)?;
+        Ok(())
+    }
+
+    /// Appends a record with this body: to the newest segment, or, where it doesn't fit there, to one that is opened for
+    /// it. `JournalFull` comes just where no slot is free and it doesn't fit, and makes no call of the device. After
+    /// `NoMemory` a slot that was just opened stays open. After a `Fault` the body may be there or not.
+    pub fn append<D: Disk>(
+        &mut self,
+        alloc: Global,
+        disk: &mut D,
+        body: &[u8],
+    ) -> Result<(), Refusal>
+        requires within { end_of self.old ≤ length (D.seen disk.old) }
+        requires some { 0 < length body.now }
+        requires fits { length body.now + 15 ≤ size_of self.old }
+
+        ensures full { IsErrOf result Refusal.JournalFull ↔ (fits_newest self.old (length body.now) ≡ false) × IsFull (known_numbers self.old) }
+        ensures untouched { IsErrOf result Refusal.JournalFull → (disk.new ≡ disk.old) × (self.new ≡ self.old) }
+        ensures only { IfErr result (λ e. (e ≡ Refusal.JournalFull) ⊎ ((e ≡ Refusal.NoMemory) ⊎ (e ≡ Refusal.Fault))) }
+        ensures places { SamePlaces self.old self.new }
+
+        // Whatever the slots held: a crash at any moment leaves the table before, the one that the body is appended to, or
+        // that with the body.
+        ensures any_moment { (table : List (Option Segment)) → D.unsynced disk.old ≡ [] → Fits (D.seen disk.old) self.old table
+            → LeavesOnly ⟦<D as Disk>⟧ (IsLeftByAppend (D.seen disk.old) self.old table body.now) disk.old disk.new }
+        ensures done { OnOk result ((table : List (Option Segment)) → Fits (D.seen disk.old) self.old table
+            → (ready : List (Option Segment)) × IsReady self.old (length body.now) table ready
+            × (after : List (Option Segment)) × IsAppended ready body.now after
+            × FitsNow (D.seen disk.old) self.old (D.seen disk.new) self.new after) }
+        ensures synced { OnOk result (D.unsynced disk.new ≡ []) }
+        ensures given_up { IsErrOf result Refusal.NoMemory → (table : List (Option Segment)) → Fits (D.seen disk.old) self.old table
+            → (ready : List (Option Segment)) × IsReady self.old (length body.now) table ready
+            × FitsNow (D.seen disk.old) self.old (D.seen disk.new) self.new ready }
+        ensures still_synced { IsErrOf result Refusal.NoMemory → D.unsynced disk.old ≡ [] → D.unsynced disk.new ≡ [] }
+
+        // Four calls of the device at most, and four more where a slot is opened.
+        ensures calls { length (D.past disk.new) ≤ length (D.past disk.old) + 8 }
+        ensures calls_where_it_fits { fits_newest self.old (length body.now) ≡ true → length (D.past disk.new) ≤ length (D.past disk.old) + 4 }
+        ensures only_written { HasOnlyWritten ⟦<D as Disk>⟧ disk.old disk.new }
+        ensures faults { CountsFaultsAs ⟦<D as Disk>⟧ Refusal.Fault result disk.old disk.new }
+    {
+        let mut area = self.ready(disk, body.len() as u64)?;
+        area.append(alloc, disk, body)?;
+        self.newest = Some(area);
+        Ok(())
+    }
+
+    // The area that a body of so many bytes goes into: the newest segment's, or that of a slot which is opened for it.
+    fn ready<D: Disk>(&mut self, disk: &mut D, len: u64) -> Result<Area, Refusal>
+        requires within { end_of self.old ≤ length (D.seen disk.old) }
+        requires fits { len + 15 ≤ size_of self.old }
+
+        ensures full { IsErrOf result Refusal.JournalFull ↔ (fits_newest self.old len ≡ false) × IsFull (known_numbers self.old) }
+        ensures untouched { IsErrOf result Refusal.JournalFull → disk.new ≡ disk.old }
+        ensures only { IfErr result (λ e. (e ≡ Refusal.JournalFull) ⊎ (e ≡ Refusal.Fault)) }
+        ensures err { OnErr result (self.new ≡ self.old) }
+        ensures newest { IfOk result (λ area. (self.new.newest ≡ Some area) × (area.next + 6 + len ≤ area.size)) }
+        ensures kept { fits_newest self.old len ≡ true → (disk.new ≡ disk.old) × (self.new ≡ self.old) }
+        ensures places { SamePlaces self.old self.new }
+
+        ensures any_moment { (table : List (Option Segment)) → D.unsynced disk.old ≡ [] → Fits (D.seen disk.old) self.old table
+            → LeavesOnly ⟦<D as Disk>⟧ (IsLeftReady (D.seen disk.old) self.old len table) disk.old disk.new }
+        ensures done { OnOk result ((table : List (Option Segment)) → Fits (D.seen disk.old) self.old table
+            → (ready : List (Option Segment)) × IsReady self.old len table ready × FitsNow (D.seen disk.old) self.old (D.seen disk.new) self.new ready) }
+        ensures synced { OnOk result (D.unsynced disk.old ≡ [] → D.unsynced disk.new ≡ []) }
+
+        ensures calls { length (D.past disk.new) ≤ length (D.past disk.old) + 4 }
+        ensures only_written { HasOnlyWritten ⟦<D as Disk>⟧ disk.old disk.new }
+        ensures faults { CountsFaultsAs ⟦<D as Disk>⟧ Refusal.Fault result disk.old disk.new }
+    {
+        if let Some(area) = self.newest_with_room(len) {
+            return Ok(area);
+        }
+        let area = self.open_next(disk)?;
+        Ok(area)
+    }
+
+    // The newest segment's area, where a body of so many bytes fits into it.
+    fn newest_with_room(&self, len: u64) -> Option<Area>
+        requires { len < 2 ^ 62 }
+        ensures newest { IfSome result (λ area. self.now.newest ≡ Some area) }
+        ensures room { IfSome result (λ area. area.next + 6 + len ≤ area.size) }
+        ensures fits { IfSome result (λ _. fits_newest self.now len ≡ true) }
+        ensures no_room { result ≡ None → fits_newest self.now len ≡ false }
+    {
+        match self.newest {
+            Some(area) if area.has_room(len) => Some(area),
+            _ => None,
+        }
+    }
+
+    /// Retires the oldest segment: its slot is closed, and free from then on. `StillNeeded` comes just where fewer than
+    /// two slots are open, and makes no call of the device. After a `Fault` the slot may be open or not, and the ring is
+    /// as it was.
+    pub fn retire_oldest<D: Disk>(&mut self, disk: &mut D) -> Result<(), Refusal>
+        requires within { end_of self.old ≤ length (D.seen disk.old) }
+
+        ensures needed { IsErrOf result Refusal.StillNeeded ↔ (open_count (known_numbers self.old) < 2) }
+        ensures untouched { IsErrOf result Refusal.StillNeeded → disk.new ≡ disk.old }
+        ensures only { IfErr result (λ e. (e ≡ Refusal.StillNeeded) ⊎ (e ≡ Refusal.Fault)) }
+        ensures err { OnErr result (self.new ≡ self.old) }
+
+        // Which slot it closes.
+        ensures takes { OnOk result ((slot : ℕ) × (number : ℕ) × IsOldest (known_numbers self.old) slot number
+            × (known_numbers self.new ≡ set (known_numbers self.old) slot None)) }
+        ensures places { SamePlaces self.old self.new }
+
+        // Whatever the slots held: a crash at any moment leaves that, or that without the oldest segment.
+        ensures any_moment { (table : List (Option Segment)) → D.unsynced disk.old ≡ [] → Fits (D.seen disk.old) self.old table
+            → LeavesOnly ⟦<D as Disk>⟧ (IsLeftByRetiring (D.seen disk.old) self.old table) disk.old disk.new }
+        ensures done { OnOk result ((table : List (Option Segment)) → Fits (D.seen disk.old) self.old table
+            → (after : List (Option Segment)) × IsRetired table after × FitsNow (D.seen disk.old) self.old (D.seen disk.new) self.new after) }
+        ensures synced { OnOk result (D.unsynced disk.new ≡ []) }
+
+        // Two calls of the device at most.
+        ensures calls { length (D.past disk.new) ≤ length (D.past disk.old) + 2 }
+        ensures only_written { HasOnlyWritten ⟦<D as Disk>⟧ disk.old disk.new }
+        ensures faults { CountsFaultsAs ⟦<D as Disk>⟧ Refusal.Fault result disk.old disk.new }
+    {
+        let Some(slot) = oldest_of_two(&self.numbers) else {
+            return Err(Refusal::StillNeeded);
+        };
+        let place = self.place(slot);
+        disk.write_at(place, &[CLOSED])?;
+        disk.sync()?;
+        self.numbers[slot] = None;
+        Ok(())
+    }
+
+    // The area of the slot that was opened.
+    fn open_next<D: Disk>(&mut self, disk: &mut D) -> Result<Area, Refusal>
+        requires within { end_of self.old ≤ length (D.seen disk.old) }
+
+        ensures full { IsErrOf result Refusal.JournalFull ↔ IsFull (known_numbers self.old) }
+        ensures untouched { IsErrOf result Refusal.JournalFull → disk.new ≡ disk.old }
+        ensures only { IfErr result (λ e. (e ≡ Refusal.JournalFull) ⊎ (e ≡ Refusal.Fault)) }
+        ensures err { OnErr result (self.new ≡ self.old) }
+        ensures newest { IfOk result (λ area. (self.new.newest ≡ Some area) × ((area.next ≡ 0) × (area.size ≡ self.old.size - 9))) }
+
+        ensures takes { OnOk result ((slot : ℕ) × (number : ℕ) × IsNext (known_numbers self.old) slot number
+            × (known_numbers self.new ≡ set (known_numbers self.old) slot (Some number))) }
+        ensures places { SamePlaces self.old self.new }
+
+        ensures any_moment { (table : List (Option Segment)) → D.unsynced disk.old ≡ [] → Fits (D.seen disk.old) self.old table
+            → LeavesOnly ⟦<D as Disk>⟧ (IsLeftByOpening (D.seen disk.old) self.old table) disk.old disk.new }
+        ensures done { OnOk result ((table : List (Option Segment)) → Fits (D.seen disk.old) self.old table
+            → (after : List (Option Segment)) × IsOpened table after × FitsNow (D.seen disk.old) self.old (D.seen disk.new) self.new after) }
+        ensures synced { OnOk result (D.unsynced disk.new ≡ []) }
+
+        ensures calls { length (D.past disk.new) ≤ length (D.past disk.old) + 4 }
+        ensures only_written { HasOnlyWritten ⟦<D as Disk>⟧ disk.old disk.new }
+        ensures faults { CountsFaultsAs ⟦<D as Disk>⟧ Refusal.Fault result disk.old disk.new }
+    {
+        let Some((slot, number)) = next_slot(&self.numbers) else {
+            return Err(Refusal::JournalFull);
+        };
+        let place = self.place(slot);
+        write_gated(disk, place, &head(number))?;
+        let area = Area::empty(place + HEAD_LEN, self.size - HEAD_LEN);
+        self.numbers[slot] = Some(number);
+        self.newest = Some(area);
+        Ok(area)
+    }
+
+    // Where a slot begins.
+    fn place(&self, slot: usize) -> u64
+        requires { slot < length (known_numbers self.now) }
+        ensures place { result ≡ slot_place (at_of self.now) (size_of self.now) slot }
+        ensures inside { result + size_of self.now ≤ end_of self.now }
+    {
+        self.at + slot as u64 * self.size
+    }
+}
+
+// What stands behind the gate of a slot that is opened: the segment's number, and the closed gate of the first record.
+fn head(number: u64) -> [u8; 9]
+    ensures { result ≡ to_le_bytes w64 number ++ 0 ∷ [] }
+{
+    let [a, b, c, d, e, f, g, h] = number.to_le_bytes();
+    [a, b, c, d, e, f, g, h, CLOSED]
+}

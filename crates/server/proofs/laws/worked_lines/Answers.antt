@@ -1,5 +1,0 @@
-use Rattle.server.proofs.Worked as worked
-use Rattle.server.proofs.laws.worked_lines.Goals as goal
-
-pub returns : goal.returns
-returns c = record { hello = worked.hello; taken = worked.taken; again = worked.again; exists = worked.exists; printed = worked.printed }

@@ -1,9 +1,0 @@
--- A message of the program as what it asks for.
-use Rattle.serde_json.specs.View.{items_view}
-use Rattle.server.specs.declared.session.message.Message as program
-use Rattle.server.specs.declared.session.message.Message.TheVariants as variants
-use Rattle.server.specs.Message.{Message, Hello, Create}
-
-abbrev pub message_view : program.Message → Message
-message_view (variants.Hello source) = Hello source.now
-message_view (variants.Create doc number operations) = Create doc.now number (items_view operations.now)

@@ -1,0 +1,89 @@
+-- What is written over a state alone.
+use Rattle.std.proofs.Common.{◌≡◌, ◌++◌, List, ℕ, [], ◌∷◌, Option, Some, refl, sym, ap, subst, ◌∙◌, inl, inr, append_assoc, append-nil}
+use Rattle.refusal.specs.declared.Refusal.TheVariants.{NoMemory}
+use Rattle.revision.specs.State.{State}
+use Rattle.revision.specs.Acceptance.{decide}
+use Rattle.session.specs.Exchange.{Exchange}
+use Rattle.session.specs.Reads.{shown_line}
+use Rattle.session.specs.Reply.{refusal_line}
+use Rattle.session.specs.Session.{Session}
+use Rattle.session.specs.Replies.{answer_line, IsLine, IsReplied, Greeted, Asked, WasRead, Refused, NotTaken, TakesByte, LineContinues, LineOverflows, LineEnds, Replies, Asks}
+use Rattle.session.specs.Alone.{answered, Alone, Conversation, Told, told, told_of, by_event, with_input_byte, replies, conversation_after, FindsMemory, of_session}
+
+-- memory is found in each of two texts where it is found in both
+finds_front : (front back : List ℕ) → FindsMemory (front ++ back) → FindsMemory front
+finds_front front back finds f b is =
+    finds f (b ++ back) (ap (λ (l : List ℕ). l ++ back) is ∙ append_assoc f (refusal_line NoMemory ++ b) back ∙ ap (λ (l : List ℕ). f ++ l) (append_assoc (refusal_line NoMemory) b back))
+
+finds_back : (front back : List ℕ) → FindsMemory (front ++ back) → FindsMemory back
+finds_back front back finds f b is =
+    finds (front ++ f) b (ap (λ (l : List ℕ). front ++ l) is ∙ sym (append_assoc front f (refusal_line NoMemory ++ b)))
+
+-- a text with memory isn't NoMemory's line
+not_memory : (text : List ℕ) → FindsMemory text → text ≡ refusal_line NoMemory → ⊥
+not_memory text finds is = finds [] [] (is ∙ sym (append-nil (refusal_line NoMemory)))
+
+-- so it is the line that is due
+due_line : (due text : List ℕ) → FindsMemory text → IsLine due text → text ≡ due
+due_line due text finds (inl is) = is
+due_line due text finds (inr memory) = absurd (not_memory text finds memory)
+
+-- what is replied to a line
+replied : (source : Option (List ℕ)) (line : List ℕ) (asked : List Exchange) (source' : Option (List ℕ)) (text : List ℕ) (state after : State)
+    → IsReplied source line asked source' text → Asks Alone state asked after → FindsMemory text
+    → told_of source state line ≡ record { text = text; source = source'; state = after }
+replied source line asked source' text state after (Greeted name is) same finds =
+    ap (told source state) is ∙ ap (λ (s : State). record { text = text; source = source'; state = s }) (sym same)
+replied source line asked source' text state after (Asked command answer t is reply) (next, inl (by_rule, to), same) finds =
+    let text_is : t ≡ answer_line command (answered (decide state command).0) = due_line _ t finds reply ∙ ap (answer_line command) by_rule in
+    ap (told source state) is
+    ∙ ap (λ (l : List ℕ). record { text = l; source = source; state = (decide state command).1 }) (sym text_is)
+    ∙ ap (λ (s : State). record { text = t; source = source; state = s }) (sym (same ∙ to))
+replied source line asked source' text state after (Asked command answer t is reply) (next, inr (memory, to), same) finds =
+    absurd (not_memory t finds (due_line _ t finds reply ∙ ap (answer_line command) memory))
+replied source line asked source' text state after (WasRead doc question shown t is reply) (next, (shows, to), same) finds =
+    let text_is : t ≡ shown_line doc question (Some state) = due_line _ t finds reply ∙ ap (shown_line doc question) shows in
+    ap (told source state) is
+    ∙ ap (λ (l : List ℕ). record { text = l; source = source; state = state }) (sym text_is)
+    ∙ ap (λ (s : State). record { text = t; source = source; state = s }) (sym (same ∙ to))
+replied source line asked source' text state after (Refused refusal is) same finds =
+    ap (told source state) is ∙ ap (λ (s : State). record { text = text; source = source'; state = s }) (sym same)
+replied source line asked source' text state after NotTaken same finds = absurd (not_memory text finds refl)
+
+-- what comes of a byte
+takes : (old new : Session) (byte : ℕ) (asked : List Exchange) (text : List ℕ) (state after : State)
+    → TakesByte old byte asked new text → Asks Alone state asked after → FindsMemory text
+    → with_input_byte (of_session old state) byte ≡ (text, of_session new after)
+takes old new byte asked text state after (LineContinues line is) same finds =
+    ap (by_event (of_session old state)) is
+    ∙ ap (λ (s : State). (text, of_session new s)) (sym same)
+takes old new byte asked text state after (LineOverflows line t is reply) same finds =
+    ap (by_event (of_session old state)) is
+    ∙ ap (λ (l : List ℕ). (l, of_session new state)) (sym (due_line _ t finds reply))
+    ∙ ap (λ (s : State). (t, of_session new s)) (sym same)
+takes old new byte asked text state after (LineEnds line a source t is reply) asks finds =
+    ap (by_event (of_session old state)) is
+    ∙ ap (λ (told : Told). (told.text, record { line = Some []; source = told.source; state = told.state })) (replied old.source line a source t state after reply asks finds)
+
+-- the exchanges of two pieces, one after the other
+parted : (a b : List Exchange) (old new : State) → Asks Alone old (a ++ b) new → (mid : State) × Asks Alone old a mid × Asks Alone mid b new
+parted [] b old new asks = (old, refl, asks)
+parted (exchange ∷ others) b old new (next, does, rest) =
+    let p = parted others b next new rest in
+    (p.0, (next, does, p.1), p.2)
+
+pub written : (old new : Session) (state after : State) (piece : List ℕ) (asked : List Exchange) (text : List ℕ)
+    → Replies old piece asked new text → Asks Alone state asked after → FindsMemory text
+    → (text ≡ replies (of_session old state) piece) × (of_session new after ≡ conversation_after (of_session old state) piece)
+written old new state after [] asked text (nothing, is, no_text) asks finds =
+    let same : after ≡ state = subst (λ (l : List Exchange). Asks Alone state l after) nothing asks in
+    (no_text, ap (λ (s : Session). of_session s after) is ∙ ap (of_session old) same)
+written old new state after (byte ∷ bytes) asked text (next, first, others, front, back, takes_it, rest, all, whole) asks finds =
+    let p = parted first others state after (subst (λ (l : List Exchange). Asks Alone state l after) all asks) in
+    let both : FindsMemory (front ++ back) = subst FindsMemory whole finds in
+    let step = takes old next byte first front state p.0 takes_it p.1 (finds_front front back both) in
+    let behind = written next new p.0 after bytes others back rest p.2 (finds_back front back both) in (
+      whole ∙ ap (λ (l : List ℕ). front ++ l) behind.0
+          ∙ ap (λ (r : List ℕ × Conversation). r.0 ++ replies r.1 bytes) (sym step),
+      behind.1 ∙ ap (λ (r : List ℕ × Conversation). conversation_after r.1 bytes) (sym step),
+    )

@@ -1,0 +1,172 @@
+-- What comes of a line and of a byte.
+use Rattle.std.specs.Prelude.{◌==◌}
+use Rattle.std.proofs.Common.{Bool, true, false, cond, length, ◌≡◌, ◌++◌, List, ℕ, [], ◌∷◌, Option, Some, None, Result, Ok, Err, IfSome, IfOk, OnOk, OnErr, refl, sym, ap, subst, arith, ◌∙◌, inl, inr, append-nil}
+use Rattle.std.specs.Io.KnownBytes.{Appends}
+use Rattle.refusal.specs.declared.Refusal.{Refusal}
+use Rattle.refusal.specs.declared.Refusal.TheVariants.{NoMemory, LineTooLong}
+use Rattle.revision.specs.Command.{Command}
+use Rattle.revision.specs.State.{State}
+use Rattle.session.specs.declared.question.Question.{Question}
+use Rattle.session.specs.declared.reply.Reply.{Reply}
+use Rattle.session.specs.declared.line.Event.{Event}
+use Rattle.session.specs.declared.line.Event.TheVariants.{More, TooLong, Complete}
+use Rattle.session.specs.declared.request.Request.{Request}
+use Rattle.session.specs.declared.request.Request.TheVariants.{Greet, Ask, Read}
+use Rattle.optext.specs.Answer.{IsAnswer}
+use Rattle.session.specs.Line.{Partial, with_byte}
+use Rattle.session.specs.Request.{request_of}
+use Rattle.session.specs.Reply.{greeting, line_of, refusal_line}
+use Rattle.session.specs.Reads.{shown_line}
+use Rattle.session.specs.Session.{Session}
+use Rattle.session.specs.Exchange.{Exchange, Answered, Shown}
+use Rattle.session.specs.Replies.{answer_line, IsLine, text_told, IsReplied, Greeted, Asked, WasRead, Refused, NotTaken, TakesByte, LineContinues, LineOverflows, LineEnds, Replies, Asks, Feeds, Stops}
+use Rattle.session.proofs.Writes.{appends-nothing}
+
+-- an answer that is no refusal is the one that is due
+due_ok : {T : Type 0} (due : Result T Refusal) (x : T) → IsAnswer due (Ok x) → due ≡ Ok x
+due_ok due x (inl is) = sym is
+due_ok due x (inr memory) = absurd cc
+
+-- a reply whose text is due if it finds memory
+pub told_line : {T E : Type 0} (bytes : T → List ℕ) (result : Result T E) (due : List ℕ) → IfOk result (λ t. bytes t ≡ due) → IsLine due (text_told bytes result)
+told_line bytes (Ok t) due is = inl is
+told_line bytes (Err e) due is = inr refl
+
+-- what is due of the bytes of a line is due of the line
+pub line_due : (o : Partial) (source known : Option (List ℕ)) (bytes : List ℕ) (r : Result Request Refusal) → IfSome o (λ line. bytes ≡ line)
+    → known ≡ source → IsAnswer (request_of known bytes) r → IfSome o (λ line. IsAnswer (request_of source line) r)
+line_due None source known bytes r is same due = tt
+line_due (Some line) source known bytes r is same due = rw (is, same) at due
+
+module _ {D : Type 0} (does : D → Exchange → D → Type 0) where
+  -- what respond owes of a line
+  abbrev pub Responds : Session → Session → D → D → List ℕ → List ℕ → Type 0
+  Responds old new desk desk' text line = (asked : List Exchange) × IsReplied old.source line asked new.source text × Asks does desk asked desk'
+
+  pub greeted : {T E : Type 0} (bytes : T → List ℕ) (o : Partial) (old new : Session) (name : List ℕ) (result : Result T E) (desk : D) (request : Request)
+      → request ≡ Greet name → IfSome o (λ line. IsAnswer (request_of old.source line) (Ok request))
+      → IfOk result (λ t. bytes t ≡ line_of greeting) → OnOk result (new ≡ record old { source = Some name }) → OnErr result (new ≡ old)
+      → IfSome o (Responds old new desk desk (text_told bytes result))
+  greeted bytes None old new name result desk request is due text presented unchanged = tt
+  greeted bytes (Some line) old new name (Ok t) desk request is due text presented unchanged =
+      ([], rw (presented, text) (Greeted name (due_ok _ _ due ∙ ap (λ (r : Request). Ok r) is)), refl)
+  greeted bytes (Some line) old new name (Err e) desk request is due text presented unchanged = ([], rw unchanged NotTaken, refl)
+
+  pub asked : (o : Partial) (old : Session) (command : Command) (text : List ℕ) (desk desk' : D) (request : Request)
+      → request ≡ Ask command → IfSome o (λ line. IsAnswer (request_of old.source line) (Ok request))
+      → ((answer : Result Reply Refusal) × does desk (Answered command answer) desk' × IsLine (answer_line command answer) text)
+      → IfSome o (Responds old old desk desk' text)
+  asked None old command text desk desk' request is due told = tt
+  asked (Some line) old command text desk desk' request is due told =
+      (Answered command told.0 ∷ [], Asked command told.0 text (due_ok _ _ due ∙ ap (λ (r : Request). Ok r) is) told.2, (desk', told.1, refl))
+
+  pub was_read : (o : Partial) (old : Session) (doc : List ℕ) (question : Question) (text : List ℕ) (desk desk' : D) (request : Request)
+      → request ≡ Read doc question → IfSome o (λ line. IsAnswer (request_of old.source line) (Ok request))
+      → ((shown : Option State) × does desk (Shown shown) desk' × IsLine (shown_line doc question shown) text)
+      → IfSome o (Responds old old desk desk' text)
+  was_read None old doc question text desk desk' request is due told = tt
+  was_read (Some line) old doc question text desk desk' request is due told =
+      (Shown told.0 ∷ [], WasRead doc question told.0 text (due_ok _ _ due ∙ ap (λ (r : Request). Ok r) is) told.2, (desk', told.1, refl))
+
+  refused_line : {T E : Type 0} (bytes : T → List ℕ) (old : Session) (line : List ℕ) (refusal : Refusal) (result : Result T E)
+      → IsAnswer (request_of old.source line) (Err refusal) → IfOk result (λ t. bytes t ≡ refusal_line refusal)
+      → IsReplied old.source line [] old.source (text_told bytes result)
+  refused_line bytes old line refusal (Ok t) (inl due) text = rw text (Refused refusal (sym due))
+  refused_line bytes old line refusal (Ok t) (inr memory) text =
+      let is : refusal ≡ NoMemory = cc in
+      rw (text, is) NotTaken
+  refused_line bytes old line refusal (Err e) due text = NotTaken
+
+  pub refused_any : {T E : Type 0} (bytes : T → List ℕ) (o : Partial) (old : Session) (refusal : Refusal) (result : Result T E) (desk : D)
+      → IfSome o (λ line. IsAnswer (request_of old.source line) (Err refusal)) → IfOk result (λ t. bytes t ≡ refusal_line refusal)
+      → IfSome o (Responds old old desk desk (text_told bytes result))
+  refused_any bytes None old refusal result desk due text = tt
+  refused_any bytes (Some line) old refusal result desk due text = ([], refused_line bytes old line refusal result due text, refl)
+
+-- a complete line is not one that is dropped
+some_line : (line : Partial) (byte : ℕ) → with_byte line byte ≡ (Complete, None) → ⊥
+some_line None byte h = let e : More ≡ Complete = ap (λ (p : Event × Partial). p.0) h in cc
+some_line (Some bytes) byte h = by_end (byte == 10) (length bytes == 65536) h where
+  by_end : (b c : Bool) → ◌≡◌ {A = Event × Partial} (cond b (Complete, Some bytes) (cond c (TooLong, None) (More, Some (bytes ++ byte ∷ [])))) (Complete, None) → ⊥
+  by_end true c h = let e : Some bytes ≡ None = ap (λ (p : Event × Partial). p.1) h in cc
+  by_end false true h = let e : TooLong ≡ Complete = ap (λ (p : Event × Partial). p.0) h in cc
+  by_end false false h = let e : More ≡ Complete = ap (λ (p : Event × Partial). p.0) h in cc
+
+-- a line that ends, with its bytes
+abbrev pair : Partial → Event × Partial
+pair line = (Complete, line)
+
+-- one byte as a piece
+pub one_byte : (old new : Session) (byte : ℕ) (asked : List Exchange) (text : List ℕ) → TakesByte old byte asked new text → Replies old (byte ∷ []) asked new text
+one_byte old new byte asked text takes = (new, asked, [], text, [], takes, (refl, refl, refl), sym (append-nil asked), sym (append-nil text))
+
+module _ {D : Type 0} (does : D → Exchange → D → Type 0) where
+  -- the line goes on
+  pub goes_on : (old new : Session) (byte : ℕ) (desk : D) (out : Option (List ℕ)) → with_byte old.line byte ≡ (More, new.line)
+      → new ≡ record old { line = new.line } → Feeds does old (byte ∷ []) new desk desk out out
+  goes_on old new byte desk out event others = record {
+    asked = [];
+    text = [];
+    replies = one_byte old new byte [] [] (subst (λ n. TakesByte old byte [] n []) (sym others) (LineContinues new.line event));
+    asks = refl;
+    written = appends-nothing out;
+  }
+
+  -- the line gets too long
+  overflows : (old new : Session) (byte : ℕ) (text : List ℕ) → with_byte old.line byte ≡ (TooLong, new.line)
+      → new ≡ record old { line = new.line } → IsLine (refusal_line LineTooLong) text → Replies old (byte ∷ []) [] new text
+  overflows old new byte text event others line =
+      one_byte old new byte [] text (subst (λ n. TakesByte old byte [] n text) (sym others) (LineOverflows new.line text event line))
+
+  pub overflow_fed : (old new sent : Session) (byte : ℕ) (text : List ℕ) (desk : D) (out out' : Option (List ℕ)) → with_byte old.line byte ≡ (TooLong, new.line)
+      → new ≡ record old { line = new.line } → IsLine (refusal_line LineTooLong) text → sent ≡ new → Appends out out' text → Feeds does old (byte ∷ []) sent desk desk out out'
+  overflow_fed old new sent byte text desk out out' event others line is written =
+      let replies : Replies old (byte ∷ []) [] sent text = subst (λ n. Replies old (byte ∷ []) [] n text) (sym is) (overflows old new byte text event others line) in
+      record { asked = []; text = text; replies = replies; asks = refl; written = written }
+
+  pub overflow_stopped : (old new ended : Session) (byte : ℕ) (text : List ℕ) (desk : D) → with_byte old.line byte ≡ (TooLong, new.line)
+      → new ≡ record old { line = new.line } → IsLine (refusal_line LineTooLong) text → ended ≡ record new { ended = true } → Stops does old (byte ∷ []) ended desk desk
+  overflow_stopped old new ended byte text desk event others line is = record {
+    count = 1;
+    within = omega arith;
+    asked = [];
+    text = text;
+    next = new;
+    replies = overflows old new byte text event others line;
+    ended = is;
+    asks = refl;
+  }
+
+  -- the line ends
+  module _ (old read answered new : Session) (byte : ℕ) (text : List ℕ) (desk desk' : D) (event : with_byte old.line byte ≡ (Complete, read.line))
+      (others : read ≡ record old { line = read.line }) (source : answered ≡ record read { source = answered.source })
+      (next : new ≡ record answered { line = Some [] }) where
+    new_session : new ≡ record old { line = Some []; source = answered.source }
+    new_session =
+        next ∙ ap (λ (b : Bool). record { line = Some []; source = answered.source; ended = b })
+        (ap (λ (s : Session). s.ended) source ∙ ap (λ (s : Session). s.ended) others)
+
+    ends_at : (line : Partial) → read.line ≡ line → IfSome line (Responds does read answered desk desk' text)
+        → (asked : List Exchange) × Replies old (byte ∷ []) asked new text × Asks does desk asked desk'
+    ends_at None none responds = absurd (some_line old.line byte (event ∙ ap (λ (l : Partial). pair l) none))
+    ends_at (Some line) is responds =
+        let reply : IsReplied old.source line responds.0 answered.source text =
+        subst (λ (s : Option (List ℕ)). IsReplied s line responds.0 answered.source text) (ap (λ (s : Session). s.source) others) responds.1 in (
+          responds.0,
+          one_byte old new byte responds.0 text
+              (subst (λ n. TakesByte old byte responds.0 n text) (sym new_session)
+              (LineEnds line responds.0 answered.source text (event ∙ ap (λ (l : Partial). pair l) is) reply)),
+          responds.2,
+        )
+
+    pub end_fed : (sent : Session) (out out' : Option (List ℕ)) → IfSome read.line (Responds does read answered desk desk' text) → sent ≡ new → Appends out out' text
+        → Feeds does old (byte ∷ []) sent desk desk' out out'
+    end_fed sent out out' responds is written =
+        let e = ends_at read.line refl responds in
+        record { asked = e.0; text = text; replies = subst (λ n. Replies old (byte ∷ []) e.0 n text) (sym is) e.1; asks = e.2; written = written }
+
+    pub end_stopped : (ended : Session) → IfSome read.line (Responds does read answered desk desk' text) → ended ≡ record new { ended = true }
+        → Stops does old (byte ∷ []) ended desk desk'
+    end_stopped ended responds is =
+        let e = ends_at read.line refl responds in
+        record { count = 1; within = omega arith; asked = e.0; text = text; next = new; replies = e.1; ended = is; asks = e.2 }

@@ -1,0 +1,28 @@
+use Rattle.std.specs.String.{string_bytes}
+use Rattle.session.proofs.Replying.{greeted, asked, was_read, refused_any}
+use Rattle.session.proofs.session.Session.respond.Goals as goal
+
+pub returns-in-Ok-Greet-clause-replied : goal.returns-in-Ok-Greet-clause-replied
+returns-in-Ok-Greet-clause-replied g c =
+    let session = c.args.self.now in
+    let greets = c.greet.ensures in
+    greeted g.D.Desk.does (λ t. string_bytes t) session.line session c.greet.new.self c.in-Ok-Greet.source c.greet.result c.args.desk.now
+    c.in-Ok-Greet.field-0 c.in-Ok-Greet.field-0-is c.in-Ok-Greet.ensures.due greets.greeted greets.presented greets.unchanged
+
+pub returns-in-Ok-Ask-clause-replied : goal.returns-in-Ok-Ask-clause-replied
+returns-in-Ok-Ask-clause-replied g c =
+    let session = c.args.self.now in
+    asked g.D.Desk.does session.line session c.in-Ok-Ask.command _ c.args.desk.now c.ask.new.desk
+    c.in-Ok-Ask.field-0 c.in-Ok-Ask.field-0-is c.in-Ok-Ask.ensures.due c.ask.ensures
+
+pub returns-in-Err-clause-replied : goal.returns-in-Err-clause-replied
+returns-in-Err-clause-replied g c =
+    let session = c.args.self.now in
+    refused_any g.D.Desk.does (λ t. string_bytes t) session.line session c.in-Err.refusal c.refusal_reply.result c.args.desk.now
+    c.in-Err.ensures.due c.refusal_reply.ensures
+
+pub returns-in-Ok-Read-clause-replied : goal.returns-in-Ok-Read-clause-replied
+returns-in-Ok-Read-clause-replied g c =
+    let session = c.args.self.now in
+    was_read g.D.Desk.does session.line session c.in-Ok-Read.name c.in-Ok-Read.question _ c.args.desk.now c.answer.new.desk
+    c.in-Ok-Read.field-0 c.in-Ok-Read.field-0-is c.in-Ok-Read.ensures.due c.answer.ensures

@@ -1,0 +1,84 @@
+-- A session over a state alone: what each line is replied, and what it does to the state.
+use Rattle.std.specs.Prelude.{◌≡◌, ◌⊎◌, ℕ, List, [], ◌∷◌, ◌++◌, Option, Some, Result, Ok, Err}
+use Rattle.refusal.specs.declared.Refusal.{Refusal}
+use Rattle.refusal.specs.declared.Refusal.TheVariants.{NoMemory, LineTooLong}
+use Rattle.revision.specs.State.{State}
+use Rattle.revision.specs.Acceptance as acceptance
+use Rattle.revision.specs.Acceptance.{TakenAt, AgainAt, Refused, decide}
+use Rattle.session.specs.declared.line.Event.{Event}
+use Rattle.session.specs.declared.line.Event.TheVariants.{TooLong, Complete}
+use Rattle.session.specs.declared.reply.Reply.{Reply}
+use Rattle.session.specs.declared.reply.Reply.TheVariants.{Taken, Again}
+use Rattle.session.specs.declared.request.Request.{Request}
+use Rattle.session.specs.declared.request.Request.TheVariants.{Greet, Ask, Read}
+use Rattle.session.specs.Exchange.{Exchange, Answered, Shown}
+use Rattle.session.specs.Reads.{read_line}
+use Rattle.session.specs.Line.{Partial, with_byte}
+use Rattle.session.specs.Reply.{greeting, line_of, refusal_line}
+use Rattle.session.specs.Replies.{answer_line}
+use Rattle.session.specs.Request.{request_of}
+use Rattle.session.specs.Session.{Session}
+
+-- the answer that a reply of the rule of acceptance is
+abbrev pub answered : acceptance.Reply → Result Reply Refusal
+answered (TakenAt revision) = Ok (Taken revision)
+answered (AgainAt revision) = Ok (Again revision)
+answered (Refused refusal) = Err refusal
+
+-- A state alone answers a command by the rule, or memory ran out and it is as it was; and it shows itself.
+abbrev pub Alone : State → Exchange → State → Type 0
+Alone old (Answered command result) new =
+    ((result ≡ answered (decide old command).0) × (new ≡ (decide old command).1)) ⊎ ((result ≡ Err NoMemory) × (new ≡ old))
+Alone old (Shown shown) new = (shown ≡ Some old) × (new ≡ old)
+
+-- a conversation: the line so far, the source that has presented itself, and the state
+pub record Conversation : Type 0 where
+  pub line : Partial
+  pub source : Option (List ℕ)
+  pub state : State
+
+-- a session over a state
+abbrev pub of_session : Session → State → Conversation
+of_session session state = record { line = session.line; source = session.source; state = state }
+
+-- What is replied, with the source and the state after it.
+pub record Told : Type 0 where
+  pub text : List ℕ
+  pub source : Option (List ℕ)
+  pub state : State
+
+-- what a request is replied
+abbrev pub told : Option (List ℕ) → State → Result Request Refusal → Told
+told source state (Ok (Greet name)) = record { text = line_of greeting; source = Some name; state = state }
+told source state (Ok (Ask command)) =
+    record { text = answer_line command (answered (decide state command).0); source = source; state = (decide state command).1 }
+told source state (Ok (Read doc question)) = record { text = read_line doc question state; source = source; state = state }
+told source state (Err refusal) = record { text = refusal_line refusal; source = source; state = state }
+
+-- what a line is replied
+abbrev pub told_of : Option (List ℕ) → State → List ℕ → Told
+told_of source state line = told source state (request_of source line)
+
+-- what comes of a byte: nothing as long as the line goes on, at its end the reply, and once LineTooLong where it gets too long
+abbrev pub by_event : Conversation → Event × Partial → List ℕ × Conversation
+by_event c (Complete, Some bytes) =
+    let t = told_of c.source c.state bytes in
+    (t.text, record { line = Some []; source = t.source; state = t.state })
+by_event c (TooLong, line) = (refusal_line LineTooLong, record c { line = line })
+by_event c (event, line) = ([], record c { line = line })
+
+abbrev pub with_input_byte : Conversation → ℕ → List ℕ × Conversation
+with_input_byte c byte = by_event c (with_byte c.line byte)
+
+-- What is replied to a piece of the input, and the conversation after it.
+abbrev pub replies : Conversation → List ℕ → List ℕ
+replies c [] = []
+replies c (byte ∷ bytes) = (with_input_byte c byte).0 ++ replies (with_input_byte c byte).1 bytes
+
+abbrev pub conversation_after : Conversation → List ℕ → Conversation
+conversation_after c [] = c
+conversation_after c (byte ∷ bytes) = conversation_after (with_input_byte c byte).1 bytes
+
+-- nowhere in a text stands the line of NoMemory
+abbrev pub FindsMemory : List ℕ → Type 0
+FindsMemory text = (front back : List ℕ) → text ≡ front ++ (refusal_line NoMemory ++ back) → ⊥

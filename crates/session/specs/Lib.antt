@@ -1,0 +1,10 @@
+pub mod Line
+pub mod Message
+pub mod MessageView
+pub mod Request
+pub mod Reply
+pub mod Reads
+pub mod Exchange
+pub mod Session
+pub mod Replies
+pub mod Alone

@@ -1,0 +1,91 @@
+-- What a session asks of its desk and writes upon its input.
+use Rattle.std.specs.Prelude.{◌≡◌, ◌⊎◌, ◌≤◌, ℕ, ◌++◌, true, List, [], ◌∷◌, length, take, Option, Some, Result, Ok, Err}
+use Rattle.std.specs.Io.KnownBytes.{Appends}
+use Rattle.refusal.specs.declared.Refusal.{Refusal}
+use Rattle.refusal.specs.declared.Refusal.TheVariants.{NoMemory, LineTooLong}
+use Rattle.revision.specs.Command.{Command}
+use Rattle.revision.specs.State.{State}
+use Rattle.session.specs.declared.question.Question.{Question}
+use Rattle.session.specs.declared.reply.Reply.{Reply}
+use Rattle.session.specs.declared.line.Event.TheVariants.{More, TooLong, Complete}
+use Rattle.session.specs.declared.request.Request.TheVariants.{Greet, Ask, Read}
+use Rattle.session.specs.Line.{Partial, with_byte}
+use Rattle.session.specs.Request.{request_of}
+use Rattle.session.specs.Reply.{greeting, acknowledgement, line_of, refusal_line}
+use Rattle.session.specs.Reads.{shown_line}
+use Rattle.session.specs.Exchange.{Exchange, Answered, Shown}
+use Rattle.session.specs.Session.{Session}
+
+-- the line of what the desk answered to a command
+abbrev pub answer_line : Command → Result Reply Refusal → List ℕ
+answer_line command (Ok reply) = line_of (acknowledgement command.name command.number reply)
+answer_line command (Err refusal) = refusal_line refusal
+
+-- the line that is due, or NoMemory's in its place
+abbrev pub IsLine : List ℕ → List ℕ → Type 0
+IsLine due text = (text ≡ due) ⊎ (text ≡ refusal_line NoMemory)
+
+-- the line of a reply, which may have found no memory
+abbrev pub text_told : {T E : Type 0} → (T → List ℕ) → Result T E → List ℕ
+text_told bytes (Ok text) = bytes text
+text_told bytes (Err error) = refusal_line NoMemory
+
+-- What comes of a line, in a session whose source has presented itself or not: what is asked of the desk, the source
+-- after it, and the reply.
+pub data IsReplied (source : Option (List ℕ)) (line : List ℕ) : List Exchange → Option (List ℕ) → List ℕ → Type 0 where
+  -- hello presents the source, and is greeted
+  Greeted : (name : List ℕ) → request_of source line ≡ Ok (Greet name) → IsReplied source line [] (Some name) (line_of greeting)
+  -- the desk is asked once, for the command that the line is, and the reply tells its answer
+  Asked : (command : Command) (answer : Result Reply Refusal) (text : List ℕ) → request_of source line ≡ Ok (Ask command)
+      → IsLine (answer_line command answer) text → IsReplied source line (Answered command answer ∷ []) source text
+  -- the desk shows its state once, and the reply tells of it what is asked for
+  WasRead : (doc : List ℕ) (question : Question) (shown : Option State) (text : List ℕ) → request_of source line ≡ Ok (Read doc question)
+      → IsLine (shown_line doc question shown) text → IsReplied source line (Shown shown ∷ []) source text
+  -- the first refusal that holds
+  Refused : (refusal : Refusal) → request_of source line ≡ Err refusal → IsReplied source line [] source (refusal_line refusal)
+  -- for want of memory the line is not taken
+  NotTaken : IsReplied source line [] source (refusal_line NoMemory)
+
+-- What comes of one byte of the input.
+pub data TakesByte (old : Session) (byte : ℕ) : List Exchange → Session → List ℕ → Type 0 where
+  -- the line goes on, or the rest of one that is too long is dropped
+  LineContinues : (line : Partial) → with_byte old.line byte ≡ (More, line) → TakesByte old byte [] (record old { line = line }) []
+  -- the line gets too long, which is replied at once
+  LineOverflows : (line : Partial) (text : List ℕ) → with_byte old.line byte ≡ (TooLong, line) → IsLine (refusal_line LineTooLong) text
+      → TakesByte old byte [] (record old { line = line }) text
+  -- the line ends, is replied, and the next one begins
+  LineEnds : (line : List ℕ) (asked : List Exchange) (source : Option (List ℕ)) (text : List ℕ) → with_byte old.line byte ≡ (Complete, Some line)
+      → IsReplied old.source line asked source text → TakesByte old byte asked (record old { line = Some []; source = source }) text
+
+-- what comes of a piece of the input, byte by byte
+abbrev pub Replies : Session → List ℕ → List Exchange → Session → List ℕ → Type 0
+Replies old [] asked new text = (asked ≡ []) × (new ≡ old) × (text ≡ [])
+Replies old (byte ∷ bytes) asked new text =
+    (next : Session) × (first : List Exchange) × (others : List Exchange) × (front : List ℕ) × (back : List ℕ)
+    × TakesByte old byte first next front × Replies next bytes others new back × (asked ≡ first ++ others) × (text ≡ front ++ back)
+
+-- by which exchanges a desk of old state comes to which new one
+module _ {D : Type 0} (does : D → Exchange → D → Type 0) where
+  -- these passed in order, and the desk came from its old state to the new one
+  abbrev pub Asks : D → List Exchange → D → Type 0
+  Asks old [] new = new ≡ old
+  Asks old (exchange ∷ others) new = (next : D) × does old exchange next × Asks next others new
+
+  -- A session has taken a piece of its input: what was written is what comes of it, with the answers of the desk.
+  pub record Feeds (old : Session) (piece : List ℕ) (new : Session) (desk : D) (desk' : D) (out out' : Option (List ℕ)) : Type 0 where
+    pub asked : List Exchange
+    pub text : List ℕ
+    pub replies : Replies old piece asked new text
+    pub asks : Asks desk asked desk'
+    pub written : Appends out out' text
+
+  -- A write failed within a piece: the desk was asked just for the front of the piece that was taken by then.
+  pub record Stops (old : Session) (piece : List ℕ) (new : Session) (desk desk' : D) : Type 0 where
+    pub count : ℕ
+    pub within : count ≤ length piece
+    pub asked : List Exchange
+    pub text : List ℕ
+    pub next : Session
+    pub replies : Replies old (take count piece) asked next text
+    pub ended : new ≡ record next { ended = true }
+    pub asks : Asks desk asked desk'

@@ -1,0 +1,27 @@
+//! What answers a session.
+use crate::reply::Reply;
+use refusal::Refusal;
+use revision::{Command, State};
+use std::alloc::Global;
+
+/// What answers the commands of a session, and shows it the documents.
+pub trait Desk {
+    ghost use Rattle.std.specs.Prelude.{◌≡◌, Option};
+    ghost use Rattle.std.specs.Fn.{FnOnceReturnsAt};
+    ghost use Rattle.revision.specs.State as state;
+    ghost use Rattle.session.specs.Exchange.{Exchange, Answered, Shown, IsReadOf};
+
+    /// At the first of two states of the desk this passes between it and the session, and it goes on to the second.
+    ghost does: { Self → Exchange → Self → Type 0 };
+
+    /// The answer to a command.
+    fn ask(&mut self, alloc: Global, command: &Command) -> Result<Reply, Refusal>
+        ensures { does self.old (Answered command.now result) self.new };
+
+    /// What is read of the state that the desk shows. Refused with `StoreFailed` where it can show none, and then nothing is
+    /// read.
+    fn view<R, F: Drop + FnOnce(&State) -> R>(&mut self, read: F) -> Result<R, Refusal>
+        requires { F.IsAlwaysCallable read }
+        ensures { (shown : Option state.State) × does self.old (Shown shown) self.new
+            × IsReadOf (λ state answer. FnOnceReturnsAt F.FnOnce read state answer) shown result };
+}

@@ -1,0 +1,93 @@
+//! The line that is being read.
+ghost use Rattle.std.specs.Prelude.{◌≡◌, IfOk, IfSome, Some, []};
+ghost use Rattle.session.specs.Line.{with_byte};
+
+use std::alloc::{AllocError, Global};
+use std::marker::Model;
+
+/// The longest line, in bytes without its end.
+const MAX_LINE: usize = 65_536;
+
+/// What a byte makes of a line.
+#[derive(Clone, Copy, Debug, PartialEq, Eq)]
+pub enum Event {
+    /// The line goes on, or the rest of one that is too long is dropped.
+    More,
+    /// This is the line's 65,537th byte: what follows of the line is dropped.
+    TooLong,
+    /// The line has ended.
+    Complete,
+}
+
+/// The bytes of a line so far, at most 65,536.
+#[derive(Drop)]
+pub struct Line {
+    bytes: Vec<u8>,
+    is_dropped: bool,
+}
+
+impl Model for Line {
+    ghost use Rattle.std.specs.Prelude.{◌≤◌, if◌then◌else◌, Some, None, length, vec_capacity};
+    ghost use Rattle.session.specs.Line.{Partial};
+
+    ghost Value = { Partial };
+
+    ghost view = { λ l. if l.is_dropped then None else Some l.bytes.items };
+
+    ghost invariant = { λ l. (length l.bytes.items ≤ 65536) × (65536 ≤ vec_capacity l.bytes) };
+}
+
+impl Line {
+    /// An empty line, with room for the longest.
+    pub fn new(alloc: Global) -> Result<Line, AllocError>
+        ensures { IfOk result (λ line. line ≡ Some []) }
+    {
+        Ok(Line {
+            bytes: Vec::with_capacity(alloc, MAX_LINE)?,
+            is_dropped: false,
+        })
+    }
+
+    /// Takes the next byte of the input. It needs no memory.
+    pub fn take(&mut self, byte: u8) -> Event
+        ensures { (result, self.new) ≡ with_byte self.old byte }
+    {
+        if byte == b'\n' {
+            return self.end();
+        }
+        if self.is_dropped {
+            return Event::More;
+        }
+        if self.bytes.len() == MAX_LINE {
+            self.is_dropped = true;
+            return Event::TooLong;
+        }
+        self.bytes.push(byte).unwrap();
+        Event::More
+    }
+
+    fn end(&mut self) -> Event
+        ensures { (result, self.new) ≡ with_byte self.old 10 }
+    {
+        if !self.is_dropped {
+            return Event::Complete;
+        }
+        self.clear();
+        Event::More
+    }
+
+    /// The bytes of a line that is not dropped.
+    pub fn bytes(&self) -> &[u8]
+        ensures { IfSome self.now (λ bytes. result.now ≡ bytes) }
+    {
+        &self.bytes
+    }
+
+    /// Begins the next line.
+    pub fn clear(&mut self)
+        ensures { self.new ≡ Some [] }
+    {
+        self.bytes.clear();
+        self.is_dropped = false;
+    }
+}

@@ -1,0 +1,75 @@
+//! A desk of a state alone.
+ghost use Rattle.std.specs.Prelude.{◌≡◌, ◌⊎◌, true, [], ◌∷◌, IfErr, IfOk, OnErr, OnOk};
+ghost use Rattle.revision.specs.State.{State, grows, grown};
+ghost use Rattle.session.specs.declared.reply.Reply.TheVariants as reply;
+
+use crate::desk::Desk;
+use crate::reply::Reply;
+use refusal::Refusal;
+use revision::{Command, Plan, State, Taken, laws};
+use std::alloc::Global;
+use std::marker::Model;
+
+/// Answers each command by the rule of acceptance, and shows the state that comes of all of them. It keeps nothing on a
+/// device.
+#[derive(Drop)]
+pub struct StateDesk {
+    state: State,
+}
+
+impl Model for StateDesk {
+    ghost use Rattle.revision.specs.State as spec;
+
+    ghost Value = { spec.State };
+
+    ghost view = { λ d. d.state };
+}
+
+impl StateDesk {
+    /// A desk of this state.
+    pub fn new(state: State) -> StateDesk
+        ensures { result ≡ state }
+    {
+        StateDesk { state }
+    }
+
+    /// Gives the state back.
+    pub fn into_state(self) -> State
+        ensures { result ≡ self }
+    {
+        let StateDesk { state } = self;
+        state
+    }
+
+    // Adds what is taken of a command, which continues the state. Refused for want of memory alone.
+    fn add(&mut self, alloc: Global, taken: Taken) -> Result<Reply, Refusal>
+        requires { grows self.old taken ≡ true }
+        ensures told { IfOk result (λ told. told ≡ reply.Taken taken.revision) }
+        ensures added { OnOk result (self.new ≡ grown self.old taken) }
+        ensures only { IfErr result (λ e. e ≡ Refusal.NoMemory) }
+        ensures unchanged { OnErr result (self.new ≡ self.old) }
+    {
+        let rev = taken.revision();
+        self.state.absorb_all(alloc, &[taken])?;
+        Ok(Reply::Taken { rev })
+    }
+}
+
+impl Desk for StateDesk {
+    ghost use Rattle.session.specs.Alone.{Alone};
+
+    ghost does = { λ old exchange new. Alone old exchange new };
+
+    fn ask(&mut self, alloc: Global, command: &Command) -> Result<Reply, Refusal> {
+        laws::taken_grows();
+        let _number = command.number();
+        match self.state.plan(alloc, command)? {
+            Plan::Taken(taken) => self.add(alloc, taken),
+            Plan::Again { rev } => Ok(Reply::Again { rev }),
+        }
+    }
+
+    fn view<R, F: Drop + FnOnce(&State) -> R>(&mut self, read: F) -> Result<R, Refusal> {
+        Ok(read(&self.state))
+    }
+}
