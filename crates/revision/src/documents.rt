@@ -1,5 +1,5 @@
 //! Documents with what is prepared to follow.
-ghost use Rattle.std.specs.Prelude.{◌≡◌, ◌⊎◌, ◌≤◌, ◌∷◌, ◌++◌, [], true, false, None, Some, ℕ, List, length, map, take, slice_get, bytes_eq, cond, option_map, IfOk, IfErr, OnOk, OnErr, IsErrOf, IsOkUnless};
+ghost use Rattle.std.specs.Prelude.{◌≡◌, ◌⊎◌, ◌≤◌, ◌∷◌, ◌++◌, [], true, false, None, Some, ℕ, List, length, map, take, slice_get, bytes_eq, ◌==◌, ◌&&◌, nat_lt, is_none, cond, option_map, IfOk, IfErr, OnOk, OnErr, IsErrOf, IsOkUnless};
 ghost use Rattle.std.specs.BTreeMap.{get_by_text};
 ghost use Rattle.revision.specs.ChangedAt.{changed_at, changed_at_all};
 ghost use Rattle.revision.specs.Documents.{unprepared};
@@ -78,10 +78,13 @@ impl Documents {
         ensures { option_map (λ p. (p.0, held p.1.now)) result ≡ find name.now 0 self.now.before.documents }
     {
         match self.names.number(name) {
-            Some(number) if (number as usize) < self.count => {
+            Some(number) => {
+                if number as usize >= self.count {
+                    return None;
+                }
                 Some((number, &self.documents[number as usize]))
             }
-            _ => None,
+            None => None,
         }
     }
 
@@ -134,10 +137,20 @@ impl Documents {
     fn has_room_for(&self, number: u32, name: &Name) -> bool
         ensures { result ≡ has_room self.now.after number (Some name.now) }
     {
+        self.is_next(number) && self.is_new(name)
+    }
+
+    fn is_next(&self, number: u32) -> bool
+        ensures { result ≡ ((number == length self.now.after.documents) && nat_lt (length self.now.after.documents) self.now.after.limits.docs) }
+    {
         let count = self.documents.len() as u64;
-        u64::from(number) == count
-            && count < u64::from(self.limits.docs())
-            && self.names.number(name).is_none()
+        u64::from(number) == count && count < u64::from(self.limits.docs())
+    }
+
+    fn is_new(&self, name: &Name) -> bool
+        ensures { result ≡ is_none (find name.now 0 self.now.after.documents) }
+    {
+        self.names.number(name).is_none()
     }
 
     /// Prepares commands in order. What it is refused with, and when, `prepare` says; then the first of them may be

@@ -47,8 +47,8 @@ invariant_of-self-2 c =
     let documents = c.self.inside.documents.items in
     let there = room_for c.self.inside.limits documents c.args.taken.now c.args.name.now c.document-number.result (room c) in
     let names : names_of c.push_named.new.documents.items ≡ names_of documents ++ c.args.name.now ∷ [] =
-      ap names_of (made c) ∙ map-append (λ (d : PendingDocument). d.name) documents _
-      ∙ ap (λ (d : PendingDocument). names_of documents ++ d.name ∷ []) c.in_ok-document.ensures.ok in
+    ap names_of (made c) ∙ map-append (λ (d : PendingDocument). d.name) documents _
+    ∙ ap (λ (d : PendingDocument). names_of documents ++ d.name ∷ []) c.in_ok-document.ensures.ok in
     let long : length c.push_named.new.documents.items ≡ length documents + 1 = ap length (made c) ∙ length-append documents _ in
     record {
       limits = c.self.invariant.limits;
@@ -79,4 +79,4 @@ returns-clause-grow c =
     let there = room_for c.self.inside.limits documents c.args.taken.now c.args.name.now c.document-number.result (room c) in
     ap (λ (p : PreparedState). grows p.after c.args.taken.now) (sym c.self.view_is)
     ∙ created_grows c.self.inside.limits documents c.args.taken.now c.args.name.now (sym c.document-number.ensures ∙ there.0) c.requires.name
-      (ap (λ n. has_room (state_by c.self.inside.limits documents) n (Some c.args.name.now)) (sym c.document-number.ensures) ∙ room c) c.in_ok-document.ensures.begins
+    (ap (λ n. has_room (state_by c.self.inside.limits documents) n (Some c.args.name.now)) (sym c.document-number.ensures) ∙ room c) c.in_ok-document.ensures.begins
