@@ -1,21 +1,17 @@
 -- The test of a change on a document, by what the document would weigh.
-use Rattle.std.proofs.Common.{inl, inr, ◌≡◌, ℕ, ◌+◌, ◌-◌, ◌*◌, ◌≤◌, ◌<◌, ◌^◌, ◌⊎◌, ◌↔◌, min, Bool, true, false, List, length, Result, Ok, Err, refl, sym, ap, subst, ◌∙◌, arith}
-use Rattle.std.specs.Prelude.{◌&&◌, not, nat_lt, nat_le}
+use Rattle.std.proofs.Common.{inl, inr, ◌≡◌, ℕ, ◌+◌, ◌-◌, ◌*◌, ◌≤◌, ◌<◌, ◌^◌, ◌⊎◌, ◌↔◌, min, Bool, true, false, List, length, Result, Ok, Err, refl, sym, ap, ◌∙◌, arith}
+use Rattle.std.specs.Prelude.{◌&&◌, not, nat_le}
 use Rattle.std.proofs.lemmas.Bool.Decides.{nat_tests}
 use Rattle.refusal.specs.declared.Refusal.{Refusal}
 use Rattle.refusal.specs.declared.Refusal.TheVariants.{PastEnd, CutsPair}
 use Rattle.delta.specs.Element.{Element}
 use Rattle.delta.specs.Operation.{Operation}
-use Rattle.delta.specs.Gaps.{counted, apply, units_below}
+use Rattle.delta.specs.Gaps.{counted}
 use Rattle.delta.specs.Places.{IsDefined}
 use Rattle.document.specs.Places.{Cuts}
-use Rattle.document.specs.Outcome.{IsAccepted}
 use Rattle.document.specs.Weight as document
-use Rattle.revision.specs.Command.{Taken}
-use Rattle.revision.specs.Sources.{Sources, count_of, with_last}
 use Rattle.revision.specs.Parting.{parts_pair}
-use Rattle.revision.specs.State.{Limits, reaches_past, weight_after}
-use Rattle.revision.specs.Pending.{is_kept}
+use Rattle.revision.specs.State.{reaches_past}
 use Rattle.revision.proofs.Room.{weight-some}
 use Rattle.revision.proofs.Told.{parts_told}
 

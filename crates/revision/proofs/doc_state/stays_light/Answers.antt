@@ -1,4 +1,4 @@
-use Rattle.std.proofs.Common.{ℕ, ◌≡◌, ◌+◌, ◌*◌, ◌≤◌, ◌<◌, ◌^◌, ◌↔◌, true, Err, Ok, List, length, min, ◌-◌, sym, ap, subst, ◌∙◌, arith}
+use Rattle.std.proofs.Common.{ℕ, ◌≡◌, ◌+◌, ◌*◌, ◌<◌, ◌^◌, ◌↔◌, Err, List, min, ◌-◌, sym, ap, subst, ◌∙◌, arith}
 use Rattle.std.specs.Prelude.{nat_le}
 use Rattle.refusal.specs.declared.Refusal.TheVariants.{PastEnd, CutsPair}
 use Rattle.delta.specs.Operation.{Operation}
@@ -7,7 +7,6 @@ use Rattle.delta.specs.Places.{IsDefined}
 use Rattle.document.specs.Places.{Cuts}
 use Rattle.document.specs.Weight as document
 use Rattle.revision.specs.Sources.{count_of, with_last}
-use Rattle.revision.specs.State.{weight_after}
 use Rattle.revision.proofs.Light.{reaches, whole, is_defined, no_cut, fails, light_sum, kept_is, light_short}
 use Rattle.revision.proofs.doc_state.stays_light.Goals as goal
 

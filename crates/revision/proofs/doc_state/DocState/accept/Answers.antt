@@ -1,4 +1,4 @@
-use Rattle.std.proofs.Common.{◌≡◌, ℕ, None, [], sym, ap, subst, ◌∙◌}
+use Rattle.std.proofs.Common.{None, [], sym, subst, ◌∙◌}
 use Rattle.revision.specs.Sources.{Table}
 use Rattle.revision.specs.Past.{Prepared, with_changes}
 use Rattle.revision.specs.Pending.{AreNextUnits, ComesOf}

@@ -1,6 +1,6 @@
 use Rattle.std.proofs.Common.{◌≡◌, ◌+◌, Some, ◌++◌, ◌∷◌, [], refl, sym, ap, ap₂, subst, ◌∙◌}
 use Rattle.delta.specs.Gaps.{counted, apply}
-use Rattle.revision.specs.Sources.{Table, with_last}
+use Rattle.revision.specs.Sources.{Table}
 use Rattle.revision.specs.Past.{Prepared, prepared_units, prepared_revision}
 use Rattle.revision.specs.State.{change_of}
 use Rattle.revision.specs.Pending.{PendingDocument, ComesOf}
