@@ -78,6 +78,7 @@ module _ (limits : Limits) (units : List Element) (sources : Sources) (asked : T
       by_end ends =
           let past : reaches_past asked.delta units ≡ true = ap (λ d. reaches_past d units) is.delta ∙ reaches delta units (past_end.0 (ap refused_with ends)) in
           rw (past, ends) refl
+
       by_cut : e ≡ CutsPair → take_on limits units sources asked ≡ Refuses e
       by_cut parted =
           let both = cuts.0 (ap refused_with parted) in
@@ -103,7 +104,7 @@ module _ (limits : Limits) (units : List Element) (sources : Sources) (asked : T
     after =
         let of_units : document.weight_of (apply units (counted asked.delta)) ≡ document.weight_of (apply units (counted delta)) = ap (λ d. document.weight_of (apply units (counted d))) is.delta in
         let of_sources : count_of (with_last asked.source asked.number asked.revision sources) ≡ count_of (with_last source asked.number asked.revision sources) =
-            ap (λ s. count_of (with_last s asked.number asked.revision sources)) is.source in
+        ap (λ s. count_of (with_last s asked.number asked.revision sources)) is.source in
         omega (arith, ok, counts asked.number asked.revision, times, plus, of_units, of_sources)
 
     pub too_heavy : limits.weight < sum → take_on limits units sources asked ≡ Refuses TooHeavy
@@ -122,7 +123,7 @@ module _ (limits : Limits) (units : List Element) (sources : Sources) (asked : T
     pub admitted : sum ≤ limits.weight → width ≤ limits.width → limits.width < 2 ^ 32 → take_on limits units sources asked ≡ Takes asked
     admitted within narrow short =
         let wide : nat_lt limits.width (width_of asked) ≡ false =
-            false_from_ne_true _ (λ more. absurd (omega (arith, narrow, short, is.width, ltb-true limits.width (width_of asked) more))) in
+        false_from_ne_true _ (λ more. absurd (omega (arith, narrow, short, is.width, ltb-true limits.width (width_of asked) more))) in
         rw (past, cut, light_enough within, wide) refl
 
 -- what is answered to a change of a document, and to a creation, where the tests before have passed
@@ -133,8 +134,8 @@ module _ (state : State) (command : Command) (delta : List Operation) (limits : 
   change_answers number found same_units same_sources answer fresh taken =
       let asked = next_revision number found command delta in
       let same : take_on limits units sources asked ≡ take_on state.limits (units_of found) (sources_of found) asked =
-          ap (λ l. take_on l units sources asked) same_limits
-          ∙ (ap (λ u. take_on state.limits u sources asked) same_units ∙ ap (λ s. take_on state.limits (units_of found) s asked) same_sources) in
+      ap (λ l. take_on l units sources asked) same_limits
+      ∙ (ap (λ u. take_on state.limits u sources asked) same_units ∙ ap (λ s. take_on state.limits (units_of found) s asked) same_sources) in
       rw fresh (sym same ∙ taken)
 
   pub new_answers : units ≡ [] → sources ≡ empty → (answer : Answer) → nat_lt 1 command.number ≡ false → nat_le state.limits.docs (length state.documents) ≡ false
@@ -142,8 +143,8 @@ module _ (state : State) (command : Command) (delta : List Operation) (limits : 
   new_answers same_units same_sources answer first room taken =
       let asked = creation state command delta in
       let same : take_on limits units sources asked ≡ take_on state.limits [] empty asked =
-          ap (λ l. take_on l units sources asked) same_limits
-          ∙ (ap (λ u. take_on state.limits u sources asked) same_units ∙ ap (λ s. take_on state.limits [] s asked) same_sources) in
+      ap (λ l. take_on l units sources asked) same_limits
+      ∙ (ap (λ u. take_on state.limits u sources asked) same_units ∙ ap (λ s. take_on state.limits [] s asked) same_sources) in
       rw (first, room) (sym same ∙ taken)
 
 pub asked_next : (number : ℕ) (found : DocumentRecord) (command : Command) (delta : List Operation) (source : List ℕ) (width : ℕ) → source ≡ command.source

@@ -116,12 +116,7 @@ fn plan_existing(found: &DocState, command: &Command) -> Result<Plan, Refusal>
     }
 }
 
-fn plan_new(
-    alloc: Global,
-    state: &State,
-    command: &Command,
-    delta: &Delta,
-) -> Result<Plan, Refusal>
+fn plan_new(alloc: Global, state: &State, command: &Command, delta: &Delta) -> Result<Plan, Refusal>
     ensures { Gives result (create_new state.now command.now delta.now) }
 {
     let limits = state.limits();
@@ -220,17 +215,18 @@ fn plan_change(
     let source = command.source();
     let width = edit_width(source, &delta);
     let limits = state.limits();
-    if let Err(refusal) = admit(limits, found.document(), found.sources(), source, &delta, width) {
+    if let Err(refusal) = admit(
+        limits,
+        found.document(),
+        found.sources(),
+        source,
+        &delta,
+        width,
+    ) {
         return Err(refusal);
     }
     let source = source.copy(alloc)?;
-    Ok(Plan::Taken(Taken::edit(
-        number,
-        revision + 1,
-        source,
-        command.number(),
-        delta,
-    )))
+    Ok(Plan::Taken(Taken::edit(number, revision + 1, source, command.number(), delta)))
 }
 
 // Whether a number is a retry, of which the revision comes back, or the source's next one; else it is refused.

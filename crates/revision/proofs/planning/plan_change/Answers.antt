@@ -21,8 +21,8 @@ returns c =
     let asked = next_revision c.args.number (held c.args.found.now) c.args.command.now c.args.delta in
     let fresh : (revision_of (held c.args.found.now) == last_of_all) ≡ false = ne_eqb _ _ (λ e. c.if-revision-eq-LAST.false (c.revision-revision.ensures.revision ∙ e)) in
     let same : asked ≡ c.edit.result =
-        same_next c.args.number (held c.args.found.now) c.args.command.now c.args.delta c.revision-revision.result c.number.result c.in_ok-source.source c.edit.result c.edit.ensures
-        c.revision-revision.ensures.revision (c.in_ok-source.ensures.ok ∙ c.source-source.ensures.source) c.number.ensures.number in
+    same_next c.args.number (held c.args.found.now) c.args.command.now c.args.delta c.revision-revision.result c.number.result c.in_ok-source.source c.edit.result c.edit.ensures
+    c.revision-revision.ensures.revision (c.in_ok-source.ensures.ok ∙ c.source-source.ensures.source) c.number.ensures.number in
     change_answers c.args.state.now c.args.command.now c.args.delta c.limits-limits.result c.document.result.now c.sources.result.now c.limits-limits.ensures.limits
     c.args.number (held c.args.found.now) c.document.ensures c.sources.ensures (Takes asked) fresh
     (c.in_default.ensures.ok asked
