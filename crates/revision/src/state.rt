@@ -1,7 +1,6 @@
 //! What a store holds: documents in order of creation, under limits.
 ghost use Rattle.std.specs.Prelude.{◌≡◌, ◌≤◌, [], length, map, option_map};
 ghost use Rattle.revision.specs.Invariants.{IsState};
-ghost use Rattle.revision.specs.Invariants.{IsState};
 ghost use Rattle.revision.specs.Pending.{held};
 ghost use Rattle.revision.specs.State.{find};
 
