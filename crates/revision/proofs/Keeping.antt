@@ -15,7 +15,7 @@ use Rattle.revision.specs.Command.{Taken, width_of}
 use Rattle.revision.specs.Sources.{LastTaken, Sources, last_of, count_of, with_last}
 use Rattle.revision.specs.Parting.{parts_pair}
 use Rattle.revision.specs.Past.{StandInTurn, deltas_of, Content, Change, Past, empty_past, newest, content_at, sources_at, with_change}
-use Rattle.revision.specs.State.{Limits, DocumentRecord, State, revision_of, units_of, sources_of, find, last_of_all, reaches_past, weight_of, weight_after, has_place, keeps, begins, follows, continues_by_name, change_of, record_by_name, record_after, has_room, set_document, is_last_taken, are_sources, record_at}
+use Rattle.revision.specs.State.{Limits, DocumentRecord, State, grows, grown, all_grow, fold, revision_of, units_of, sources_of, find, last_of_all, reaches_past, weight_of, weight_after, has_place, keeps, begins, follows, continues_by_name, change_of, record_by_name, record_after, has_room, set_document, is_last_taken, are_sources, record_at}
 use Rattle.revision.specs.Invariants.{IsLimits, KeepsAt, IsPast, IsRecord, IsState, EmptyIsState, GrowingKeeps, AdoptingKeeps, ContinuingKeeps}
 use Rattle.revision.proofs.Room.{weight-some}
 use Rattle.revision.proofs.Told.{parts_told}
@@ -354,3 +354,10 @@ continuing_keeps limits found [] is past h = past
 continuing_keeps limits found (first ∷ others) is past h =
     let parts = and_parts (continues_by_name limits found first first.name) _ h in
     continuing_keeps limits (record_after limits.keep found first) others is (record_kept limits found first first.name is past parts.0) parts.1
+
+-- all that grows of a state is one
+pub all_keep : (state : State) (batch : List Taken) → IsState state → all_grow state batch ≡ true → IsState (fold state batch)
+all_keep state [] is grow = is
+all_keep state (first ∷ others) is grow =
+    let parts = and_parts (grows state first) (all_grow (grown state first) others) grow in
+    all_keep (grown state first) others (growing_keeps state first is parts.0) parts.1

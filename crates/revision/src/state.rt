@@ -20,6 +20,7 @@ pub struct State {
 
 impl Model for State {
     ghost use Rattle.std.specs.Prelude.{◌≡◌};
+    ghost use Rattle.revision.specs.Invariants.{IsState};
     ghost use Rattle.revision.specs.State as spec;
 
     ghost Value = { spec.State };
@@ -30,7 +31,7 @@ impl Model for State {
 
     ghost view = { λ s. s.documents.before };
 
-    ghost invariant = { λ s. s.documents.after ≡ s.documents.before };
+    ghost invariant = { λ s. (s.documents.after ≡ s.documents.before) × IsState s.documents.before };
 }
 
 impl State {
@@ -81,6 +82,10 @@ impl Model for PreparedState {
     ghost coded = { spec.prepared_state_code };
 
     ghost view = { λ p. p.documents };
+
+    ghost use Rattle.revision.specs.Invariants.{IsState};
+
+    ghost invariant = { λ p. IsState p.documents.before × IsState p.documents.after };
 }
 
 impl PreparedState {
