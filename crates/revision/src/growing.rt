@@ -10,6 +10,7 @@ use std::alloc::Global;
 impl State {
     /// Prepares commands in order, all of them or none. Refused with `Stranger` where one of them doesn't continue what
     /// those before it make, unless memory runs out first (`NoMemory`); the state then comes back as it was.
+    #[tactic(auto, using(crate::proofs::Keeping::all_keep))]
     pub fn prepare(self, alloc: Global, batch: &[Taken]) -> Result<PreparedState, Unprepared>
         ensures before { IfOk result (λ prepared. prepared.before ≡ self) }
         ensures after { IfOk result (λ prepared. prepared.after ≡ fold self batch.now) }
@@ -47,6 +48,7 @@ impl State {
 
     /// Adds commands in order, all of them or none. Refused with `Stranger` where one of them doesn't continue what
     /// those before it have made, unless memory runs out first (`NoMemory`). A refusal leaves the state unchanged.
+    #[tactic(auto, using(crate::proofs::Keeping::all_keep))]
     pub fn absorb_all(&mut self, alloc: Global, batch: &[Taken]) -> Result<(), Refusal>
         ensures ok { OnOk result (self.new ≡ fold self.old batch.now) }
         ensures grow { OnOk result (all_grow self.old batch.now ≡ true) }
