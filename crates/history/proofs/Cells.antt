@@ -1,17 +1,17 @@
 -- A running store with other cells, with fewer entries, and with nothing.
-use Rattle.std.proofs.Common.{◌≡◌, ℕ, zero, suc, ◌+◌, ◌≤◌, ◌<◌, true, List, [], ◌∷◌, ◌++◌, length, Option, Some, None, length-append, refl, sym, ap, subst, ◌∙◌, ⊎_elim, arith}
-use Rattle.std.specs.Prelude.{◌==◌, nat_lt, min, replicate, All}
-use Rattle.std.proofs.lemmas.Bool.{and_parts, eqb-true, cond_both, cases_eq}
+use Rattle.std.proofs.Common.{◌≡◌, ℕ, zero, suc, ◌+◌, ◌≤◌, ◌<◌, true, List, [], ◌∷◌, ◌++◌, length, Option, Some, None, length-append, refl, sym, ap, subst, ◌∙◌, ⊎_elim, arith, cond}
+use Rattle.std.specs.Prelude.{◌==◌, nat_lt, min, replicate, All, max}
+use Rattle.std.proofs.lemmas.Bool.{and_parts, eqb-true, cond_both, cases_eq, eq-eqb}
 use Rattle.std.proofs.lemmas.List.{append_assoc, length-replicate}
 use Rattle.std.proofs.lemmas.List.Elements.{All-nil, All-cons, All-head, All-tail}
 use Rattle.revision.specs.Command.{Taken}
 use Rattle.revision.specs.State.{Limits, DocumentRecord, continues, record_after, all_continue, record_after_all}
 use Rattle.revision.proofs.CallerLemmas.{empty_is_state}
-use Rattle.history.specs.Entries.{of_document}
+use Rattle.history.specs.Entries.{of_document, greatest}
 use Rattle.history.specs.Cell.{Cell, Pair, no_cells, cells_at, with_pair, lowest, freed, IsPut, OfBoth}
 use Rattle.history.specs.Shown.{RecordShows}
 use Rattle.history.specs.Running.{IsCellOf}
-use Rattle.history.specs.Law.{ChangesCells, Frees, Puts, IsCovered, Retires, Begins}
+use Rattle.history.specs.Law.{ChangesCells, Frees, Puts, IsCovered, CoveredByGreatest, Retires, Begins}
 use Rattle.history.proofs.Showing.{record-more, record-all, next-revision}
 use Rattle.history.proofs.Counting.{of_document-append, continue-split}
 
@@ -146,6 +146,33 @@ retires order cells oldest others state runs all = record {
       (covered-count state.limits first (record_after_all state.limits.keep None first) gone (lowest (cells_at cells number))
       (record-all state.limits [] None first refl split.0) goes_on.0 (covered-of cells number oldest all) (runs.covered number));
 }
+
+-- by the greatest revision of each document
+covered-greatest : (cells : List Pair) (entries : List Taken) → All (IsCovered cells) entries → (number : ℕ) → greatest number entries ≤ lowest (cells_at cells number)
+covered-greatest cells [] all number = omega arith
+covered-greatest cells (first ∷ others) all number =
+    let later = covered-greatest cells others (All-tail (IsCovered cells) first others all) number in
+    let here = All-head (IsCovered cells) first others all in
+    cond_both (first.document == number) (max first.revision (greatest number others)) (greatest number others) (λ n. n ≤ lowest (cells_at cells number))
+    (λ e. omega (arith, subst (λ n. first.revision ≤ lowest (cells_at cells n)) (eqb-true first.document number e) here, later)) (λ e. later)
+
+greatest-more : (number : ℕ) (first : Taken) (others : List Taken) → greatest number others ≤ greatest number (first ∷ others)
+greatest-more number first others =
+    cond_both (first.document == number) (max first.revision (greatest number others)) (greatest number others) (λ n. greatest number others ≤ n) (λ e. omega arith) (λ e. omega arith)
+
+greatest-first : (first : Taken) (others : List Taken) → first.revision ≤ greatest first.document (first ∷ others)
+greatest-first first others =
+    subst (λ b. first.revision ≤ cond b (max first.revision (greatest first.document others)) (greatest first.document others))
+    (sym (eq-eqb first.document first.document refl)) (omega arith)
+
+greatest-covered : (cells : List Pair) (entries : List Taken) → ((number : ℕ) → greatest number entries ≤ lowest (cells_at cells number)) → All (IsCovered cells) entries
+greatest-covered cells [] each = All-nil (IsCovered cells)
+greatest-covered cells (first ∷ others) each =
+    All-cons (IsCovered cells) first others (omega (arith, greatest-first first others, each first.document))
+    (greatest-covered cells others (λ number. omega (arith, greatest-more number first others, each number)))
+
+pub covered_by_greatest : CoveredByGreatest
+covered_by_greatest cells entries = (covered-greatest cells entries, greatest-covered cells entries)
 
 -- a store without commands
 none-open : (count number : ℕ) → cells_at (replicate count no_cells) number ≡ no_cells

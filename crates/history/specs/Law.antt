@@ -1,10 +1,10 @@
 -- What holds of what the parts of a store stand for.
-use Rattle.std.specs.Prelude.{ℕ, ◌≡◌, ◌≤◌, ◌<◌, true, Some, List, [], ◌++◌, length, replicate, slice_get, All}
+use Rattle.std.specs.Prelude.{ℕ, ◌≡◌, ◌≤◌, ◌<◌, ◌↔◌, true, Some, List, [], ◌++◌, length, replicate, slice_get, All}
 use Rattle.revision.specs.Command.{Taken}
 use Rattle.revision.specs.State.{Limits, DocumentRecord, State, revision_of, all_continue, record_after_all, all_grow, fold}
 use Rattle.revision.specs.Agree.{Agree}
 use Rattle.revision.specs.Invariants.{IsLimits, IsState}
-use Rattle.history.specs.Entries.{of_document}
+use Rattle.history.specs.Entries.{of_document, greatest}
 use Rattle.history.specs.Cell.{Cell, cell_of, Pair, no_cells, cells_at, with_pair, lowest, freed, IsPut, Pick, OfBoth}
 use Rattle.history.specs.Shown.{StateShows}
 use Rattle.history.specs.Found.{StandFor}
@@ -67,10 +67,16 @@ abbrev pub Commits : Type 0
 Commits = (order : List Taken) (cells : List Pair) (entries : List Taken) (state : State) (batch : List Taken) → Runs order cells entries state
     → all_grow state batch ≡ true → Runs (order ++ batch) cells (entries ++ batch) (fold state batch)
 
--- The entries of the oldest segment go where each is of a revision that the lower open cell of its document has.
+-- An entry is covered where the lower open cell of its document has its revision.
 abbrev pub IsCovered : List Pair → Taken → Type 0
 IsCovered cells taken = taken.revision ≤ lowest (cells_at cells taken.document)
 
+-- Entries are, each of them, just where the greatest revision of each document among them is.
+abbrev pub CoveredByGreatest : Type 0
+CoveredByGreatest = (cells : List Pair) (entries : List Taken)
+    → All (IsCovered cells) entries ↔ ((number : ℕ) → greatest number entries ≤ lowest (cells_at cells number))
+
+-- The entries of the oldest segment go where each of them is covered.
 abbrev pub Retires : Type 0
 Retires = (order : List Taken) (cells : List Pair) (oldest others : List Taken) (state : State) → Runs order cells (oldest ++ others) state
     → All (IsCovered cells) oldest → Runs order cells others state

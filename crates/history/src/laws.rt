@@ -1,5 +1,5 @@
 //! What holds of what the parts of a store stand for, as contracts of functions that do nothing.
-ghost use Rattle.history.specs.Law.{AtMostOne, StandIsState, ShowingAgree, GrowsByDocuments, Recovers, Reopens, Begins, ChangesCells, Frees, Puts, Commits, Retires, HeldIsCell, CellsStay};
+ghost use Rattle.history.specs.Law.{AtMostOne, StandIsState, ShowingAgree, GrowsByDocuments, Recovers, Reopens, Begins, ChangesCells, Frees, Puts, Commits, CoveredByGreatest, Retires, HeldIsCell, CellsStay};
 ghost use Rattle.history.specs.Reading.{ReadingBegins, ReadingGoesOn, ReadingEnds, ReadingFinds};
 
 /// The parts of a store stand for one state at most, which is as all that grew from the empty one are.
@@ -34,6 +34,7 @@ pub fn runs_on()
     ensures free { Frees }
     ensures put { Puts }
     ensures retire { Retires }
+    ensures greatest { CoveredByGreatest }
 {}
 
 /// What a document has at a revision that it holds is a cell of it, and a cell of it stays one as the order goes on.

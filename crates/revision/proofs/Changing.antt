@@ -7,7 +7,7 @@ use Rattle.document.specs.Outcome.{IsAccepted}
 use Rattle.compose.specs.Many.{applied}
 use Rattle.revision.specs.Sources.{Sources, with_last}
 use Rattle.revision.specs.Past.{StandInTurn, Change, Past, newest, deltas_of, sources_after, content_at, sources_at, from_floor, with_change}
-use Rattle.revision.specs.Floors.{longer, FromItself, FromTwice, FromNewest, FromLonger}
+use Rattle.revision.specs.Floors.{longer, FromItself, FromTwice, FromNewest, FromLonger, ChangeMakes}
 use Rattle.revision.proofs.Floors.{newest-from, from-from, from-more}
 use Rattle.revision.proofs.Replays.{stand-drop}
 use Rattle.revision.proofs.Kept.{stand-more}
@@ -123,3 +123,6 @@ module _ (past : Past) (change : Change) where
     pub count-with_change : 1 ≤ keep → length past.changes ≤ keep → length (with_change keep past change).changes ≤ keep
     count-with_change some held =
         omega (arith, some, held, newest-longer, length-drop (max past.floor (newest past + 1 - keep) - past.floor) (longer past change).changes)
+
+pub change_makes : ChangeMakes
+change_makes keep past change = (newest-with_change past change keep, units-with_change past change keep, sources-with_change past change keep)

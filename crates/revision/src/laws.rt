@@ -7,7 +7,7 @@ ghost use Rattle.revision.specs.Acceptance.{TakenGrows};
 ghost use Rattle.revision.specs.Parting.{PartsTold};
 ghost use Rattle.revision.specs.Agree.{AgreeSame, AgreeTurned, AgreeThrough, AgreeingContinue, AgreeingGrow, AgreeingAnswer, AgreeingAnswerHeld};
 ghost use Rattle.revision.specs.Invariants.{EmptyIsState, GrowingKeeps, AdoptingKeeps, ContinuingKeeps};
-ghost use Rattle.revision.specs.Floors.{FromItself, FromTwice, FromNewest, FromLonger};
+ghost use Rattle.revision.specs.Floors.{FromItself, FromTwice, FromNewest, FromLonger, ChangeMakes};
 ghost use Rattle.revision.specs.Late.{InsertedStay, LightInserts, RoomForCommands, RoomForUndo};
 
 /// What the rule of acceptance takes continues the state.
@@ -71,4 +71,5 @@ pub fn floors()
     ensures twice { FromTwice }
     ensures newest { FromNewest }
     ensures longer { FromLonger }
+    ensures change { ChangeMakes }
 {}

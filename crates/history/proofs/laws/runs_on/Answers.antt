@@ -1,5 +1,5 @@
 use Rattle.history.proofs.Committing.{commits}
-use Rattle.history.proofs.Cells.{changes_cells, frees, puts, retires, begins}
+use Rattle.history.proofs.Cells.{changes_cells, frees, puts, retires, covered_by_greatest, begins}
 use Rattle.history.proofs.laws.runs_on.Goals as goal
 
 pub returns-clause-begin : goal.returns-clause-begin
@@ -19,3 +19,6 @@ returns-clause-put c = puts
 
 pub returns-clause-retire : goal.returns-clause-retire
 returns-clause-retire c = retires
+
+pub returns-clause-greatest : goal.returns-clause-greatest
+returns-clause-greatest c = covered_by_greatest
