@@ -31,7 +31,8 @@
 
 pub mod laws;
 mod numbers;
+mod order;
 mod reading;
 mod ring;
 
-pub use ring::Ring;
+pub use ring::{RecoveredRing, Ring};
