@@ -45,7 +45,7 @@ impl Ring {
     ghost use Rattle.segments.specs.Slot.{Segment};
     ghost use Rattle.segments.specs.Numbers.{IsFull, IsNext, IsOldest, open_count};
     ghost use Rattle.segments.specs.Table.{slot_place, HoldsTable, IsOpened, IsAppended, IsRetired};
-    ghost use Rattle.segments.specs.Ring.{at_of, size_of, known_numbers, end_of, fits_newest, Fits, FitsNow, SamePlaces, IsReady, IsLeftByOpening, IsLeftReady, IsLeftByAppend, IsLeftByRetiring};
+    ghost use Rattle.segments.specs.Ring.{at_of, size_of, known_numbers, end_of, fits_newest, Fits, FitsNow, SamePlaces, IsSameOrOpened, IsReady, IsLeftByOpening, IsLeftReady, IsLeftByAppend, IsLeftByRetiring};
     ghost use Rattle.segments.specs.Recovered.{IsReadAs};
 
     /// Reads `count` slots of `size` bytes, 256 to 16,777,216, the first of which lies at `at`. `Damaged` comes just where
@@ -121,7 +121,8 @@ impl Ring {
 
     /// Appends a record with this body: to the newest segment, or, where it doesn't fit there, to one that is opened for
     /// it. `JournalFull` comes just where no slot is free and it doesn't fit, and makes no call of the device. After
-    /// `NoMemory` a slot that was just opened stays open. After a `Fault` the body may be there or not.
+    /// `NoMemory` a slot that was just opened stays open. After a `Fault` the body may be there or not, and the ring knows
+    /// nothing of it: it is not to be used again.
     pub fn append<D: Disk>(
         &mut self,
         alloc: Global,
@@ -135,6 +136,7 @@ impl Ring {
         ensures full { IsErrOf result Refusal.JournalFull ↔ (fits_newest self.old (length body.now) ≡ false) × IsFull (known_numbers self.old) }
         ensures untouched { IsErrOf result Refusal.JournalFull → (disk.new ≡ disk.old) × (self.new ≡ self.old) }
         ensures only { IfErr result (λ e. (e ≡ Refusal.JournalFull) ⊎ ((e ≡ Refusal.NoMemory) ⊎ (e ≡ Refusal.Fault))) }
+        ensures err { OnErr result (IsSameOrOpened self.old self.new) }
         ensures places { SamePlaces self.old self.new }
 
         // Whatever the slots held: a crash at any moment leaves the table before, the one that the body is appended to, or
@@ -174,6 +176,7 @@ impl Ring {
         ensures err { OnErr result (self.new ≡ self.old) }
         ensures newest { IfOk result (λ area. (self.new.newest ≡ Some area) × (area.next + 6 + len ≤ area.size)) }
         ensures kept { fits_newest self.old len ≡ true → (disk.new ≡ disk.old) × (self.new ≡ self.old) }
+        ensures takes { IsSameOrOpened self.old self.new }
         ensures places { SamePlaces self.old self.new }
 
         ensures any_moment { (table : List (Option Segment)) → D.unsynced disk.old ≡ [] → Fits (D.seen disk.old) self.old table
