@@ -11,3 +11,5 @@ pub mod CallerLemmas
 pub mod Worked
 pub mod SlotsRead
 pub mod TablesRead
+pub mod Gathering
+pub mod RingsRead

@@ -1,9 +1,9 @@
 -- What is read of a slot: its head, and the bodies behind it.
-use Rattle.std.proofs.Common.{◌≡◌, ◌≢◌, ℕ, ◌+◌, ◌-◌, ◌≤◌, ◌<◌, ◌^◌, Option, Some, None, List, length, take, drop, get_or, refl, sym, ◌∙◌, ap, subst, arith}
+use Rattle.std.proofs.Common.{◌≡◌, ◌≢◌, ℕ, ◌+◌, ◌-◌, ◌≤◌, ◌<◌, ◌^◌, Option, Some, None, List, take, drop, get_or, refl, sym, ◌∙◌, ap, subst, arith}
 use Rattle.std.specs.Int.{w64, to_le_bytes, from_le_bytes}
 use Rattle.std.proofs.lemmas.Nat.{from_le_bytes-to_le_bytes_8}
 use Rattle.std.proofs.lemmas.List.{take-take, drop-take, get_or-take}
-use Rattle.journal.specs.Area.{open_gate, HoldsBodies, Place, Stands, area_bytes}
+use Rattle.journal.specs.Area.{open_gate, HoldsBodies, Place, Stands}
 use Rattle.journal.specs.declared.scan.ScanError.{ScanError}
 use Rattle.journal.specs.declared.scan.ScanError.TheVariants as scan
 use Rattle.journal.specs.Refusals.{refusal_of_scan}

@@ -2,10 +2,11 @@
 ghost use Rattle.std.specs.Prelude.{◌≡◌, ◌⊎◌, ◌+◌, ◌-◌, ◌*◌, ◌<◌, ◌≤◌, ◌^◌, ℕ, Option, Some, None, length, take, drop, OnOk, IfOk, IfErr, IfSome};
 ghost use Rattle.std.specs.Int.{w64, to_le_bytes};
 ghost use Rattle.segments.specs.Slot.{Segment, HoldsSlot};
-ghost use Rattle.segments.specs.steps.Reading.{segment_of, KnowsArea, KnowsNext, AreRead, KnowAreas, IsDamaged, number_read, area_read};
+ghost use Rattle.segments.specs.steps.Reading.{segment_of, KnowsArea, KnowsNext, AreRead, KnowAreas, IsDamaged, number_read, area_read, IsNewestRead};
 ghost use Rattle.std.specs.Prelude.{map};
 ghost use Rattle.disk.specs.Calls.{HasOnlyRead, CountsFaultsAs};
 
+use crate::numbers::newest;
 use disk::Disk;
 use journal::{Area, OPEN};
 use refusal::Refusal;
@@ -80,8 +81,8 @@ fn segment_number(bytes: &[u8]) -> u64
     ])
 }
 
-// What each of so many slots holds.
-fn read_slots<D: Disk>(
+/// What each of so many slots holds.
+pub fn read_slots<D: Disk>(
     alloc: Global,
     disk: &mut D,
     at: u64,
@@ -109,8 +110,8 @@ fn read_slots<D: Disk>(
     Ok(slots)
 }
 
-// The number of each slot that is open.
-fn numbers_of(alloc: Global, slots: &[Option<ReadSegment>]) -> Result<Vec<Option<u64>>, Refusal>
+/// The number of each slot that is open.
+pub fn numbers_of(alloc: Global, slots: &[Option<ReadSegment>]) -> Result<Vec<Option<u64>>, Refusal>
     ensures numbers { IfOk result (λ v. v.items ≡ map number_read slots.now) }
     ensures only { IfErr result (λ e. e ≡ Refusal.NoMemory) }
 {
@@ -131,6 +132,17 @@ fn area_of(slot: &Option<ReadSegment>) -> Option<Area>
 {
     match slot {
         Some(read) => Some(read.area),
+        None => None,
+    }
+}
+
+/// The area of the newest segment.
+pub fn newest_area(numbers: &[Option<u64>], slots: &[Option<ReadSegment>]) -> Option<Area>
+    requires { numbers.now ≡ map number_read slots.now }
+    ensures { IsNewestRead numbers.now slots.now result }
+{
+    match newest(numbers) {
+        Some(slot) => area_of(&slots[slot]),
         None => None,
     }
 }

@@ -1,7 +1,6 @@
-use Rattle.std.proofs.Common.{◌≡◌, ◌+◌, ◌*◌, ◌∙◌, ◌++◌, ◌∷◌, [], ℕ, List, length, take, drop, sym, ap, subst, arith, rules}
+use Rattle.std.proofs.Common.{◌≡◌, ◌∙◌, ◌++◌, ◌∷◌, [], sym, ap, rules}
 use Rattle.std.proofs.lemmas.Result.{err_from_is_err_and}
 use Rattle.disk.specs.Device.{History}
-use Rattle.segments.specs.Slot.{HoldsSlot}
 use Rattle.segments.proofs.TablesRead.{damaged_here, read_more, areas_more}
 use Rattle.segments.proofs.reading.read_slots.Goals as goal
 
