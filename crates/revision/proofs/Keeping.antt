@@ -15,7 +15,7 @@ use Rattle.revision.specs.Command.{Taken, width_of}
 use Rattle.revision.specs.Sources.{LastTaken, Sources, last_of, count_of, with_last}
 use Rattle.revision.specs.Parting.{parts_pair}
 use Rattle.revision.specs.Past.{StandInTurn, deltas_of, Content, Change, Past, empty_past, newest, content_at, sources_at, with_change}
-use Rattle.revision.specs.State.{Limits, DocumentRecord, State, grows, grown, all_grow, fold, revision_of, units_of, sources_of, find, last_of_all, reaches_past, weight_of, weight_after, has_place, keeps, begins, follows, continues_by_name, change_of, record_by_name, record_after, has_room, set_document, is_last_taken, are_sources, record_at}
+use Rattle.revision.specs.State.{Limits, DocumentRecord, State, grows, grown, all_grow, fold, revision_of, units_of, sources_of, find, last_of_all, reaches_past, weight_of, weight_after, has_place, keeps, begins, follows, continues_by_name, change_of, record_by_name, record_after, has_room, set_document, is_last_taken, are_sources, adopts, record_at}
 use Rattle.revision.specs.Invariants.{IsLimits, KeepsAt, IsPast, IsRecord, IsState, EmptyIsState, GrowingKeeps, AdoptingKeeps, ContinuingKeeps}
 use Rattle.revision.proofs.Room.{weight-some}
 use Rattle.revision.proofs.Told.{parts_told}
@@ -329,6 +329,11 @@ adopted-past limits content revision sources some bound count are light =
       last = omega (arith, bound);
       each = λ place above there. subst (KeepsAt limits past) (omega (arith, above, there)) here;
     }
+
+-- one that may be adopted is light
+pub adopted-light : (state : State) (name : List ℕ) (content : Content) (revision : ℕ) (sources : Sources) → adopts state name content revision sources ≡ true
+    → weight_of content.units (count_of sources) ≤ state.limits.weight
+adopted-light state name content revision sources h = leb-true _ _ (and_parts _ _ h).1
 
 pub adopting_keeps : AdoptingKeeps
 adopting_keeps state name content revision sources is h =

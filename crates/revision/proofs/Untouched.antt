@@ -1,11 +1,10 @@
 -- Documents of which nothing is prepared.
-use Rattle.std.proofs.Common.{◌≡◌, ◌≢◌, ℕ, zero, suc, ◌<◌, ◌⊎◌, inl, inr, List, [], ◌∷◌, ◌++◌, length, map, take, Some, refl, sym, ap, ap₂, ◌∙◌, arith}
+use Rattle.std.proofs.Common.{◌≡◌, ◌≢◌, ℕ, zero, suc, ◌⊎◌, inl, inr, List, [], ◌∷◌, ◌++◌, length, map, take, Some, refl, sym, ap, ap₂, subst, ◌∙◌}
 use Rattle.std.specs.Prelude.{slice_get}
-use Rattle.std.proofs.lemmas.Option.{none-some}
+use Rattle.std.proofs.lemmas.Option.{none-some, same_Some}
 use Rattle.revision.specs.ChangedAt.{changed_at, changed_at_all, IsAmong}
-use Rattle.revision.specs.Past.{Change, Past, with_changes}
+use Rattle.revision.specs.Past.{Change, with_changes}
 use Rattle.revision.specs.Pending.{PendingDocument, held, with_prepared}
-use Rattle.revision.specs.Preparing.{accepted, forgotten}
 use Rattle.revision.specs.State.{DocumentRecord}
 use Rattle.revision.specs.DocumentsView.{UntouchedRest}
 use Rattle.revision.proofs.ChangedAt.{ReadOfChanged, read_of_changed, among-more, among-last}
@@ -93,3 +92,16 @@ rest-more is number documents d last rest i e read = by_place (read_of_more docu
   by_place : (slice_get documents i ≡ Some e) ⊎ (i ≡ length documents) → IsAmong i (is ++ number ∷ []) ⊎ (e.past.next ≡ [])
   by_place (inl there) = rest-touch is number documents rest i e there
   by_place (inr here) = inl (rw (here ∙ sym last) (among-last is number))
+
+last_read : {X : Type 0} (xs : List X) (x y : X) → slice_get (xs ++ x ∷ []) (length xs) ≡ Some y → x ≡ y
+last_read [] x y read = same_Some x y read
+last_read (z ∷ zs) x y read = last_read zs x y read
+
+-- a document more of which nothing is prepared
+pub rest-one : (is : List ℕ) (documents : List PendingDocument) (d : PendingDocument) → d.past.next ≡ []
+    → UntouchedRest is documents → UntouchedRest is (documents ++ d ∷ [])
+rest-one is documents d none rest i e read = by_place (read_of_more documents d i e read) where
+  by_place : (slice_get documents i ≡ Some e) ⊎ (i ≡ length documents) → IsAmong i is ⊎ (e.past.next ≡ [])
+  by_place (inl there) = rest i e there
+  by_place (inr here) =
+      inr (subst (λ (x : PendingDocument). x.past.next ≡ []) (last_read documents d e (subst (λ n. slice_get (documents ++ d ∷ []) n ≡ Some e) here read)) none)

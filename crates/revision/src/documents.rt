@@ -1,5 +1,5 @@
 //! Documents with what is prepared to follow.
-ghost use Rattle.std.specs.Prelude.{◌≡◌, ◌⊎◌, ◌≤◌, ◌∷◌, ◌++◌, [], true, false, None, Some, ℕ, List, length, map, take, slice_get, bytes_eq, ◌==◌, ◌&&◌, nat_lt, is_none, cond, option_map, IfOk, IfErr, OnOk, OnErr, IsErrOf, IsOkUnless};
+ghost use Rattle.std.specs.Prelude.{◌≡◌, ◌⊎◌, ◌≤◌, ◌<◌, ◌∷◌, ◌++◌, [], true, false, None, Some, ℕ, List, length, map, take, slice_get, bytes_eq, ◌==◌, ◌&&◌, nat_lt, is_none, cond, option_map, IfOk, IfErr, OnOk, OnErr, IsErrOf, IsOkUnless};
 ghost use Rattle.std.specs.BTreeMap.{get_by_text};
 ghost use Rattle.revision.specs.ChangedAt.{changed_at, changed_at_all};
 ghost use Rattle.revision.specs.Documents.{unprepared};
@@ -128,6 +128,29 @@ impl Documents {
             &mut self.names,
             document,
             name,
+            number,
+        )?;
+        Ok(())
+    }
+
+    /// Prepares a document of which nothing is prepared; there has to be room for it, and its name has to be new. Refused for
+    /// want of memory alone, and then all is as it was.
+    pub(crate) fn adopt(&mut self, alloc: Global, document: DocState) -> Result<(), Refusal>
+        requires room { length self.old.after.documents < self.old.after.limits.docs }
+        requires new { is_none (find document.name 0 self.old.after.documents) ≡ true }
+        requires still { document.past.next ≡ [] }
+        ensures ok { OnOk result (self.new ≡ record self.old { after = record self.old.after { documents = self.old.after.documents ++ held document ∷ [] } }) }
+        ensures only { IsOkUnless result Refusal.NoMemory }
+        ensures unchanged { OnErr result (self.new ≡ self.old) }
+    {
+        let name = document.name().copy(alloc)?;
+        let number = self.documents.len() as u32;
+        push_named(
+            alloc,
+            &mut self.documents,
+            &mut self.names,
+            document,
+            &name,
             number,
         )?;
         Ok(())

@@ -208,6 +208,10 @@ impl Past {
     }
 
     /// Lets go of the revisions below the floor, once there are 512 of them, as far as memory goes. What is seen stays as it is.
+    ///
+    /// With fewer a call costs nothing. Else it applies their deltas to the document that is kept, each in time linear in the
+    /// document, notes their sources, and moves the changes that stay: one change is so applied once more in all, but the call
+    /// that comes to it applies 512 or more.
     pub fn let_go(&mut self, alloc: Global)
         ensures { self.new ≡ self.old }
     {

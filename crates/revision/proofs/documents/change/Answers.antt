@@ -1,4 +1,4 @@
-use Rattle.std.proofs.Common.{◌≡◌, None, length, map, refl, sym, ap, ◌∙◌, arith}
+use Rattle.std.proofs.Common.{None, length, refl, sym, ap, ◌∙◌, arith}
 use Rattle.std.specs.Prelude.{slice_get, option_map}
 use Rattle.std.proofs.lemmas.Option.{slice_get-map, slice_get_read}
 use Rattle.revision.specs.ChangedAt.{changed_at}

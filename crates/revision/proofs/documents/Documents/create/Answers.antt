@@ -1,13 +1,12 @@
-use Rattle.std.proofs.Common.{◌≡◌, ◌+◌, ℕ, Some, None, true, List, [], ◌∷◌, ◌++◌, length, map, take, refl, sym, ap, ap₂, ◌∙◌, arith, cond}
+use Rattle.std.proofs.Common.{◌≡◌, ◌+◌, ℕ, Some, true, List, [], ◌∷◌, ◌++◌, length, map, take, sym, ap, ap₂, ◌∙◌, arith, cond}
 use Rattle.std.specs.Str.{bytes_eq}
 use Rattle.std.specs.BTreeMap.{get_by_text}
 use Rattle.std.proofs.lemmas.List.{map-append, length-append}
-use Rattle.revision.specs.ChangedAt.{IsAmong}
 use Rattle.revision.specs.Documents.{PreparedState}
 use Rattle.revision.specs.DocumentsView.{names_of}
 use Rattle.revision.specs.Index.{number_of}
 use Rattle.revision.specs.Pending.{PendingDocument, held, with_prepared}
-use Rattle.revision.specs.State.{DocumentRecord, State, has_room, grows, grown}
+use Rattle.revision.specs.State.{DocumentRecord, has_room, grows, grown}
 use Rattle.revision.proofs.Indexed.{index-more, none_twice-more, take_init, names_length}
 use Rattle.revision.proofs.OneMore.{room_for, created_by, created_grows, state_by}
 use Rattle.revision.proofs.Untouched.{rest-touch, rest-more}

@@ -1,7 +1,5 @@
-use Rattle.std.proofs.Common.{◌≡◌, ℕ, Some, None, refl, sym, ap, ◌∙◌, arith}
+use Rattle.std.proofs.Common.{sym, ap, ◌∙◌, arith}
 use Rattle.revision.specs.Documents.{PreparedState}
-use Rattle.revision.specs.DocumentsView.{names_of}
-use Rattle.revision.specs.Index.{number_of}
 use Rattle.revision.specs.State.{find}
 use Rattle.revision.proofs.Indexed.{found-within, found-past, found-none}
 use Rattle.revision.proofs.documents.Documents.find.Goals as goal

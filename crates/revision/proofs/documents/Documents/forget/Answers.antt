@@ -1,13 +1,12 @@
-use Rattle.std.proofs.Common.{◌≡◌, ◌≤◌, ◌⊎◌, ℕ, zero, suc, List, [], ◌∷◌, length, map, take, Some, refl, sym, ap, ap₂, ◌∙◌, arith}
-use Rattle.std.specs.Prelude.{slice_get}
+use Rattle.std.proofs.Common.{◌≡◌, List, length, map, take, refl, sym, ap, ap₂, ◌∙◌, arith}
 use Rattle.std.proofs.lemmas.List.{take_all, length-take-le}
 use Rattle.revision.specs.Documents.{PreparedState, unprepared}
 use Rattle.revision.specs.ChangedAt.{changed_at_all}
-use Rattle.revision.specs.DocumentsView.{names_of, UntouchedRest}
-use Rattle.revision.specs.Index.{number_of, IsIndex, NoneTwice}
-use Rattle.revision.specs.Pending.{PendingDocument, held, with_prepared}
+use Rattle.revision.specs.DocumentsView.{names_of}
+use Rattle.revision.specs.Index.{number_of}
+use Rattle.revision.specs.Pending.{PendingDocument, held}
 use Rattle.revision.specs.Preparing.{forgotten}
-use Rattle.revision.specs.State.{DocumentRecord, State}
+use Rattle.revision.specs.State.{DocumentRecord}
 use Rattle.revision.proofs.ChangedAt.{map-changed_at_all, length-changed_at_all}
 use Rattle.revision.proofs.Untouched.{NothingPrepared, nothing_left, rest-none, rest-take, held-with_prepared}
 use Rattle.revision.proofs.documents.Documents.forget.Goals as goal

@@ -1,5 +1,5 @@
 use Rattle.std.proofs.Common.{◌≡◌, ◌∙◌, ap, sym, subst}
-use Rattle.revision.specs.State.{State, grown}
+use Rattle.revision.specs.State.{grown}
 use Rattle.revision.specs.Documents.{PreparedState}
 use Rattle.revision.specs.Invariants.{IsState}
 use Rattle.revision.proofs.Keeping.{growing_keeps}
