@@ -49,7 +49,7 @@ pub fn small(rt: &impl AllocGlobal) -> State {
     empty(rt, 128, 237)
 }
 
-/// An empty state with room, which holds so many revisions below the newest one.
+/// An empty state of which each document may weigh 20,000, and which holds 16 revisions below the newest one, or two.
 pub fn roomy(rt: &impl AllocGlobal, is_long: bool) -> State {
     let keep = if is_long { 16 } else { 2 };
     State::new(rt.alloc(), Limits::new(2, 4, 20_000, 237, keep))

@@ -33,6 +33,9 @@ const TEXTS: [(u64, &[Step]); 3] = [
     (5, &[Step::Plain("cbazx")]),
 ];
 
+/// The last letter in front is taken back, by what was taken above the floor.
+const UNDONE: [Row; 1] = [("bob", "d", 4, What::Undo, Now(6))];
+
 /// How many deltas were taken since a revision of a document.
 const SINCE: [(&str, u64, Result<usize, Refusal>); 6] = [
     ("d", 2, Err(Refusal::TooOld)),
@@ -56,6 +59,8 @@ fn a_past_begins_at_its_floor(rt: HostRuntime) {
     for (name, revision, wanted) in &SINCE {
         read(&rt, &state, name, *revision, *wanted);
     }
+    let state = after(&rt, state, &UNDONE);
+    taken_as(&rt, &state, 5, &[Step::Drop(1)]);
 }
 
 // so many deltas were taken since a revision, and the document there is held; or both are refused
