@@ -3,5 +3,6 @@ pub mod Numbers
 pub mod Table
 pub mod Order
 pub mod Ring
+pub mod Room
 pub mod Laws
 pub mod steps

@@ -32,5 +32,6 @@
 pub mod laws;
 mod numbers;
 mod ring;
+mod room;
 
 pub use ring::Ring;
