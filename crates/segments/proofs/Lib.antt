@@ -10,3 +10,7 @@ pub mod OneTable
 pub mod Orders
 pub mod CallerLemmas
 pub mod Worked
+pub mod SlotsRead
+pub mod TablesRead
+pub mod Gathering
+pub mod RingsRead

@@ -1,7 +1,7 @@
 -- The numbers of slots, and what a change of one of them keeps.
 use Rattle.std.proofs.Common.{◌≡◌, ◌≢◌, inl, inr, ℕ, zero, suc, ◌≤◌, ◌<◌, Option, Some, None, List, [], ◌∷◌, length, set, refl, sym, ◌∙◌, ap, arith}
-use Rattle.std.proofs.lemmas.Bool.{cases_eq}
-use Rattle.std.proofs.lemmas.List.{get_or-set_same, get_or-set_other, set-get_or}
+use Rattle.std.proofs.lemmas.Bool.{cases_eq, cases_lt}
+use Rattle.std.proofs.lemmas.List.{get_or-set_same, get_or-set_other, set-get_or, get_or_past}
 use Rattle.segments.specs.Numbers.{number_at, newest_number, open_count, NumbersDiffer, IsNext, IsNewest, IsOldest}
 
 -- no number is above the highest
@@ -98,3 +98,10 @@ newest_stays numbers newest high oldest inside apart is_newest = record {
 -- the same number again changes nothing
 pub same_number : (numbers : List (Option ℕ)) (k : ℕ) (x : Option ℕ) → number_at numbers k ≡ x → set numbers k x ≡ numbers
 same_number numbers k x is = ap (λ (o : Option ℕ). set numbers k o) (sym is) ∙ set-get_or numbers k None
+
+-- a slot that has a number is there
+pub number_inside : (numbers : List (Option ℕ)) (slot n : ℕ) → number_at numbers slot ≡ Some n → slot < length numbers
+number_inside numbers slot n has = elim (cases_lt slot (length numbers)) [
+  | inl inside ↦ inside
+  | inr past ↦ absurd (let is : None ≡ Some n = sym (get_or_past numbers slot None past) ∙ has in cc)
+]

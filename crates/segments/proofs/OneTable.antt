@@ -15,7 +15,7 @@ one_segment bytes a b holds_a holds_b =
     let bodies : a.bodies ≡ b.bodies = one_list a.bodies b.bodies _ holds_a.bodies holds_b.bodies in
     λ i. record { number = number i; bodies = bodies i }
 
-one_slot : (bytes : List ℕ) (a b : Option Segment) → HoldsSlot bytes a → HoldsSlot bytes b → a ≡ b
+pub one_slot : (bytes : List ℕ) (a b : Option Segment) → HoldsSlot bytes a → HoldsSlot bytes b → a ≡ b
 one_slot bytes None None holds_a holds_b = refl
 one_slot bytes None (Some b) holds_a holds_b = absurd (holds_a holds_b.gate)
 one_slot bytes (Some a) None holds_a holds_b = absurd (holds_b holds_a.gate)

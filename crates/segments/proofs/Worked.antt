@@ -48,8 +48,8 @@ first_next = record { free = record { there = lit< tt; closed = refl; next = lit
 
 -- no slot is free where all are open, nor behind the number 2^64 - 1
 pub two_full : IsFull (Some 1 ∷ Some 2 ∷ [])
-two_full zero free = let is : Some 1 ≡ None = free.closed in absurd cc
-two_full (suc zero) free = let is : Some 2 ≡ None = free.closed in absurd cc
+two_full zero free = let is : ◌≡◌ {A = Option ℕ} (Some 1) None = free.closed in absurd cc
+two_full (suc zero) free = let is : ◌≡◌ {A = Option ℕ} (Some 2) None = free.closed in absurd cc
 two_full (suc (suc slot)) free = absurd (omega (arith, free.there))
 
 pub spent_full : IsFull (Some 18446744073709551615 ∷ None ∷ [])

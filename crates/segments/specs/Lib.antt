@@ -4,5 +4,6 @@ pub mod Table
 pub mod Order
 pub mod Ring
 pub mod Room
+pub mod Recovered
 pub mod Laws
 pub mod steps

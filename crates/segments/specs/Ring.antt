@@ -1,10 +1,10 @@
 -- What a ring knows of its slots, and what its calls leave of them.
-use Rattle.std.specs.Prelude.{◌≡◌, ◌⊎◌, ℕ, ◌+◌, ◌-◌, ◌*◌, nat_le, Bool, true, false, Option, Some, None, List, length}
+use Rattle.std.specs.Prelude.{◌≡◌, ◌⊎◌, ℕ, ◌+◌, ◌-◌, ◌*◌, nat_le, Bool, true, false, Option, Some, None, List, length, set}
 use Rattle.disk.specs.Device.{SameOutside}
 use Rattle.journal.specs.Area.{Place, entries}
 use Rattle.segments.specs.declared.ring.Ring.{Ring}
 use Rattle.segments.specs.Slot.{Segment}
-use Rattle.segments.specs.Numbers.{IsNewest}
+use Rattle.segments.specs.Numbers.{IsNewest, IsNext}
 use Rattle.segments.specs.Table.{slot_place, slot_at, numbers_of, HoldsTable, IsOpened, IsAppended, IsRetired}
 
 -- where the first slot lies, how many bytes each has, and the number of each that is open
@@ -60,6 +60,11 @@ pub record SamePlaces (old new : Ring) : Type 0 where
   pub at : at_of new ≡ at_of old
   pub size : size_of new ≡ size_of old
   pub count : length (known_numbers new) ≡ length (known_numbers old)
+
+-- the ring is as it was, or knows that the next slot is open
+abbrev pub IsSameOrOpened : Ring → Ring → Type 0
+IsSameOrOpened old new =
+    (new ≡ old) ⊎ ((slot : ℕ) × (number : ℕ) × IsNext (known_numbers old) slot number × (known_numbers new ≡ set (known_numbers old) slot (Some number)))
 
 -- A content that holds this table, and has not changed outside the ring's slots.
 pub record HoldsInRing (old : List ℕ) (ring : Ring) (table : List (Option Segment)) (content : List ℕ) : Type 0 where

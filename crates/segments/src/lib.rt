@@ -8,10 +8,10 @@
 //! A caller, with its contract, which is proved as it stands:
 //!
 //! ```text
-//! ghost use Rattle.std.specs.Prelude.{◌≡◌, ◌+◌, ◌≤◌, [], ◌∷◌, Option, List, length};
+//! ghost use Rattle.std.specs.Prelude.{◌≡◌, ◌≤◌, [], ◌∷◌, Option, List, length};
 //! ghost use Rattle.disk.specs.Crash.{LeavesOnly};
 //! ghost use Rattle.segments.specs.Slot.{Segment};
-//! ghost use Rattle.segments.specs.Ring.{Fits, IsLeftByAppend, end_of, size_of};
+//! ghost use Rattle.segments.specs.Ring.{Fits, IsLeftByAppend, end_of};
 //!
 //! use disk::Disk;
 //! use refusal::Refusal;
@@ -31,7 +31,9 @@
 
 pub mod laws;
 mod numbers;
+mod order;
+mod reading;
 mod ring;
 mod room;
 
-pub use ring::Ring;
+pub use ring::{RecoveredRing, Ring};

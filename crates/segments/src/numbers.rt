@@ -1,6 +1,6 @@
 //! The numbers of a ring's slots, None where a slot's gate is closed.
-ghost use Rattle.std.specs.Prelude.{◌≡◌, ◌≢◌, ◌↔◌, ℕ, ◌<◌, ◌^◌, None, length, IfSome};
-ghost use Rattle.segments.specs.Numbers.{newest_number, open_count, number_at, IsFull, IsNext, IsOldest};
+ghost use Rattle.std.specs.Prelude.{◌≡◌, ◌≢◌, ◌↔◌, ℕ, ◌<◌, ◌≤◌, ◌^◌, true, false, Some, None, length, IfSome};
+ghost use Rattle.segments.specs.Numbers.{newest_number, open_count, number_at, IsFull, IsNext, IsNewest, IsOldest, NumbersDiffer};
 
 /// The highest number, 0 where no slot is open.
 fn newest_number(numbers: &[Option<u64>]) -> u64
@@ -86,4 +86,52 @@ pub fn oldest_of_two(numbers: &[Option<u64>]) -> Option<usize>
         return None;
     }
     oldest(numbers)
+}
+
+/// The open slot of the highest number.
+pub fn newest(numbers: &[Option<u64>]) -> Option<usize>
+    ensures newest { IfSome result (λ slot. (number : ℕ) × IsNewest numbers.now slot number) }
+    ensures there { IfSome result (λ slot. slot < length numbers.now) }
+    ensures closed { result ≡ None → (slot : ℕ) → number_at numbers.now slot ≡ None }
+{
+    let mut newest = None;
+    for slot in 0..numbers.len() {
+        if let Some(number) = numbers[slot] {
+            newest = match newest {
+                Some((known, highest)) if highest >= number => Some((known, highest)),
+                _ => Some((slot, number)),
+            };
+        }
+    }
+    let (slot, _) = newest?;
+    Some(slot)
+}
+
+/// Whether open slots have different numbers.
+pub fn differ(numbers: &[Option<u64>]) -> bool
+    ensures differ { result ≡ true → NumbersDiffer numbers.now }
+    ensures same { result ≡ false → ¬ NumbersDiffer numbers.now }
+{
+    for slot in 0..numbers.len() {
+        if let Some(number) = numbers[slot] {
+            if is_below(numbers, slot, number) {
+                return false;
+            }
+        }
+    }
+    true
+}
+
+/// Whether a slot below this one has this number.
+fn is_below(numbers: &[Option<u64>], slot: usize, number: u64) -> bool
+    requires { slot ≤ length numbers.now }
+    ensures found { result ≡ true → (other : ℕ) × (other < slot) × (number_at numbers.now other ≡ Some number) }
+    ensures none { result ≡ false → (other : ℕ) → other < slot → number_at numbers.now other ≢ Some number }
+{
+    for other in 0..slot {
+        if numbers[other] == Some(number) {
+            return true;
+        }
+    }
+    false
 }

@@ -2,9 +2,11 @@
 ghost use Rattle.std.specs.Prelude.{◌≡◌, ◌⊎◌, ◌↔◌, ℕ, ◌+◌, ◌-◌, ◌*◌, ◌^◌, ◌<◌, ◌≤◌, Option, Some, None, List, [], ◌∷◌, ◌++◌, set, true, false, length, OnOk, OnErr, IsErrOf, IfErr, IfOk, IfSome};
 ghost use Rattle.std.specs.Int.{w64, to_le_bytes};
 ghost use Rattle.std.specs.Option.{ForSome};
-ghost use Rattle.disk.specs.Calls.{HasOnlyWritten, CountsFaults, CountsFaultsAs};
+ghost use Rattle.disk.specs.Calls.{HasOnlyRead, HasOnlyWritten, CountsFaults, CountsFaultsAs};
 
-use crate::numbers::{next_slot, oldest_of_two};
+use crate::numbers::{differ, next_slot, oldest_of_two};
+use crate::order::bodies_in_order;
+use crate::reading::{newest_area, numbers_of, read_slots};
 use crate::room::has_free;
 use disk::Disk;
 use journal::{Area, CLOSED, write_gated};
@@ -29,14 +31,63 @@ pub struct Ring {
     ghost newest_ends: { ForSome newest (λ area. area.at + area.size ≤ at + length numbers.items * size) },
 }
 
+/// What was read of the slots of a device.
+#[derive(Drop)]
+pub struct RecoveredRing {
+    /// The ring, whose next calls go on behind what was read.
+    pub ring: Ring,
+    /// The bodies of all segments, the oldest segment's first, and in a segment by their places.
+    pub bodies: Vec<Vec<u8>>,
+}
+
 impl Ring {
     ghost use Rattle.disk.specs.Crash.{LeavesOnly};
     ghost use Rattle.journal.specs.Area.{Place};
     ghost use Rattle.segments.specs.Slot.{Segment};
     ghost use Rattle.segments.specs.Numbers.{IsFull, IsNext, IsOldest, open_count};
-    ghost use Rattle.segments.specs.Table.{slot_place, IsOpened, IsAppended, IsRetired};
-    ghost use Rattle.segments.specs.Ring.{at_of, size_of, known_numbers, end_of, fits_newest, Fits, FitsNow, SamePlaces, IsReady, IsLeftByOpening, IsLeftReady, IsLeftByAppend, IsLeftByRetiring};
+    ghost use Rattle.segments.specs.Table.{slot_place, HoldsTable, IsOpened, IsAppended, IsRetired};
+    ghost use Rattle.segments.specs.Ring.{at_of, size_of, known_numbers, end_of, fits_newest, Fits, FitsNow, SamePlaces, IsSameOrOpened, IsReady, IsLeftByOpening, IsLeftReady, IsLeftByAppend, IsLeftByRetiring};
+    ghost use Rattle.segments.specs.Recovered.{IsReadAs};
     ghost use Rattle.segments.specs.Room.{has_room_for};
+
+    /// Reads `count` slots of `size` bytes, 256 to 16,777,216, the first of which lies at `at`. `Damaged` comes just where
+    /// they hold no table: a record of an open slot's area has the length 0 or passes its end, a segment's number is 0, or
+    /// two segments have one number. The device stays as it is.
+    pub fn read<D: Disk>(
+        alloc: Global,
+        disk: &mut D,
+        at: u64,
+        size: u64,
+        count: u64,
+    ) -> Result<RecoveredRing, Refusal>
+        requires low { 256 ≤ size }
+        requires high { size ≤ 16777216 }
+        requires end { at + count * size < 2 ^ 62 }
+        requires within { at + count * size ≤ length (D.seen disk.old) }
+
+        ensures found { IfOk result (λ read. D.honest disk.new → IsReadAs (D.seen disk.old) read) }
+        ensures place { IfOk result (λ read. (at_of read.ring ≡ at) × ((size_of read.ring ≡ size) × (length (known_numbers read.ring) ≡ count))) }
+        ensures damaged { IfErr result (λ e. e ≡ Refusal.Damaged → D.honest disk.new
+            → (table : List (Option Segment)) → length table ≡ count → ¬ HoldsTable at size (D.seen disk.old) table) }
+        ensures only { IfErr result (λ e. (e ≡ Refusal.Damaged) ⊎ ((e ≡ Refusal.NoMemory) ⊎ (e ≡ Refusal.Fault))) }
+        ensures only_read { HasOnlyRead ⟦<D as Disk>⟧ disk.old disk.new }
+        ensures faults { CountsFaultsAs ⟦<D as Disk>⟧ Refusal.Fault result disk.old disk.new }
+    {
+        let slots = read_slots(alloc, disk, at, size, count)?;
+        let numbers = numbers_of(alloc, &slots)?;
+        if !differ(&numbers) {
+            return Err(Refusal::Damaged);
+        }
+        let newest = newest_area(&numbers, &slots);
+        let bodies = bodies_in_order(alloc, slots)?;
+        let ring = Ring {
+            at,
+            size,
+            numbers,
+            newest,
+        };
+        Ok(RecoveredRing { ring, bodies })
+    }
 
     /// Opens the next slot: the lowest one whose gate is closed, under the number one above the newest segment's, 1 where
     /// none is open. `JournalFull` comes just where no slot is free, and makes no call of the device. After a `Fault`
@@ -72,7 +123,8 @@ impl Ring {
 
     /// Appends a record with this body: to the newest segment, or, where it doesn't fit there, to one that is opened for
     /// it. `JournalFull` comes just where no slot is free and it doesn't fit, and makes no call of the device. After
-    /// `NoMemory` a slot that was just opened stays open. After a `Fault` the body may be there or not.
+    /// `NoMemory` a slot that was just opened stays open. After a `Fault` the body may be there or not, and the ring knows
+    /// nothing of it: it is not to be used again.
     pub fn append<D: Disk>(
         &mut self,
         alloc: Global,
@@ -86,6 +138,7 @@ impl Ring {
         ensures full { IsErrOf result Refusal.JournalFull ↔ (fits_newest self.old (length body.now) ≡ false) × IsFull (known_numbers self.old) }
         ensures untouched { IsErrOf result Refusal.JournalFull → (disk.new ≡ disk.old) × (self.new ≡ self.old) }
         ensures only { IfErr result (λ e. (e ≡ Refusal.JournalFull) ⊎ ((e ≡ Refusal.NoMemory) ⊎ (e ≡ Refusal.Fault))) }
+        ensures err { OnErr result (IsSameOrOpened self.old self.new) }
         ensures places { SamePlaces self.old self.new }
 
         // Whatever the slots held: a crash at any moment leaves the table before, the one that the body is appended to, or
@@ -128,6 +181,7 @@ impl Ring {
         ensures err { OnErr result (self.new ≡ self.old) }
         ensures newest { IfOk result (λ area. (self.new.newest ≡ Some area) × (area.next + 6 + len ≤ area.size)) }
         ensures kept { fits_newest self.old len ≡ true → (disk.new ≡ disk.old) × (self.new ≡ self.old) }
+        ensures takes { IsSameOrOpened self.old self.new }
         ensures places { SamePlaces self.old self.new }
 
         ensures any_moment { (table : List (Option Segment)) → D.unsynced disk.old ≡ [] → Fits (D.seen disk.old) self.old table
