@@ -1,9 +1,9 @@
-use Rattle.std.proofs.Common.{◌≡◌, ◌∙◌, false, List, ℕ, length, inl, refl, ap, subst}
+use Rattle.std.proofs.Common.{◌≡◌, ◌∙◌, false, List, ℕ, length, inl, inr, refl, ap, subst}
 use Rattle.std.proofs.lemmas.Result.{on_ok_weaker}
 use Rattle.disk.specs.Crash.{history_of}
 use Rattle.disk.proofs.CallerLemmas.{begins}
 use Rattle.journal.specs.BatchSpelling.{batch, batch_width}
-use Rattle.segments.specs.Ring.{fits_newest}
+use Rattle.segments.specs.Ring.{IsReady, fits_newest}
 use Rattle.segments.proofs.CallerLemmas.{full_ring}
 use Rattle.recovery.specs.steps.Appending.{IsDone}
 use Rattle.recovery.proofs.Commits.{as_it_was}
@@ -38,3 +38,9 @@ returns-clause-done g c =
     let now = done table fits in
     subst (λ (l : List ℕ). IsDone old c.args.ring.now table l new c.append.new.self) body (record { ready = now.0; is_ready = now.1; now = now.2; appended = now.3; fits = now.4 }))
     c.append.ensures.done
+
+pub returns-clause-given_up : goal.returns-clause-given_up
+returns-clause-given_up g c memory table fits =
+    let wide : length c.deref.result.now ≡ batch_width c.args.batch.now = ap (λ (l : List ℕ). length l) c.deref.ensures.value ∙ c.in_ok-body.ensures.width in
+    let now = c.append.ensures.given_up memory table fits in
+    record { left = now.0; is_left = inr (subst (λ n. IsReady c.args.ring.now n table now.0) wide now.1); fits = now.2 }
