@@ -4,8 +4,7 @@ use Rattle.std.proofs.lemmas.List.{length-set}
 use Rattle.disk.specs.declared.device.Disk.{Ghosts}
 use Rattle.disk.specs.Device.{SameOutside}
 use Rattle.revision.specs.Command.{Taken}
-use Rattle.revision.specs.State.{State, fold, all_grow}
-use Rattle.revision.proofs.CallerLemmas.{agrees}
+use Rattle.revision.specs.State.{fold, all_grow}
 use Rattle.journal.specs.BatchSpelling.{IsBatch, batch}
 use Rattle.segments.specs.declared.ring.Ring.{Ring}
 use Rattle.segments.specs.Slot.{Segment}

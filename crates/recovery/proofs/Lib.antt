@@ -8,4 +8,5 @@ pub mod Runs
 pub mod Named
 pub mod Replays
 pub mod FoundOnce
+pub mod Fitting
 pub mod Worked

@@ -1,6 +1,6 @@
 -- What contents stand for, computed in a small shape: zeros, a formatted device, the device after a first and a second
 -- creation, and one on which the second one lies in a slot of its own, before the first.
-use Rattle.std.proofs.Common.{◌≡◌, ◌<◌, ◌≤◌, true, ℕ, zero, suc, Option, Some, None, List, [], ◌∷◌, ◌++◌, refl, sym, ◌∙◌, ap, lit<, lit≤, arith}
+use Rattle.std.proofs.Common.{◌≡◌, ◌<◌, true, ℕ, zero, suc, Option, Some, None, List, [], ◌∷◌, ◌++◌, refl, sym, ◌∙◌, ap, lit<, lit≤, arith}
 use Rattle.std.specs.Prelude.{replicate}
 use Rattle.std.proofs.lemmas.List.Elements.{All-cons, All-nil}
 use Rattle.std.specs.Char.{encode_utf8}
@@ -18,8 +18,7 @@ use Rattle.recovery.specs.declared.shape.Shape.{Shape}
 use Rattle.segments.specs.Slot.{Segment, HoldsSlot, HoldsSegment, number_of}
 use Rattle.segments.specs.Numbers.{NumbersDiffer}
 use Rattle.segments.specs.Table.{slot_bytes, slot_at}
-use Rattle.segments.specs.Order.{bodies_of}
-use Rattle.recovery.specs.Shape.{superblock, layout_length, cell_place, slots_place}
+use Rattle.recovery.specs.Shape.{superblock, layout_length, cell_place}
 use Rattle.recovery.specs.Layout.{IsFormatted, IsClosed, HoldsSlots, IsLaidOut}
 use Rattle.recovery.specs.Found.{Found, StandFor, limits_of, empty_state}
 

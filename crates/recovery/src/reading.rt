@@ -79,11 +79,7 @@ fn read_content<D: Disk>(alloc: Global, disk: &mut D) -> Result<RecoveredStore, 
 }
 
 // The ring of the slots, and the bodies that they hold.
-fn read_slots<D: Disk>(
-    alloc: Global,
-    disk: &mut D,
-    shape: &Shape,
-) -> Result<RecoveredRing, Refusal>
+fn read_slots<D: Disk>(alloc: Global, disk: &mut D, shape: &Shape) -> Result<RecoveredRing, Refusal>
     requires in_range { is_in_range shape.now ≡ true }
     requires within { layout_length shape.now ≤ length (D.seen disk.old) }
     ensures found { IfOk result (λ read. D.honest disk.new → IsRingReadAs (D.seen disk.old) read) }
