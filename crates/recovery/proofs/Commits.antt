@@ -1,80 +1,126 @@
--- What a content stands for after an append to the first slot.
-use Rattle.std.proofs.Common.{◌≡◌, refl, inl, inr, ⊎_elim, ℕ, true, Option, List, [], ◌∷◌, ◌++◌, sym, subst}
+-- What a content stands for after an append to the ring, or within one.
+use Rattle.std.proofs.Common.{◌≡◌, ◌⊎◌, inl, inr, ℕ, ◌*◌, true, Option, List, [], ◌∷◌, ◌++◌, length, refl, sym, ◌∙◌, ap, subst}
+use Rattle.std.proofs.lemmas.List.{length-set}
+use Rattle.disk.specs.declared.device.Disk.{Ghosts}
 use Rattle.disk.specs.Device.{SameOutside}
 use Rattle.revision.specs.Command.{Taken}
+use Rattle.revision.specs.State.{fold, all_grow}
 use Rattle.journal.specs.BatchSpelling.{IsBatch, batch}
-use Rattle.revision.specs.State.{State, fold, all_grow}
-use Rattle.revision.proofs.CallerLemmas.{agrees}
-use Rattle.recovery.specs.declared.shape.Shape.{Shape}
-use Rattle.recovery.specs.declared.segments.Ring.{Ring}
-use Rattle.recovery.specs.Shape.{slot_place}
-use Rattle.recovery.specs.Slot.{Segment, HoldsSlot, bodies_of}
+use Rattle.segments.specs.declared.ring.Ring.{Ring}
+use Rattle.segments.specs.Slot.{Segment}
+use Rattle.segments.specs.Numbers.{NumbersDiffer}
+use Rattle.segments.specs.Table.{HoldsTable, IsAppended, numbers_of}
+use Rattle.segments.specs.Order.{bodies_of}
+use Rattle.segments.specs.Ring.{Fits, IsReady, HoldsInRing, FitsNow, SamePlaces, IsLeftReady, IsLeftByAppend, at_of, size_of, ring_size, known_numbers}
+use Rattle.segments.proofs.CallerLemmas.{opened_bodies, appended_bodies, opened_differs}
+use Rattle.recovery.specs.declared.store.Store.{Store}
+use Rattle.recovery.specs.Shape.{slots_place}
 use Rattle.recovery.specs.Layout.{IsLaidOut}
 use Rattle.recovery.specs.Found.{StandFor, FoundAs}
-use Rattle.recovery.specs.Ring.{IsSlotLeftByAppend, IsSlotLeftByOpening, IsSlotAppended, IsSlotKept}
-use Rattle.recovery.specs.Open.{IsWithOrWithout}
-use Rattle.recovery.proofs.Layouts.{laid_out_again}
+use Rattle.recovery.specs.Open.{IsOpen, IsWithOrWithout}
+use Rattle.recovery.specs.steps.Appending.{IsDone, IsGivenUp}
+use Rattle.recovery.proofs.Layouts.{laid_out_again, slots_held, as_many}
 use Rattle.recovery.proofs.Folds.{stand_more}
+use Rattle.recovery.proofs.Runs.{found_as, found_open}
+
+-- a table that stands for the same bodies
+pub record SameBodies (before now : List (Option Segment)) : Type 0 where
+  pub bodies : bodies_of now ≡ bodies_of before
+  pub count : length now ≡ length before
+  pub differ : NumbersDiffer (numbers_of now)
 
 -- a content of which nothing was changed
-pub as_it_was : (at size : ℕ) (content : List ℕ) (slot : Option Segment) (body : List ℕ) → HoldsSlot at size content slot → IsSlotLeftByAppend at size content (bodies_of slot) body content
-as_it_was at size content slot body holds = record { outside = record { same_length = refl; before = refl; after = refl }; slot = slot; holds = holds; kept = inl refl }
+pub as_it_was : (content : List ℕ) (ring : Ring) (table : List (Option Segment)) → Fits content ring table → HoldsInRing content ring table content
+as_it_was content ring table fits = record { outside = record { same_length = refl; before = refl; after = refl }; holds = fits.holds }
 
-pub as_if_opened : (at size : ℕ) (content : List ℕ) (slot : Option Segment) → HoldsSlot at size content slot → IsSlotLeftByOpening at size content (bodies_of slot) content
-as_if_opened at size content slot holds = record { outside = record { same_length = refl; before = refl; after = refl }; slot = slot; holds = holds; kept = refl }
+-- a call that is done holds its table among the slots
+pub held_now : (old new : List ℕ) (before after : Ring) (table : List (Option Segment)) → SamePlaces before after → FitsNow old before new after table → HoldsInRing old before table new
+held_now old new before after table places now = record {
+  outside = now.outside;
+  holds = subst (λ n. HoldsTable n (size_of before) new table) places.at (subst (λ n. HoldsTable (at_of after) n new table) places.size now.fits.holds);
+}
 
-module _ (old : List ℕ) (shape : Shape) (ring : Ring) (slot : Option Segment) (batches : List (List Taken)) (state : State)
-    (at : ring.at ≡ slot_place shape 0) (size : ring.size ≡ shape.slot) (laid_out : IsLaidOut old shape slot) (stand : StandFor shape (bodies_of slot) batches state) where
-  -- outside the ring's slot is outside the first slot of the layout
-  outside_slot : (content : List ℕ) → SameOutside ring.at ring.size old content → SameOutside (slot_place shape 0) shape.slot old content
-  outside_slot content same = subst (λ n. SameOutside n shape.slot old content) at (subst (λ n. SameOutside ring.at n old content) size same)
-
-  in_slot : (content : List ℕ) (now : Option Segment) → HoldsSlot ring.at ring.size content now → HoldsSlot (slot_place shape 0) shape.slot content now
-  in_slot content now holds = subst (λ n. HoldsSlot n shape.slot content now) at (subst (λ n. HoldsSlot ring.at n content now) size holds)
-
-  -- the layout with another segment in the first slot
-  pub again : (content : List ℕ) (now : Option Segment) → SameOutside ring.at ring.size old content → HoldsSlot ring.at ring.size content now → IsLaidOut content shape now
-  again content now same holds = laid_out_again old content shape slot now laid_out (outside_slot content same) (in_slot content now holds)
+module _ {D : Type 0} {disk : Ghosts D} (store : Store D disk) (is_open : IsOpen store) where
+  abbrev old : List ℕ
+  old = disk.seen store.device
 
   -- the content before
-  pub found_before : FoundAs old state
-  found_before = record { there = state; found = record { shape = shape; slot = slot; batches = batches; laid_out = laid_out; stand = stand }; agrees = agrees state }
+  pub found_before : FoundAs old store.state
+  found_before = found_as old store.state (found_open store is_open)
 
-  -- the same bodies stand for the same state
-  pub same_bodies : (now : Option Segment) → bodies_of now ≡ bodies_of slot → StandFor shape (bodies_of now) batches state
-  same_bodies now kept = subst (λ (b : List (List ℕ)). StandFor shape b batches state) (sym kept) stand
+  -- the layout with another table
+  pub again : (content : List ℕ) (now : List (Option Segment)) → length now ≡ length is_open.table → HoldsInRing old store.ring now content → IsLaidOut content store.shape now
+  again content now count held =
+      let many : length (known_numbers store.ring) ≡ store.shape.slots = as_many old store.ring is_open.table is_open.fits ∙ is_open.laid_out.slots.count in
+      let size : ring_size store.ring ≡ store.shape.slots * store.shape.slot = ap (λ n. n * size_of store.ring) many ∙ ap (λ n. store.shape.slots * n) is_open.ring_size in
+      let outside : SameOutside (slots_place store.shape) (store.shape.slots * store.shape.slot) old content =
+      subst (λ n. SameOutside n (store.shape.slots * store.shape.slot) old content) is_open.ring_at (subst (λ n. SameOutside (at_of store.ring) n old content) size held.outside) in
+      laid_out_again old content store.shape is_open.table now is_open.laid_out outside
+      (slots_held content store.shape (at_of store.ring) (size_of store.ring) now is_open.ring_at is_open.ring_size (count ∙ is_open.laid_out.slots.count) held.holds)
 
-  -- a crash before anything of a batch is written
-  pub opened_for : (content : List ℕ) → IsSlotLeftByOpening ring.at ring.size old (bodies_of slot) content → FoundAs content state
-  opened_for content left = record {
-    there = state;
-    found = record { shape = shape; slot = left.slot; batches = batches; laid_out = again content left.slot left.outside left.holds; stand = same_bodies left.slot left.kept };
-    agrees = agrees state;
+  -- the table that a body is appended to stands for the same
+  pub ready_same : (len : ℕ) (ready : List (Option Segment)) → IsReady store.ring len is_open.table ready → SameBodies is_open.table ready
+  ready_same len ready (inl fits) = subst (SameBodies is_open.table) (sym fits.1) (record { bodies = refl; count = refl; differ = is_open.fits.holds.differ })
+  ready_same len ready (inr opened) = record {
+    bodies = opened_bodies is_open.table ready opened.1;
+    count = ap (λ (l : List (Option Segment)). length l) opened.1.is ∙ length-set is_open.table opened.1.slot _;
+    differ = opened_differs is_open.table ready is_open.fits.holds.differ opened.1;
   }
 
-  module _ (commands : List Taken) (is_batch : IsBatch commands) (grow : all_grow state commands ≡ true) where
-    more_bodies : (now : Option Segment) → bodies_of now ≡ bodies_of slot ++ batch commands ∷ [] → StandFor shape (bodies_of now) (batches ++ commands ∷ []) (fold state commands)
-    more_bodies now kept = subst (λ (b : List (List ℕ)). StandFor shape b (batches ++ commands ∷ []) (fold state commands)) (sym kept) (stand_more shape (bodies_of slot) batches state commands stand is_batch grow)
+  -- and so does what is left of one that is given up
+  pub left_same : (len : ℕ) (left : List (Option Segment)) → (left ≡ is_open.table) ⊎ IsReady store.ring len is_open.table left → SameBodies is_open.table left
+  left_same len left (inl same) = subst (SameBodies is_open.table) (sym same) (record { bodies = refl; count = refl; differ = is_open.fits.holds.differ })
+  left_same len left (inr is) = ready_same len left is
+
+  pub stand_same : (now : List (Option Segment)) → bodies_of now ≡ bodies_of is_open.table → StandFor store.shape (bodies_of now) is_open.batches store.state
+  stand_same now kept = subst (λ (b : List (List ℕ)). StandFor store.shape b is_open.batches store.state) (sym kept) is_open.stand
+
+  found_ready : (content : List ℕ) (len : ℕ) (ready : List (Option Segment)) → IsReady store.ring len is_open.table ready → HoldsInRing old store.ring ready content → FoundAs content store.state
+  found_ready content len ready is held =
+      let same = ready_same len ready is in
+      found_as content store.state (record { shape = store.shape; table = ready; batches = is_open.batches; laid_out = again content ready same.count held; stand = stand_same ready same.bodies })
+
+  found_held : (content : List ℕ) → HoldsInRing old store.ring is_open.table content → FoundAs content store.state
+  found_held content held =
+      found_as content store.state (record { shape = store.shape; table = is_open.table; batches = is_open.batches; laid_out = again content is_open.table refl held; stand = is_open.stand })
+
+  -- a crash before anything of a batch is written
+  pub opened_for : (len : ℕ) (content : List ℕ) → IsLeftReady old store.ring len is_open.table content → FoundAs content store.state
+  opened_for len content (inl held) = found_held content held
+  opened_for len content (inr (ready, is, held)) = found_ready content len ready is held
+
+  -- an append that was given up
+  pub laid_out_kept : (new : List ℕ) (later : Ring) (len : ℕ) → SamePlaces store.ring later → (kept : IsGivenUp old store.ring len is_open.table new later) → IsLaidOut new store.shape kept.left
+  laid_out_kept new later len places kept = again new kept.left (left_same len kept.left kept.is_left).count (held_now old new store.ring later kept.left places kept.fits)
+
+  module _ (commands : List Taken) (is_batch : IsBatch commands) (grow : all_grow store.state commands ≡ true) where
+    -- the table with the batch
+    pub appended_count : (ready now : List (Option Segment)) (len : ℕ) → IsReady store.ring len is_open.table ready → IsAppended ready (batch commands) now → length now ≡ length is_open.table
+    appended_count ready now len is appended = ap (λ (l : List (Option Segment)). length l) appended.is ∙ length-set ready appended.slot _ ∙ (ready_same len ready is).count
+
+    pub stand_appended : (ready now : List (Option Segment)) (len : ℕ) → IsReady store.ring len is_open.table ready → IsAppended ready (batch commands) now
+        → StandFor store.shape (bodies_of now) (is_open.batches ++ commands ∷ []) (fold store.state commands)
+    stand_appended ready now len is appended =
+        let same = ready_same len ready is in
+        let bodies : bodies_of now ≡ bodies_of is_open.table ++ batch commands ∷ [] =
+        appended_bodies ready (batch commands) now same.differ appended ∙ ap (λ (b : List (List ℕ)). b ++ batch commands ∷ []) same.bodies in
+        subst (λ (b : List (List ℕ)). StandFor store.shape b (is_open.batches ++ commands ∷ []) (fold store.state commands)) (sym bodies)
+        (stand_more store.shape (bodies_of is_open.table) is_open.batches store.state commands is_open.stand is_batch grow)
 
     -- a crash within the append
-    pub with_or_without : (content : List ℕ) → IsSlotLeftByAppend ring.at ring.size old (bodies_of slot) (batch commands) content → IsWithOrWithout state commands content
-    with_or_without content left =
-        let there = again content left.slot left.outside left.holds in
-        ⊎_elim (λ kept. inl (record { there = state; found = record { shape = shape; slot = left.slot; batches = batches; laid_out = there; stand = same_bodies left.slot kept }; agrees = agrees state }))
-        (λ added. inr (record { there = fold state commands; found = record { shape = shape; slot = left.slot; batches = batches ++ commands ∷ []; laid_out = there; stand = more_bodies left.slot added }; agrees = agrees (fold state commands) }))
-        left.kept
-
-    pub added_bodies : (now : Option Segment) → bodies_of now ≡ bodies_of slot ++ batch commands ∷ [] → StandFor shape (bodies_of now) (batches ++ commands ∷ []) (fold state commands)
-    added_bodies now added = more_bodies now added
+    pub with_or_without : (content : List ℕ) → IsLeftByAppend old store.ring is_open.table (batch commands) content → IsWithOrWithout store.state commands content
+    with_or_without content (inl held) = inl (found_held content held)
+    with_or_without content (inr (ready, is, inl held)) = inl (found_ready content (length (batch commands)) ready is held)
+    with_or_without content (inr (ready, is, inr (now, appended, held))) =
+        inr (found_as content (fold store.state commands) (record {
+          shape = store.shape;
+          table = now;
+          batches = is_open.batches ++ commands ∷ [];
+          laid_out = again content now (appended_count ready now (length (batch commands)) is appended) held;
+          stand = stand_appended ready now (length (batch commands)) is appended;
+        }))
 
     -- the layout after an append that is done
-    pub laid_out_after : (new : List ℕ) (later : Ring) → later.at ≡ ring.at → later.size ≡ ring.size → (after : IsSlotAppended old ring (bodies_of slot) (batch commands) new later) → IsLaidOut new shape after.slot
-    laid_out_after new later at_same size_same after =
-        again new after.slot after.outside
-        (subst (λ n. HoldsSlot n ring.size new after.slot) at_same (subst (λ n. HoldsSlot later.at n new after.slot) size_same after.fits.holds))
-
-  -- and after one that was given up
-  pub laid_out_kept : (bodies : List (List ℕ)) (new : List ℕ) (later : Ring) → later.at ≡ ring.at → later.size ≡ ring.size → (kept : IsSlotKept old ring bodies new later) → IsLaidOut new shape kept.slot
-  laid_out_kept bodies new later at_same size_same kept =
-      again new kept.slot kept.outside
-      (subst (λ n. HoldsSlot n ring.size new kept.slot) at_same (subst (λ n. HoldsSlot later.at n new kept.slot) size_same kept.fits.holds))
+    pub laid_out_after : (new : List ℕ) (later : Ring) → SamePlaces store.ring later → (done : IsDone old store.ring is_open.table (batch commands) new later) → IsLaidOut new store.shape done.now
+    laid_out_after new later places done =
+        again new done.now (appended_count done.ready done.now (length (batch commands)) done.is_ready done.appended) (held_now old new store.ring later done.now places done.fits)

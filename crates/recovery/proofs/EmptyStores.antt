@@ -1,20 +1,30 @@
 -- From closed gates to an empty store, and what a crash leaves on the way.
-use Rattle.std.proofs.Common.{◌≡◌, inl, inr, ℕ, ◌+◌, ◌-◌, ◌*◌, ◌≤◌, ◌<◌, true, None, List, [], ◌∷◌, length, take, drop, get_or, refl, sym, ◌∙◌, ap, subst, arith}
+use Rattle.std.proofs.Common.{◌≡◌, inl, inr, ℕ, ◌+◌, ◌-◌, ◌*◌, ◌≤◌, ◌<◌, true, Option, Some, None, zero, suc, List, [], ◌∷◌, length, replicate, take, drop, get_or, refl, sym, ◌∙◌, ap, subst, arith}
 use Rattle.std.proofs.Math.Nat.{mul-le-mul_left}
-use Rattle.std.proofs.lemmas.Bool.{cases_eq}
-use Rattle.std.proofs.lemmas.List.{take_at}
+use Rattle.std.proofs.lemmas.Bool.{cases_eq, cases_lt}
+use Rattle.std.proofs.lemmas.List.{take_at, get_or-take, get_or-drop, get_or-replicate, get_or_past, length-replicate}
+use Rattle.std.proofs.Math.ListN.{get_or-map}
+use Rattle.std.specs.List.{flat_map}
 use Rattle.std.proofs.lemmas.List.Elements.{All-nil}
 use Rattle.disk.specs.Device.{History, overwritten, SameOutside, IsWrite, IsSync, IsAtMostOneStep, NoStep}
 use Rattle.disk.specs.Crash.{Leaves}
 use Rattle.disk.proofs.CallerLemmas.{same_at, drop_overwritten, overwritten_same_outside, byte_overwritten, begins, goes_on_write, goes_on_first_write, goes_on_sync, goes_on_run, leaves_map}
 use Rattle.journal.specs.Area.{open_gate}
 use Rattle.journal.specs.BatchSpelling.{IsBatch}
+use Rattle.segments.specs.Slot.{Segment, HoldsSlot, number_of}
+use Rattle.segments.specs.Numbers.{number_at}
+use Rattle.segments.specs.Table.{slot_place, slot_bytes, slot_at, numbers_of}
+use Rattle.segments.specs.Order.{segments_of, bodies_of}
 use Rattle.recovery.specs.declared.shape.Shape.{Shape}
-use Rattle.recovery.specs.Shape.{is_in_range, layout_length, cell_place, slot_place, superblock}
-use Rattle.recovery.specs.Layout.{IsClosed, IsLaidOut}
+use Rattle.recovery.specs.Shape.{is_in_range, layout_length, cell_place, slots_place, superblock}
+use Rattle.recovery.specs.Layout.{IsClosed, HoldsSlots, IsLaidOut}
 use Rattle.recovery.specs.Found.{Found, empty_state}
-use Rattle.recovery.specs.Formatting.{IsUnformatted, IsEmptyStore, IsUnformattedOrEmpty, IsPrepared, IsOnlySynced, LeavesFromSync}
+use Rattle.recovery.specs.Formatting.{empty_table, IsUnformatted, IsEmptyStore, IsUnformattedOrEmpty, IsPrepared, IsOnlySynced, LeavesFromSync}
 use Rattle.recovery.proofs.Superblocks.{ranges_of}
+
+-- the first byte of a part
+first_byte : (at size : ℕ) (content : List ℕ) → 0 < size → get_or (take size (drop at content)) 0 0 ≡ get_or content at 0
+first_byte at size content some = get_or-take size (drop at content) 0 0 some ∙ get_or-drop at content 0 0 ∙ ap (λ k. get_or content k 0) (omega arith)
 
 -- a gate that is written closed is closed, and no other one is opened
 pub closed_at : (old : List ℕ) (at : ℕ) → at + 1 ≤ length old → IsClosed (overwritten old at (0 ∷ [])) at
@@ -44,13 +54,13 @@ gate_fits at size count k long within some inside =
 
 -- where the superblock is written behind its gate, all is prepared
 pub prepared : (shape : Shape) (old : List ℕ) → layout_length shape ≤ length old → 33 ≤ length old
-    → ((k : ℕ) → k < 2 * shape.docs → IsClosed old (cell_place shape k)) → ((s : ℕ) → s < shape.slots → IsClosed old (slot_place shape s))
+    → ((k : ℕ) → k < 2 * shape.docs → IsClosed old (cell_place shape k)) → ((s : ℕ) → s < shape.slots → IsClosed old (slot_place (slots_place shape) shape.slot s))
     → IsPrepared shape (overwritten old 1 (superblock shape))
 prepared shape old long fits cells slots = record {
   named = ap (λ (l : List ℕ). take 32 l) (drop_overwritten old 1 (superblock shape) (omega arith)) ∙ take_at (superblock shape) (drop (1 + length (superblock shape)) old) 32 refl;
   long = omega (arith, same.same_length);
   cells = λ k inside is_open. cells k inside (sym (same_at 1 32 old (overwritten old 1 (superblock shape)) same (cell_place shape k) (λ within. absurd (omega arith))) ∙ is_open);
-  slots = λ s inside is_open. slots s inside (sym (same_at 1 32 old (overwritten old 1 (superblock shape)) same (slot_place shape s) (λ within. absurd (omega arith))) ∙ is_open);
+  slots = λ s inside is_open. slots s inside (sym (same_at 1 32 old (overwritten old 1 (superblock shape)) same (slot_place (slots_place shape) shape.slot s) (λ within. absurd (omega arith))) ∙ is_open);
 }
   where
     same : SameOutside 1 32 old (overwritten old 1 (superblock shape))
@@ -62,31 +72,61 @@ still_prepared shape old new is same = record {
   named = ap (λ (l : List ℕ). take 32 l) same.after ∙ is.named;
   long = omega (arith, same.same_length, is.long);
   cells = λ k inside is_open. is.cells k inside (sym (same_at 0 1 old new same (cell_place shape k) (λ within. absurd (omega arith))) ∙ is_open);
-  slots = λ s inside is_open. is.slots s inside (sym (same_at 0 1 old new same (slot_place shape s) (λ within. absurd (omega arith))) ∙ is_open);
+  slots = λ s inside is_open. is.slots s inside (sym (same_at 0 1 old new same (slot_place (slots_place shape) shape.slot s) (λ within. absurd (omega arith))) ∙ is_open);
+}
+
+-- a table in which no slot is open has no numbers, and no bodies
+no_slot : (count slot : ℕ) → slot_at (replicate count None) slot ≡ None
+no_slot count slot = elim (cases_lt slot count) [
+  | inl inside ↦ get_or-replicate count slot None None inside
+  | inr past ↦ get_or_past (replicate count None) slot None (omega (arith, past, length-replicate {A = Option Segment} count None))
+]
+
+no_number : (count slot : ℕ) → number_at (numbers_of (replicate count None)) slot ≡ None
+no_number count slot = get_or-map number_of (replicate count None) slot None ∙ ap number_of (no_slot count slot)
+
+no_segments : (count : ℕ) → segments_of (replicate count None) ≡ []
+no_segments zero = refl
+no_segments (suc count) = no_segments count
+
+pub no_bodies : (shape : Shape) → bodies_of (empty_table shape) ≡ []
+no_bodies shape = ap (λ (l : List Segment). flat_map (λ (segment : Segment). segment.bodies) l) (no_segments shape.slots)
+
+-- the slots hold that table where their gates are closed
+slots_empty : (shape : Shape) (content : List ℕ) → is_in_range shape ≡ true → ((s : ℕ) → s < shape.slots → IsClosed content (slot_place (slots_place shape) shape.slot s)) → HoldsSlots content shape (empty_table shape)
+slots_empty shape content in_range closed = record {
+  count = length-replicate shape.slots None;
+  holds = record {
+    each = λ slot inside.
+        let below : slot < shape.slots = omega (arith, inside, length-replicate {A = Option Segment} shape.slots None) in
+        let some : 0 < shape.slot = omega (arith, (ranges_of shape in_range).slot_low) in
+        subst (HoldsSlot (slot_bytes (slots_place shape) shape.slot content slot)) (sym (no_slot shape.slots slot)) (λ gate.
+        closed slot below (sym (first_byte (slot_place (slots_place shape) shape.slot slot) shape.slot content some) ∙ gate));
+    differ = λ slot other number one two. absurd (let both : None ≡ Some number = sym (no_number shape.slots slot) ∙ one in cc);
+  };
 }
 
 -- with an open gate in front, what is prepared is an empty store
 pub empty_store : (shape : Shape) (content : List ℕ) → is_in_range shape ≡ true → IsPrepared shape content → get_or content 0 0 ≡ open_gate → IsEmptyStore shape content
 empty_store shape content in_range is gate = record { laid_out = laid_out; found = found }
   where
-    laid_out : IsLaidOut content shape None
+    laid_out : IsLaidOut content shape (empty_table shape)
     laid_out = record {
       formatted = record { long = omega (arith, is.long); gate = gate };
       named = is.named;
       in_range = in_range;
       long = is.long;
       cells = is.cells;
-      slots = λ s first inside. is.slots s inside;
-      first = is.slots 0 (omega (arith, (ranges_of shape in_range).slots_low));
+      slots = slots_empty shape content in_range is.slots;
     }
 
     found : Found content (empty_state shape)
     found = record {
       shape = shape;
-      slot = None;
+      table = empty_table shape;
       batches = [];
       laid_out = laid_out;
-      stand = record { spelled = refl; each = All-nil IsBatch; grow = refl; is_fold = refl };
+      stand = record { spelled = no_bodies shape; each = All-nil IsBatch; grow = refl; is_fold = refl };
     }
 
 -- so whatever a crash leaves in that gate

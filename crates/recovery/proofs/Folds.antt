@@ -24,6 +24,11 @@ all_grow-append state (t ∷ first) second = ap (λ b. grows state t && b) (all_
 pub commands_of-push : (batches : List (List Taken)) (commands : List Taken) → commands_of (batches ++ commands ∷ []) ≡ commands_of batches ++ commands
 commands_of-push batches commands = flat_map-append (λ (c : List Taken). c) batches (commands ∷ []) ∙ ap (λ (l : List Taken). commands_of batches ++ l) (append-nil commands)
 
+-- the limits stay
+pub fold-limits : (state : State) (commands : List Taken) → (fold state commands).limits ≡ state.limits
+fold-limits state [] = refl
+fold-limits state (t ∷ commands) = fold-limits (grown state t) commands
+
 -- a batch more, which continues the state
 pub stand_more : (shape : Shape) (bodies : List (List ℕ)) (batches : List (List Taken)) (state : State) (commands : List Taken) → StandFor shape bodies batches state → IsBatch commands → all_grow state commands ≡ true
     → StandFor shape (bodies ++ batch commands ∷ []) (batches ++ commands ∷ []) (fold state commands)

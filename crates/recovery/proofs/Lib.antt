@@ -1,14 +1,12 @@
 pub mod CallerLemmas
 pub mod EmptyStores
 pub mod Superblocks
-pub mod Slots
 pub mod Layouts
 pub mod Folds
 pub mod Commits
 pub mod Runs
 pub mod Named
-pub mod Gates
-pub mod SegmentsRead
 pub mod Replays
 pub mod FoundOnce
+pub mod Fitting
 pub mod Worked

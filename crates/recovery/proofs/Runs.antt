@@ -13,7 +13,7 @@ use Rattle.recovery.specs.Run.{batch_of, state_after, IsAfterSome}
 
 -- the content under a store that is open stands for its state
 pub found_open : {D : Type 0} {disk : Ghosts D} (store : Store D disk) → IsOpen store → Found (disk.seen store.device) store.state
-found_open store is_open = record { shape = store.shape; slot = is_open.slot; batches = is_open.batches; laid_out = is_open.laid_out; stand = is_open.stand }
+found_open store is_open = record { shape = store.shape; table = is_open.table; batches = is_open.batches; laid_out = is_open.laid_out; stand = is_open.stand }
 
 -- and so does the content of a device that it gave back
 pub found_again : {D : Type 0} (disk : Ghosts D) (device : D) (state : State) → WasOpen disk device state → Found (disk.seen device) state

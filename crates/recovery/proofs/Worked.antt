@@ -1,6 +1,6 @@
--- What contents stand for, computed in a small shape: zeros, a formatted device, and the device after a first and a second
--- creation.
-use Rattle.std.proofs.Common.{◌≡◌, ◌<◌, ◌≤◌, true, ℕ, zero, suc, Some, None, List, [], ◌∷◌, ◌++◌, refl, sym, ◌∙◌, ap, lit<, lit≤, arith}
+-- What contents stand for, computed in a small shape: zeros, a formatted device, the device after a first and a second
+-- creation, and one on which the second one lies in a slot of its own, before the first.
+use Rattle.std.proofs.Common.{◌≡◌, ◌<◌, true, ℕ, zero, suc, Option, Some, None, List, [], ◌∷◌, ◌++◌, refl, sym, ◌∙◌, ap, lit<, lit≤, arith}
 use Rattle.std.specs.Prelude.{replicate}
 use Rattle.std.proofs.lemmas.List.Elements.{All-cons, All-nil}
 use Rattle.std.specs.Char.{encode_utf8}
@@ -15,10 +15,12 @@ use Rattle.journal.specs.BatchSpelling.{IsBatch, created_name, entry, batch}
 use Rattle.journal.specs.DeltaSpelling.{value, pairs, operation, delta}
 use Rattle.revision.specs.State.{State, DocumentRecord, fold, all_grow}
 use Rattle.recovery.specs.declared.shape.Shape.{Shape}
-use Rattle.recovery.specs.Shape.{superblock, layout_length, cell_place, slot_place}
-use Rattle.recovery.specs.Slot.{Segment, HoldsSegment}
-use Rattle.recovery.specs.Layout.{IsFormatted, IsClosed, IsLaidOut}
-use Rattle.recovery.specs.Found.{Found, limits_of, empty_state}
+use Rattle.segments.specs.Slot.{Segment, HoldsSlot, HoldsSegment, number_of}
+use Rattle.segments.specs.Numbers.{NumbersDiffer}
+use Rattle.segments.specs.Table.{slot_bytes, slot_at}
+use Rattle.recovery.specs.Shape.{superblock, layout_length, cell_place}
+use Rattle.recovery.specs.Layout.{IsFormatted, IsClosed, HoldsSlots, IsLaidOut}
+use Rattle.recovery.specs.Found.{Found, StandFor, limits_of, empty_state}
 
 -- 2 slots of 256 bytes, 2 documents with cells of 256: 1,600 bytes
 abbrev small : Shape
@@ -38,11 +40,29 @@ four P p0 p1 p2 p3 (suc (suc zero)) l = p2
 four P p0 p1 p2 p3 (suc (suc (suc zero))) l = p3
 four P p0 p1 p2 p3 (suc (suc (suc (suc k)))) l = absurd (omega arith)
 
--- and at the one place from 1 below 2
-one : (P : ℕ → Type 0) → P 1 → (k : ℕ) → 1 ≤ k → k < 2 → P k
-one P p zero low l = absurd (omega arith)
-one P p (suc zero) low l = p
-one P p (suc (suc k)) low l = absurd (omega arith)
+-- and at each of two
+two : (P : ℕ → Type 0) → P 0 → P 1 → (k : ℕ) → k < 2 → P k
+two P p0 p1 zero l = p0
+two P p0 p1 (suc zero) l = p1
+two P p0 p1 (suc (suc k)) l = absurd (omega arith)
+
+-- the numbers of two slots differ, where they aren't one
+two_differ : (a b : Option ℕ) → ((n : ℕ) → a ≡ Some n → b ≡ Some n → ⊥) → NumbersDiffer (a ∷ b ∷ [])
+two_differ a b apart zero zero n one other = refl
+two_differ a b apart zero (suc zero) n one other = absurd (apart n one other)
+two_differ a b apart (suc zero) zero n one other = absurd (apart n other one)
+two_differ a b apart (suc zero) (suc zero) n one other = refl
+two_differ a b apart zero (suc (suc k)) n one other = absurd cc
+two_differ a b apart (suc zero) (suc (suc k)) n one other = absurd cc
+two_differ a b apart (suc (suc k)) other n one there = absurd cc
+
+-- the slots of the small shape hold what each of them holds
+slots_hold : (content : List ℕ) (first second : Option Segment) → HoldsSlot (slot_bytes 1088 256 content 0) first → HoldsSlot (slot_bytes 1088 256 content 1) second
+    → NumbersDiffer (number_of first ∷ number_of second ∷ []) → HoldsSlots content small (first ∷ second ∷ [])
+slots_hold content first second in_first in_second differ = record {
+  count = refl;
+  holds = record { each = two (λ s. HoldsSlot (slot_bytes 1088 256 content s) (slot_at (first ∷ second ∷ []) s)) in_first in_second; differ = differ };
+}
 
 -- zeros have no superblock, so they stand for nothing
 abbrev zeros : List ℕ
@@ -58,21 +78,20 @@ zeros_not_found state found = zeros_unformatted found.laid_out.formatted
 abbrev formatted : List ℕ
 formatted = 165 ∷ superblock small ++ replicate 1567 0
 
-pub formatted_laid_out : IsLaidOut formatted small None
+pub formatted_laid_out : IsLaidOut formatted small (None ∷ None ∷ [])
 formatted_laid_out = record {
   formatted = record { long = lit≤ tt; gate = refl };
   named = refl;
   in_range = refl;
   long = lit≤ tt;
   cells = four (λ k. IsClosed formatted (cell_place small k)) zero_is_closed zero_is_closed zero_is_closed zero_is_closed;
-  slots = one (λ s. IsClosed formatted (slot_place small s)) zero_is_closed;
-  first = zero_is_closed;
+  slots = slots_hold formatted None None zero_is_closed zero_is_closed (two_differ None None (λ n is other. absurd cc));
 }
 
 pub formatted_found : Found formatted (empty_state small)
 formatted_found = record {
   shape = small;
-  slot = None;
+  table = None ∷ None ∷ [];
   batches = [];
   laid_out = formatted_laid_out;
   stand = record { spelled = refl; each = All-nil IsBatch; grow = refl; is_fold = refl };
@@ -121,7 +140,7 @@ created = before_area ++ (recorded (spelling 0 100 122) ++ replicate 453 0)
 abbrev first_segment : Segment
 first_segment = record { number = 1; bodies = spelling 0 100 122 ∷ [] }
 
-pub created_held : HoldsSegment 1088 256 created first_segment
+pub created_held : HoldsSegment (slot_bytes 1088 256 created 0) first_segment
 created_held = record {
   gate = refl;
   number = refl;
@@ -130,15 +149,14 @@ created_held = record {
   bodies = record { gate = 0; behind = replicate 196 0; split = refl; closed = zero_is_closed; each = (record { some = lit< tt; short = lit< tt }, tt) };
 }
 
-pub created_laid_out : IsLaidOut created small (Some first_segment)
+pub created_laid_out : IsLaidOut created small (Some first_segment ∷ None ∷ [])
 created_laid_out = record {
   formatted = record { long = lit≤ tt; gate = refl };
   named = refl;
   in_range = refl;
   long = lit≤ tt;
   cells = four (λ k. IsClosed created (cell_place small k)) zero_is_closed zero_is_closed zero_is_closed zero_is_closed;
-  slots = one (λ s. IsClosed created (slot_place small s)) zero_is_closed;
-  first = created_held;
+  slots = slots_hold created (Some first_segment) None created_held zero_is_closed (two_differ (Some 1) None (λ n is other. absurd cc));
 }
 
 -- the record of a document of one letter that a source made
@@ -184,7 +202,7 @@ first_grows = refl
 pub created_found : Found created with_first
 created_found = record {
   shape = small;
-  slot = Some first_segment;
+  table = Some first_segment ∷ None ∷ [];
   batches = (creation 0 100 122 ∷ []) ∷ [];
   laid_out = created_laid_out;
   stand = record {
@@ -202,7 +220,7 @@ created_twice = before_area ++ (recorded (spelling 0 100 122) ++ (recorded (spel
 abbrev second_segment : Segment
 second_segment = record { number = 1; bodies = spelling 0 100 122 ∷ spelling 1 101 120 ∷ [] }
 
-pub created_twice_held : HoldsSegment 1088 256 created_twice second_segment
+pub created_twice_held : HoldsSegment (slot_bytes 1088 256 created_twice 0) second_segment
 created_twice_held = record {
   gate = refl;
   number = refl;
@@ -217,15 +235,14 @@ created_twice_held = record {
   };
 }
 
-pub created_twice_laid_out : IsLaidOut created_twice small (Some second_segment)
+pub created_twice_laid_out : IsLaidOut created_twice small (Some second_segment ∷ None ∷ [])
 created_twice_laid_out = record {
   formatted = record { long = lit≤ tt; gate = refl };
   named = refl;
   in_range = refl;
   long = lit≤ tt;
   cells = four (λ k. IsClosed created_twice (cell_place small k)) zero_is_closed zero_is_closed zero_is_closed zero_is_closed;
-  slots = one (λ s. IsClosed created_twice (slot_place small s)) zero_is_closed;
-  first = created_twice_held;
+  slots = slots_hold created_twice (Some second_segment) None created_twice_held zero_is_closed (two_differ (Some 1) None (λ n is other. absurd cc));
 }
 
 abbrev with_both : State
@@ -256,18 +273,67 @@ both_grow = refl
 grown_both : fold (empty_state small) both ≡ with_both
 grown_both = refl
 
+-- the two batches, whichever slots they lie in
+both_stand : StandFor small (spelling 0 100 122 ∷ spelling 1 101 120 ∷ []) ((creation 0 100 122 ∷ []) ∷ (creation 1 101 120 ∷ []) ∷ []) with_both
+both_stand = record {
+  spelled = ap (λ (b : List ℕ). b ∷ spelling 1 101 120 ∷ []) (sym spelled_first) ∙ ap (λ (b : List ℕ). batch (creation 0 100 122 ∷ []) ∷ b ∷ []) (sym spelled_second);
+  each =
+      All-cons IsBatch (creation 0 100 122 ∷ []) ((creation 1 101 120 ∷ []) ∷ []) (is_batch 0 100 122 taken_first)
+      (All-cons IsBatch (creation 1 101 120 ∷ []) [] (is_batch 1 101 120 taken_second) (All-nil IsBatch));
+  grow = both_grow;
+  is_fold = sym grown_both;
+}
+
 pub created_twice_found : Found created_twice with_both
 created_twice_found = record {
   shape = small;
-  slot = Some second_segment;
+  table = Some second_segment ∷ None ∷ [];
   batches = (creation 0 100 122 ∷ []) ∷ (creation 1 101 120 ∷ []) ∷ [];
   laid_out = created_twice_laid_out;
-  stand = record {
-    spelled = ap (λ (b : List ℕ). b ∷ spelling 1 101 120 ∷ []) (sym spelled_first) ∙ ap (λ (b : List ℕ). batch (creation 0 100 122 ∷ []) ∷ b ∷ []) (sym spelled_second);
-    each =
-        All-cons IsBatch (creation 0 100 122 ∷ []) ((creation 1 101 120 ∷ []) ∷ []) (is_batch 0 100 122 taken_first)
-        (All-cons IsBatch (creation 1 101 120 ∷ []) [] (is_batch 1 101 120 taken_second) (All-nil IsBatch));
-    grow = both_grow;
-    is_fold = sym grown_both;
+  stand = both_stand;
+}
+
+-- the second one in the first slot, as segment 2, and the first one in the second slot, as segment 1
+abbrev turned : List ℕ
+turned =
+    165 ∷ superblock small ++ (replicate 1055 0
+    ++ ((165 ∷ 2 ∷ replicate 7 0) ++ (recorded (spelling 1 101 120) ++ (replicate 197 0
+    ++ ((165 ∷ 1 ∷ replicate 7 0) ++ (recorded (spelling 0 100 122) ++ replicate 197 0))))))
+
+abbrev newer_segment : Segment
+newer_segment = record { number = 2; bodies = spelling 1 101 120 ∷ [] }
+
+pub turned_newer : HoldsSegment (slot_bytes 1088 256 turned 0) newer_segment
+turned_newer = record {
+  gate = refl;
+  number = refl;
+  from_one = lit≤ tt;
+  in_range = lit< tt;
+  bodies = record { gate = 0; behind = replicate 196 0; split = refl; closed = zero_is_closed; each = (record { some = lit< tt; short = lit< tt }, tt) };
+}
+
+pub turned_older : HoldsSegment (slot_bytes 1088 256 turned 1) first_segment
+turned_older = record {
+  gate = refl;
+  number = refl;
+  from_one = lit≤ tt;
+  in_range = lit< tt;
+  bodies = record { gate = 0; behind = replicate 196 0; split = refl; closed = zero_is_closed; each = (record { some = lit< tt; short = lit< tt }, tt) };
+}
+
+-- the batches count in order of the segments' numbers
+pub turned_found : Found turned with_both
+turned_found = record {
+  shape = small;
+  table = Some newer_segment ∷ Some first_segment ∷ [];
+  batches = (creation 0 100 122 ∷ []) ∷ (creation 1 101 120 ∷ []) ∷ [];
+  laid_out = record {
+    formatted = record { long = lit≤ tt; gate = refl };
+    named = refl;
+    in_range = refl;
+    long = lit≤ tt;
+    cells = four (λ k. IsClosed turned (cell_place small k)) zero_is_closed zero_is_closed zero_is_closed zero_is_closed;
+    slots = slots_hold turned (Some newer_segment) (Some first_segment) turned_newer turned_older (two_differ (Some 2) (Some 1) (λ n is other. absurd cc));
   };
+  stand = both_stand;
 }

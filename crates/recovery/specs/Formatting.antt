@@ -1,9 +1,11 @@
 -- What formatting leaves of a device.
-use Rattle.std.specs.Prelude.{◌≡◌, ◌⊎◌, ℕ, ◌*◌, ◌<◌, ◌≤◌, true, None, List, [], length, take, drop}
+use Rattle.std.specs.Prelude.{◌≡◌, ◌⊎◌, ℕ, ◌*◌, ◌<◌, ◌≤◌, true, Option, None, List, [], length, replicate, take, drop}
 use Rattle.disk.specs.Device.{History, IsSync, IsAtMostOneStep}
 use Rattle.disk.specs.Crash.{Leaves}
+use Rattle.segments.specs.Slot.{Segment}
+use Rattle.segments.specs.Table.{slot_place}
 use Rattle.recovery.specs.declared.shape.Shape.{Shape}
-use Rattle.recovery.specs.Shape.{is_in_range, layout_length, cell_place, slot_place, superblock}
+use Rattle.recovery.specs.Shape.{is_in_range, layout_length, cell_place, slots_place, superblock}
 use Rattle.recovery.specs.Layout.{IsClosed, IsLaidOut}
 use Rattle.recovery.specs.Found.{Found, empty_state}
 
@@ -16,9 +18,13 @@ pub record Fits (shape : Shape) (size : ℕ) : Type 0 where
 abbrev pub IsUnformatted : List ℕ → Type 0
 IsUnformatted content = IsClosed content 0
 
+-- the table of a ring of this shape in which no slot is open
+abbrev pub empty_table : Shape → List (Option Segment)
+empty_table shape = replicate shape.slots None
+
 -- a store of this shape, in which no slot is open, and which stands for no documents
 pub record IsEmptyStore (shape : Shape) (content : List ℕ) : Type 0 where
-  pub laid_out : IsLaidOut content shape None
+  pub laid_out : IsLaidOut content shape (empty_table shape)
   pub found : Found content (empty_state shape)
 
 -- what a crash may leave while a device is being formatted
@@ -30,7 +36,7 @@ pub record IsPrepared (shape : Shape) (content : List ℕ) : Type 0 where
   pub named : take 32 (drop 1 content) ≡ superblock shape
   pub long : layout_length shape ≤ length content
   pub cells : (k : ℕ) → k < 2 * shape.docs → IsClosed content (cell_place shape k)
-  pub slots : (s : ℕ) → s < shape.slots → IsClosed content (slot_place shape s)
+  pub slots : (s : ℕ) → s < shape.slots → IsClosed content (slot_place (slots_place shape) shape.slot s)
 
 -- nothing but a sync was done, good or not, or not even that
 pub record IsOnlySynced (old new : History) : Type 0 where

@@ -5,8 +5,9 @@ use Rattle.revision.specs.Command.{Taken}
 use Rattle.journal.specs.BatchSpelling.{IsBatch, batch}
 use Rattle.revision.specs.State.{Limits, State, fold, all_grow}
 use Rattle.revision.specs.Agree.{Agree}
+use Rattle.segments.specs.Slot.{Segment}
+use Rattle.segments.specs.Order.{bodies_of}
 use Rattle.recovery.specs.declared.shape.Shape.{Shape}
-use Rattle.recovery.specs.Slot.{Segment, bodies_of}
 use Rattle.recovery.specs.Layout.{IsLaidOut}
 
 -- how much a store of this shape may hold
@@ -28,13 +29,14 @@ pub record StandFor (shape : Shape) (bodies : List (List ℕ)) (batches : List (
   pub grow : all_grow (empty_state shape) (commands_of batches) ≡ true
   pub is_fold : state ≡ fold (empty_state shape) (commands_of batches)
 
--- The state that the whole content of a device stands for. Where a rule fails there is none.
+-- The state that the whole content of a device stands for: that of the bodies of its slots, the oldest segment's first.
+-- Where a rule fails there is none.
 pub record Found (content : List ℕ) (state : State) : Type 0 where
   pub shape : Shape
-  pub slot : Option Segment
+  pub table : List (Option Segment)
   pub batches : List (List Taken)
-  pub laid_out : IsLaidOut content shape slot
-  pub stand : StandFor shape (bodies_of slot) batches state
+  pub laid_out : IsLaidOut content shape table
+  pub stand : StandFor shape (bodies_of table) batches state
 
 -- The content stands for a state that agrees with this one.
 pub record FoundAs (content : List ℕ) (state : State) : Type 0 where

@@ -1,9 +1,6 @@
 pub mod Shape
 pub mod Layout
-pub mod Slot
 pub mod Found
-pub mod Ring
-pub mod Room
 pub mod Open
 pub mod Run
 pub mod Formatting

@@ -1,20 +1,26 @@
 -- A store that is open, and what a crash within a commit leaves of it.
-use Rattle.std.specs.Prelude.{◌≡◌, ◌⊎◌, ℕ, Bool, Option, List, []}
+use Rattle.std.specs.Prelude.{◌≡◌, ◌⊎◌, ◌+◌, ◌≤◌, ℕ, Bool, Option, List, []}
 use Rattle.disk.specs.declared.device.Disk.{Ghosts}
 use Rattle.revision.specs.Command.{Taken}
 use Rattle.journal.specs.BatchSpelling.{batch_width}
 use Rattle.revision.specs.State.{State, fold}
+use Rattle.segments.specs.Slot.{Segment}
+use Rattle.segments.specs.Order.{bodies_of}
+use Rattle.segments.specs.Ring.{Fits, at_of, size_of, fits_newest}
+use Rattle.segments.specs.Room.{has_room_for}
 use Rattle.recovery.specs.declared.store.Store.{Store}
-use Rattle.recovery.specs.Shape.{slot_place}
-use Rattle.recovery.specs.Slot.{Segment, bodies_of}
+use Rattle.recovery.specs.Shape.{slots_place}
 use Rattle.recovery.specs.Layout.{IsLaidOut}
 use Rattle.recovery.specs.Found.{StandFor, FoundAs}
-use Rattle.recovery.specs.Ring.{FitsSlot}
-use Rattle.recovery.specs.Room.{has_room_for}
 
 -- a content that stands for a state that agrees with the one before a batch, or with the one with it
 abbrev pub IsWithOrWithout : State → List Taken → List ℕ → Type 0
 IsWithOrWithout state batch content = FoundAs content state ⊎ FoundAs content (fold state batch)
+
+-- A batch fits a slot in which nothing stands yet: with the slot's gate and number, the record's gate and length, and
+-- the closed gate behind it, 15 bytes more than its own. An entry alone has 19 bytes less than a slot at most, and fits.
+abbrev pub FitsSlot : State → List Taken → Type 0
+FitsSlot state batch = batch_width batch ≤ state.limits.width + 4
 
 module _ {D : Type 0} {disk : Ghosts D} where
   -- the device under a store
@@ -29,9 +35,13 @@ module _ {D : Type 0} {disk : Ghosts D} where
   abbrev pub has_failed : Store D disk → Bool
   has_failed store = store.failed
 
-  -- a batch fits behind what is there
+  -- a batch fits behind what is there: into the newest segment, or, where a slot is free, into that
   abbrev pub has_room : Store D disk → List Taken → Bool
-  has_room store batch = has_room_for store.ring.size store.ring.newest (batch_width batch)
+  has_room store batch = has_room_for store.ring (batch_width batch)
+
+  -- a batch fits into the newest segment
+  abbrev pub fits_newest_segment : Store D disk → List Taken → Bool
+  fits_newest_segment store batch = fits_newest store.ring (batch_width batch)
 
   -- a call has left the store as it was
   pub record IsUnchanged (old new : Store D disk) : Type 0 where
@@ -41,17 +51,16 @@ module _ {D : Type 0} {disk : Ghosts D} where
     pub state : new.state ≡ old.state
     pub failed : new.failed ≡ old.failed
 
-  -- The device is synced, its content stands for the state that the store holds, and the ring knows where its first
-  -- slot ends.
+  -- The device is synced, its content stands for the state that the store holds, and the ring is that of its slots.
   pub record IsOpen (store : Store D disk) : Type 0 where
     pub synced : disk.unsynced store.device ≡ []
-    pub slot : Option Segment
+    pub table : List (Option Segment)
     pub batches : List (List Taken)
-    pub laid_out : IsLaidOut (disk.seen store.device) store.shape slot
-    pub fits : FitsSlot (disk.seen store.device) store.ring slot
-    pub ring_at : store.ring.at ≡ slot_place store.shape 0
-    pub ring_size : store.ring.size ≡ store.shape.slot
-    pub stand : StandFor store.shape (bodies_of slot) batches store.state
+    pub laid_out : IsLaidOut (disk.seen store.device) store.shape table
+    pub fits : Fits (disk.seen store.device) store.ring table
+    pub ring_at : at_of store.ring ≡ slots_place store.shape
+    pub ring_size : size_of store.ring ≡ store.shape.slot
+    pub stand : StandFor store.shape (bodies_of table) batches store.state
 
 -- A store was open over this device, and held this state, when the device was given back.
 pub record WasOpen {D : Type 0} (disk : Ghosts D) (device : D) (state : State) : Type 0 where

@@ -1,10 +1,11 @@
 -- Runs of steps, and what a crash within one leaves.
-use Rattle.std.specs.Prelude.{◌≤◌, ℕ, List, [], ◌∷◌, length, take, map, get_or}
+use Rattle.std.specs.Prelude.{◌≤◌, ◌<◌, ◌^◌, ℕ, List, [], ◌∷◌, length, take, map, get_or}
 use Rattle.revision.specs.Command.{Taken}
 use Rattle.revision.specs.State.{State, fold}
 use Rattle.recovery.specs.declared.run.StoreStep.{StoreStep}
 use Rattle.recovery.specs.declared.run.StoreStep.TheVariants.{Commit}
 use Rattle.recovery.specs.Found.{FoundAs}
+use Rattle.recovery.specs.Open.{FitsSlot}
 
 -- the batch of a step
 abbrev pub batch_of : StoreStep → List Taken
@@ -27,7 +28,8 @@ pub record IsAfterSome (least : ℕ) (state : State) (steps : List StoreStep) (c
   pub within : count ≤ length steps
   pub found : FoundAs content (state_after state (take count steps))
 
--- a batch has a command, and its count has four bytes
-pub record CanCommit (step : StoreStep) : Type 0 where
+-- a batch has a command, its count has four bytes, and it fits a slot in which nothing stands yet
+pub record CanCommit (state : State) (step : StoreStep) : Type 0 where
   pub some : 1 ≤ length (batch_of step)
-  pub short : length (batch_of step) ≤ 4294967295
+  pub short : length (batch_of step) < 2 ^ 32
+  pub fits : FitsSlot state (batch_of step)

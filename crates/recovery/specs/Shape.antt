@@ -17,9 +17,9 @@ is_in_range shape =
 abbrev pub cell_place : Shape → ℕ → ℕ
 cell_place shape k = 64 + k * shape.cell
 
--- where slot s begins, from 0
-abbrev pub slot_place : Shape → ℕ → ℕ
-slot_place shape s = 64 + 2 * shape.docs * shape.cell + s * shape.slot
+-- where the slots begin, one behind another
+abbrev pub slots_place : Shape → ℕ
+slots_place shape = 64 + 2 * shape.docs * shape.cell
 
 -- how many bytes the layout has
 abbrev pub layout_length : Shape → ℕ

@@ -1,2 +1,3 @@
--- What the steps of reading a device need. What a content stands for stands in the files beside this folder.
+-- What the steps of reading and of writing a device need. What a content stands for stands in the files beside this folder.
 pub mod Reading
+pub mod Appending

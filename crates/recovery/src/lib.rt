@@ -1,16 +1,15 @@
 //! The store: how a device is formatted, opened and written.
 //!
-//! A device has a superblock that names the store's shape, cells (so far none is written) and slots, of which so far
-//! the first alone is used. To the layer above the crate promises which state the content of a device stands for, and
-//! what a crash at any moment of a call leaves of it. It stands on `journal` and `disk`. The ring of slots
-//! (`segments`) is a module of this crate until it is a crate of its own.
+//! A device has a superblock that names the store's shape, cells (so far none is written) and the slots of the journal's
+//! ring. To the layer above the crate promises which state the content of a device stands for, and what a crash at any
+//! moment of a call leaves of it. It stands on `segments`, `journal` and `disk`.
 //!
 //! A caller, with its contract, which is proved as it stands:
 //!
 //! ```text
 //! ghost use Rattle.std.specs.Prelude.{◌≡◌, [], ◌∷◌, false, OnOk};
 //! ghost use Rattle.disk.specs.Crash.{LeavesOnly};
-//! ghost use Rattle.recovery.specs.Open.{IsOpen, IsWithOrWithout, device_of, state_of, has_failed};
+//! ghost use Rattle.recovery.specs.Open.{FitsSlot, IsOpen, IsWithOrWithout, device_of, state_of, has_failed};
 //!
 //! use disk::Disk;
 //! use recovery::Store;
@@ -20,6 +19,7 @@
 //!
 //! /// Commits one command. A crash at any moment leaves the state without it or with it, and at Ok the store goes on.
 //! pub fn commit_one<D: Disk>(alloc: Global, store: &mut Store<D>, taken: Taken) -> Result<(), Refusal>
+//!     requires { FitsSlot (state_of store.old) (taken ∷ []) }
 //!     ensures any_moment { has_failed store.old ≡ false → IsOpen store.old
 //!         → LeavesOnly ⟦<D as Disk>⟧ (IsWithOrWithout (state_of store.old) (taken ∷ [])) (device_of store.old) (device_of store.new) }
 //!     ensures done { OnOk result (IsOpen store.old → IsOpen store.new) }
@@ -33,7 +33,6 @@ mod formatting;
 pub mod laws;
 mod reading;
 mod run;
-mod segments;
 mod shape;
 mod store;
 mod superblock;

@@ -1,28 +1,29 @@
-//! Reading the content of a device: the superblock, the gates, and the batches of the first slot.
-ghost use Rattle.std.specs.Prelude.{◌≡◌, ◌⊎◌, ◌↔◌, ◌≤◌, true, [], length, IsTrue, OnOk, IfOk, IfErr};
+//! Reading the content of a device: the superblock, the gates of the cells, and the batches of the slots.
+ghost use Rattle.std.specs.Prelude.{◌≡◌, ◌⊎◌, ◌↔◌, ◌+◌, ◌≤◌, true, List, Option, [], length, IsTrue, OnOk, IfOk, IfErr};
 ghost use Rattle.disk.specs.Device.{IsSync, IsAtMostOneStep};
 ghost use Rattle.disk.specs.Calls.{HasOnlyRead, CountsFaults, CountsFaultsAs};
 ghost use Rattle.disk.specs.Crash.{history_of};
 ghost use Rattle.revision.specs.State.{State as StateValue};
 ghost use Rattle.recovery.specs.declared.shape.Shape.{Shape as ShapeValue};
-ghost use Rattle.recovery.specs.Shape.{is_in_range, layout_length, slot_place};
-ghost use Rattle.recovery.specs.Layout.{IsFormatted};
+ghost use Rattle.segments.specs.Slot.{Segment};
+ghost use Rattle.segments.specs.Recovered.{IsReadAs as IsRingReadAs};
+ghost use Rattle.segments.specs.Ring.{size_of, end_of};
+ghost use Rattle.recovery.specs.Shape.{is_in_range, layout_length};
+ghost use Rattle.recovery.specs.Layout.{IsFormatted, HoldsSlots};
 ghost use Rattle.recovery.specs.Found.{Found};
-ghost use Rattle.recovery.specs.steps.Reading.{Names, IsReadAs};
+ghost use Rattle.recovery.specs.steps.Reading.{Names, IsRingOf, IsReadAs};
 
-mod first_slot;
 mod gates;
 mod replay;
 
-use crate::segments::Ring;
 use crate::shape::Shape;
 use crate::superblock::{BODY_LEN, SUPERBLOCK_LEN, read_superblock};
 use disk::Disk;
-use first_slot::read_first_slot;
-use gates::{are_others_closed, is_open, read_at};
+use gates::{are_cells_closed, is_open, read_at};
 use refusal::Refusal;
 use replay::replay_bodies;
 use revision::State;
+use segments::{RecoveredRing, Ring};
 use std::alloc::Global;
 
 /// What was read of a device: its shape, the state that it stands for, and where its next batch goes.
@@ -37,9 +38,8 @@ pub struct RecoveredStore {
 /// the device has less than 64 bytes, and `Damaged` where it is formatted and its content stands for no state.
 pub fn read_store<D: Disk>(alloc: Global, disk: &mut D) -> Result<RecoveredStore, Refusal>
     ensures read { IfOk result (λ recovered. D.honest disk.new → IsReadAs (D.seen disk.old) recovered) }
-    ensures place { IfOk result (λ recovered. (recovered.ring.at ≡ slot_place recovered.shape 0) × (recovered.ring.size ≡ recovered.shape.slot)) }
-    ensures in_range { IfOk result (λ recovered. is_in_range recovered.shape ≡ true) }
-    ensures within { IfOk result (λ recovered. layout_length recovered.shape ≤ length (D.seen disk.old)) }
+    ensures slot { IfOk result (λ recovered. size_of recovered.ring ≡ recovered.state.limits.width + 19) }
+    ensures within { IfOk result (λ recovered. end_of recovered.ring ≤ length (D.seen disk.old)) }
 
     ensures not_formatted { IfErr result (λ e. e ≡ Refusal.NotFormatted → D.honest disk.new → ¬ IsFormatted (D.seen disk.old)) }
     ensures formatted { IfErr result (λ e. e ≡ Refusal.Damaged → D.honest disk.new → IsFormatted (D.seen disk.old)) }
@@ -60,9 +60,8 @@ pub fn read_store<D: Disk>(alloc: Global, disk: &mut D) -> Result<RecoveredStore
 // Reads what stands on the device. No call of it moves the device on.
 fn read_content<D: Disk>(alloc: Global, disk: &mut D) -> Result<RecoveredStore, Refusal>
     ensures read { IfOk result (λ recovered. D.honest disk.new → IsReadAs (D.seen disk.old) recovered) }
-    ensures place { IfOk result (λ recovered. (recovered.ring.at ≡ slot_place recovered.shape 0) × (recovered.ring.size ≡ recovered.shape.slot)) }
-    ensures in_range { IfOk result (λ recovered. is_in_range recovered.shape ≡ true) }
-    ensures within { IfOk result (λ recovered. layout_length recovered.shape ≤ length (D.seen disk.old)) }
+    ensures slot { IfOk result (λ recovered. size_of recovered.ring ≡ recovered.state.limits.width + 19) }
+    ensures within { IfOk result (λ recovered. end_of recovered.ring ≤ length (D.seen disk.old)) }
     ensures not_formatted { IfErr result (λ e. e ≡ Refusal.NotFormatted → D.honest disk.new → ¬ IsFormatted (D.seen disk.old)) }
     ensures formatted { IfErr result (λ e. e ≡ Refusal.Damaged → D.honest disk.new → IsFormatted (D.seen disk.old)) }
     ensures damaged { IfErr result (λ e. e ≡ Refusal.Damaged → D.honest disk.new → (found : StateValue) → ¬ Found (D.seen disk.old) found) }
@@ -71,12 +70,30 @@ fn read_content<D: Disk>(alloc: Global, disk: &mut D) -> Result<RecoveredStore, 
     ensures faults { CountsFaultsAs ⟦<D as Disk>⟧ Refusal.Fault result disk.old disk.new }
 {
     let shape = read_shape(disk)?;
-    if !are_others_closed(disk, &shape)? {
+    if !are_cells_closed(disk, &shape)? {
         return Err(Refusal::Damaged);
     }
-    let (ring, bodies) = read_first_slot(alloc, disk, &shape)?;
+    let RecoveredRing { ring, bodies } = read_slots(alloc, disk, &shape)?;
     let state = replay_bodies(alloc, &shape, &bodies)?;
     Ok(RecoveredStore { shape, ring, state })
+}
+
+// The ring of the slots, and the bodies that they hold.
+fn read_slots<D: Disk>(alloc: Global, disk: &mut D, shape: &Shape) -> Result<RecoveredRing, Refusal>
+    requires in_range { is_in_range shape.now ≡ true }
+    requires within { layout_length shape.now ≤ length (D.seen disk.old) }
+    ensures found { IfOk result (λ read. D.honest disk.new → IsRingReadAs (D.seen disk.old) read) }
+    ensures place { IfOk result (λ read. IsRingOf shape.now read.ring) }
+    ensures within { IfOk result (λ read. end_of read.ring ≤ length (D.seen disk.old)) }
+    ensures damaged { IfErr result (λ e. e ≡ Refusal.Damaged → D.honest disk.new
+        → (table : List (Option Segment)) → ¬ HoldsSlots (D.seen disk.old) shape.now table) }
+    ensures only { IfErr result (λ e. (e ≡ Refusal.Damaged) ⊎ ((e ≡ Refusal.NoMemory) ⊎ (e ≡ Refusal.Fault))) }
+    ensures only_read { HasOnlyRead ⟦<D as Disk>⟧ disk.old disk.new }
+    ensures faults { CountsFaultsAs ⟦<D as Disk>⟧ Refusal.Fault result disk.old disk.new }
+{
+    let at = SUPERBLOCK_LEN + 2 * u64::from(shape.docs) * u64::from(shape.cell);
+    let size = u64::from(shape.slot);
+    Ring::read(alloc, disk, at, size, u64::from(shape.slots))
 }
 
 // The shape that the superblock names.

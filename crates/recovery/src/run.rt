@@ -43,7 +43,7 @@ pub struct Stop {
 impl<D: Disk> Store<D> {
     /// Takes steps in order. It stops at the first that is refused, and says where.
     pub fn run(&mut self, alloc: Global, steps: &[StoreStep]) -> Result<(), Stop>
-        requires { All CanCommit steps.now }
+        requires { All (CanCommit (state_of self.old)) steps.now }
 
         // How far it came, and what the store then holds.
         ensures state { OnOk result (state_of self.new ≡ state_after (state_of self.old) steps.now) }

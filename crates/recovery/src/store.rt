@@ -1,19 +1,20 @@
 //! A store that is open.
-ghost use Rattle.std.specs.Prelude.{◌≡◌, ◌≢◌, ◌⊎◌, ◌↔◌, ◌+◌, ◌<◌, ◌≤◌, ◌^◌, List, ℕ, true, false, [], Option, length, OnOk, OnErr, IfOk, IfErr, IsErrOf};
+ghost use Rattle.std.specs.Prelude.{◌≡◌, ◌≢◌, ◌⊎◌, ◌↔◌, ◌+◌, ◌<◌, ◌≤◌, ◌^◌, List, ℕ, true, false, [], Option, length, OnOk, OnErr, IfOk, IfErr, IsErrOf, IsTrue};
 ghost use Rattle.disk.specs.Calls.{HasOnlyWritten, CountsFaultsAs};
 ghost use Rattle.disk.specs.Crash.{LeavesOnly};
 ghost use Rattle.journal.specs.BatchSpelling.{IsBatch, batch as spelled, batch_width};
-ghost use Rattle.recovery.specs.Slot.{Segment, bodies_of};
-ghost use Rattle.recovery.specs.Room.{has_room_for};
-ghost use Rattle.recovery.specs.Ring.{FitsSlot, IsSlotLeftByAppend, IsSlotLeftByOpening, IsSlotAppended, IsSlotKept};
+ghost use Rattle.segments.specs.Slot.{Segment};
+ghost use Rattle.segments.specs.Ring.{Fits, SamePlaces, IsLeftReady, IsLeftByAppend, end_of, size_of, fits_newest};
+ghost use Rattle.recovery.specs.steps.Appending.{IsDone, IsGivenUp};
+ghost use Rattle.segments.specs.Room.{has_room_for};
 
 use crate::reading::read_store;
-use crate::segments::Ring;
 use crate::shape::Shape;
 use disk::Disk;
 use journal::{batch_len, encode_batch};
 use refusal::Refusal;
 use revision::{State, Taken};
+use segments::Ring;
 use std::alloc::Global;
 use std::mem::replace;
 
@@ -32,7 +33,8 @@ pub struct Store<D: Disk> {
     ring: Ring,
     state: State,
     failed: bool,
-    ghost within: { ring.at + ring.size ≤ length (D.seen device) },
+    ghost within: { end_of ring ≤ length (D.seen device) },
+    ghost slot: { size_of ring ≡ state.limits.width + 19 },
 }
 
 impl<D: Disk> Store<D> {
@@ -42,7 +44,7 @@ impl<D: Disk> Store<D> {
     ghost use Rattle.recovery.specs.Layout.{IsFormatted};
     ghost use Rattle.recovery.specs.Found.{Found, FoundAs};
     ghost use Rattle.revision.specs.State.{fold, all_grow};
-    ghost use Rattle.recovery.specs.Open.{IsOpen, WasOpen, IsUnchanged, IsWithOrWithout, device_of, state_of, has_failed, has_room};
+    ghost use Rattle.recovery.specs.Open.{FitsSlot, IsOpen, WasOpen, IsUnchanged, IsWithOrWithout, device_of, state_of, has_failed, has_room, fits_newest_segment};
 
     /// Opens a formatted device: syncs it, then reads, and writes nothing. `NotFormatted` comes just where the
     /// superblock's gate is closed or the device has less than 64 bytes, `Damaged` just where a formatted device's
@@ -121,14 +123,15 @@ impl<D: Disk> Store<D> {
         device
     }
 
-    /// Writes a batch, and answers once it is on the disk: two syncs, and two more where the first slot is opened for
-    /// it. `JournalFull` comes just where the batch doesn't fit behind what is there, which its width tells before anything
-    /// is spelled, then `Stranger` where it doesn't continue the state, `NoMemory` before anything of it is written, and
+    /// Writes a batch, and answers once it is on the disk: two syncs, and two more where a slot is opened for it.
+    /// `JournalFull` comes just where the batch doesn't fit the newest segment and no slot is free, which its width tells
+    /// before anything is spelled, then `Stranger` where it doesn't continue the state, `NoMemory` before anything of it is written, and
     /// `Fault`, after which the store has failed: every later call answers `Fault`, until the device is opened again. The
     /// documents change only once the batch is on the disk, and no refusal changes them.
     pub fn commit(&mut self, alloc: Global, batch: &[Taken]) -> Result<(), Refusal>
         requires some { 1 ≤ length batch.now }
         requires short { length batch.now < 2 ^ 32 }
+        requires fits { FitsSlot (state_of self.old) batch.now }
 
         // When each refusal comes. Want of memory may be told in place of `Stranger`.
         ensures failed_before { has_failed self.old ≡ true → (IsErrOf result Refusal.Fault) × ((device_of self.new ≡ device_of self.old) × (has_failed self.new ≡ true)) }
@@ -162,6 +165,7 @@ impl<D: Disk> Store<D> {
 
         // Eight calls of the device at most: four for the record, and four for a slot that is opened for it.
         ensures calls { length (D.past (device_of self.new)) ≤ length (D.past (device_of self.old)) + 8 }
+        ensures calls_where_it_fits { fits_newest_segment self.old batch.now ≡ true → length (D.past (device_of self.new)) ≤ length (D.past (device_of self.old)) + 4 }
         ensures honest { D.honest (device_of self.new) ↔ D.honest (device_of self.old) }
     {
         if self.failed {
@@ -191,15 +195,22 @@ impl<D: Disk> Store<D> {
         }
     }
 
+    /// Whether a batch fits a slot in which nothing stands yet, as `commit` wants it.
+    pub fn fits(&self, batch: &[Taken]) -> bool
+        ensures { IsTrue result ↔ FitsSlot (state_of self.now) batch.now }
+    {
+        batch_len(batch) <= u64::from(self.state.limits().width()) + 4
+    }
+
     // Whether the batch fits behind what is there.
     fn has_room(&self, batch: &[Taken]) -> bool
         requires some { 1 ≤ length batch.now }
         requires short { length batch.now < 2 ^ 32 }
+        requires fits { FitsSlot (state_of self.now) batch.now }
         ensures room { result ≡ has_room self.now batch.now }
         ensures is_batch { IsBatch batch.now }
     {
-        let len = batch_len(batch);
-        len < 1 << 32 && self.ring.has_room(len)
+        self.ring.has_room(batch_len(batch))
     }
 }
 
@@ -210,25 +221,28 @@ fn append_batch<D: Disk>(
     disk: &mut D,
     batch: &[Taken],
 ) -> Result<(), Refusal>
-    requires within { ring.old.at + ring.old.size ≤ length (D.seen disk.old) }
+    requires within { end_of ring.old ≤ length (D.seen disk.old) }
     requires some { 1 ≤ length batch.now }
     requires short { length batch.now < 2 ^ 32 }
+    requires fits { batch_width batch.now + 15 ≤ size_of ring.old }
 
-    ensures full { IsErrOf result Refusal.JournalFull → has_room_for ring.old.size ring.old.newest (batch_width batch.now) ≡ false }
+    ensures full { IsErrOf result Refusal.JournalFull → has_room_for ring.old (batch_width batch.now) ≡ false }
     ensures only { IfErr result (λ e. (e ≡ Refusal.JournalFull) ⊎ ((e ≡ Refusal.NoMemory) ⊎ (e ≡ Refusal.Fault))) }
-    ensures place { (ring.new.at ≡ ring.old.at) × (ring.new.size ≡ ring.old.size) }
+    ensures places { SamePlaces ring.old ring.new }
 
-    ensures any_moment { (slot : Option Segment) → D.unsynced disk.old ≡ [] → FitsSlot (D.seen disk.old) ring.old slot
-        → LeavesOnly ⟦<D as Disk>⟧ (IsSlotLeftByAppend ring.old.at ring.old.size (D.seen disk.old) (bodies_of slot) (spelled batch.now)) disk.old disk.new }
-    ensures unwritten { IsErrOf result Refusal.NoMemory → (slot : Option Segment) → D.unsynced disk.old ≡ [] → FitsSlot (D.seen disk.old) ring.old slot
-        → LeavesOnly ⟦<D as Disk>⟧ (IsSlotLeftByOpening ring.old.at ring.old.size (D.seen disk.old) (bodies_of slot)) disk.old disk.new }
-    ensures done { OnOk result ((slot : Option Segment) → FitsSlot (D.seen disk.old) ring.old slot
-        → IsSlotAppended (D.seen disk.old) ring.old (bodies_of slot) (spelled batch.now) (D.seen disk.new) ring.new) }
+    ensures any_moment { (table : List (Option Segment)) → D.unsynced disk.old ≡ [] → Fits (D.seen disk.old) ring.old table
+        → LeavesOnly ⟦<D as Disk>⟧ (IsLeftByAppend (D.seen disk.old) ring.old table (spelled batch.now)) disk.old disk.new }
+    ensures unwritten { IsErrOf result Refusal.NoMemory → (table : List (Option Segment)) → D.unsynced disk.old ≡ [] → Fits (D.seen disk.old) ring.old table
+        → LeavesOnly ⟦<D as Disk>⟧ (IsLeftReady (D.seen disk.old) ring.old (batch_width batch.now) table) disk.old disk.new }
+    ensures done { OnOk result ((table : List (Option Segment)) → Fits (D.seen disk.old) ring.old table
+        → IsDone (D.seen disk.old) ring.old table (spelled batch.now) (D.seen disk.new) ring.new) }
     ensures synced { OnOk result (D.unsynced disk.new ≡ []) }
-    ensures given_up { IsErrOf result Refusal.NoMemory → (slot : Option Segment) → D.unsynced disk.old ≡ [] → FitsSlot (D.seen disk.old) ring.old slot
-        → IsSlotKept (D.seen disk.old) ring.old (bodies_of slot) (D.seen disk.new) ring.new × (D.unsynced disk.new ≡ []) }
+    ensures given_up { IsErrOf result Refusal.NoMemory → (table : List (Option Segment)) → Fits (D.seen disk.old) ring.old table
+        → IsGivenUp (D.seen disk.old) ring.old (batch_width batch.now) table (D.seen disk.new) ring.new }
+    ensures still_synced { IsErrOf result Refusal.NoMemory → D.unsynced disk.old ≡ [] → D.unsynced disk.new ≡ [] }
 
     ensures calls { length (D.past disk.new) ≤ length (D.past disk.old) + 8 }
+    ensures calls_where_it_fits { fits_newest ring.old (batch_width batch.now) ≡ true → length (D.past disk.new) ≤ length (D.past disk.old) + 4 }
     ensures only_written { HasOnlyWritten ⟦<D as Disk>⟧ disk.old disk.new }
     ensures faults { CountsFaultsAs ⟦<D as Disk>⟧ Refusal.Fault result disk.old disk.new }
 {

@@ -3,6 +3,7 @@ pub mod Slots
 pub mod Numbering
 pub mod Tables
 pub mod Rings
+pub mod Rooms
 pub mod Appending
 pub mod Retiring
 pub mod OneTable

@@ -14,3 +14,13 @@ pub fn bodies_in_order()
     ensures appended { law.AppendedBodies }
     ensures retired { law.RetiredBodies }
 {}
+
+/// Open slots have different numbers where one more is opened.
+pub fn opened_differs()
+    ensures { law.OpenedDiffers }
+{}
+
+/// A body finds no room just where it doesn't fit the newest segment and no slot is free.
+pub fn full_ring()
+    ensures { law.FullRing }
+{}

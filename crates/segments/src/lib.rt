@@ -34,5 +34,6 @@ mod numbers;
 mod order;
 mod reading;
 mod ring;
+mod room;
 
 pub use ring::{RecoveredRing, Ring};

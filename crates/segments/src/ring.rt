@@ -7,6 +7,7 @@ ghost use Rattle.disk.specs.Calls.{HasOnlyRead, HasOnlyWritten, CountsFaults, Co
 use crate::numbers::{differ, next_slot, oldest_of_two};
 use crate::order::bodies_in_order;
 use crate::reading::{newest_area, numbers_of, read_slots};
+use crate::room::has_free;
 use disk::Disk;
 use journal::{Area, CLOSED, write_gated};
 use refusal::Refusal;
@@ -47,6 +48,7 @@ impl Ring {
     ghost use Rattle.segments.specs.Table.{slot_place, HoldsTable, IsOpened, IsAppended, IsRetired};
     ghost use Rattle.segments.specs.Ring.{at_of, size_of, known_numbers, end_of, fits_newest, Fits, FitsNow, SamePlaces, IsSameOrOpened, IsReady, IsLeftByOpening, IsLeftReady, IsLeftByAppend, IsLeftByRetiring};
     ghost use Rattle.segments.specs.Recovered.{IsReadAs};
+    ghost use Rattle.segments.specs.Room.{has_room_for};
 
     /// Reads `count` slots of `size` bytes, 256 to 16,777,216, the first of which lies at `at`. `Damaged` comes just where
     /// they hold no table: a record of an open slot's area has the length 0 or passes its end, a segment's number is 0, or
@@ -151,6 +153,9 @@ impl Ring {
         ensures given_up { IsErrOf result Refusal.NoMemory → (table : List (Option Segment)) → Fits (D.seen disk.old) self.old table
             → (ready : List (Option Segment)) × IsReady self.old (length body.now) table ready
             × FitsNow (D.seen disk.old) self.old (D.seen disk.new) self.new ready }
+        // Want of memory comes before anything of the body is written: at most a slot is opened.
+        ensures unwritten { IsErrOf result Refusal.NoMemory → (table : List (Option Segment)) → D.unsynced disk.old ≡ [] → Fits (D.seen disk.old) self.old table
+            → LeavesOnly ⟦<D as Disk>⟧ (IsLeftReady (D.seen disk.old) self.old (length body.now) table) disk.old disk.new }
         ensures still_synced { IsErrOf result Refusal.NoMemory → D.unsynced disk.old ≡ [] → D.unsynced disk.new ≡ [] }
 
         // Four calls of the device at most, and four more where a slot is opened.
@@ -194,6 +199,14 @@ impl Ring {
         }
         let area = self.open_next(disk)?;
         Ok(area)
+    }
+
+    /// Whether a body of so many bytes finds room: in the newest segment, or in a slot that is free.
+    pub fn has_room(&self, len: u64) -> bool
+        requires { len < 2 ^ 62 }
+        ensures { result ≡ has_room_for self.now len }
+    {
+        self.newest_with_room(len).is_some() || has_free(&self.numbers)
     }
 
     // The newest segment's area, where a body of so many bytes fits into it.

@@ -4,7 +4,7 @@ ghost use Rattle.disk.specs.Device.{overwritten};
 ghost use Rattle.disk.specs.Crash.{LeavesOnly};
 ghost use Rattle.journal.specs.Area.{Stands};
 ghost use Rattle.journal.specs.BatchSpelling as spelling;
-ghost use Rattle.recovery.specs.Open.{IsOpen, IsWithOrWithout, device_of, state_of, has_failed};
+ghost use Rattle.recovery.specs.Open.{FitsSlot, IsOpen, IsWithOrWithout, device_of, state_of, has_failed};
 
 use disk::{Disk, Fault};
 use journal::{Area, encode_batch};
@@ -43,6 +43,7 @@ pub fn keep<D: Disk>(
 
 /// Commits one command. A crash at any moment leaves the state without it or with it, and at Ok the store goes on.
 pub fn commit_one<D: Disk>(alloc: Global, store: &mut Store<D>, taken: Taken) -> Result<(), Refusal>
+    requires { FitsSlot (state_of store.old) (taken ∷ []) }
     ensures any_moment { has_failed store.old ≡ false → IsOpen store.old
         → LeavesOnly ⟦<D as Disk>⟧ (IsWithOrWithout (state_of store.old) (taken ∷ [])) (device_of store.old) (device_of store.new) }
     ensures done { OnOk result (IsOpen store.old → IsOpen store.new) }

@@ -18,6 +18,8 @@ mod opening;
 #[cfg(test)]
 mod plans;
 #[cfg(test)]
+mod rings;
+#[cfg(test)]
 mod running;
 #[cfg(test)]
 mod stopping;

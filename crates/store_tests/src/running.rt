@@ -1,13 +1,15 @@
 //! Runs of a store, one after another.
 ghost use Rattle.std.specs.Prelude.{All, IfOk};
+ghost use Rattle.recovery.specs.Open.{state_of};
 ghost use Rattle.recovery.specs.Run.{CanCommit};
 
 use crate::batches::EDIT;
 use crate::stores::{
     Row, SLOT, differ_by, formatted_device, has_documents, open_store, part, session, small_device,
 };
+use disk::Disk;
 use journal::decode_batch;
-use recovery::{Shape, Stop, StoreStep};
+use recovery::{Shape, Stop, Store, StoreStep};
 use refusal::Refusal;
 use std::process::Abort;
 
@@ -81,53 +83,20 @@ fn many_creations_in_many_runs(rt: HostRuntime) {
     }
 }
 
-/// The longest name of a source, and of a document. A creation by the one of the other with a text of 3 bytes is a
-/// batch of 141, so that its record leaves 101 bytes of the area of a small device's slot.
-const SOURCE: &str = "s23456789_123456789_123456789_12";
-
-const DOC: &str = "d23456789_123456789_123456789_123456789_123456789_123456789_1234";
-
-const ONE: &str = "d23456789_123456789_123456789_123456789_123456789_123456789_1234 1 abc\n";
-
-/// A name of 51 bytes and one of 52. A creation by `a` with a text of 1 byte is a batch of 95 or 96, and needs 6 more.
-const FITS: &str = "e23456789_123456789_123456789_123456789_123456789_1";
-
-const PASSES: &str = "e23456789_123456789_123456789_123456789_123456789_12";
-
-const BOTH: &str = "d23456789_123456789_123456789_123456789_123456789_123456789_1234 1 abc
-e23456789_123456789_123456789_123456789_123456789_1 1 z
-";
-
-const FULL: Row = ("a", PASSES, "z", "error 37 JournalFull");
-
-#[test]
-fn a_full_journal_changes_nothing(rt: HostRuntime) {
-    let empty = small_device(&rt);
-    let first = session(&rt, empty.bytes(), &[(SOURCE, DOC, "abc", "taken 1")], ONE);
-    let same = session(&rt, first.bytes(), &[FULL], ONE);
-    assert_eq!(rt; same.bytes(), first.bytes());
-    // The store works on.
-    session(
-        &rt,
-        first.bytes(),
-        &[FULL, ("a", FITS, "z", "taken 1")],
-        BOTH,
-    );
-}
-
-// The step that commits the batch which these bytes spell.
-fn step(rt: &(impl Abort + AllocGlobal), bytes: &[u8]) -> StoreStep
-    ensures { CanCommit result }
+// The step that commits the batch which these bytes spell. It fits a slot of the store.
+pub fn step<D: Disk>(rt: &(impl Abort + AllocGlobal), store: &Store<D>, bytes: &[u8]) -> StoreStep
+    ensures { CanCommit (state_of store.now) result }
 {
     let found = decode_batch(rt.alloc(), bytes).expect(rt, "memory");
     let batch = found.expect(rt, "a batch");
     assert!(rt; 1 <= batch.len() && batch.len() <= 9);
+    assert!(rt; store.fits(&batch));
     StoreStep::Commit(batch)
 }
 
 // The step that creates the document d so many times.
-fn repeated(rt: &(impl Abort + AllocGlobal), count: u8) -> StoreStep
-    ensures { CanCommit result }
+fn repeated<D: Disk>(rt: &(impl Abort + AllocGlobal), store: &Store<D>, count: u8) -> StoreStep
+    ensures { CanCommit (state_of store.now) result }
 {
     let mut bytes = [count, 0, 0, 0].to_vec(rt.alloc()).expect(rt, "memory");
     for _ in 0..count {
@@ -135,17 +104,18 @@ fn repeated(rt: &(impl Abort + AllocGlobal), count: u8) -> StoreStep
             .extend_from_slice(&part(rt, &SLOT, 18, 41))
             .expect(rt, "memory");
     }
-    step(rt, &bytes)
+    step(rt, store, &bytes)
 }
 
 // A run creates the document d, and stops where it is created so many times again; the store works on.
-fn is_stopped(rt: &(impl Abort + AllocGlobal), count: u8, refusal: Refusal) {
+fn is_stopped(rt: &(impl Abort + AllocGlobal), count: u8) {
     let mut store = open_store(rt, small_device(rt));
-    let stop = store.run(rt.alloc(), &[repeated(rt, 1), repeated(rt, count)]);
-    assert_eq!(rt; stop, Err(Stop { at: 1, refusal }));
+    let steps = [repeated(rt, &store, 1), repeated(rt, &store, count)];
+    let refusal = Refusal::Stranger;
+    assert_eq!(rt; store.run(rt.alloc(), &steps), Err(Stop { at: 1, refusal }));
     has_documents(rt, store.state(), "d 1 z\n");
-    let second = step(rt, &part(rt, &SLOT, 64, 45));
-    assert_eq!(rt; store.run(rt.alloc(), &[second]), Ok(()));
+    let second = [step(rt, &store, &part(rt, &SLOT, 64, 45))];
+    assert_eq!(rt; store.run(rt.alloc(), &second), Ok(()));
     differ_by(
         rt,
         store.close().bytes(),
@@ -155,19 +125,37 @@ fn is_stopped(rt: &(impl Abort + AllocGlobal), count: u8, refusal: Refusal) {
     );
 }
 
-// The first record leaves 197 bytes of the area. Four entries are a batch of 168 and need 6 more, five one of 209.
+// The first record leaves 197 bytes of the area. Four entries are a batch of 168 and need 6 more, five one of 209, which
+// would go into a second slot.
 #[test]
 fn a_run_stops_at_the_first_refusal(rt: HostRuntime) {
-    is_stopped(&rt, 1, Refusal::Stranger);
-    is_stopped(&rt, 4, Refusal::Stranger);
-    is_stopped(&rt, 5, Refusal::JournalFull);
+    is_stopped(&rt, 1);
+    is_stopped(&rt, 4);
+    is_stopped(&rt, 5);
 }
 
-// No edit continues a state yet.
+// A batch of 241 bytes fits a slot, one of more doesn't. Five entries are a batch of 209, six one of 250.
 #[test]
-fn an_edit_is_not_committed(rt: HostRuntime) {
+fn a_batch_fits_a_slot_or_none(rt: HostRuntime) {
+    let store = open_store(&rt, small_device(&rt));
+    for count in 1..6 {
+        repeated(&rt, &store, count);
+    }
+    let mut bytes = [6, 0, 0, 0].to_vec(rt.alloc()).expect(&rt, "memory");
+    for _ in 0..6 {
+        bytes
+            .extend_from_slice(&part(&rt, &SLOT, 18, 41))
+            .expect(&rt, "memory");
+    }
+    let found = decode_batch(rt.alloc(), &bytes).expect(&rt, "memory");
+    assert!(rt; !store.fits(&found.expect(&rt, "a batch")));
+}
+
+// An edit of a document that isn't there.
+#[test]
+fn an_edit_of_nothing_is_not_committed(rt: HostRuntime) {
     let mut store = open_store(&rt, small_device(&rt));
-    let stop = store.run(rt.alloc(), &[step(&rt, &EDIT)]);
+    let steps = [step(&rt, &store, &EDIT)];
     let refusal = Refusal::Stranger;
-    assert_eq!(rt; stop, Err(Stop { at: 0, refusal }));
+    assert_eq!(rt; store.run(rt.alloc(), &steps), Err(Stop { at: 0, refusal }));
 }

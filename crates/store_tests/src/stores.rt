@@ -184,7 +184,9 @@ fn answer<D: Disk>(
     match store.state().plan(rt.alloc(), command)? {
         Plan::Taken(taken) => {
             let rev = taken.revision();
-            store.commit(rt.alloc(), &[taken])?;
+            let batch = [taken];
+            assert!(rt; store.fits(&batch));
+            store.commit(rt.alloc(), &batch)?;
             Ok(("taken", rev))
         }
         Plan::Again { rev } => Ok(("again", rev)),

@@ -1,9 +1,9 @@
 //! Reading gates.
-ghost use Rattle.std.specs.Prelude.{◌≡◌, ◌↔◌, ◌+◌, ◌*◌, ◌<◌, ◌≤◌, ◌^◌, true, length, take, drop, slice_index, IsTrue, OnOk, IfOk, IfErr};
+ghost use Rattle.std.specs.Prelude.{◌≡◌, ◌↔◌, ◌+◌, ◌≤◌, true, length, take, drop, slice_index, IsTrue, OnOk, IfOk, IfErr};
 ghost use Rattle.disk.specs.Calls.{HasOnlyRead, CountsFaults};
 ghost use Rattle.journal.specs.Area.{open_gate};
 ghost use Rattle.recovery.specs.Shape.{is_in_range, layout_length};
-ghost use Rattle.recovery.specs.steps.Reading.{AreClosed, OthersClosed};
+ghost use Rattle.recovery.specs.steps.Reading.{CellsClosed};
 
 use crate::shape::Shape;
 use crate::superblock::SUPERBLOCK_LEN;
@@ -36,37 +36,18 @@ pub(super) fn is_open<D: Disk>(disk: &mut D, at: u64) -> Result<bool, Refusal>
     Ok(gate[0] == OPEN)
 }
 
-/// Whether each cell's gate is closed, and that of each slot behind the first.
-pub(super) fn are_others_closed<D: Disk>(disk: &mut D, shape: &Shape) -> Result<bool, Refusal>
+/// Whether each cell's gate is closed.
+pub(super) fn are_cells_closed<D: Disk>(disk: &mut D, shape: &Shape) -> Result<bool, Refusal>
     requires in_range { is_in_range shape.now ≡ true }
     requires within { layout_length shape.now ≤ length (D.seen disk.old) }
-    ensures closed { IfOk result (λ b. D.honest disk.new → (IsTrue b ↔ OthersClosed (D.seen disk.old) shape.now)) }
+    ensures closed { IfOk result (λ b. D.honest disk.new → (IsTrue b ↔ CellsClosed (D.seen disk.old) shape.now)) }
     ensures only { IfErr result (λ e. e ≡ Refusal.Fault) }
     ensures only_read { HasOnlyRead ⟦<D as Disk>⟧ disk.old disk.new }
     ensures faults { CountsFaults ⟦<D as Disk>⟧ result disk.old disk.new }
 {
-    let cells = 2 * u64::from(shape.docs);
     let cell = u64::from(shape.cell);
-    let slot = u64::from(shape.slot);
-    if !are_closed(disk, SUPERBLOCK_LEN, cell, cells)? {
-        return Ok(false);
-    }
-    let second = SUPERBLOCK_LEN + cells * cell + slot;
-    are_closed(disk, second, slot, u64::from(shape.slots) - 1)
-}
-
-// Whether so many gates are closed, which stand one size apart.
-fn are_closed<D: Disk>(disk: &mut D, at: u64, size: u64, count: u64) -> Result<bool, Refusal>
-    requires within { at + count * size ≤ length (D.seen disk.old) }
-    requires some { 1 ≤ size }
-    requires bound { at + count * size < 2 ^ 63 }
-    ensures closed { IfOk result (λ b. D.honest disk.new → (IsTrue b ↔ AreClosed (D.seen disk.old) at size count)) }
-    ensures only { IfErr result (λ e. e ≡ Refusal.Fault) }
-    ensures only_read { HasOnlyRead ⟦<D as Disk>⟧ disk.old disk.new }
-    ensures faults { CountsFaults ⟦<D as Disk>⟧ result disk.old disk.new }
-{
-    for k in 0..count {
-        if is_open(disk, at + k * size)? {
+    for k in 0..2 * u64::from(shape.docs) {
+        if is_open(disk, SUPERBLOCK_LEN + k * cell)? {
             return Ok(false);
         }
     }

@@ -2,7 +2,8 @@ use Rattle.std.proofs.Common.{◌≡◌, ℕ, ◌+◌, ◌*◌, ◌≤◌, ◌<�
 use Rattle.std.proofs.lemmas.Result.{on_ok_weaker}
 use Rattle.disk.specs.Device.{overwritten}
 use Rattle.disk.proofs.CallerLemmas.{goes_on_run}
-use Rattle.recovery.specs.Shape.{layout_length, cell_place, slot_place}
+use Rattle.segments.specs.Table.{slot_place}
+use Rattle.recovery.specs.Shape.{layout_length, cell_place, slots_place}
 use Rattle.recovery.specs.Layout.{IsClosed}
 use Rattle.recovery.specs.Formatting.{IsPrepared}
 use Rattle.recovery.proofs.EmptyStores.{stays_unformatted, prepared}
@@ -27,8 +28,8 @@ returns-clause-prepared g c =
     let cells : (k : ℕ) → k < 2 * shape.docs → IsClosed now (cell_place shape k) = λ k inside.
     subst (λ n. IsClosed now (64 + k * n)) c.from-cell.ensures
     (c.in_ok-close_gates-2.ensures.others (64 + k * c.from-cell.result) (c.in_ok-close_gates.ensures.closed k (omega (arith, c.from-docs.ensures)))) in
-    let slots : (s : ℕ) → s < shape.slots → IsClosed now (slot_place shape s) = λ s inside.
-    let place : 64 + 2 * c.from-docs.result * c.from-cell.result + s * c.from.result ≡ slot_place shape s = cc in
+    let slots : (s : ℕ) → s < shape.slots → IsClosed now (slot_place (slots_place shape) shape.slot s) = λ s inside.
+    let place : 64 + 2 * c.from-docs.result * c.from-cell.result + s * c.from.result ≡ slot_place (slots_place shape) shape.slot s = cc in
     subst (λ n. IsClosed now n) place (c.in_ok-close_gates-2.ensures.closed s (omega (arith, c.from-2.ensures))) in
     let long : layout_length shape ≤ length now = omega (arith, c.requires.fits.room, c.close_gates.ensures.only_written.length, c.close_gates-2.ensures.only_written.length) in
     let done : IsPrepared shape (overwritten now 1 c.args.body.now) =

@@ -8,7 +8,7 @@ pub returns-in-Ok-clause-only_state : goal.returns-in-Ok-clause-only_state
 returns-in-Ok-clause-only_state g c honest state found =
     let read = c.in-Ok.ensures.read honest in
     found_once (g.D.Disk.seen c.args.disk) state c.in-Ok.recovered.state found
-    (record { shape = c.in-Ok.recovered.shape; slot = read.slot; batches = read.batches; laid_out = read.laid_out; stand = read.stand })
+    (record { shape = c.in-Ok.recovered.shape; table = read.table; batches = read.batches; laid_out = read.laid_out; stand = read.stand })
 
 pub returns-in-Ok-clause-kept : goal.returns-in-Ok-clause-kept
 returns-in-Ok-clause-kept g c content left = synced_leaves _ content c.in-Ok.ensures.synced left ∙ c.read_store.ensures.seen

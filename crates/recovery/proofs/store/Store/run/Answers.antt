@@ -6,12 +6,14 @@ use Rattle.recovery.specs.declared.run.StoreStep.{StoreStep}
 use Rattle.std.proofs.lemmas.List.{at_drop_more, take_all}
 use Rattle.recovery.specs.Found.{FoundAs}
 use Rattle.recovery.specs.Run.{batch_of, state_after}
+use Rattle.recovery.proofs.Folds.{fold-limits}
 use Rattle.recovery.proofs.Runs.{found_open, found_as, state_after-more, within_step, some_of, before_all, after_all}
 use Rattle.recovery.proofs.store.Store.run.Goals as goal
 
 pub loop-at-init : goal.loop-at-init
 loop-at-init g c = record {
   rest = refl;
+  limits = refl;
   so_far = refl;
   unfailed = λ u. u;
   faults = refl;
@@ -48,6 +50,7 @@ loop-at-preserved g c =
       rest =
           ap (λ (s : State). state_after s (drop (at + 1) steps)) (state ∙ ap (λ (s : StoreStep). fold now (batch_of s)) c.index-steps-at.is)
           ∙ sym (at_drop_more (state_after now) steps at step c.loop-at-test.true) ∙ c.loop-at.invariant.rest;
+      limits = ap (λ (s : State). s.limits) state ∙ fold-limits now (batch_of step) ∙ c.loop-at.invariant.limits;
       so_far =
           state ∙ ap (λ (s : State). fold s (batch_of step)) c.loop-at.invariant.so_far
           ∙ sym (state_after-more c.args.self.now.state steps at step c.loop-at-test.true c.index-steps-at.is);

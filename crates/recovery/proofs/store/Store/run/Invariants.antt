@@ -7,6 +7,7 @@ use Rattle.recovery.proofs.store.Store.run.Given as goal
 abbrev pub invariant-loop-at : goal.invariant-loop-at
 invariant-loop-at g l = record {
   rest : state_after (state_of l.self) (drop l.at l.steps) ≡ state_after (state_of l.fn.self) l.steps;
+  limits : (state_of l.self).limits ≡ (state_of l.fn.self).limits;
   so_far : state_of l.self ≡ state_after (state_of l.fn.self) (take l.at l.steps);
   unfailed : has_failed l.fn.self ≡ false → has_failed l.self ≡ false;
   faults : g.D.Disk.faults (device_of l.self) ≡ g.D.Disk.faults (device_of l.fn.self);

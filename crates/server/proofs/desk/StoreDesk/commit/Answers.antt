@@ -1,6 +1,12 @@
 use Rattle.std.proofs.Common.{◌≡◌, rules}
 use Rattle.refusal.specs.declared.Refusal.TheVariants.{NoMemory, Fault}
+use Rattle.recovery.specs.Open.{state_of}
+use Rattle.recovery.proofs.CallerLemmas.{one_fits}
+use Rattle.server.specs.Desk.{store_of}
 use Rattle.server.proofs.desk.StoreDesk.commit.Goals as goal
+
+pub commit-requires-clause-fits : goal.commit-requires-clause-fits
+commit-requires-clause-fits g c = one_fits (state_of (store_of c.args.self.now)) c.args.taken c.requires.grows
 
 pub returns-then-eq-clause-kept : goal.returns-then-eq-clause-kept
 returns-then-eq-clause-kept g c no_memory =
