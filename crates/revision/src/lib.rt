@@ -27,8 +27,6 @@ mod source_table;
 mod sources;
 mod state;
 mod taken;
-#[cfg(test)]
-mod tests;
 mod widths;
 
 pub use command::{Action, Command};
