@@ -26,16 +26,22 @@ const RUNS: [(&str, &str); 4] = [
     ),
 ];
 
-/// The names of a document and a source are so long that two records don't fit the slot.
-const FULL: &str = "{\"do\":\"hello\",\"source\":\"s23456789_123456789_123456789_12\"}\n\
-    {\"do\":\"create\",\"doc\":\"d23456789_123456789_123456789_123456789_123456789_123456789_1231\",\"n\":1,\"ops\":[{\"insert\":\"abc\"}]}\n\
-    {\"do\":\"create\",\"doc\":\"d23456789_123456789_123456789_123456789_123456789_123456789_1232\",\"n\":1,\"ops\":[{\"insert\":\"abc\"}]}\n\
-    {\"do\":\"create\",\"doc\":\"d23456789_123456789_123456789_123456789_123456789_123456789_1231\",\"n\":1,\"ops\":[]}\n";
+/// An entry of 238 bytes is too wide; one of 237 fills the second slot, and then nothing has room. What is there can be read.
+const FULL: &str = "{\"do\":\"hello\",\"source\":\"a\"}\n\
+    {\"do\":\"create\",\"doc\":\"d\",\"n\":1,\"ops\":[{\"insert\":\"z\"}]}\n\
+    {\"base\":1,\"do\":\"edit\",\"doc\":\"d\",\"n\":2,\"ops\":[{\"attributes\":{\"n000000001\":null,\"n000000002\":null,\"n000000003\":null,\"n000000004\":null,\"n000000005\":null,\"n000000006\":null,\"n000000007\":null,\"n000000008\":null,\"n000000009\":null,\"n000000010\":null,\"n000000011\":null,\"n000000012\":null,\"n000000013\":null,\"n000000014\":null,\"n00000000150\":null},\"retain\":1}]}\n\
+    {\"base\":1,\"do\":\"edit\",\"doc\":\"d\",\"n\":2,\"ops\":[{\"attributes\":{\"n000000001\":null,\"n000000002\":null,\"n000000003\":null,\"n000000004\":null,\"n000000005\":null,\"n000000006\":null,\"n000000007\":null,\"n000000008\":null,\"n000000009\":null,\"n000000010\":null,\"n000000011\":null,\"n000000012\":null,\"n000000013\":null,\"n000000014\":null,\"n0000000015\":null},\"retain\":1}]}\n\
+    {\"do\":\"undo\",\"doc\":\"d\",\"n\":3}\n\
+    {\"do\":\"create\",\"doc\":\"d\",\"n\":1,\"ops\":[]}\n\
+    {\"do\":\"fetch\",\"doc\":\"d\"}\n";
 
 const FULL_REPLIES: &str = "{\"ok\":\"hello\"}\n\
-    {\"doc\":\"d23456789_123456789_123456789_123456789_123456789_123456789_1231\",\"n\":1,\"ok\":\"taken\",\"rev\":1}\n\
+    {\"doc\":\"d\",\"n\":1,\"ok\":\"taken\",\"rev\":1}\n\
+    {\"code\":17,\"error\":\"TooWide\"}\n\
+    {\"doc\":\"d\",\"n\":2,\"ok\":\"taken\",\"rev\":2}\n\
     {\"code\":21,\"error\":\"StoreFailed\"}\n\
-    {\"code\":21,\"error\":\"StoreFailed\"}\n";
+    {\"code\":21,\"error\":\"StoreFailed\"}\n\
+    {\"doc\":\"d\",\"ok\":\"doc\",\"ops\":[{\"insert\":\"z\"}],\"rev\":2}\n";
 
 /// Commands on one file in turn, which is missing at first, each with its status and its error.
 const COMMANDS: [(&str, u8, &str); 6] = [
