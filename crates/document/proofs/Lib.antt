@@ -12,3 +12,5 @@ pub mod Deciding
 pub mod Weighing
 pub mod Inserting
 pub mod Making
+pub mod Changing
+pub mod Measured

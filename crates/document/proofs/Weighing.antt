@@ -1,8 +1,9 @@
 -- The weight of parts of a document, and what stays of it below 2^64.
-use Rattle.std.proofs.Common.{◌≡◌, ℕ, ◌+◌, ◌*◌, ◌<◌, ◌≤◌, min, List, [], ◌∷◌, ◌++◌, length, take, get_or, sym, ap, ◌∙◌, ⊎_elim, arith}
+use Rattle.std.proofs.Common.{◌≡◌, ℕ, zero, suc, ◌+◌, ◌*◌, ◌<◌, ◌≤◌, min, List, [], ◌∷◌, ◌++◌, length, take, get_or, sum_by, add-one, sym, ap, ◌∙◌, ⊎_elim, arith}
 use Rattle.std.proofs.Math.Nat.{mul-le-mul_left}
 use Rattle.std.proofs.lemmas.Bool.{cases_lt}
 use Rattle.std.proofs.lemmas.List.{take_more}
+use Rattle.std.proofs.lemmas.List.Sums.{sum_by-cons}
 use Rattle.attributes.specs.Attributes.{Attributes}
 use Rattle.attributes.specs.Scalar.{Scalar}
 use Rattle.delta.specs.Element.{Element, letters}
@@ -18,7 +19,7 @@ entries_weight-append : (a b : List (List ℕ × Scalar)) → entries_weight (a 
 entries_weight-append [] b = omega arith
 entries_weight-append (e ∷ a) b = omega (arith, entries_weight-append a b)
 
-weight_of-append : (a b : List Element) → weight_of (a ++ b) ≡ weight_of a + weight_of b
+pub weight_of-append : (a b : List Element) → weight_of (a ++ b) ≡ weight_of a + weight_of b
 weight_of-append [] b = omega arith
 weight_of-append (x ∷ a) b = omega (arith, weight_of-append a b)
 
@@ -55,7 +56,7 @@ saturated_product a n m some =
     (cases_lt a m)
 
 -- the weight of a run
-letters_weight : (us : List ℕ) (a : Attributes) → weight_of (letters us a) ≡ (12 + attributes_weight a) * length us
+pub letters_weight : (us : List ℕ) (a : Attributes) → weight_of (letters us a) ≡ (12 + attributes_weight a) * length us
 letters_weight [] a = omega arith
 letters_weight (u ∷ us) a = omega (arith, letters_weight us a)
 
@@ -73,3 +74,14 @@ weight_of_run k a now units attributes item each m view counted item_is attribut
     ap (λ n. min (n * units) m) whole
     ∙ (saturated_product (attributes_weight a + (12 + content_weight k)) units m counted.1
     ∙ ap (λ n. min n m) (ap (λ n. (attributes_weight a + (12 + content_weight k)) * n) counted.0 ∙ (sym (run_weight k a) ∙ ap weight_of view)))
+
+-- one more of a sum
+module _ {X : Type 0} (f : X → ℕ) where
+  more : (xs : List X) (i : ℕ) (d : X) → i < length xs → sum_by f (take (suc i) xs) ≡ sum_by f (take i xs) + f (get_or xs i d)
+  more [] i d lt = absurd (omega arith)
+  more (x ∷ xs) zero d lt = omega (arith, sum_by-cons f x [])
+  more (x ∷ xs) (suc i) d lt =
+      omega (arith, sum_by-cons f x (take (suc i) xs), sum_by-cons f x (take i xs), more xs i d (omega arith))
+
+  pub sum_by-more : (xs : List X) (i : ℕ) (d : X) → i < length xs → sum_by f (take (i + 1) xs) ≡ sum_by f (take i xs) + f (get_or xs i d)
+  sum_by-more xs i d lt = rw add-one (more xs i d lt)

@@ -2,3 +2,4 @@
 pub mod Runs
 pub mod Pieces
 pub mod Passes
+pub mod Weighing

@@ -1,10 +1,12 @@
 //! A walk over the units of runs, piece by piece.
-ghost use Rattle.std.specs.Prelude.{◌≡◌, ◌≤◌, ◌<◌, ◌++◌, length, IfOk, OnErr, IsOkUnless};
+ghost use Rattle.std.specs.Prelude.{◌≡◌, ◌-◌, ◌^◌, min, ◌≤◌, ◌<◌, ◌++◌, length, IfOk, OnErr, IsOkUnless};
 ghost use Rattle.document.specs.Pairs.{IsWithinPair};
+ghost use Rattle.document.specs.Weight.{weight_of};
 ghost use Rattle.document.specs.steps.Pieces.{piece_units, begun_units, IsPiece, IsBegun};
 ghost use Rattle.document.specs.steps.Runs.{units_of_runs, AreRuns};
 
 use crate::run::{Piece, Run};
+use crate::weights::runs_weight;
 use std::marker::Model;
 use utf16::{Cut, split_at16};
 
@@ -59,6 +61,17 @@ impl<'a> Cursor<'a> {
         self.begun = left;
         self.rest = rest;
         Ok(piece)
+    }
+
+    /// The weight of the units from there on, and 2^64 - 1 where that is more.
+    pub fn weight(&self) -> u64
+        ensures { result ≡ min (weight_of self.now) (2 ^ 64 - 1) }
+    {
+        let begun = match self.begun {
+            Some(piece) => piece.weight(),
+            None => 0,
+        };
+        begun.saturating_add(runs_weight(self.rest))
     }
 }
 

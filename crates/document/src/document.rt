@@ -5,7 +5,7 @@ ghost use Rattle.delta.specs.Gaps.{counted, apply, End};
 ghost use Rattle.delta.specs.Normal.{nf};
 ghost use Rattle.document.specs.Weight.{weight_of};
 ghost use Rattle.document.specs.steps.Pieces.{piece_units};
-ghost use Rattle.delta.specs.Operation.{base_of, op_base, op_out};
+ghost use Rattle.delta.specs.Operation.{base_of, out_of, op_base, op_out};
 ghost use Rattle.delta.specs.Places.{IsDefined};
 ghost use Rattle.document.specs.Places.{Cuts};
 ghost use Rattle.document.specs.Making.{document_from};
@@ -13,6 +13,7 @@ ghost use Rattle.document.specs.Outcome.{IsAccepted, IsTooLong, IsRefused};
 
 use crate::applying::{applied, parts_pair};
 use crate::run::{Piece, Run};
+use crate::weights::{runs_weight, weighed};
 use delta::{Builder, Delta, MAX_LEN, Op};
 use refusal::Refusal;
 use std::alloc::Global;
@@ -86,11 +87,20 @@ impl Document {
     pub fn weight(&self) -> u64
         ensures { result ≡ min (weight_of self.now) (2 ^ 64 - 1) }
     {
-        let mut weight: u64 = 0;
-        for run in &self.runs {
-            weight = weight.saturating_add(run.weight());
-        }
-        weight
+        runs_weight(self.runs.as_slice())
+    }
+
+    /// What its weight would be after a delta: 2^64 - 1 where it would be more. Refused as PastEnd where the delta reaches past
+    /// the end, else as CutsPair where it parts a surrogate pair. It makes no document: linear in the runs, their attributes
+    /// and the operations, and it takes no memory.
+    pub fn weigh(&self, delta: &Delta) -> Result<u64, Refusal>
+        ensures ok { IfOk result (λ weight. weight ≡ min (weight_of (apply self.now (counted delta.now))) (2 ^ 64 - 1)) }
+        ensures past_end { (result ≡ Err Refusal.PastEnd) ↔ ¬ (IsDefined self.now (counted delta.now)) }
+        ensures cuts { (result ≡ Err Refusal.CutsPair) ↔ (IsDefined self.now (counted delta.now) × Cuts self.now (counted delta.now)) }
+        ensures only { IfErr result (λ e. (e ≡ Refusal.PastEnd) ⊎ (e ≡ Refusal.CutsPair)) }
+    {
+        self.fits(delta)?;
+        Ok(weighed(self.runs.as_slice(), delta.ops()))
     }
 
     /// An equal document.
@@ -131,16 +141,31 @@ impl Document {
         ensures bad { (result ≡ Err Refusal.BadOps) ↔ IsTooLong self.old (counted delta.now) }
         ensures only { IfErr result (IsRefused self.old (counted delta.now)) }
     {
+        let after = match self.after(alloc, delta) {
+            Ok(after) => after,
+            Err(refused) => return Err(refused),
+        };
+        *self = after;
+        Ok(())
+    }
+
+    /// The document after a delta, beside this one, which stays. The refusals and the cost are those of `apply`.
+    pub fn after(&self, alloc: Global, delta: &Delta) -> Result<Self, Refusal>
+        ensures ok { IfOk result (λ after. after ≡ apply self.now (counted delta.now)) }
+        ensures well_formed { IfOk result (λ after. IsWellFormed after) }
+        ensures past_end { (result ≡ Err Refusal.PastEnd) ↔ ¬ (IsDefined self.now (counted delta.now)) }
+        ensures cuts { (result ≡ Err Refusal.CutsPair) ↔ (IsDefined self.now (counted delta.now) × Cuts self.now (counted delta.now)) }
+        ensures bad { (result ≡ Err Refusal.BadOps) ↔ IsTooLong self.now (counted delta.now) }
+        ensures only { IfErr result (IsRefused self.now (counted delta.now)) }
+    {
         let behind = match self.behind(delta) {
             Ok(behind) => behind,
             Err(refusal) => return Err(refusal),
         };
-        let runs = match applied(alloc, self.runs.as_slice(), delta.ops(), behind) {
-            Ok(runs) => runs,
-            Err(no_memory) => return Err(no_memory),
-        };
-        self.runs = runs;
-        Ok(())
+        match applied(alloc, self.runs.as_slice(), delta.ops(), behind) {
+            Ok(runs) => Ok(Document { runs }),
+            Err(no_memory) => Err(no_memory),
+        }
     }
 
     // how many code units a delta leaves behind it as they are, where it may be applied
@@ -149,18 +174,35 @@ impl Document {
         ensures behind { IfOk result (λ behind. length self.now ≡ base_of delta.now + behind) }
         ensures refused { IfErr result (IsRefused self.now (counted delta.now)) }
     {
-        let len = self.len16();
-        if delta.base_len() > len {
-            return Err(Refusal::PastEnd);
-        }
-        if parts_pair(self.runs.as_slice(), delta.ops()) {
-            return Err(Refusal::CutsPair);
-        }
+        let len = self.fits(delta)?;
         let behind = len - delta.base_len();
         if behind + delta.out_len() > MAX_LEN {
             return Err(Refusal::BadOps);
         }
         Ok(behind)
+    }
+
+    // how many code units the document has, where a delta is defined on it and cuts no pair
+    fn fits(&self, delta: &Delta) -> Result<u64, Refusal>
+        ensures len { IfOk result (λ len. len ≡ length self.now) }
+        ensures bounded { length self.now ≤ 2 ^ 48 }
+        ensures out { out_of delta.now ≤ 2 ^ 48 }
+        ensures there { OnOk result (base_of delta.now ≤ length self.now) }
+        ensures defined { OnOk result (IsDefined self.now (counted delta.now)) }
+        ensures whole { OnOk result (¬ (Cuts self.now (counted delta.now))) }
+        ensures past_end { (result ≡ Err Refusal.PastEnd) ↔ ¬ (IsDefined self.now (counted delta.now)) }
+        ensures cuts { (result ≡ Err Refusal.CutsPair) ↔ (IsDefined self.now (counted delta.now) × Cuts self.now (counted delta.now)) }
+        ensures only { IfErr result (λ e. (e ≡ Refusal.PastEnd) ⊎ (e ≡ Refusal.CutsPair)) }
+    {
+        let ops = delta.ops();
+        let len = self.len16();
+        if delta.base_len() > len {
+            return Err(Refusal::PastEnd);
+        }
+        if parts_pair(self.runs.as_slice(), ops) {
+            return Err(Refusal::CutsPair);
+        }
+        Ok(len)
     }
 }
 

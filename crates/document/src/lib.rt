@@ -38,5 +38,6 @@ pub mod laws;
 mod run;
 mod runs;
 mod walk;
+mod weights;
 
 pub use document::Document;

@@ -1,5 +1,5 @@
 //! Runs of a document.
-ghost use Rattle.std.specs.Prelude.{◌≡◌, ◌≢◌, ◌+◌, ◌-◌, min, ◌<◌, ◌^◌, ◌++◌, [], ◌∷◌, length, IfOk, OnErr, IsOkUnless, MatchBool, Some};
+ghost use Rattle.std.specs.Prelude.{◌≡◌, ◌≢◌, ◌+◌, ◌-◌, ◌*◌, min, ◌<◌, ◌^◌, ◌++◌, [], ◌∷◌, length, IfOk, OnErr, IsOkUnless, MatchBool, Some};
 ghost use Rattle.utf16.specs.Units.{units_of};
 ghost use Rattle.delta.specs.Element.{letters, embedded};
 ghost use Rattle.document.specs.steps.Runs.{text_attributes};
@@ -49,6 +49,7 @@ impl Content {
 
 impl<'a> Piece<'a> {
     ghost use Rattle.document.specs.steps.Pieces.{piece_units, piece_attributes, IsCounted};
+    ghost use Rattle.document.specs.steps.Weighing.{piece_weight};
 
     /// How many code units it has.
     pub fn units(&self) -> u64
@@ -69,6 +70,34 @@ impl<'a> Piece<'a> {
         match self {
             Piece::Text(_, _, attrs) => attrs,
             Piece::Embed(_, _, attrs) => attrs,
+        }
+    }
+
+    /// Its weight, and 2^64 - 1 where that is more.
+    pub fn weight(&self) -> u64
+        requires { IsCounted self.now }
+        ensures { result ≡ min (weight_of (piece_units self.now)) (2 ^ 64 - 1) }
+    {
+        self.weight_with(attributes_weight(self.attrs()))
+    }
+
+    /// Its weight with other attributes, by their weight.
+    pub fn weight_with(&self, attributes: u64) -> u64
+        requires { IsCounted self.now }
+        ensures { result ≡ min (min (attributes + (12 + piece_weight self.now)) (2 ^ 64 - 1) * length (piece_units self.now)) (2 ^ 64 - 1) }
+    {
+        let each = attributes.saturating_add(12 + self.embed_weight());
+        each.saturating_mul(self.units())
+    }
+
+    // the weight of an embed's value; a text has none
+    fn embed_weight(&self) -> u64
+        ensures weight { result ≡ piece_weight self.now }
+        ensures small { result < 2 ^ 63 + 76 }
+    {
+        match self {
+            Piece::Text(_, _, _) => 0,
+            Piece::Embed(key, value, _) => named_weight(key, value),
         }
     }
 }
@@ -180,8 +209,8 @@ fn attributes_weight(attrs: &Attrs) -> u64
     weight
 }
 
-// the weight of a name with its value
-fn named_weight(key: &Key, value: &Value) -> u64
+/// The weight of a name with its value.
+pub fn named_weight(key: &Key, value: &Value) -> u64
     ensures weight { result ≡ named_weight key.now value.now }
     ensures small { result < 2 ^ 63 + 76 }
 {

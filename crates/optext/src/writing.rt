@@ -1,10 +1,9 @@
 //! The array of operations that prints a delta.
-ghost use Rattle.std.specs.Prelude.{◌≡◌, All, false, IfOk, IfSome, IsOkUnless, OnOk};
+ghost use Rattle.std.specs.Prelude.{◌≡◌, All, IfOk, IfSome, IsOkUnless, OnOk};
 ghost use Rattle.attributes.specs.Attributes.{IsKey};
 ghost use Rattle.attributes.specs.Scalar.{IsExactScalar};
 ghost use Rattle.serde_json.specs.Data.{array, string};
 ghost use Rattle.serde_json.specs.View.{view, members_view};
-ghost use Rattle.serde_json.specs.Written.{has_float};
 ghost use Rattle.utf16.specs.Units.{units_of, utf8_of};
 ghost use Rattle.optext.specs.Laws.{IsText, IsAttribute, IsAttributeChange, HasSpellableContent, IsReadBack};
 ghost use Rattle.optext.specs.Printed.{printed, printed_operation, printed_insert, printed_retain, printed_attributes, printed_changes, printed_embed, printed_scalar, printed_change, attributes_member};
@@ -18,11 +17,10 @@ use serde_json::{Map, Value as Json, json, put};
 use std::alloc::Global;
 use utf16::laws::text_of_units;
 
-/// The array of a delta's operations, as they are printed, in which no number is a float. Read again, it is the delta, where that has at most 1,024
+/// The array of a delta's operations, as they are printed. Read again, it is the delta, where that has at most 1,024
 /// operations and no length of 2^32 or more. Refused only as NoMemory.
 pub fn write_ops(alloc: Global, delta: &Delta) -> Result<Json, Refusal>
     ensures printed { IfOk result (λ value. view value ≡ array (printed delta.now)) }
-    ensures plain { OnOk result (has_float (array (printed delta.now)) ≡ false) }
     ensures reads_back { OnOk result (IsReadBack delta.now) }
     ensures only { IsOkUnless result Refusal.NoMemory }
 {

@@ -5,10 +5,11 @@ use Rattle.delta.specs.Element.{Element}
 use Rattle.revision.specs.Command.{Taken}
 use Rattle.revision.specs.Sources.{Sources, last_of}
 use Rattle.revision.specs.Past.{Change, Past, newest, empty_past, from_floor, with_change}
-use Rattle.revision.specs.State.{Limits, DocumentRecord, State, revision_of, find, last_of_all, has_place, keeps, follows, begins, continues_by_name, change_of, record_by_name, has_room, grows, set_document, grown}
-use Rattle.revision.specs.Agree.{DocumentsAgree, PlacesAgree, Agree, AgreeSame, AgreeTurned, AgreeThrough, AgreeingGrow, floor_of}
+use Rattle.revision.specs.State.{Limits, DocumentRecord, State, revision_of, find, last_of_all, has_place, keeps, follows, begins, continues_by_name, change_of, record_by_name, record_after, has_room, grows, set_document, grown}
+use Rattle.revision.specs.Agree.{DocumentsAgree, PlacesAgree, Agree, AgreeSame, AgreeTurned, AgreeThrough, AgreeingContinue, AgreeingGrow, floor_of}
 use Rattle.revision.proofs.Floors.{from-from, from-more}
-use Rattle.revision.proofs.Changing.{longer, newest-with_change, with_change-from}
+use Rattle.revision.specs.Floors.{longer}
+use Rattle.revision.proofs.Changing.{newest-with_change, with_change-from}
 
 -- documents of one name and revision that hold the same agree
 pub documents-agree : (a b : DocumentRecord) → a.name ≡ b.name → revision_of a ≡ revision_of b
@@ -205,4 +206,11 @@ agreeing_grow s t [] agree = (refl, agree)
 agreeing_grow s t (first ∷ others) agree =
     let next = agreeing_grow (grown s first) (grown t first) others (grown-agree s t first agree) in
     let same = grows-same s t first agree in
+    ((λ i. same i && next.0 i), next.1)
+
+pub agreeing_continue : AgreeingContinue
+agreeing_continue limits a b [] agree = (refl, agree)
+agreeing_continue limits a b (first ∷ others) agree =
+    let next = agreeing_continue limits (record_after limits.keep a first) (record_after limits.keep b first) others (places-after limits.keep a b first first.name agree) in
+    let same = continues-same limits limits a b first first.name refl agree in
     ((λ i. same i && next.0 i), next.1)

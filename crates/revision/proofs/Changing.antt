@@ -1,5 +1,5 @@
 -- A past with a change more: what it holds at its new revision, and at those before it.
-use Rattle.std.proofs.Common.{◌≡◌, ℕ, ◌+◌, ◌-◌, ◌≤◌, max, List, [], ◌∷◌, ◌++◌, length, take, map, length-append, refl, sym, ap, subst, ◌∙◌, arith}
+use Rattle.std.proofs.Common.{◌≡◌, ℕ, ◌+◌, ◌-◌, ◌≤◌, max, List, [], ◌∷◌, ◌++◌, length, take, drop, map, length-append, refl, sym, ap, subst, ◌∙◌, arith}
 use Rattle.std.proofs.lemmas.List.{take_all, length-map, map-append, drop-map, length-drop}
 use Rattle.delta.specs.Element.{Element}
 use Rattle.delta.specs.Gaps.{counted, apply}
@@ -7,9 +7,31 @@ use Rattle.document.specs.Outcome.{IsAccepted}
 use Rattle.compose.specs.Many.{applied}
 use Rattle.revision.specs.Sources.{Sources, with_last}
 use Rattle.revision.specs.Past.{StandInTurn, Change, Past, newest, deltas_of, sources_after, content_at, sources_at, from_floor, with_change}
+use Rattle.revision.specs.Floors.{longer, FromItself, FromTwice, FromNewest, FromLonger, ChangeMakes}
 use Rattle.revision.proofs.Floors.{newest-from, from-from, from-more}
 use Rattle.revision.proofs.Replays.{stand-drop}
 use Rattle.revision.proofs.Kept.{stand-more}
+
+pub from_itself : FromItself
+from_itself past =
+    λ i. record {
+      floor = past.floor;
+      content = record { units = applied past.content.units (take (none i) (deltas_of past)) };
+      sources = sources_after past.floor past.sources (take (none i) past.changes);
+      changes = drop (none i) past.changes;
+    }
+  where
+    none : past.floor - past.floor ≡ 0
+    none = omega arith
+
+pub from_twice : FromTwice
+from_twice past first second above higher = from-from past first above second higher
+
+pub from_newest : FromNewest
+from_newest past floor above there = newest-from past floor above there
+
+pub from_longer : FromLonger
+from_longer past floor change above there = from-more past floor above (change ∷ []) there
 
 -- all changes are applied, and noted
 all_taken : {A : Type 0} (floor : ℕ) (list : List A) → take (floor + length list - floor) list ≡ list
@@ -29,16 +51,12 @@ units-newest past =
 pub sources-newest : (past : Past) → sources_at past (newest past) ≡ sources_after past.floor past.sources past.changes
 sources-newest past = ap (sources_after past.floor past.sources) (all_taken past.floor past.changes)
 
--- the past with a change more, before any is let go of
-abbrev pub longer : Past → Change → Past
-longer past change = record past { changes = past.changes ++ change ∷ [] }
-
-applied-more : (units : List Element) (changes : List Change) (change : Change)
+pub applied-more : (units : List Element) (changes : List Change) (change : Change)
     → applied units (map (λ (c : Change). c.delta) (changes ++ change ∷ [])) ≡ apply (applied units (map (λ (c : Change). c.delta) changes)) (counted change.delta)
 applied-more units [] change = refl
 applied-more units (first ∷ others) change = applied-more (apply units (counted first.delta)) others change
 
-sources-more : (floor there : ℕ) (sources : Sources) (changes : List Change) (change : Change) → there ≡ floor + length changes
+pub sources-more : (floor there : ℕ) (sources : Sources) (changes : List Change) (change : Change) → there ≡ floor + length changes
     → sources_after floor sources (changes ++ change ∷ []) ≡ with_last change.source change.number (there + 1) (sources_after floor sources changes)
 sources-more floor there sources [] change is = ap (λ r. with_last change.source change.number (r + 1) sources) (sym (is ∙ none floor))
   where
@@ -105,3 +123,6 @@ module _ (past : Past) (change : Change) where
     pub count-with_change : 1 ≤ keep → length past.changes ≤ keep → length (with_change keep past change).changes ≤ keep
     count-with_change some held =
         omega (arith, some, held, newest-longer, length-drop (max past.floor (newest past + 1 - keep) - past.floor) (longer past change).changes)
+
+pub change_makes : ChangeMakes
+change_makes keep past change = (newest-with_change past change keep, units-with_change past change keep, sources-with_change past change keep)

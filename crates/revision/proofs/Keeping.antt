@@ -15,8 +15,8 @@ use Rattle.revision.specs.Command.{Taken, width_of}
 use Rattle.revision.specs.Sources.{LastTaken, Sources, last_of, count_of, with_last}
 use Rattle.revision.specs.Parting.{parts_pair}
 use Rattle.revision.specs.Past.{StandInTurn, deltas_of, Content, Change, Past, empty_past, newest, content_at, sources_at, with_change}
-use Rattle.revision.specs.State.{Limits, DocumentRecord, State, revision_of, units_of, sources_of, find, last_of_all, reaches_past, weight_of, weight_after, has_place, keeps, begins, follows, continues_by_name, change_of, record_by_name, has_room, set_document, is_last_taken, are_sources, record_at}
-use Rattle.revision.specs.Invariants.{IsLimits, KeepsAt, IsPast, IsState, EmptyIsState, GrowingKeeps, AdoptingKeeps}
+use Rattle.revision.specs.State.{Limits, DocumentRecord, State, grows, grown, all_grow, fold, revision_of, units_of, sources_of, find, last_of_all, reaches_past, weight_of, weight_after, has_place, keeps, begins, follows, continues_by_name, change_of, record_by_name, record_after, has_room, set_document, is_last_taken, are_sources, adopts, record_at}
+use Rattle.revision.specs.Invariants.{IsLimits, KeepsAt, IsPast, IsRecord, IsState, EmptyIsState, GrowingKeeps, AdoptingKeeps, ContinuingKeeps}
 use Rattle.revision.proofs.Room.{weight-some}
 use Rattle.revision.proofs.Told.{parts_told}
 use Rattle.revision.proofs.Changing.{units-newest, sources-newest, newest-with_change, with_change-from, units-with_change, sources-with_change, units-before, sources-before, stand-with_change, count-with_change}
@@ -330,6 +330,11 @@ adopted-past limits content revision sources some bound count are light =
       each = λ place above there. subst (KeepsAt limits past) (omega (arith, above, there)) here;
     }
 
+-- one that may be adopted is light
+pub adopted-light : (state : State) (name : List ℕ) (content : Content) (revision : ℕ) (sources : Sources) → adopts state name content revision sources ≡ true
+    → weight_of content.units (count_of sources) ≤ state.limits.weight
+adopted-light state name content revision sources h = leb-true _ _ (and_parts _ _ h).1
+
 pub adopting_keeps : AdoptingKeeps
 adopting_keeps state name content revision sources is h =
     let light = and_parts (nat_lt (length state.documents) state.limits.docs && is_none (find name 0 state.documents) && nat_le 1 revision && nat_le revision last_of_all
@@ -340,3 +345,24 @@ adopting_keeps state name content revision sources is h =
     subst (λ l. IsState (record state { documents = l })) (set-end new state.documents)
     (added-is-state state new is (ltb-true _ _ parts.0) parts.1
     (adopted-past state.limits content revision sources (leb-true _ _ parts.2) (leb-true _ _ parts.3) (leb-true _ _ parts.4) parts.5 (leb-true _ _ light.1)))
+
+-- one document
+record_kept : (limits : Limits) (found : Option DocumentRecord) (taken : Taken) (name : Option (List ℕ)) → IsLimits limits → IsRecord limits found
+    → continues_by_name limits found taken name ≡ true → IsRecord limits (record_by_name limits.keep found taken name)
+record_kept limits None taken None is past h = tt
+record_kept limits None taken (Some name) is past h = begun-past limits taken is h
+record_kept limits (Some found) taken None is past h = followed-past limits found taken is past h
+record_kept limits (Some found) taken (Some name) is past h = absurd (cc)
+
+pub continuing_keeps : ContinuingKeeps
+continuing_keeps limits found [] is past h = past
+continuing_keeps limits found (first ∷ others) is past h =
+    let parts = and_parts (continues_by_name limits found first first.name) _ h in
+    continuing_keeps limits (record_after limits.keep found first) others is (record_kept limits found first first.name is past parts.0) parts.1
+
+-- all that grows of a state is one
+pub all_keep : (state : State) (batch : List Taken) → IsState state → all_grow state batch ≡ true → IsState (fold state batch)
+all_keep state [] is grow = is
+all_keep state (first ∷ others) is grow =
+    let parts = and_parts (grows state first) (all_grow (grown state first) others) grow in
+    all_keep (grown state first) others (growing_keeps state first is parts.0) parts.1

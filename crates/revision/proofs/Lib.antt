@@ -1,9 +1,18 @@
 mod Floors
 mod Parts
 mod Halves
+mod ChangedAt
+mod Untouched
+mod Indexed
+mod OneMore
+mod Noted
+mod Following
+mod Light
+mod LettingGo
 pub mod Sums
 pub mod Texts
 pub mod Taking
+pub mod Admitting
 pub mod Room
 pub mod Replays
 pub mod Kept

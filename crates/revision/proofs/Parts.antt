@@ -7,7 +7,7 @@ use Rattle.delta.specs.Gaps.{counted, apply}
 use Rattle.document.specs.Outcome.{IsAccepted}
 use Rattle.compose.specs.Many.{applied}
 use Rattle.revision.specs.declared.past.Taker.{Taker}
-use Rattle.revision.specs.Past.{Past, Content, Change, Prepared, Parts, AreParts, newest, newest_units, deltas_of, deltas_in, content_at, deltas_above, from_floor, with_changes, changes_by, whole_past, seen, prepared_units, prepared_revision}
+use Rattle.revision.specs.Past.{Past, Content, Change, Prepared, Parts, AreParts, newest, newest_units, deltas_of, deltas_in, content_at, deltas_above, from_floor, with_changes, changes_by, whole_past, seen, prepared_units, prepared_revision, without_last}
 use Rattle.revision.specs.Past.{way_back_late}
 use Rattle.revision.specs.Late.{HasRoom, all_inserted}
 use Rattle.revision.proofs.Room.{room_for_undo}
@@ -220,27 +220,50 @@ module _ (parts : Parts) (is : AreParts parts) where
       let empty : (seen parts).next ≡ [] = drop_all parts.count all (omega (arith, none, changes-length parts.takers parts.deltas is.same)) in
       ap₂ (λ (p : Past) (n : List Change). record { past = p; next = n }) (sym (ap (with_changes keep (seen parts).past) empty)) empty
 
-  -- what is prepared is dropped
-  pub forget_is : seen (record parts { takers = take parts.count parts.takers; deltas = take parts.count parts.deltas }) ≡ record (seen parts) { next = [] }
-  forget_is =
+  -- some of what is prepared is dropped
+  pub cut_is : (left : ℕ) → parts.count ≤ left
+      → seen (record parts { takers = take left parts.takers; deltas = take left parts.deltas }) ≡ record (seen parts) { next = take (left - parts.count) (seen parts).next }
+  cut_is left within =
       let all : List Change = changes_by parts.takers parts.deltas in
-      let cut = changes-take parts.count parts.takers parts.deltas in
-      let long : length (take parts.count all) ≡ parts.count = length-take-le parts.count all (omega (arith, is.count, changes-length parts.takers parts.deltas is.same)) in
+      let cut = changes-take left parts.takers parts.deltas in
+      let sum : left ≡ parts.count + (left - parts.count) = omega (arith, within) in
       ap₂ (λ (changes next : List Change). record { past = from_floor (record (whole_past parts) { changes = changes }) parts.floor; next = next })
-      (ap (take parts.count) cut ∙ take-take parts.count parts.count all (omega arith))
-      (ap (drop parts.count) cut ∙ drop_all parts.count (take parts.count all) (omega (arith, long)))
+      (ap (take parts.count) cut ∙ take-take parts.count left all within)
+      (ap (drop parts.count) cut ∙ (ap (λ n. drop parts.count (take n all)) sum ∙ drop-take parts.count (left - parts.count) all))
 
-  pub forget_are : AreParts (record parts { takers = take parts.count parts.takers; deltas = take parts.count parts.deltas })
-  forget_are =
-      let takers : length (take parts.count parts.takers) ≡ parts.count = length-take-le parts.count parts.takers (omega (arith, is.same, is.count)) in
-      let deltas : length (take parts.count parts.deltas) ≡ parts.count = length-take-le parts.count parts.deltas is.count in
+  pub cut_are : (left : ℕ) → parts.count ≤ left → left ≤ length parts.deltas → AreParts (record parts { takers = take left parts.takers; deltas = take left parts.deltas })
+  cut_are left within there =
+      let takers : length (take left parts.takers) ≡ left = length-take-le left parts.takers (omega (arith, is.same, there)) in
+      let deltas : length (take left parts.deltas) ≡ left = length-take-le left parts.deltas there in
       record {
-        stand = stand-take parts.count parts.units parts.deltas is.stand;
-        short = short-take parts.count parts.units parts.deltas is.short;
+        stand = stand-take left parts.units parts.deltas is.stand;
+        short = short-take left parts.units parts.deltas is.short;
         same = takers ∙ sym deltas;
-        count = omega (arith, deltas);
+        count = omega (arith, deltas, within);
         start = is.start;
         floor = is.floor;
         held = is.held;
-        revision = omega (arith, deltas, is.count, is.revision);
+        revision = omega (arith, deltas, there, is.revision);
       }
+
+  -- all of it
+  pub forget_is : seen (record parts { takers = take parts.count parts.takers; deltas = take parts.count parts.deltas }) ≡ record (seen parts) { next = [] }
+  forget_is =
+      let none : parts.count - parts.count ≡ 0 = omega arith in
+      cut_is parts.count (omega arith) ∙ ap (λ n. record (seen parts) { next = take n (seen parts).next }) none
+
+  pub forget_are : AreParts (record parts { takers = take parts.count parts.takers; deltas = take parts.count parts.deltas })
+  forget_are = cut_are parts.count (omega arith) is.count
+
+  -- the last of it
+  pub last_dropped : parts.count < length parts.deltas
+      → seen (record parts { takers = take (length parts.deltas - 1) parts.takers; deltas = take (length parts.deltas - 1) parts.deltas })
+      ≡ record (seen parts) { next = without_last (seen parts).next }
+  last_dropped some =
+      let left : length parts.deltas - 1 - parts.count ≡ length (seen parts).next - 1 = omega (arith, prepared-length, some) in
+      cut_is (length parts.deltas - 1) (omega (arith, some)) ∙ ap (λ n. record (seen parts) { next = take n (seen parts).next }) left
+
+  pub none_dropped : length parts.deltas ≤ parts.count → seen parts ≡ record (seen parts) { next = without_last (seen parts).next }
+  none_dropped none =
+      let next : List Change = (seen parts).next in
+      ap (λ l. record (seen parts) { next = l }) (sym (take_all (length next - 1) next (omega (arith, prepared-length, none))))

@@ -6,7 +6,7 @@ use Rattle.refusal.specs.declared.Refusal.TheVariants.{TooOld}
 use Rattle.revision.specs.Command.{Taken, Action, Create, Edit, Undo, Command}
 use Rattle.revision.specs.Sources.{last_of}
 use Rattle.revision.specs.Past.{from_floor}
-use Rattle.revision.specs.State.{DocumentRecord, State, revision_of, content_of, sources_of, find, all_grow, fold}
+use Rattle.revision.specs.State.{Limits, DocumentRecord, State, revision_of, content_of, sources_of, find, all_grow, fold, all_continue, record_after_all}
 use Rattle.revision.specs.Acceptance.{answer, Refuses}
 
 -- Two records agree: their names, revisions, contents and sources are equal, and what they hold from any floor on that neither is
@@ -53,6 +53,12 @@ AgreeThrough = (s t u : State) → ((number : ℕ) → floor_at t number ≤ max
 -- States that agree are continued by the same commands, and agree after them.
 abbrev pub AgreeingGrow : Type 0
 AgreeingGrow = (s t : State) (commands : List Taken) → Agree s t → (all_grow s commands ≡ all_grow t commands) × Agree (fold s commands) (fold t commands)
+
+-- Documents that agree are continued by the same commands, and agree after them.
+abbrev pub AgreeingContinue : Type 0
+AgreeingContinue = (limits : Limits) (a b : Option DocumentRecord) (commands : List Taken) → PlacesAgree a b
+    → (all_continue limits a commands ≡ all_continue limits b commands)
+    × PlacesAgree (record_after_all limits.keep a commands) (record_after_all limits.keep b commands)
 
 -- States that agree answer a command alike, unless one of them no longer holds the revision that it stands on.
 abbrev pub AgreeingAnswer : Type 0

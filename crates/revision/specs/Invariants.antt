@@ -1,6 +1,6 @@
 -- What each state is that grew from the empty one. That it is so is promised by `laws::states_stay`.
-use Rattle.std.specs.Prelude.{◌≡◌, ℕ, ◌≤◌, ◌<◌, ◌^◌, true, List, [], Some, length, slice_get}
-use Rattle.revision.specs.State.{weight_of, Limits, DocumentRecord, State, last_of_all, are_sources, grows, grown, adopts, adopted}
+use Rattle.std.specs.Prelude.{◌≡◌, ℕ, ◌≤◌, ◌<◌, ◌^◌, true, List, [], Option, Some, None, length, slice_get}
+use Rattle.revision.specs.State.{weight_of, Limits, DocumentRecord, State, last_of_all, are_sources, grows, grown, adopts, adopted, all_continue, record_after_all}
 use Rattle.revision.specs.Command.{Taken}
 use Rattle.revision.specs.Sources.{Sources, count_of}
 use Rattle.revision.specs.Past.{StandInTurn, Past, Content, newest, deltas_of, content_at, sources_at}
@@ -30,6 +30,11 @@ pub record IsPast (limits : Limits) (past : Past) : Type 0 where
   pub last : newest past ≤ last_of_all
   pub each : (revision : ℕ) → past.floor ≤ revision → revision ≤ newest past → KeepsAt limits past revision
 
+-- what a document keeps that may be there
+abbrev pub IsRecord : Limits → Option DocumentRecord → Type 0
+IsRecord limits None = Unit {0}
+IsRecord limits (Some found) = IsPast limits found.past
+
 -- no two documents have one name
 abbrev pub NamesDiffer : List DocumentRecord → Type 0
 NamesDiffer documents = (i j : ℕ) (a b : DocumentRecord) → slice_get documents i ≡ Some a → slice_get documents j ≡ Some b
@@ -51,3 +56,8 @@ GrowingKeeps = (state : State) (taken : Taken) → IsState state → grows state
 abbrev pub AdoptingKeeps : Type 0
 AdoptingKeeps = (state : State) (name : List ℕ) (content : Content) (revision : ℕ) (sources : Sources) → IsState state
     → adopts state name content revision sources ≡ true → IsState (adopted state name content revision sources)
+
+-- commands that continue a document leave it what it keeps
+abbrev pub ContinuingKeeps : Type 0
+ContinuingKeeps = (limits : Limits) (found : Option DocumentRecord) (commands : List Taken) → IsLimits limits → IsRecord limits found
+    → all_continue limits found commands ≡ true → IsRecord limits (record_after_all limits.keep found commands)

@@ -127,6 +127,10 @@ prepared_units prepared = applied (newest_units prepared.past) (deltas_in prepar
 abbrev pub prepared_revision : Prepared → ℕ
 prepared_revision prepared = newest prepared.past + length prepared.next
 
+-- all but the last
+abbrev pub without_last : List Change → List Change
+without_last changes = take (length changes - 1) changes
+
 -- the changes of these sources by these deltas, one by one
 abbrev pub changes_by : List Taker → List (List Operation) → List Change
 changes_by [] deltas = []

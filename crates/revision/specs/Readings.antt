@@ -22,3 +22,12 @@ document_at state name revision = at_revision revision (find name 0 state.docume
 -- the deltas that were taken since a revision
 abbrev pub taken_since : State → List ℕ → ℕ → Result (List (List Operation)) Refusal
 taken_since state name revision = at_revision revision (find name 0 state.documents) (λ past. deltas_above past revision)
+
+-- the past of a document that holds a revision
+abbrev pub past_at : State → List ℕ → ℕ → Result Past Refusal
+past_at state name revision = at_revision revision (find name 0 state.documents) (λ past. past)
+
+-- what is read, seen another way
+abbrev pub read_as : {X Y : Type 0} → (X → Y) → Result X Refusal → Result Y Refusal
+read_as see (Ok x) = Ok (see x)
+read_as see (Err refusal) = Err refusal

@@ -5,8 +5,9 @@ ghost use Rattle.utf16.specs.Units.{units_of};
 ghost use Rattle.revision.specs.Spellable.{IsText};
 ghost use Rattle.revision.specs.Acceptance.{TakenGrows};
 ghost use Rattle.revision.specs.Parting.{PartsTold};
-ghost use Rattle.revision.specs.Agree.{AgreeSame, AgreeTurned, AgreeThrough, AgreeingGrow, AgreeingAnswer, AgreeingAnswerHeld};
-ghost use Rattle.revision.specs.Invariants.{EmptyIsState, GrowingKeeps, AdoptingKeeps};
+ghost use Rattle.revision.specs.Agree.{AgreeSame, AgreeTurned, AgreeThrough, AgreeingContinue, AgreeingGrow, AgreeingAnswer, AgreeingAnswerHeld};
+ghost use Rattle.revision.specs.Invariants.{EmptyIsState, GrowingKeeps, AdoptingKeeps, ContinuingKeeps};
+ghost use Rattle.revision.specs.Floors.{FromItself, FromTwice, FromNewest, FromLonger, ChangeMakes};
 ghost use Rattle.revision.specs.Late.{InsertedStay, LightInserts, RoomForCommands, RoomForUndo};
 
 /// What the rule of acceptance takes continues the state.
@@ -44,9 +45,10 @@ pub fn agree()
     ensures through { AgreeThrough }
 {}
 
-/// States that agree are continued by the same commands, and agree after them.
+/// What agrees is continued by the same commands, and agrees after them: states, and single documents.
 pub fn agreeing_grow()
-    ensures { AgreeingGrow }
+    ensures states { AgreeingGrow }
+    ensures documents { AgreeingContinue }
 {}
 
 /// States that agree answer a command alike, unless one of them no longer holds the revision that it stands on.
@@ -60,4 +62,14 @@ pub fn states_stay()
     ensures begin { EmptyIsState }
     ensures grow { GrowingKeeps }
     ensures adopt { AdoptingKeeps }
+    ensures documents { ContinuingKeeps }
+{}
+
+/// A past from higher floors on, and with a change more.
+pub fn floors()
+    ensures itself { FromItself }
+    ensures twice { FromTwice }
+    ensures newest { FromNewest }
+    ensures longer { FromLonger }
+    ensures change { ChangeMakes }
 {}

@@ -5,7 +5,8 @@ ghost use Rattle.delta.specs.Gaps.{counted, apply};
 ghost use Rattle.document.specs.Outcome.{IsAccepted};
 ghost use Rattle.compose.specs.Many.{applied};
 ghost use Rattle.revision.specs.Late.{late as late_edit, all_inserted, HasCommandRoom};
-ghost use Rattle.revision.specs.Past.{StandInTurn, newest, content_at, deltas_of, deltas_above, undo_of, way_back, way_back_late, with_changes, prepared_units, prepared_revision};
+ghost use Rattle.revision.specs.Past.{StandInTurn, newest, content_at, deltas_of, deltas_above, undo_of, way_back, way_back_late, with_changes, prepared_units, prepared_revision, without_last, sources_after, changes_by};
+ghost use Rattle.revision.specs.Sources.{with_last};
 
 use crate::late::{late, past_all};
 use crate::name::Name;
@@ -16,6 +17,9 @@ use document::Document;
 use refusal::Refusal;
 use std::alloc::Global;
 use std::marker::Model;
+
+/// So many revisions lie below the floor at most before they are let go of.
+const MOST_BELOW: u64 = 512;
 
 /// The source of a change, with its number for it.
 #[derive(Drop)]
@@ -174,6 +178,17 @@ impl Past {
         Ok(())
     }
 
+    /// Drops the last change that was prepared, where one was.
+    pub fn take_back(&mut self)
+        ensures { self.new ≡ record self.old { next = without_last self.old.next } }
+    {
+        if self.count < self.deltas.len() {
+            let left = self.deltas.len() - 1;
+            self.takers.truncate(left);
+            self.deltas.truncate(left);
+        }
+    }
+
     /// Accepts what was prepared: each change is the next revision, and the floor rises to `keep` below the newest one where it
     /// is lower. It takes no memory, and isn't refused.
     pub fn accept(&mut self, keep: u32)
@@ -190,6 +205,32 @@ impl Past {
         if least > self.floor {
             self.floor = least;
         }
+    }
+
+    /// Lets go of the revisions below the floor, once there are 512 of them, as far as memory goes. What is seen stays as it is.
+    ///
+    /// With fewer a call costs nothing. Else it applies their deltas to the document that is kept, each in time linear in the
+    /// document, notes their sources, and moves the changes that stay: one change is so applied once more in all, but the call
+    /// that comes to it applies 512 or more.
+    pub fn let_go(&mut self, alloc: Global)
+        ensures { self.new ≡ self.old }
+    {
+        let below = self.floor - self.start;
+        if below < MOST_BELOW {
+            return;
+        }
+        let gone = advance(
+            alloc,
+            &mut self.document,
+            &mut self.sources,
+            self.start,
+            &self.takers.as_slice()[..below as usize],
+            &self.deltas.as_slice()[..below as usize],
+        );
+        drop_first(&mut self.takers, gone);
+        drop_first(&mut self.deltas, gone);
+        self.start += gone as u64;
+        self.count -= gone;
     }
 
     /// Drops what was prepared.
@@ -246,6 +287,7 @@ fn document_after(
 fn apply_taken(alloc: Global, document: &mut Document, taken: &Delta) -> Result<(), Refusal>
     requires { IsAccepted document.old (counted taken.now) }
     ensures document { OnOk result (document.new ≡ apply document.old (counted taken.now)) }
+    ensures unchanged { OnErr result (document.new ≡ document.old) }
     ensures only { IsOkUnless result Refusal.NoMemory }
 {
     match document.apply(alloc, taken) {
@@ -283,4 +325,61 @@ fn taken_back(alloc: Global, before: &Document, taken: &Delta) -> Result<Delta, 
         Ok(back) => Ok(back),
         Err(refusal) => Err(refusal),
     }
+}
+
+// drops the first `count` of the items
+fn drop_first<T: Drop>(items: &mut Vec<T>, count: usize)
+    requires { count ≤ length items.old.items }
+    ensures { items.new.items ≡ drop count items.old.items }
+{
+    drop(items.drain(..count));
+}
+
+// Moves a document and its sources on by the first of these changes, as many as memory goes for, and tells how many. The sources
+// may have noted one change more than the document has taken: it is noted again in its turn.
+fn advance(
+    alloc: Global,
+    document: &mut Document,
+    sources: &mut Sources,
+    start: u64,
+    takers: &[Taker],
+    deltas: &[Delta],
+) -> usize
+    requires stand { StandInTurn document.old deltas.now }
+    requires same { length takers.now ≡ length deltas.now }
+    requires revision { start + length deltas.now < 2 ^ 53 }
+    ensures count { result ≤ length deltas.now }
+    ensures document { document.new ≡ applied document.old (take result deltas.now) }
+    ensures sources { sources_after (start + result) sources.new (drop result (changes_by takers.now deltas.now)) ≡ sources_after start sources.old (changes_by takers.now deltas.now) }
+{
+    for i in 0..deltas.len() {
+        let revision = start + i as u64 + 1;
+        match take_on(alloc, document, sources, &takers[i], &deltas[i], revision) {
+            Ok(()) => {}
+            Err(_) => return i,
+        }
+    }
+    deltas.len()
+}
+
+// Takes a change on a document and its sources. Refused for want of memory alone; the document is unchanged then, and the
+// sources are but for the change, which they may have noted.
+fn take_on(
+    alloc: Global,
+    document: &mut Document,
+    sources: &mut Sources,
+    taker: &Taker,
+    taken: &Delta,
+    revision: u64,
+) -> Result<(), Refusal>
+    requires { IsAccepted document.old (counted taken.now) }
+    ensures document { OnOk result (document.new ≡ apply document.old (counted taken.now)) }
+    ensures document_unchanged { OnErr result (document.new ≡ document.old) }
+    ensures noted { OnOk result (sources.new ≡ with_last taker.now.source taker.now.number revision sources.old) }
+    ensures again { with_last taker.now.source taker.now.number revision sources.new ≡ with_last taker.now.source taker.now.number revision sources.old }
+    ensures only { IsOkUnless result Refusal.NoMemory }
+{
+    let source = taker.source.copy(alloc)?;
+    sources.set(source, taker.number, revision)?;
+    apply_taken(alloc, document, taken)
 }

@@ -1,7 +1,7 @@
 //! The sources of a document.
-ghost use Rattle.std.specs.Prelude.{◌≡◌, ℕ, T, MatchResult, IfOk, OnOk, OnErr, IsOkUnless, length};
+ghost use Rattle.std.specs.Prelude.{◌≡◌, ◌-◌, ◌^◌, ℕ, T, min, MatchResult, IfOk, OnOk, OnErr, IsOkUnless, length};
 ghost use Rattle.std.specs.FinMap.Entries.{is_sorted};
-ghost use Rattle.attributes.specs.Map.{by_bytes, empty};
+ghost use Rattle.attributes.specs.Map.{by_bytes, empty, get, remove};
 ghost use Rattle.attributes.specs.Place.{IsHere, IsFree};
 ghost use Rattle.revision.specs.Sources.{count_of, last_of, with_last};
 ghost use lib.Dec.{T_prop};
@@ -91,6 +91,27 @@ impl Sources {
         }
     }
 
+    /// What a source has, where it is there.
+    pub fn find(&self, source: &Name) -> Option<LastTaken>
+        ensures { result ≡ get self.now source.now }
+    {
+        match self.place(source.as_str()) {
+            Ok(i) => Some(self.list[i].1),
+            Err(_) => None,
+        }
+    }
+
+    /// How many there are once a command of this source was taken; 2^64 - 1 where there are more.
+    pub fn count_after(&self, source: &Name) -> u64
+        ensures { (number revision : ℕ) → result ≡ min (count_of (with_last source.now number revision self.now)) (2 ^ 64 - 1) }
+    {
+        let count = self.count() as u64;
+        match self.find(source) {
+            Some(_) => count,
+            None => count.saturating_add(1),
+        }
+    }
+
     /// Notes the last command of a source. Refused for want of memory alone, and then unchanged; where the source is there it
     /// takes none.
     pub fn set(&mut self, source: Name, number: u64, revision: u64) -> Result<(), Refusal>
@@ -108,6 +129,15 @@ impl Sources {
                 .list
                 .insert(i, (source, last))
                 .map_err(|_| Refusal::NoMemory),
+        }
+    }
+
+    /// Drops a source, where it is there. It takes no memory.
+    pub fn remove(&mut self, source: &Name)
+        ensures { self.new ≡ remove self.old source.now }
+    {
+        if let Ok(i) = self.place(source.as_str()) {
+            drop(self.list.remove(i));
         }
     }
 

@@ -132,3 +132,11 @@ pub(crate) fn creation_width(name: &Name, source: &Name, delta: &Delta) -> u64
 {
     delta_width(delta).saturating_add(25 + source.len() + name.len())
 }
+
+/// How many bytes an edit or an undo would take in the journal; 2^64 - 1 where it would be more.
+pub(crate) fn edit_width(source: &Name, delta: &Delta) -> u64
+    ensures width { result ≡ min (23 + length source.now + 0 + wide.delta_width delta.now) (2 ^ 64 - 1) }
+    ensures short { result < 2 ^ 32 → IsSpellable delta.now }
+{
+    delta_width(delta).saturating_add(23 + source.len())
+}

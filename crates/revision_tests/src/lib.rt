@@ -1,11 +1,21 @@
-//! Tests of `revision`, by its public calls alone. They stand apart from that crate so that it is proved once.
+//! Tests of `revision`, by its public calls alone. They stand apart from that crate so that it is proved once. Which revision
+//! and which text comes of a command, what it weighs and how wide its entry is, is worked out by hand from docs/ACCEPTANCE.md
+//! and docs/FORMATS.md.
 #![tactic(auto)]
 
 #[cfg(test)]
+mod asking;
+#[cfg(test)]
+mod batches;
+#[cfg(test)]
 mod creations;
+#[cfg(test)]
+mod edits;
+#[cfg(test)]
+mod limits;
 #[cfg(test)]
 mod names;
 #[cfg(test)]
-mod steps;
+mod past;
 #[cfg(test)]
-mod strangers;
+mod steps;

@@ -18,6 +18,12 @@ pub enum Step {
     Keep(u64),
     /// Keeps units and sets `bold`.
     Embolden(u64),
+    /// Keeps units and sets `italic`.
+    Slant(u64),
+    /// Keeps units, removes `bold` and sets `italic`.
+    Restyle(u64),
+    /// Keeps a unit and removes so many names of ten bytes, at most 16, and this one, where it isn't empty.
+    Clear(usize, &'static str),
     /// Deletes units.
     Drop(u64),
 }
@@ -36,10 +42,55 @@ fn named(rt: &(impl Abort + AllocGlobal), name: &str, value: Value) -> Attrs {
     attrs
 }
 
-fn bold(rt: &(impl Abort + AllocGlobal)) -> Change {
-    let mut change = Change::new(rt.alloc());
-    assert!(rt; change.set(key(rt, "bold"), Some(Value::flag(true))).is_ok());
+// a change with one more name, which is set, or removed
+fn also(rt: &(impl Abort + AllocGlobal), change: Change, name: &str, is_set: bool) -> Change {
+    let mut change = change;
+    let value = if is_set {
+        Some(Value::flag(true))
+    } else {
+        None
+    };
+    assert!(rt; change.set(key(rt, name), value).is_ok());
     change
+}
+
+fn only(rt: &(impl Abort + AllocGlobal), name: &str) -> Change {
+    also(rt, Change::new(rt.alloc()), name, true)
+}
+
+fn restyled(rt: &(impl Abort + AllocGlobal)) -> Change {
+    also(rt, only(rt, "italic"), "bold", false)
+}
+
+/// Names of ten bytes.
+const REMOVED: [&str; 16] = [
+    "removed_00",
+    "removed_01",
+    "removed_02",
+    "removed_03",
+    "removed_04",
+    "removed_05",
+    "removed_06",
+    "removed_07",
+    "removed_08",
+    "removed_09",
+    "removed_10",
+    "removed_11",
+    "removed_12",
+    "removed_13",
+    "removed_14",
+    "removed_15",
+];
+
+fn cleared(rt: &(impl Abort + AllocGlobal), count: usize, last: &str) -> Change {
+    let mut change = Change::new(rt.alloc());
+    for name in REMOVED.iter().take(count) {
+        change = also(rt, change, name, false);
+    }
+    if last.is_empty() {
+        return change;
+    }
+    also(rt, change, last, false)
 }
 
 fn text(rt: &(impl Abort + AllocGlobal), text: &str, attrs: Attrs) -> Op {
@@ -60,7 +111,10 @@ fn op_of(rt: &(impl Abort + AllocGlobal), step: Step) -> Op {
         Step::Linked(linked, name, of) => text(rt, linked, named(rt, name, value(rt, of))),
         Step::Image(url) => image(rt, url),
         Step::Keep(len) => Op::retain(len, Change::new(rt.alloc())),
-        Step::Embolden(len) => Op::retain(len, bold(rt)),
+        Step::Embolden(len) => Op::retain(len, only(rt, "bold")),
+        Step::Slant(len) => Op::retain(len, only(rt, "italic")),
+        Step::Restyle(len) => Op::retain(len, restyled(rt)),
+        Step::Clear(count, last) => Op::retain(1, cleared(rt, count, last)),
         Step::Drop(len) => Op::delete(len),
     }
 }
@@ -71,5 +125,16 @@ pub fn delta_of(rt: &(impl Abort + AllocGlobal), steps: &[Step]) -> Delta {
     for step in steps {
         assert!(rt; builder.push(op_of(rt, *step)).is_ok());
     }
+    builder.finish()
+}
+
+/// The delta that inserts a text.
+pub fn inserted(rt: &(impl Abort + AllocGlobal), plain: &str) -> Delta {
+    let mut builder = Builder::new(rt.alloc());
+    assert!(rt;
+        builder
+            .push(text(rt, plain, Attrs::new(rt.alloc())))
+            .is_ok()
+    );
     builder.finish()
 }

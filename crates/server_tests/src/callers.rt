@@ -3,7 +3,7 @@ ghost use Rattle.std.specs.Prelude.{◌≡◌, ◌≤◌, ◌<◌, ◌⊎◌, �
 ghost use Rattle.std.specs.String.{string_bytes};
 ghost use Rattle.recovery.specs.Open.{IsOpen, has_failed, state_of};
 ghost use Rattle.server.specs.Asked.{state_after};
-ghost use Rattle.server.specs.Replies.{Exchange};
+ghost use Rattle.session.specs.Exchange.{Exchange};
 
 use disk::Disk;
 use recovery::Store;

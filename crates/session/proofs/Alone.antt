@@ -1,22 +1,14 @@
 -- What is written over a state alone.
-use Rattle.std.proofs.Common.{◌≡◌, ◌++◌, List, ℕ, [], ◌∷◌, Option, Some, None, Result, Ok, Err, refl, sym, ap, subst, ◌∙◌, inl, inr, append_assoc, append-nil}
-use Rattle.refusal.specs.declared.Refusal.{Refusal}
+use Rattle.std.proofs.Common.{◌≡◌, ◌++◌, List, ℕ, [], ◌∷◌, Option, Some, refl, sym, ap, subst, ◌∙◌, inl, inr, append_assoc, append-nil}
 use Rattle.refusal.specs.declared.Refusal.TheVariants.{NoMemory}
-use Rattle.revision.specs.Command.{Command}
 use Rattle.revision.specs.State.{State}
 use Rattle.revision.specs.Acceptance.{decide}
-use Rattle.session.specs.declared.line.Event.{Event}
-use Rattle.session.specs.declared.line.Event.TheVariants.{More, TooLong, Complete}
-use Rattle.session.specs.declared.reply.Reply.{Reply}
-use Rattle.session.specs.declared.request.Request.{Request}
 use Rattle.session.specs.Exchange.{Exchange}
-use Rattle.session.specs.Fetch.{shown_line}
-use Rattle.session.specs.Line.{Partial, with_byte}
+use Rattle.session.specs.Reads.{shown_line}
 use Rattle.session.specs.Reply.{refusal_line}
-use Rattle.session.specs.Request.{request_of}
 use Rattle.session.specs.Session.{Session}
-use Rattle.session.specs.Replies.{answer_line, IsLine, IsReplied, Greeted, Asked, Fetched, Refused, NotTaken, TakesByte, LineContinues, LineOverflows, LineEnds, Replies, Asks}
-use Rattle.session.specs.Alone.{answered, Alone, Conversation, Told, told, told_of, by_event, with_input_byte, replies, conversation_after, FindsMemory, of_session}
+use Rattle.session.specs.Replies.{answer_line, IsLine, IsReplied, Greeted, Asked, WasRead, Refused, NotTaken, TakesByte, LineContinues, LineOverflows, LineEnds, Replies, Asks, Feeds}
+use Rattle.session.specs.Alone.{answered, Alone, Conversation, Told, told, told_of, by_event, with_input_byte, replies, conversation_after, FindsMemory, FedAlone, of_session}
 
 -- memory is found in each of two texts where it is found in both
 finds_front : (front back : List ℕ) → FindsMemory (front ++ back) → FindsMemory front
@@ -49,8 +41,8 @@ replied source line asked source' text state after (Asked command answer t is re
     ∙ ap (λ (s : State). record { text = t; source = source; state = s }) (sym (same ∙ to))
 replied source line asked source' text state after (Asked command answer t is reply) (next, inr (memory, to), same) finds =
     absurd (not_memory t finds (due_line _ t finds reply ∙ ap (answer_line command) memory))
-replied source line asked source' text state after (Fetched doc shown t is reply) (next, (shows, to), same) finds =
-    let text_is : t ≡ shown_line doc (Some state) = due_line _ t finds reply ∙ ap (shown_line doc) shows in
+replied source line asked source' text state after (WasRead doc question shown t is reply) (next, (shows, to), same) finds =
+    let text_is : t ≡ shown_line doc question (Some state) = due_line _ t finds reply ∙ ap (shown_line doc question) shows in
     ap (told source state) is
     ∙ ap (λ (l : List ℕ). record { text = l; source = source; state = state }) (sym text_is)
     ∙ ap (λ (s : State). record { text = t; source = source; state = s }) (sym (same ∙ to))
@@ -80,7 +72,7 @@ parted (exchange ∷ others) b old new (next, does, rest) =
     let p = parted others b next new rest in
     (p.0, (next, does, p.1), p.2)
 
-pub written : (old new : Session) (state after : State) (piece : List ℕ) (asked : List Exchange) (text : List ℕ)
+written : (old new : Session) (state after : State) (piece : List ℕ) (asked : List Exchange) (text : List ℕ)
     → Replies old piece asked new text → Asks Alone state asked after → FindsMemory text
     → (text ≡ replies (of_session old state) piece) × (of_session new after ≡ conversation_after (of_session old state) piece)
 written old new state after [] asked text (nothing, is, no_text) asks finds =
@@ -95,3 +87,12 @@ written old new state after (byte ∷ bytes) asked text (next, first, others, fr
           ∙ ap (λ (r : List ℕ × Conversation). r.0 ++ replies r.1 bytes) (sym step),
       behind.1 ∙ ap (λ (r : List ℕ × Conversation). conversation_after r.1 bytes) (sym step),
     )
+
+pub fed_alone : (old new : Session) (state after : State) (piece : List ℕ) (out out' : Option (List ℕ)) → Feeds Alone old piece new state after out out'
+    → FedAlone (of_session old state) piece (of_session new after) out out'
+fed_alone old new state after piece out out' fed = record {
+  text = fed.text;
+  written = fed.written;
+  replied = λ finds. (written old new state after piece fed.asked fed.text fed.replies fed.asks finds).0;
+  goes_on = λ finds. (written old new state after piece fed.asked fed.text fed.replies fed.asks finds).1;
+}

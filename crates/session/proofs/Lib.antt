@@ -1,5 +1,6 @@
 mod Whole
 mod Worked
+pub mod Plain
 mod Alone
 pub mod Writes
 pub mod Replying

@@ -6,19 +6,20 @@ use Rattle.refusal.specs.declared.Refusal.{Refusal}
 use Rattle.refusal.specs.declared.Refusal.TheVariants.{NoMemory, LineTooLong}
 use Rattle.revision.specs.Command.{Command}
 use Rattle.revision.specs.State.{State}
+use Rattle.session.specs.declared.question.Question.{Question}
 use Rattle.session.specs.declared.reply.Reply.{Reply}
 use Rattle.session.specs.declared.line.Event.{Event}
 use Rattle.session.specs.declared.line.Event.TheVariants.{More, TooLong, Complete}
 use Rattle.session.specs.declared.request.Request.{Request}
-use Rattle.session.specs.declared.request.Request.TheVariants.{Greet, Ask, Fetch}
+use Rattle.session.specs.declared.request.Request.TheVariants.{Greet, Ask, Read}
 use Rattle.optext.specs.Answer.{IsAnswer}
 use Rattle.session.specs.Line.{Partial, with_byte}
 use Rattle.session.specs.Request.{request_of}
 use Rattle.session.specs.Reply.{greeting, line_of, refusal_line}
-use Rattle.session.specs.Fetch.{shown_line}
+use Rattle.session.specs.Reads.{shown_line}
 use Rattle.session.specs.Session.{Session}
 use Rattle.session.specs.Exchange.{Exchange, Answered, Shown}
-use Rattle.session.specs.Replies.{answer_line, IsLine, text_told, IsReplied, Greeted, Asked, Fetched, Refused, NotTaken, TakesByte, LineContinues, LineOverflows, LineEnds, Replies, Asks, Feeds, Stops}
+use Rattle.session.specs.Replies.{answer_line, IsLine, text_told, IsReplied, Greeted, Asked, WasRead, Refused, NotTaken, TakesByte, LineContinues, LineOverflows, LineEnds, Replies, Asks, Feeds, Stops}
 use Rattle.session.proofs.Writes.{appends-nothing}
 
 -- an answer that is no refusal is the one that is due
@@ -59,13 +60,13 @@ module _ {D : Type 0} (does : D → Exchange → D → Type 0) where
   asked (Some line) old command text desk desk' request is due told =
       (Answered command told.0 ∷ [], Asked command told.0 text (due_ok _ _ due ∙ ap (λ (r : Request). Ok r) is) told.2, (desk', told.1, refl))
 
-  pub fetched : (o : Partial) (old : Session) (doc text : List ℕ) (desk desk' : D) (request : Request)
-      → request ≡ Fetch doc → IfSome o (λ line. IsAnswer (request_of old.source line) (Ok request))
-      → ((shown : Option State) × does desk (Shown shown) desk' × IsLine (shown_line doc shown) text)
+  pub was_read : (o : Partial) (old : Session) (doc : List ℕ) (question : Question) (text : List ℕ) (desk desk' : D) (request : Request)
+      → request ≡ Read doc question → IfSome o (λ line. IsAnswer (request_of old.source line) (Ok request))
+      → ((shown : Option State) × does desk (Shown shown) desk' × IsLine (shown_line doc question shown) text)
       → IfSome o (Responds old old desk desk' text)
-  fetched None old doc text desk desk' request is due told = tt
-  fetched (Some line) old doc text desk desk' request is due told =
-      (Shown told.0 ∷ [], Fetched doc told.0 text (due_ok _ _ due ∙ ap (λ (r : Request). Ok r) is) told.2, (desk', told.1, refl))
+  was_read None old doc question text desk desk' request is due told = tt
+  was_read (Some line) old doc question text desk desk' request is due told =
+      (Shown told.0 ∷ [], WasRead doc question told.0 text (due_ok _ _ due ∙ ap (λ (r : Request). Ok r) is) told.2, (desk', told.1, refl))
 
   refused_line : {T E : Type 0} (bytes : T → List ℕ) (old : Session) (line : List ℕ) (refusal : Refusal) (result : Result T E)
       → IsAnswer (request_of old.source line) (Err refusal) → IfOk result (λ t. bytes t ≡ refusal_line refusal)

@@ -1,11 +1,16 @@
--- Lines spelled out: the replies to hello and to a creation, and a refusal.
-use Rattle.std.specs.Prelude.{◌≡◌, codes}
+-- Lines spelled out: the replies to hello and to a creation, a document, deltas, and a refusal.
+use Rattle.std.specs.Prelude.{◌≡◌, codes, true, [], ◌∷◌}
 use Rattle.std.proofs.Common.{refl}
 use Rattle.std.specs.Fmt.{digits}
 use Rattle.serde_json.proofs.OnLiterals.{serde_json_on_literals}
 use Rattle.refusal.specs.declared.Refusal.TheVariants.{Exists}
 use Rattle.session.specs.declared.reply.Reply.TheVariants.{Taken, Again}
-use Rattle.session.specs.Reply.{greeting, acknowledgement, line_of, refusal_line}
+use Rattle.std.specs.Char.{encode_utf8}
+use Rattle.std.specs.Char.Utf16.{utf16_chars}
+use Rattle.attributes.specs.Map.{empty, insert}
+use Rattle.attributes.specs.Scalar.{flag_scalar}
+use Rattle.delta.specs.Operation.{insert_text, retain}
+use Rattle.session.specs.Reply.{greeting, acknowledgement, printed_delta, document_with, since_reply, line_of, refusal_line}
 
 pub hello : line_of greeting ≡ codes "{\"ok\":\"hello\"}\n"
 unfolding serde_json_on_literals digits
@@ -22,3 +27,14 @@ again = refl
 pub exists : refusal_line Exists ≡ codes "{\"code\":7,\"error\":\"Exists\"}\n"
 unfolding serde_json_on_literals digits
 exists = refl
+
+pub fetched : line_of (document_with (codes "d")
+    (printed_delta (insert_text (codes "Hi") empty ∷ insert_text (codes "!") (insert empty (codes "bold") (flag_scalar true)) ∷ [])) 2)
+    ≡ codes "{\"doc\":\"d\",\"ok\":\"doc\",\"ops\":[{\"insert\":\"Hi\"},{\"attributes\":{\"bold\":true},\"insert\":\"!\"}],\"rev\":2}\n"
+unfolding serde_json_on_literals digits utf16_chars encode_utf8 insert
+fetched = refl
+
+pub since : line_of (since_reply (codes "d") ((retain 1 empty ∷ insert_text (codes "x") empty ∷ []) ∷ []) 2)
+    ≡ codes "{\"deltas\":[[{\"retain\":1},{\"insert\":\"x\"}]],\"doc\":\"d\",\"ok\":\"since\",\"rev\":2}\n"
+unfolding serde_json_on_literals digits utf16_chars encode_utf8
+since = refl

@@ -1,19 +1,19 @@
 -- A session over a state alone: what each line is replied, and what it does to the state.
-use Rattle.std.specs.Prelude.{◌≡◌, ◌⊎◌, ℕ, List, [], ◌∷◌, ◌++◌, Option, Some, None, Result, Ok, Err}
+use Rattle.std.specs.Prelude.{◌≡◌, ◌⊎◌, ℕ, List, [], ◌∷◌, ◌++◌, Option, Some, Result, Ok, Err}
+use Rattle.std.specs.Io.KnownBytes.{Appends}
 use Rattle.refusal.specs.declared.Refusal.{Refusal}
 use Rattle.refusal.specs.declared.Refusal.TheVariants.{NoMemory, LineTooLong}
-use Rattle.revision.specs.Command.{Command}
 use Rattle.revision.specs.State.{State}
 use Rattle.revision.specs.Acceptance as acceptance
 use Rattle.revision.specs.Acceptance.{TakenAt, AgainAt, Refused, decide}
 use Rattle.session.specs.declared.line.Event.{Event}
-use Rattle.session.specs.declared.line.Event.TheVariants.{More, TooLong, Complete}
+use Rattle.session.specs.declared.line.Event.TheVariants.{TooLong, Complete}
 use Rattle.session.specs.declared.reply.Reply.{Reply}
 use Rattle.session.specs.declared.reply.Reply.TheVariants.{Taken, Again}
 use Rattle.session.specs.declared.request.Request.{Request}
-use Rattle.session.specs.declared.request.Request.TheVariants.{Greet, Ask, Fetch}
+use Rattle.session.specs.declared.request.Request.TheVariants.{Greet, Ask, Read}
 use Rattle.session.specs.Exchange.{Exchange, Answered, Shown}
-use Rattle.session.specs.Fetch.{fetch_line}
+use Rattle.session.specs.Reads.{read_line}
 use Rattle.session.specs.Line.{Partial, with_byte}
 use Rattle.session.specs.Reply.{greeting, line_of, refusal_line}
 use Rattle.session.specs.Replies.{answer_line}
@@ -53,7 +53,7 @@ abbrev pub told : Option (List ℕ) → State → Result Request Refusal → Tol
 told source state (Ok (Greet name)) = record { text = line_of greeting; source = Some name; state = state }
 told source state (Ok (Ask command)) =
     record { text = answer_line command (answered (decide state command).0); source = source; state = (decide state command).1 }
-told source state (Ok (Fetch doc)) = record { text = fetch_line doc state; source = source; state = state }
+told source state (Ok (Read doc question)) = record { text = read_line doc question state; source = source; state = state }
 told source state (Err refusal) = record { text = refusal_line refusal; source = source; state = state }
 
 -- what a line is replied
@@ -83,3 +83,11 @@ conversation_after c (byte ∷ bytes) = conversation_after (with_input_byte c by
 -- nowhere in a text stands the line of NoMemory
 abbrev pub FindsMemory : List ℕ → Type 0
 FindsMemory text = (front back : List ℕ) → text ≡ front ++ (refusal_line NoMemory ++ back) → ⊥
+
+-- A piece of the input was taken: where memory is found, what was written is what is replied to it, and the conversation goes on
+-- as it does after it.
+pub record FedAlone (old : Conversation) (piece : List ℕ) (new : Conversation) (out out' : Option (List ℕ)) : Type 0 where
+  pub text : List ℕ
+  pub written : Appends out out' text
+  pub replied : FindsMemory text → text ≡ replies old piece
+  pub goes_on : FindsMemory text → new ≡ conversation_after old piece

@@ -3,7 +3,7 @@ pub mod Message
 pub mod MessageView
 pub mod Request
 pub mod Reply
-pub mod Fetch
+pub mod Reads
 pub mod Exchange
 pub mod Session
 pub mod Replies

@@ -3,6 +3,8 @@ use Rattle.std.specs.Prelude.{ℕ, ◌^◌, ◌<◌, ◌≤◌, ◌==◌, ◌&&�
 use Rattle.serde_json.specs.Data.{Data, Items}
 use Rattle.serde_json.specs.Find.{get, as_str, as_number, as_u64, as_array}
 use Rattle.optext.specs.Described.{member_count}
+use Rattle.session.specs.declared.question.Question.{Question}
+use Rattle.session.specs.declared.question.Question.TheVariants.{Newest, At, Since}
 
 pub data Message : Type 0 where
   -- the source presents itself
@@ -13,8 +15,8 @@ pub data Message : Type 0 where
   Edit : (doc : List ℕ) (number base : ℕ) (operations : Items) → Message
   -- the source's last change of a document is to be taken back, under the source's number
   Undo : (doc : List ℕ) (number : ℕ) → Message
-  -- a document is asked for
-  Fetch : (doc : List ℕ) → Message
+  -- something is asked of a document
+  Read : (doc : List ℕ) (question : Question) → Message
 
 -- the member of this name, where it is a text
 abbrev pub text_at : List ℕ → Data → Option (List ℕ)
@@ -70,8 +72,24 @@ undo_of value =
     else None
 
 -- `{"do":"fetch","doc":..}`
+abbrev pub fetch_newest_of : Data → Option Message
+fetch_newest_of value = option_map (λ doc. Read doc Newest) (text_at (codes "doc") value)
+
+-- a question of a document at a revision, its member `rev`
+abbrev pub read_at : (ℕ → Question) → Data → Option Message
+read_at question value =
+    option_and_then (λ doc. option_map (λ rev. Read doc (question rev)) (revision_at (codes "rev") value)) (text_at (codes "doc") value)
+
+-- the same, or `{"do":"fetch","doc":..,"rev":..}`
 abbrev pub fetch_of : Data → Option Message
-fetch_of value = if member_count value == 2 then option_map Fetch (text_at (codes "doc") value) else None
+fetch_of value =
+    if member_count value == 2 then fetch_newest_of value
+    else if member_count value == 3 then read_at At value
+    else None
+
+-- `{"do":"since","doc":..,"rev":..}`
+abbrev pub since_of : Data → Option Message
+since_of value = if member_count value == 3 then read_at Since value else None
 
 abbrev pub message_called : List ℕ → Data → Option Message
 message_called kind value =
@@ -80,6 +98,7 @@ message_called kind value =
     else if bytes_eq kind (codes "edit") then edit_of value
     else if bytes_eq kind (codes "undo") then undo_of value
     else if bytes_eq kind (codes "fetch") then fetch_of value
+    else if bytes_eq kind (codes "since") then since_of value
     else None
 
 -- the message that a value is: its member `do` says of which kind, and it has just the members of that kind
@@ -92,4 +111,4 @@ IsNumbered (Hello source) = Unit {0}
 IsNumbered (Create doc n operations) = (1 ≤ n) × (n < 2 ^ 53)
 IsNumbered (Edit doc n base operations) = (1 ≤ n) × (n < 2 ^ 53) × (base < 2 ^ 53)
 IsNumbered (Undo doc n) = (1 ≤ n) × (n < 2 ^ 53)
-IsNumbered (Fetch doc) = Unit {0}
+IsNumbered (Read doc question) = Unit {0}

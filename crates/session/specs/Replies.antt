@@ -5,13 +5,14 @@ use Rattle.refusal.specs.declared.Refusal.{Refusal}
 use Rattle.refusal.specs.declared.Refusal.TheVariants.{NoMemory, LineTooLong}
 use Rattle.revision.specs.Command.{Command}
 use Rattle.revision.specs.State.{State}
+use Rattle.session.specs.declared.question.Question.{Question}
 use Rattle.session.specs.declared.reply.Reply.{Reply}
 use Rattle.session.specs.declared.line.Event.TheVariants.{More, TooLong, Complete}
-use Rattle.session.specs.declared.request.Request.TheVariants.{Greet, Ask, Fetch}
+use Rattle.session.specs.declared.request.Request.TheVariants.{Greet, Ask, Read}
 use Rattle.session.specs.Line.{Partial, with_byte}
 use Rattle.session.specs.Request.{request_of}
 use Rattle.session.specs.Reply.{greeting, acknowledgement, line_of, refusal_line}
-use Rattle.session.specs.Fetch.{shown_line}
+use Rattle.session.specs.Reads.{shown_line}
 use Rattle.session.specs.Exchange.{Exchange, Answered, Shown}
 use Rattle.session.specs.Session.{Session}
 
@@ -38,8 +39,8 @@ pub data IsReplied (source : Option (List ℕ)) (line : List ℕ) : List Exchang
   Asked : (command : Command) (answer : Result Reply Refusal) (text : List ℕ) → request_of source line ≡ Ok (Ask command)
       → IsLine (answer_line command answer) text → IsReplied source line (Answered command answer ∷ []) source text
   -- the desk shows its state once, and the reply tells of it what is asked for
-  Fetched : (doc : List ℕ) (shown : Option State) (text : List ℕ) → request_of source line ≡ Ok (Fetch doc)
-      → IsLine (shown_line doc shown) text → IsReplied source line (Shown shown ∷ []) source text
+  WasRead : (doc : List ℕ) (question : Question) (shown : Option State) (text : List ℕ) → request_of source line ≡ Ok (Read doc question)
+      → IsLine (shown_line doc question shown) text → IsReplied source line (Shown shown ∷ []) source text
   -- the first refusal that holds
   Refused : (refusal : Refusal) → request_of source line ≡ Err refusal → IsReplied source line [] source (refusal_line refusal)
   -- for want of memory the line is not taken

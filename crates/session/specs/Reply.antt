@@ -1,8 +1,10 @@
 -- What a line is replied: a JSON object with its members in ascending order and no blanks, and a line end.
-use Rattle.std.specs.Prelude.{ℕ, List, [], ◌∷◌, ◌++◌, codes}
-use Rattle.serde_json.specs.Data.{Data, object, array, member, no_members, number, unsigned, string}
+use Rattle.std.specs.Prelude.{ℕ, List, [], ◌∷◌, ◌++◌, map, codes}
+use Rattle.serde_json.specs.Data.{Data, Items, object, array, member, no_members, number, unsigned, string}
 use Rattle.serde_json.specs.Written.{compact_text}
+use Rattle.serde_json.specs.View.{items_of}
 use Rattle.delta.specs.Element.{Element}
+use Rattle.delta.specs.Operation.{Operation}
 use Rattle.delta.specs.Gaps.{End}
 use Rattle.delta.specs.Normal.{nf}
 use Rattle.optext.specs.Printed.{printed}
@@ -33,6 +35,10 @@ acknowledgement_of doc n kind rev =
 abbrev pub acknowledgement : List ℕ → ℕ → Reply → Data
 acknowledgement doc n reply = acknowledgement_of doc n (kind_of reply) (rev_of reply)
 
+-- a delta is printed as the array of its operations
+abbrev pub printed_delta : List Operation → Data
+printed_delta delta = array (printed delta)
+
 -- `{"doc":"d","ok":"doc","ops":[{"insert":"z"}],"rev":1}`, with the operations printed
 abbrev pub document_with : List ℕ → Data → ℕ → Data
 document_with doc operations rev =
@@ -41,7 +47,21 @@ document_with doc operations rev =
 
 -- the same of a document's units: the operations are those that make them of the empty document
 abbrev pub document_reply : List ℕ → List Element → ℕ → Data
-document_reply doc units rev = document_with doc (array (printed (nf (End units)))) rev
+document_reply doc units rev = document_with doc (printed_delta (nf (End units))) rev
+
+-- and deltas as the array of those
+abbrev pub printed_deltas : List (List Operation) → Items
+printed_deltas deltas = items_of (map printed_delta deltas)
+
+-- `{"deltas":[[{"insert":"z"}]],"doc":"d","ok":"since","rev":1}`, with the deltas printed
+abbrev pub since_with : List ℕ → Data → ℕ → Data
+since_with doc deltas rev =
+    object (member (codes "deltas") deltas (member (codes "doc") (string doc)
+    (member (codes "ok") (string (codes "since")) (member (codes "rev") (number (unsigned rev)) no_members))))
+
+-- the same of deltas, the last of which made this revision
+abbrev pub since_reply : List ℕ → List (List Operation) → ℕ → Data
+since_reply doc deltas rev = since_with doc (array (printed_deltas deltas)) rev
 
 -- `{"code":7,"error":"Exists"}`
 abbrev pub refusal_reply : Refusal → Data

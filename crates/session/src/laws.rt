@@ -1,14 +1,17 @@
 //! Laws of what comes of a session's input. Each is a function that does nothing: its contract is the law.
-ghost use Rattle.std.specs.Prelude.{◌≡◌, ◌≤◌, ◌<◌, ◌++◌, ◌∷◌, ℕ, List, [], Some, length, codes};
+ghost use Rattle.std.specs.Prelude.{◌≡◌, ◌≤◌, ◌<◌, ◌++◌, ◌∷◌, ℕ, List, [], Option, Some, true, length, codes};
 ghost use Rattle.refusal.specs.declared.Refusal.TheVariants.{LineTooLong, Exists};
 ghost use Rattle.session.specs.declared.reply.Reply.TheVariants.{Taken, Again};
-ghost use Rattle.session.specs.Reply.{greeting, acknowledgement, line_of, refusal_line};
+ghost use Rattle.session.specs.Reply.{greeting, acknowledgement, printed_delta, document_with, since_reply, line_of, refusal_line};
+ghost use Rattle.attributes.specs.Map.{empty, insert};
+ghost use Rattle.attributes.specs.Scalar.{flag_scalar};
+ghost use Rattle.delta.specs.Operation.{insert_text, retain};
 ghost use Rattle.session.specs.Line.{HasNoEnd};
 ghost use Rattle.session.specs.Session.{Session};
 ghost use Rattle.session.specs.Exchange.{Exchange};
 ghost use Rattle.revision.specs.State.{State};
-ghost use Rattle.session.specs.Replies.{Replies, IsReplied, IsLine, Asks};
-ghost use Rattle.session.specs.Alone.{Alone, FindsMemory, of_session, replies, conversation_after};
+ghost use Rattle.session.specs.Replies.{Replies, IsReplied, IsLine, Feeds};
+ghost use Rattle.session.specs.Alone.{Alone, FedAlone, of_session};
 
 /// It doesn't matter in which pieces the input comes: what comes of two pieces, one after the other, is what comes of
 /// them joined.
@@ -35,21 +38,23 @@ pub fn long_line()
         → (asked ≡ []) × (new ≡ old) × IsLine (refusal_line LineTooLong) text }
 {}
 
-/// Lines as they are written: the replies to hello and to a creation, and a refusal.
+/// Lines as they are written: the replies to hello and to a creation, a document, deltas, and a refusal.
 pub fn worked_lines()
     ensures hello { line_of greeting ≡ codes "{\"ok\":\"hello\"}\n" }
     ensures taken { line_of (acknowledgement (codes "d") 1 (Taken 1)) ≡ codes "{\"doc\":\"d\",\"n\":1,\"ok\":\"taken\",\"rev\":1}\n" }
     ensures again { line_of (acknowledgement (codes "d") 1 (Again 1)) ≡ codes "{\"doc\":\"d\",\"n\":1,\"ok\":\"again\",\"rev\":1}\n" }
+    ensures fetched { line_of (document_with (codes "d")
+        (printed_delta (insert_text (codes "Hi") empty ∷ insert_text (codes "!") (insert empty (codes "bold") (flag_scalar true)) ∷ [])) 2)
+        ≡ codes "{\"doc\":\"d\",\"ok\":\"doc\",\"ops\":[{\"insert\":\"Hi\"},{\"attributes\":{\"bold\":true},\"insert\":\"!\"}],\"rev\":2}\n" }
+    ensures since { line_of (since_reply (codes "d") ((retain 1 empty ∷ insert_text (codes "x") empty ∷ []) ∷ []) 2)
+        ≡ codes "{\"deltas\":[[{\"retain\":1},{\"insert\":\"x\"}]],\"doc\":\"d\",\"ok\":\"since\",\"rev\":2}\n" }
     ensures exists { refusal_line Exists ≡ codes "{\"code\":7,\"error\":\"Exists\"}\n" }
 {}
 
 /// A session over a state alone: where memory is found, what is written of a piece of the input is what the lines in it are
 /// replied, each over what the lines before it did (`specs/Alone.antt`), and so is the state afterwards.
 pub fn replies_of_a_state()
-    ensures written { (old new : Session) (state after : State) (piece : List ℕ) (asked : List Exchange) (text : List ℕ)
-        → Replies old piece asked new text → Asks Alone state asked after → FindsMemory text
-        → text ≡ replies (of_session old state) piece }
-    ensures state { (old new : Session) (state after : State) (piece : List ℕ) (asked : List Exchange) (text : List ℕ)
-        → Replies old piece asked new text → Asks Alone state asked after → FindsMemory text
-        → of_session new after ≡ conversation_after (of_session old state) piece }
+    ensures { (old new : Session) (state after : State) (piece : List ℕ) (out out' : Option (List ℕ))
+        → Feeds Alone old piece new state after out out'
+        → FedAlone (of_session old state) piece (of_session new after) out out' }
 {}

@@ -1,9 +1,11 @@
 //! Messages: what a line's JSON value asks for.
 ghost use Rattle.std.specs.Prelude.{◌≡◌, ◌≤◌, ◌<◌, ◌^◌, IfSome, option_map};
 ghost use Rattle.serde_json.specs.View.{view, items_view};
-ghost use Rattle.session.specs.Message.{message_of, hello_of, create_of, edit_of, undo_of, fetch_of, text_at, number_at, revision_at, array_at, IsNumbered};
+ghost use Rattle.session.specs.Message.{message_of, hello_of, create_of, edit_of, undo_of, fetch_newest_of, read_at, fetch_of, since_of, text_at, number_at, revision_at, array_at, IsNumbered};
 ghost use Rattle.session.specs.MessageView.{message_view};
+ghost use Rattle.session.specs.declared.question.Question.TheVariants.{At};
 
+use crate::question::Question;
 use optext::member_count;
 use serde_json::Value;
 
@@ -36,9 +38,10 @@ pub enum Message<'a> {
         doc: &'a str,
         number: u64,
     },
-    /// A document is asked for.
-    Fetch {
+    /// Something is asked of a document.
+    Read {
         doc: &'a str,
+        question: Question,
     },
 }
 
@@ -54,6 +57,7 @@ impl<'a> Message<'a> {
             "edit" => Message::read_edit(value),
             "undo" => Message::read_undo(value),
             "fetch" => Message::read_fetch(value),
+            "since" => Message::read_since(value),
             _ => None,
         }
     }
@@ -121,11 +125,43 @@ impl<'a> Message<'a> {
         ensures message { option_map message_view result ≡ fetch_of (view value.now) }
         ensures numbered { IfSome result (λ message. IsNumbered (message_view message)) }
     {
-        if member_count(value) != 2 {
+        match member_count(value) {
+            2 => Message::read_newest(value),
+            3 => Message::read_at(value),
+            _ => None,
+        }
+    }
+
+    fn read_newest(value: &'a Value) -> Option<Message<'a>>
+        ensures message { option_map message_view result ≡ fetch_newest_of (view value.now) }
+        ensures numbered { IfSome result (λ message. IsNumbered (message_view message)) }
+    {
+        let doc = text_in(value, "doc")?;
+        let question = Question::Newest;
+        Some(Message::Read { doc, question })
+    }
+
+    fn read_at(value: &'a Value) -> Option<Message<'a>>
+        ensures message { option_map message_view result ≡ read_at At (view value.now) }
+        ensures numbered { IfSome result (λ message. IsNumbered (message_view message)) }
+    {
+        let doc = text_in(value, "doc")?;
+        let rev = revision_in(value, "rev")?;
+        let question = Question::At { rev };
+        Some(Message::Read { doc, question })
+    }
+
+    fn read_since(value: &'a Value) -> Option<Message<'a>>
+        ensures message { option_map message_view result ≡ since_of (view value.now) }
+        ensures numbered { IfSome result (λ message. IsNumbered (message_view message)) }
+    {
+        if member_count(value) != 3 {
             return None;
         }
         let doc = text_in(value, "doc")?;
-        Some(Message::Fetch { doc })
+        let rev = revision_in(value, "rev")?;
+        let question = Question::Since { rev };
+        Some(Message::Read { doc, question })
     }
 }
 

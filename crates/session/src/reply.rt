@@ -2,14 +2,15 @@
 ghost use Rattle.std.specs.Prelude.{◌≡◌, IfOk, OnOk, false};
 ghost use Rattle.delta.specs.Gaps.{End};
 ghost use Rattle.delta.specs.Normal.{nf};
-ghost use Rattle.optext.specs.Printed.{printed};
 ghost use Rattle.serde_json.specs.Data.{array};
 ghost use Rattle.serde_json.specs.Written.{has_float};
 ghost use Rattle.std.specs.String.{string_bytes};
 ghost use Rattle.session.specs.Reply as spec;
 ghost use Rattle.serde_json.specs.View.{view};
 
+use delta::Delta;
 use document::Document;
+use optext::laws::printed_without_floats;
 use optext::write_ops;
 use refusal::Refusal;
 use revision::{Command, Name};
@@ -96,16 +97,58 @@ fn document_with(alloc: Global, doc: &str, operations: Value, rev: u64) -> Resul
 
 // The operations that make the document of the empty one.
 fn operations_of(alloc: Global, document: &Document) -> Result<Value, AllocError>
-    ensures printed { IfOk result (λ value. view value ≡ array (printed (nf (End document.now)))) }
-    ensures plain { OnOk result (has_float (array (printed (nf (End document.now)))) ≡ false) }
+    ensures printed { IfOk result (λ value. view value ≡ spec.printed_delta (nf (End document.now))) }
+    ensures plain { OnOk result (has_float (spec.printed_delta (nf (End document.now))) ≡ false) }
 {
     let Ok(delta) = document.as_delta(alloc) else {
         return Err(AllocError);
     };
-    let Ok(operations) = write_ops(alloc, &delta) else {
-        return Err(AllocError);
-    };
-    Ok(operations)
+    array_of(alloc, &delta)
+}
+
+/// The reply to since: the deltas up to a revision.
+pub fn since_reply(
+    alloc: Global,
+    name: &Name,
+    deltas: &[Delta],
+    rev: u64,
+) -> Result<String, AllocError>
+    ensures { IfOk result (λ text. string_bytes text ≡ spec.line_of (spec.since_reply name.now deltas.now rev)) }
+{
+    let deltas = arrays_of(alloc, deltas)?;
+    let value = since_with(alloc, name.as_str(), deltas, rev)?;
+    line_of(alloc, &value)
+}
+
+fn since_with(alloc: Global, doc: &str, deltas: Value, rev: u64) -> Result<Value, AllocError>
+    ensures { IfOk result (λ value. view value ≡ spec.since_with doc.now (view deltas) rev) }
+{
+    json!(in alloc; {"deltas": deltas, "doc": doc, "ok": "since", "rev": rev})
+}
+
+// The arrays of deltas.
+fn arrays_of(alloc: Global, deltas: &[Delta]) -> Result<Value, AllocError>
+    ensures printed { IfOk result (λ value. view value ≡ array (spec.printed_deltas deltas.now)) }
+    ensures plain { OnOk result (has_float (array (spec.printed_deltas deltas.now)) ≡ false) }
+{
+    printed_without_floats();
+    let mut items = Vec::with_capacity(alloc, deltas.len())?;
+    for delta in deltas {
+        let operations = array_of(alloc, delta)?;
+        items.push(operations)?;
+    }
+    Ok(Value::Array(items))
+}
+
+fn array_of(alloc: Global, delta: &Delta) -> Result<Value, AllocError>
+    ensures printed { IfOk result (λ value. view value ≡ spec.printed_delta delta.now) }
+    ensures plain { OnOk result (has_float (spec.printed_delta delta.now) ≡ false) }
+{
+    printed_without_floats();
+    match write_ops(alloc, delta) {
+        Ok(operations) => Ok(operations),
+        Err(_) => Err(AllocError),
+    }
 }
 
 /// The reply to a line that is refused.

@@ -9,6 +9,7 @@ ghost use Rattle.session.specs.MessageView.{message_view};
 ghost use Rattle.session.specs.Request as spec;
 
 use crate::message::Message;
+use crate::question::Question;
 use optext::{read_json, read_ops};
 use refusal::Refusal;
 use revision::{Command, Name};
@@ -22,8 +23,8 @@ pub enum Request {
     Greet(Name),
     /// To ask the desk.
     Ask(Command),
-    /// To tell the document of this name.
-    Fetch(Name),
+    /// To tell what is asked of the document of this name.
+    Read(Name, Question),
 }
 
 impl Request {
@@ -83,7 +84,7 @@ impl Request {
                 operations,
             } => edit(alloc, source, doc, number, base, operations),
             Message::Undo { doc, number } => undo(alloc, source, doc, number),
-            Message::Fetch { doc } => Ok(Request::Fetch(Name::doc(alloc, doc)?)),
+            Message::Read { doc, question } => Ok(Request::Read(Name::doc(alloc, doc)?, question)),
         }
     }
 }

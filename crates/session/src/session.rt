@@ -10,13 +10,14 @@ ghost use Rattle.session.specs.Line.{with_byte};
 ghost use Rattle.session.specs.Request.{request_of, GreetsSource};
 ghost use Rattle.revision.specs.State as state;
 ghost use Rattle.session.specs.Reply.{greeting as spec_greeting, line_of, refusal_line};
-ghost use Rattle.session.specs.Fetch.{shown_line};
+ghost use Rattle.session.specs.Reads.{shown_line};
 ghost use Rattle.session.specs.Exchange.{Exchange, Answered, Shown};
 ghost use Rattle.session.specs.Replies.{IsLine, IsReplied, Asks, Feeds, Stops, answer_line, text_told};
 
 use crate::desk::Desk;
-use crate::fetch::fetch;
 use crate::line::{Event, Line};
+use crate::question::Question;
+use crate::reads::read;
 use crate::reply::{acknowledgement, greeting, refusal_reply};
 use crate::request::Request;
 use refusal::Refusal;
@@ -153,7 +154,7 @@ impl Session {
         match self.request(alloc) {
             Ok(Request::Greet(source)) => self.greet(alloc, source),
             Ok(Request::Ask(command)) => ask(alloc, desk, &command),
-            Ok(Request::Fetch(name)) => read(alloc, desk, &name),
+            Ok(Request::Read(name, question)) => answer(alloc, desk, &name, question),
             Err(refusal) => refusal_reply(alloc, refusal),
         }
     }
@@ -209,12 +210,17 @@ fn ask<D: Desk>(alloc: Global, desk: &mut D, command: &Command) -> Result<String
     }
 }
 
-// Has the desk show its state once, and tells the document of this name.
-fn read<D: Desk>(alloc: Global, desk: &mut D, name: &Name) -> Result<String, AllocError>
+// Has the desk show its state once, and tells what is asked of the document of this name.
+fn answer<D: Desk>(
+    alloc: Global,
+    desk: &mut D,
+    name: &Name,
+    question: Question,
+) -> Result<String, AllocError>
     ensures { (shown : Option state.State) × D.does desk.old (Shown shown) desk.new
-        × IsLine (shown_line name.now shown) (text_told (λ t. string_bytes t) result) }
+        × IsLine (shown_line name.now question shown) (text_told (λ t. string_bytes t) result) }
 {
-    match desk.view(|state| fetch(alloc, state, name)) {
+    match desk.view(|state| read(alloc, state, name, question)) {
         Ok(reply) => reply,
         Err(refusal) => refusal_reply(alloc, refusal),
     }

@@ -5,7 +5,7 @@ use Rattle.std.proofs.lemmas.Bool.{and_parts, cond_both, leb-true}
 use Rattle.std.proofs.lemmas.List.{map-append}
 use Rattle.revision.specs.Command.{Taken, Command}
 use Rattle.revision.specs.Past.{Past, newest, empty_past, from_floor}
-use Rattle.revision.specs.State.{change_of, DocumentRecord, revision_of, State, record_by_name, record_after, set_document, grown, fold}
+use Rattle.revision.specs.State.{change_of, DocumentRecord, revision_of, State, record_by_name, set_document, grown, fold}
 use Rattle.revision.specs.Acceptance.{Answer, Takes, Repeats, Refuses, answer}
 use Rattle.revision.specs.Agree.{DocumentsAgree, PlacesAgree}
 use Rattle.world.specs.Board.{Ticket, can_take, can_settle, can_ack}
@@ -14,7 +14,8 @@ use Rattle.world.specs.World.{Entry, entry_of, takens, World, begun, last_sent, 
 use Rattle.world.specs.Step.{keeping_all, whole, with_floors, may_begin_at, may_pick, revision_at, is_numbered, with_command, is_written, written, acknowledged, may_leave, stopped, opened, can_open, running_step, crashed_step, step, run}
 use Rattle.world.specs.Law.{OverAll, StateAgrees}
 use Rattle.world.proofs.Pasts.{newest-from_floor, units-from_floor, sources-from_floor}
-use Rattle.world.proofs.Cutting.{longer, IsCut, cut-itself, cut-floor, cut-change, cuts-agree}
+use Rattle.revision.specs.Floors.{longer}
+use Rattle.world.proofs.Cutting.{IsCut, cut-itself, cut-floor, cut-change, cuts-agree}
 use Rattle.world.proofs.Holding.{Holds, with_answer, begun-holds, run-holds}
 
 record CutDocument (all document : DocumentRecord) : Type 0 where

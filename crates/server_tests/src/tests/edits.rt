@@ -260,18 +260,17 @@ fn say<R: Files<File = File> + AllocGlobal + Abort>(
 
 /// A new store that keeps two revisions, of so many sources, is said all of it, each in a run of its own, and then prints
 /// this.
-fn talk(
-    rt: &HostRuntime,
-    name: &str,
+fn talk<R: Files<File = File> + AllocGlobal + Abort>(
+    rt: &R,
+    path: &str,
     sources: &str,
     rows: &[Said],
     dump: &str,
 ) -> Result<(), Fail> {
-    let path = path(rt, name)?;
     let words = [
         "richd",
         "format",
-        path.as_str(),
+        path,
         "--slots",
         "2",
         "--slot",
@@ -287,15 +286,15 @@ fn talk(
     ];
     runs(rt, &words, &mut io::empty(), (0, "", ""))?;
     for said in rows {
-        say(rt, path.as_str(), said)?;
+        say(rt, path, said)?;
     }
     runs(
         rt,
-        &["richd", "dump", path.as_str()],
+        &["richd", "dump", path],
         &mut io::empty(),
         (0, dump, ""),
     )?;
-    fs::remove_file(rt, path.as_str())?;
+    fs::remove_file(rt, path)?;
     Ok(())
 }
 
@@ -304,26 +303,32 @@ fn a_late_edit_is_taken(rt: HostRuntime) -> Result<(), Fail> {
     let dump = "d 4 2 {\"ops\":[{\"insert\":\"yx\"}]}\n";
     talk(
         &rt,
-        "late",
+        path(&rt, "late")?.as_str(),
         "4",
         &LATE[..3],
         "d 3 1 {\"ops\":[{\"insert\":\"x\"}]}\n",
     )?;
-    talk(&rt, "later", "4", &LATE, dump)
+    talk(&rt, path(&rt, "later")?.as_str(), "4", &LATE, dump)
 }
 
 #[test]
 fn the_first_keeps_its_attributes(rt: HostRuntime) -> Result<(), Fail> {
     let dump =
         "d 3 1 {\"ops\":[{\"attributes\":{\"bold\":true,\"italic\":true},\"insert\":\"a\"}]}\n";
-    talk(&rt, "attributes", "4", &ATTRIBUTES, dump)
+    talk(
+        &rt,
+        path(&rt, "attributes")?.as_str(),
+        "4",
+        &ATTRIBUTES,
+        dump,
+    )
 }
 
 #[test]
 fn nothing_is_kept_past_the_end(rt: HostRuntime) -> Result<(), Fail> {
     talk(
         &rt,
-        "past",
+        path(&rt, "past")?.as_str(),
         "4",
         &PAST_END,
         "d 2 0 {\"ops\":[{\"insert\":\"abcd\"}]}\n",
@@ -334,7 +339,7 @@ fn nothing_is_kept_past_the_end(rt: HostRuntime) -> Result<(), Fail> {
 fn the_number_tells_a_retry(rt: HostRuntime) -> Result<(), Fail> {
     talk(
         &rt,
-        "numbers",
+        path(&rt, "numbers")?.as_str(),
         "4",
         &NUMBERS,
         "d 2 0 {\"ops\":[{\"insert\":\"ba\"}]}\n",
@@ -345,7 +350,7 @@ fn the_number_tells_a_retry(rt: HostRuntime) -> Result<(), Fail> {
 fn two_revisions_are_kept(rt: HostRuntime) -> Result<(), Fail> {
     talk(
         &rt,
-        "bases",
+        path(&rt, "bases")?.as_str(),
         "4",
         &BASES,
         "d 5 3 {\"ops\":[{\"insert\":\"cbda\"}]}\n",
@@ -356,7 +361,7 @@ fn two_revisions_are_kept(rt: HostRuntime) -> Result<(), Fail> {
 fn a_source_undoes_its_own(rt: HostRuntime) -> Result<(), Fail> {
     talk(
         &rt,
-        "undone",
+        path(&rt, "undone")?.as_str(),
         "4",
         &UNDONE,
         "d 5 3 {\"ops\":[{\"insert\":\"qa\"}]}\n",
@@ -367,5 +372,5 @@ fn a_source_undoes_its_own(rt: HostRuntime) -> Result<(), Fail> {
 fn strangers_are_refused(rt: HostRuntime) -> Result<(), Fail> {
     let dump =
         "d 2 0 {\"ops\":[{\"insert\":\"Hi\"},{\"attributes\":{\"bold\":true},\"insert\":\"!\"}]}\n";
-    talk(&rt, "strangers", "1", &STRANGERS, dump)
+    talk(&rt, path(&rt, "strangers")?.as_str(), "1", &STRANGERS, dump)
 }

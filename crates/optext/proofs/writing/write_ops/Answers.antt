@@ -2,7 +2,6 @@ use Rattle.std.proofs.Common.{◌≡◌, ◌∙◌, subst, take}
 use Rattle.std.proofs.lemmas.List.{take_all}
 use Rattle.std.specs.Prelude.{All}
 use Rattle.optext.specs.Laws.{HasSpellableContent}
-use Rattle.optext.proofs.Floats.{have_float-printed}
 use Rattle.optext.proofs.Spelled.{reads_back}
 use Rattle.optext.proofs.writing.write_ops.Goals as goal
 
@@ -10,6 +9,3 @@ pub returns-clause-reads_back : goal.returns-clause-reads_back
 returns-clause-reads_back c =
     let all : take c.loop-op.op-index c.ops-ops.result.now ≡ c.args.delta.now = take_all c.loop-op.op-index c.ops-ops.result.now c.loop-op-test.false ∙ c.ops-ops.ensures.ops in
     reads_back c.args.delta.now c.delta_reads_back.ensures c.ops-ops.ensures.normal c.ops-ops.ensures.bounded (subst (All HasSpellableContent) all c.loop-op.invariant.kept)
-
-pub returns-clause-plain : goal.returns-clause-plain
-returns-clause-plain c = have_float-printed c.args.delta.now

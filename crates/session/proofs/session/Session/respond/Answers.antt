@@ -1,5 +1,5 @@
 use Rattle.std.specs.String.{string_bytes}
-use Rattle.session.proofs.Replying.{greeted, asked, fetched, refused_any}
+use Rattle.session.proofs.Replying.{greeted, asked, was_read, refused_any}
 use Rattle.session.proofs.session.Session.respond.Goals as goal
 
 pub returns-in-Ok-Greet-clause-replied : goal.returns-in-Ok-Greet-clause-replied
@@ -21,8 +21,8 @@ returns-in-Err-clause-replied g c =
     refused_any g.D.Desk.does (λ t. string_bytes t) session.line session c.in-Err.refusal c.refusal_reply.result c.args.desk.now
     c.in-Err.ensures.due c.refusal_reply.ensures
 
-pub returns-in-Ok-Fetch-clause-replied : goal.returns-in-Ok-Fetch-clause-replied
-returns-in-Ok-Fetch-clause-replied g c =
+pub returns-in-Ok-Read-clause-replied : goal.returns-in-Ok-Read-clause-replied
+returns-in-Ok-Read-clause-replied g c =
     let session = c.args.self.now in
-    fetched g.D.Desk.does session.line session c.in-Ok-Fetch.name _ c.args.desk.now c.read.new.desk
-    c.in-Ok-Fetch.field-0 c.in-Ok-Fetch.field-0-is c.in-Ok-Fetch.ensures.due c.read.ensures
+    was_read g.D.Desk.does session.line session c.in-Ok-Read.name c.in-Ok-Read.question _ c.args.desk.now c.answer.new.desk
+    c.in-Ok-Read.field-0 c.in-Ok-Read.field-0-is c.in-Ok-Read.ensures.due c.answer.ensures

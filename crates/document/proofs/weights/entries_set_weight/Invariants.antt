@@ -1,0 +1,6 @@
+use Rattle.std.proofs.Common.{◌≡◌, ◌-◌, ◌^◌, min, take, sum_by}
+use Rattle.document.specs.steps.Weighing.{set_weight}
+use Rattle.document.proofs.weights.entries_set_weight.Given as goal
+
+abbrev pub invariant-loop-entry : goal.invariant-loop-entry
+invariant-loop-entry l = l.weight ≡ min (sum_by set_weight (take l.entry-index l.entries)) (2 ^ 64 - 1)

@@ -1,0 +1,141 @@
+//! The weight of what a delta makes of runs, without making it. A weight of more than 2^64 - 1 counts as that.
+ghost use Rattle.std.specs.Prelude.{◌≡◌, ◌-◌, ◌<◌, ◌≤◌, ◌^◌, ◌+◌, ◌∷◌, [], min, length, sum_by};
+ghost use Rattle.attributes.specs.Attributes.{changed};
+ghost use Rattle.utf16.specs.Units.{units_of};
+ghost use Rattle.delta.specs.Element.{letters};
+ghost use Rattle.delta.specs.Gaps.{counted, apply};
+ghost use Rattle.delta.specs.Operation.{base_of, op_base};
+ghost use Rattle.document.specs.Pairs.{IsWithinPair};
+ghost use Rattle.document.specs.Weight.{weight_of, attributes_weight};
+ghost use Rattle.document.specs.steps.Passes.{StopsInPair};
+ghost use Rattle.document.specs.steps.Runs.{units_of_runs, AreRuns};
+ghost use Rattle.document.specs.steps.Weighing.{kept_weight, set_weight, IsKeptWeighed, IsWeighed};
+
+use crate::cursor::Cursor;
+use crate::run::{Piece, Run, named_weight};
+use crate::walk::skip;
+use attributes::{Attrs, Change, Key, Value};
+use delta::{Op, OpRef};
+
+/// The weight of the runs after the operations.
+pub fn weighed(runs: &[Run], ops: &[Op]) -> u64
+    requires runs { AreRuns runs.now }
+    requires there { base_of ops.now ≤ length (units_of_runs runs.now) }
+    requires whole { ¬ (StopsInPair (units_of_runs runs.now) ops.now) }
+    ensures { result ≡ min (weight_of (apply (units_of_runs runs.now) (counted ops.now))) (2 ^ 64 - 1) }
+{
+    let mut cursor = Cursor::new(runs);
+    let mut weight: u64 = 0;
+    for op in ops {
+        weight = weight.saturating_add(made_weight(&mut cursor, op));
+    }
+    weight.saturating_add(cursor.weight())
+}
+
+/// The weight of runs.
+pub fn runs_weight(runs: &[Run]) -> u64
+    ensures { result ≡ min (weight_of (units_of_runs runs.now)) (2 ^ 64 - 1) }
+{
+    let mut weight: u64 = 0;
+    for run in runs {
+        weight = weight.saturating_add(run.weight());
+    }
+    weight
+}
+
+// the weight of what one operation makes
+fn made_weight(cursor: &mut Cursor<'_>, op: &Op) -> u64
+    requires there { op_base op.now ≤ length cursor.old }
+    requires whole { ¬ (IsWithinPair cursor.old (op_base op.now)) }
+    ensures { IsWeighed cursor.old cursor.new (op.now ∷ []) result }
+{
+    match op.get() {
+        OpRef::Text(text, attrs) => text_weight(text, op.len16(), attrs),
+        OpRef::Embed(key, value, attrs) => Piece::Embed(key, value, attrs).weight(),
+        OpRef::Retain(len, change) => kept_units_weight(cursor, len, change),
+        OpRef::Delete(len) => match skip(cursor, len) {
+            Ok(()) => 0,
+            Err(_) => unreachable!(),
+        },
+    }
+}
+
+// the weight of a text with attributes
+fn text_weight(text: &str, units: u64, attrs: &Attrs) -> u64
+    requires { units ≡ length (units_of text.now) }
+    ensures { result ≡ min (weight_of (letters (units_of text.now) attrs.now)) (2 ^ 64 - 1) }
+{
+    if units == 0 {
+        return 0;
+    }
+    Piece::Text(text, units, attrs).weight()
+}
+
+// the weight of so many code units with a change of their attributes, and steps over them
+fn kept_units_weight(cursor: &mut Cursor<'_>, len: u64, change: &Change) -> u64
+    requires there { len ≤ length cursor.old }
+    requires whole { ¬ (IsWithinPair cursor.old len) }
+    ensures { IsKeptWeighed cursor.old cursor.new len change.now result }
+{
+    let mut weight: u64 = 0;
+    let mut left = len;
+    while left > 0 {
+        let piece = match cursor.next(left) {
+            Ok(piece) => piece,
+            Err(_) => unreachable!(),
+        };
+        let attributes = changed_weight(piece.attrs(), change);
+        weight = weight.saturating_add(piece.weight_with(attributes));
+        left -= piece.units();
+    }
+    weight
+}
+
+// the weight of attributes after a change
+fn changed_weight(attrs: &Attrs, change: &Change) -> u64
+    ensures { result ≡ min (attributes_weight (changed attrs.now change.now)) (2 ^ 64 - 1) }
+{
+    entries_kept_weight(attrs, change).saturating_add(entries_set_weight(change))
+}
+
+// the weight of the attributes that a change hasn't the names of
+fn entries_kept_weight(attrs: &Attrs, change: &Change) -> u64
+    ensures { result ≡ min (sum_by (kept_weight change.now) attrs.now.entries) (2 ^ 64 - 1) }
+{
+    let entries = attrs.entries();
+    let mut weight: u64 = 0;
+    for entry in entries {
+        weight = weight.saturating_add(entry_kept_weight(entry, change));
+    }
+    weight
+}
+
+fn entry_kept_weight(entry: &(Key, Value), change: &Change) -> u64
+    ensures { result ≡ kept_weight change.now entry.now }
+{
+    if change.contains(entry.0.as_str()) {
+        return 0;
+    }
+    named_weight(&entry.0, &entry.1)
+}
+
+// the weight of the attributes that a change sets
+fn entries_set_weight(change: &Change) -> u64
+    ensures { result ≡ min (sum_by set_weight change.now.entries) (2 ^ 64 - 1) }
+{
+    let entries = change.entries();
+    let mut weight: u64 = 0;
+    for entry in entries {
+        weight = weight.saturating_add(entry_set_weight(entry));
+    }
+    weight
+}
+
+fn entry_set_weight(entry: &(Key, Option<Value>)) -> u64
+    ensures { result ≡ set_weight entry.now }
+{
+    match &entry.1 {
+        Some(value) => named_weight(&entry.0, value),
+        None => 0,
+    }
+}

@@ -1,0 +1,8 @@
+-- Laws of `laws`, as the proofs of other crates cite them.
+pub use Rattle.history.proofs.OneState.{at_most_one}
+pub use Rattle.history.proofs.Recovering.{stand_is_state, showing_agree, recovers, reopens}
+pub use Rattle.history.proofs.Committing.{grows_by_documents, commits}
+pub use Rattle.history.proofs.Cells.{begins, changes_cells, frees, puts, retires, covered_by_greatest}
+pub use Rattle.history.proofs.HeldCells.{held_is_cell, cells_stay}
+pub use Rattle.history.proofs.ReadingOn.{reading_begins, reading_goes_on, reading_ends}
+pub use Rattle.history.proofs.ReadingAll.{reading_finds}

@@ -1,0 +1,11 @@
+pub mod OneState
+pub mod Showing
+pub mod Counting
+pub mod OneDocument
+pub mod Recovering
+pub mod Committing
+pub mod Cells
+pub mod HeldCells
+pub mod ReadingOn
+pub mod ReadingAll
+pub mod CallerLemmas

@@ -1,0 +1,20 @@
+//! What the parts of a store stand for, as values: no device, no bytes and no code.
+//!
+//! A store keeps entries of commands in the order in which they were taken, and for each document two cells, each of which may hold
+//! the document at a revision with its sources. Entries of documents stand mixed in that order, so nothing is said of the whole list:
+//! what is said of a store is said number by number, of the one document's cells and entries (specs/Entries.antt, specs/Cell.antt).
+//! A document is read from a cell on: entries up to its revision are passed over, and each other one continues what those before it
+//! leave. What comes of all documents so is the state that the parts stand for, by a pick of the newer or the older cell
+//! (specs/Found.antt).
+//!
+//! A document shows the commands that were taken of it where it has their name and their past, from its floor on; how far back
+//! that is may differ (specs/Shown.antt). A store runs while all its parts are of one order of commands: the entries are its end,
+//! what went before them is covered by the open cells, each cell is its document at a revision, and the state in memory shows it
+//! all (specs/Running.antt).
+//!
+//! `laws` promises of these: the parts stand for one state at most; a running store's parts stand by either pick for a state that
+//! agrees with the one in memory, and runs on over the same order; and a store runs on as a batch is committed, a cell is closed or
+//! put, and the oldest entries are retired. The crate stands on the rule of acceptance, `revision`.
+#![tactic(auto)]
+
+pub mod laws;

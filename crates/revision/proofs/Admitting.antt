@@ -1,0 +1,213 @@
+-- What the answers to edits and undos stand on: what a source has, and what is taken on a document.
+use Rattle.std.proofs.Common.{◌≡◌, ℕ, ◌+◌, ◌-◌, ◌*◌, ◌^◌, ◌<◌, ◌≤◌, ◌⊎◌, ◌↔◌, ⊎_elim, min, IfOk, inl, inr, Result, Ok, Err, Bool, true, false, cond, List, [], ◌∷◌, length, Option, Some, None, refl, sym, ap, subst, ◌∙◌, arith}
+use Rattle.std.specs.Prelude.{◌&&◌, ◌==◌, nat_le, nat_lt, unwrap_or}
+use Rattle.refusal.specs.declared.Refusal.{Refusal}
+use Rattle.refusal.specs.declared.Refusal.TheVariants.{PastEnd, CutsPair, TooHeavy, TooWide, Stranger, NoMemory}
+use Rattle.delta.specs.Element.{Element}
+use Rattle.delta.specs.Gaps.{counted, apply, units_below}
+use Rattle.delta.specs.Operation.{Operation}
+use Rattle.delta.specs.Places.{IsDefined}
+use Rattle.document.specs.Places.{Cuts}
+use Rattle.document.specs.Weight as document
+use Rattle.revision.specs.Acceptance.{Answer, answer, reply_and_state, TakenAt, take_on, Takes, Repeats, Refuses, change, create_new, next_revision, creation}
+use Rattle.revision.specs.Command.{Command, Taken, width_of}
+use Rattle.revision.specs.Parting.{parts_pair}
+use Rattle.revision.specs.Planned.{IsAsked, Gives, PlanGrows, IsDecided}
+use Rattle.revision.specs.declared.planning.Reply as replied
+use Rattle.revision.specs.declared.planning.Reply.TheVariants as replies
+use Rattle.revision.specs.declared.planning.Plan as program
+use Rattle.revision.specs.declared.planning.Plan.TheVariants as plans
+use Rattle.revision.proofs.Told.{parts_told}
+use Rattle.std.specs.FinMap.Entries.{find as entry_of}
+use Rattle.std.specs.Ordering.{eq_by_cmp}
+use Rattle.std.proofs.lemmas.Bool.{false≢true, and_parts, leb-true, ltb-true, lt-ltb, cases_lt, false_from_ne_true}
+use Rattle.attributes.specs.Map.{by_bytes, empty}
+use Rattle.revision.specs.Sources.{LastTaken, Sources, last_of, count_of, with_last}
+use Rattle.revision.specs.Past.{Past, newest}
+use Rattle.revision.specs.Width.{delta_width}
+use Rattle.revision.specs.State.{Limits, DocumentRecord, State, grows, grown, find, revision_of, units_of, sources_of, is_last_taken, are_sources, last_of_all, reaches_past, weight_after}
+use Rattle.revision.specs.Invariants.{IsPast, IsState}
+use Rattle.revision.proofs.Taking.{found_at, taken_grows}
+
+-- what a source has came of a revision that is there
+entry_within : (revision : ℕ) (source : List ℕ) (entries : List (List ℕ × LastTaken)) → are_sources revision entries ≡ true
+    → (unwrap_or (entry_of by_bytes source entries) (record { number = 0; revision = 0 })).revision ≤ revision
+entry_within revision source [] are = omega arith
+entry_within revision source (first ∷ others) are =
+    let parts = and_parts (is_last_taken revision first.1) (are_sources revision others) are in
+    let here = and_parts (nat_le 1 first.1.number && nat_le first.1.number last_of_all && nat_le 1 first.1.revision) (nat_le first.1.revision revision) parts.0 in
+    elim (eq_by_cmp by_bytes source first.0) as (λ b. (unwrap_or (cond b (Some first.1) (entry_of by_bytes source others)) (record { number = 0; revision = 0 })).revision ≤ revision) [
+      | true ↦ leb-true first.1.revision revision here.1
+      | false ↦ entry_within revision source others parts.1
+    ]
+
+pub last_within : (limits : Limits) (found : DocumentRecord) (source : List ℕ) → IsPast limits found.past → (last_of source (sources_of found)).revision ≤ newest found.past
+last_within limits found source past =
+    entry_within (newest found.past) source (sources_of found).entries (past.each (newest found.past) (omega arith) (omega arith)).sources
+
+-- the past of a document that is found
+pub found_past : (state : State) (name : List ℕ) (number : ℕ) (found : DocumentRecord) → IsState state → find name 0 state.documents ≡ Some (number, found)
+    → IsPast state.limits found.past
+found_past state name number found is here = is.each number found (found_at name state.documents number found here)
+
+abbrev refused_with : Refusal → Result ℕ Refusal
+refused_with e = Err e
+
+abbrev weighed : ℕ → Result ℕ Refusal
+weighed weight = Ok weight
+
+not_both : (weight : ℕ) (e : Refusal) → weighed weight ≡ refused_with e → ⊥
+not_both weight e same = cc
+
+reaches : (delta : List Operation) (units : List Element) → ¬ (IsDefined units (counted delta)) → reaches_past delta units ≡ true
+reaches delta units undefined =
+    ⊎_elim (λ long. lt-ltb (length units) (units_below (counted delta)) long) (λ there. absurd (undefined there)) (cases_lt (length units) (units_below (counted delta)))
+
+reaches_not : (delta : List Operation) (units : List Element) → IsDefined units (counted delta) → reaches_past delta units ≡ false
+reaches_not delta units defined = false_from_ne_true _ (λ past. absurd (omega (arith, defined, ltb-true (length units) (units_below (counted delta)) past)))
+
+parts_not : (delta : List Operation) (units : List Element) → ¬ (Cuts units (counted delta)) → parts_pair delta units ≡ false
+parts_not delta units whole = false_from_ne_true _ (λ cut. whole ((parts_told delta units).0 cut))
+
+module _ (limits : Limits) (units : List Element) (sources : Sources) (asked : Taken) (source : List ℕ) (delta : List Operation) (width : ℕ) (is : IsAsked asked source delta width) where
+  -- what the document refuses
+  pub refused_by : (e : Refusal) → (refused_with e ≡ refused_with PastEnd) ↔ (¬ (IsDefined units (counted delta)))
+      → (refused_with e ≡ refused_with CutsPair) ↔ (IsDefined units (counted delta) × Cuts units (counted delta))
+      → (e ≡ PastEnd) ⊎ (e ≡ CutsPair) → take_on limits units sources asked ≡ Refuses e
+  refused_by e past_end cuts only = ⊎_elim by_end by_cut only
+    where
+      by_end : e ≡ PastEnd → take_on limits units sources asked ≡ Refuses e
+      by_end ends =
+          let past : reaches_past asked.delta units ≡ true = ap (λ d. reaches_past d units) is.delta ∙ reaches delta units (past_end.0 (ap refused_with ends)) in
+          rw (past, ends) refl
+
+      by_cut : e ≡ CutsPair → take_on limits units sources asked ≡ Refuses e
+      by_cut parted =
+          let both = cuts.0 (ap refused_with parted) in
+          let past : reaches_past asked.delta units ≡ false = ap (λ d. reaches_past d units) is.delta ∙ reaches_not delta units both.0 in
+          let cut : parts_pair asked.delta units ≡ true = ap (λ d. parts_pair d units) is.delta ∙ (parts_told delta units).1 both.1 in
+          rw (past, cut, parted) refl
+
+  module _ (first : ℕ) (past_end : (weighed first ≡ refused_with PastEnd) ↔ (¬ (IsDefined units (counted delta))))
+      (cuts : (weighed first ≡ refused_with CutsPair) ↔ (IsDefined units (counted delta) × Cuts units (counted delta)))
+      (count product sum : ℕ) (ok : first ≡ min (document.weight_of (apply units (counted delta))) (2 ^ 64 - 1))
+      (counts : (number revision : ℕ) → count ≡ min (count_of (with_last source number revision sources)) (2 ^ 64 - 1))
+      (times : product ≡ min (count * 64) (2 ^ 64 - 1)) (plus : sum ≡ min (first + product) (2 ^ 64 - 1)) (light : limits.weight < 2 ^ 32) where
+    defined : IsDefined units (counted delta)
+    defined = ⊎_elim (λ long. absurd (not_both first PastEnd (past_end.1 (λ d. omega (arith, d, long))))) (λ there. there) (cases_lt (length units) (units_below (counted delta)))
+
+    past : reaches_past asked.delta units ≡ false
+    past = ap (λ d. reaches_past d units) is.delta ∙ reaches_not delta units defined
+
+    cut : parts_pair asked.delta units ≡ false
+    cut = ap (λ d. parts_pair d units) is.delta ∙ parts_not delta units (λ parted. not_both first CutsPair (cuts.1 (defined, parted)))
+
+    after : sum ≡ min (weight_after units sources asked) (2 ^ 64 - 1)
+    after =
+        let of_units : document.weight_of (apply units (counted asked.delta)) ≡ document.weight_of (apply units (counted delta)) = ap (λ d. document.weight_of (apply units (counted d))) is.delta in
+        let of_sources : count_of (with_last asked.source asked.number asked.revision sources) ≡ count_of (with_last source asked.number asked.revision sources) =
+        ap (λ s. count_of (with_last s asked.number asked.revision sources)) is.source in
+        omega (arith, ok, counts asked.number asked.revision, times, plus, of_units, of_sources)
+
+    pub too_heavy : limits.weight < sum → take_on limits units sources asked ≡ Refuses TooHeavy
+    too_heavy more =
+        let heavy : nat_lt limits.weight (weight_after units sources asked) ≡ true = lt-ltb _ _ (omega (arith, more, after)) in
+        rw (past, cut, heavy) refl
+
+    light_enough : sum ≤ limits.weight → nat_lt limits.weight (weight_after units sources asked) ≡ false
+    light_enough within = false_from_ne_true _ (λ heavy. absurd (omega (arith, within, after, light, ltb-true limits.weight (weight_after units sources asked) heavy)))
+
+    pub too_wide : sum ≤ limits.weight → limits.width < width → take_on limits units sources asked ≡ Refuses TooWide
+    too_wide within more =
+        let wide : nat_lt limits.width (width_of asked) ≡ true = lt-ltb _ _ (omega (arith, more, is.width)) in
+        rw (past, cut, light_enough within, wide) refl
+
+    pub admitted : sum ≤ limits.weight → width ≤ limits.width → limits.width < 2 ^ 32 → take_on limits units sources asked ≡ Takes asked
+    admitted within narrow short =
+        let wide : nat_lt limits.width (width_of asked) ≡ false =
+        false_from_ne_true _ (λ more. absurd (omega (arith, narrow, short, is.width, ltb-true limits.width (width_of asked) more))) in
+        rw (past, cut, light_enough within, wide) refl
+
+-- what is answered to a change of a document, and to a creation, where the tests before have passed
+module _ (state : State) (command : Command) (delta : List Operation) (limits : Limits) (units : List Element) (sources : Sources) (same_limits : limits ≡ state.limits) where
+  pub change_answers : (number : ℕ) (found : DocumentRecord) → units ≡ units_of found → sources ≡ sources_of found → (answer : Answer)
+      → (revision_of found == last_of_all) ≡ false → take_on limits units sources (next_revision number found command delta) ≡ answer
+      → change state number found command delta ≡ answer
+  change_answers number found same_units same_sources answer fresh taken =
+      let asked = next_revision number found command delta in
+      let same : take_on limits units sources asked ≡ take_on state.limits (units_of found) (sources_of found) asked =
+      ap (λ l. take_on l units sources asked) same_limits
+      ∙ (ap (λ u. take_on state.limits u sources asked) same_units ∙ ap (λ s. take_on state.limits (units_of found) s asked) same_sources) in
+      rw fresh (sym same ∙ taken)
+
+  pub new_answers : units ≡ [] → sources ≡ empty → (answer : Answer) → nat_lt 1 command.number ≡ false → nat_le state.limits.docs (length state.documents) ≡ false
+      → take_on limits units sources (creation state command delta) ≡ answer → create_new state command delta ≡ answer
+  new_answers same_units same_sources answer first room taken =
+      let asked = creation state command delta in
+      let same : take_on limits units sources asked ≡ take_on state.limits [] empty asked =
+      ap (λ l. take_on l units sources asked) same_limits
+      ∙ (ap (λ u. take_on state.limits u sources asked) same_units ∙ ap (λ s. take_on state.limits [] s asked) same_sources) in
+      rw (first, room) (sym same ∙ taken)
+
+pub asked_next : (number : ℕ) (found : DocumentRecord) (command : Command) (delta : List Operation) (source : List ℕ) (width : ℕ) → source ≡ command.source
+    → width ≡ min (23 + length source + 0 + delta_width delta) (2 ^ 64 - 1) → IsAsked (next_revision number found command delta) source delta width
+asked_next number found command delta source width same wide =
+    record { source = sym same; delta = refl; width = wide ∙ ap (λ (s : List ℕ). min (23 + length s + 0 + delta_width delta) (2 ^ 64 - 1)) same }
+
+pub asked_new : (state : State) (command : Command) (delta : List Operation) (name source : List ℕ) (width : ℕ) → name ≡ command.name → source ≡ command.source
+    → width ≡ min (23 + length source + (2 + length name) + delta_width delta) (2 ^ 64 - 1) → IsAsked (creation state command delta) source delta width
+asked_new state command delta name source width same_name same wide = record {
+  source = sym same;
+  delta = refl;
+  width = omega (arith, wide, ap length same, ap length same_name);
+}
+
+pub same_next : (number : ℕ) (found : DocumentRecord) (command : Command) (delta : List Operation) (revision given : ℕ) (source : List ℕ) (taken : Taken)
+    → taken ≡ record { document = number; name = None; revision = revision + 1; source = source; number = given; delta = delta }
+    → revision ≡ revision_of found → source ≡ command.source → given ≡ command.number → next_revision number found command delta ≡ taken
+same_next number found command delta revision given source taken is same_revision same_source same_number =
+    sym (is ∙ (λ i. record { document = number; name = None; revision = same_revision i + 1; source = same_source i; number = same_number i; delta = delta }))
+
+-- what is planned continues the state
+pub plan_grows : (state : State) (command : Command) (result : Result program.Plan Refusal) → 1 ≤ command.number → command.number < 2 ^ 53
+    → Gives result (answer state command) → IfOk result (PlanGrows state)
+plan_grows state command (Ok (plans.Taken taken)) first last due = taken_grows state command taken first last due
+plan_grows state command (Ok (plans.Again revision)) first last due = tt
+plan_grows state command (Err refusal) first last due = tt
+
+pub same_new : (state : State) (command : Command) (delta given : List Operation) (count : ℕ) (name source : List ℕ) (taken : Taken)
+    → taken ≡ record { document = count; name = Some name; revision = 1; source = source; number = 1; delta = given }
+    → count ≡ length state.documents → name ≡ command.name → source ≡ command.source → given ≡ delta → creation state command delta ≡ taken
+same_new state command delta given count name source taken is same_count same_name same_source same_delta =
+    sym (is ∙ (λ i. record { document = same_count i; name = Some (same_name i); revision = 1; source = same_source i; number = 1; delta = same_delta i }))
+
+-- what is decided: again, refused, taken, and where no memory was left to take it
+abbrev replied_with : replied.Reply → Result replied.Reply Refusal
+replied_with reply = Ok reply
+
+abbrev not_replied : Refusal → Result replied.Reply Refusal
+not_replied refusal = Err refusal
+
+pub decided_again : (state : State) (command : Command) (plan : program.Plan) (revision : ℕ) → plan ≡ plans.Again revision → Gives (Ok plan) (answer state command)
+    → IsDecided state command (replied_with (replies.Again revision)) state
+decided_again state command plan revision is due = again (subst (λ p. Gives (Ok p) (answer state command)) is due)
+  where
+    again : answer state command ≡ Repeats revision → IsDecided state command (replied_with (replies.Again revision)) state
+    again repeats = inl (ap (reply_and_state state) repeats)
+
+pub decided_refused : (state : State) (command : Command) (refusal : Refusal) → (refusal ≡ NoMemory) ⊎ (answer state command ≡ Refuses refusal)
+    → IsDecided state command (not_replied refusal) state
+decided_refused state command refusal due = ⊎_elim (λ full. inr (ap not_replied full, refl)) (λ refused. inl (ap (reply_and_state state) refused)) due
+
+pub decided_taken : (state new : State) (command : Command) (plan : program.Plan) (taken : Taken) (revision : ℕ) → plan ≡ plans.Taken taken
+    → Gives (Ok plan) (answer state command) → new ≡ grown state taken → revision ≡ taken.revision → IsDecided state command (replied_with (replies.Taken revision)) new
+decided_taken state new command plan taken revision is due after same = now (subst (λ p. Gives (Ok p) (answer state command)) is due)
+  where
+    now : answer state command ≡ Takes taken → IsDecided state command (replied_with (replies.Taken revision)) new
+    now takes = inl (ap (reply_and_state state) takes ∙ sym (λ i. (TakenAt (same i), after i)))
+
+pub decided_without_memory : (state new : State) (command : Command) (plan : program.Plan) (taken : Taken) (refusal : Refusal) → plan ≡ plans.Taken taken → PlanGrows state plan
+    → (refusal ≡ Stranger) ⊎ (refusal ≡ NoMemory) → (refusal ≡ Stranger → grows state taken ≡ false) → new ≡ state
+    → IsDecided state command (not_replied refusal) new
+decided_without_memory state new command plan taken refusal is grow only stranger same =
+    ⊎_elim (λ strange. absurd (false≢true (sym (stranger strange) ∙ subst (PlanGrows state) is grow))) (λ full. inr (ap not_replied full, same)) only

@@ -1,0 +1,107 @@
+-- What follows a document with the changes that are prepared.
+use Rattle.std.proofs.Common.{◌≡◌, ℕ, ◌+◌, Bool, true, false, List, [], ◌∷◌, ◌++◌, length, Option, Some, None, refl, sym, ap, ap₂, ◌∙◌, arith}
+use Rattle.std.specs.Prelude.{◌&&◌, ◌==◌, not, nat_le}
+use Rattle.delta.specs.Element.{Element}
+use Rattle.delta.specs.Gaps.{counted, apply}
+use Rattle.compose.specs.Many.{applied}
+use Rattle.revision.specs.Command.{Taken, width_of}
+use Rattle.revision.specs.Sources.{Sources, Table, last_of, with_last}
+use Rattle.revision.specs.Parting.{parts_pair}
+use Rattle.revision.specs.Past.{Past, Prepared, Change, newest, newest_units, deltas_in, sources_after, sources_at, content_at, with_change, with_changes, prepared_units, prepared_revision}
+use Rattle.revision.specs.State.{Limits, DocumentRecord, change_of, revision_of, units_of, sources_of, last_of_all, has_place, reaches_past, weight_after, follows}
+use Rattle.revision.specs.Pending.{PendingDocument, with_prepared, newest_sources, prepared_sources, comes_next, is_kept, ComesOf}
+use Rattle.revision.proofs.Changing.{applied-more, sources-more, newest-with_change, units-with_change, sources-with_change}
+
+-- the past with several changes more
+pub newest-with_changes : (keep : ℕ) (past : Past) (next : List Change) → newest (with_changes keep past next) ≡ newest past + length next
+newest-with_changes keep past [] = omega arith
+newest-with_changes keep past (first ∷ others) =
+    omega (arith, newest-with_changes keep (with_change keep past first) others, newest-with_change past first keep)
+
+units-one : (keep : ℕ) (past : Past) (change : Change) → newest_units (with_change keep past change) ≡ apply (newest_units past) (counted change.delta)
+units-one keep past change =
+    ap (λ n. (content_at (with_change keep past change) n).units) (newest-with_change past change keep) ∙ units-with_change past change keep
+
+sources-one : (keep : ℕ) (past : Past) (change : Change)
+    → newest_sources (with_change keep past change) ≡ with_last change.source change.number (newest past + 1) (newest_sources past)
+sources-one keep past change =
+    ap (sources_at (with_change keep past change)) (newest-with_change past change keep) ∙ sources-with_change past change keep
+
+pub units-with_changes : (keep : ℕ) (past : Past) (next : List Change) → newest_units (with_changes keep past next) ≡ applied (newest_units past) (deltas_in next)
+units-with_changes keep past [] = refl
+units-with_changes keep past (first ∷ others) =
+    units-with_changes keep (with_change keep past first) others ∙ ap (λ u. applied u (deltas_in others)) (units-one keep past first)
+
+pub sources-with_changes : (keep : ℕ) (past : Past) (next : List Change)
+    → newest_sources (with_changes keep past next) ≡ sources_after (newest past) (newest_sources past) next
+sources-with_changes keep past [] = refl
+sources-with_changes keep past (first ∷ others) =
+    sources-with_changes keep (with_change keep past first) others
+    ∙ ap₂ (λ n s. sources_after n s others) (newest-with_change past first keep) (sources-one keep past first)
+
+-- one change more is prepared
+module _ (prepared : Prepared) (change : Change) where
+  pub units-more : prepared_units (record prepared { next = prepared.next ++ change ∷ [] }) ≡ apply (prepared_units prepared) (counted change.delta)
+  units-more = applied-more (newest_units prepared.past) prepared.next change
+
+  pub sources-prepared : prepared_sources (record prepared { next = prepared.next ++ change ∷ [] })
+      ≡ with_last change.source change.number (prepared_revision prepared + 1) (prepared_sources prepared)
+  sources-prepared = sources-more (newest prepared.past) (prepared_revision prepared) (newest_sources prepared.past) prepared.next change refl
+
+by_halves : (i a b c d e f g h : Bool) → (a && b && c && d && e && (f && g && h && i)) ≡ ((a && b && c && d && e && i) && (f && g && h))
+by_halves i false b c d e f g h = refl
+by_halves i true false c d e f g h = refl
+by_halves i true true false d e f g h = refl
+by_halves i true true true false e f g h = refl
+by_halves i true true true true false f g h = refl
+by_halves true true true true true true false g h = refl
+by_halves true true true true true true true false h = refl
+by_halves true true true true true true true true false = refl
+by_halves true true true true true true true true true = refl
+by_halves false true true true true true false g h = refl
+by_halves false true true true true true true false h = refl
+by_halves false true true true true true true true false = refl
+by_halves false true true true true true true true true = refl
+
+-- it follows just where it comes next and is kept
+pub follows_by_halves : (limits : Limits) (d : PendingDocument) (taken : Taken)
+    → follows limits (with_prepared limits.keep d) taken
+    ≡ (comes_next limits (prepared_revision d.past) (prepared_sources d.past) taken && is_kept limits (prepared_units d.past) (prepared_sources d.past) taken)
+follows_by_halves limits d taken =
+    let found : DocumentRecord = with_prepared limits.keep d in
+    let revision : revision_of found ≡ prepared_revision d.past = newest-with_changes limits.keep d.past.past d.past.next in
+    let units : units_of found ≡ prepared_units d.past = units-with_changes limits.keep d.past.past d.past.next in
+    let sources : sources_of found ≡ prepared_sources d.past = sources-with_changes limits.keep d.past.past d.past.next in
+    by_halves (nat_le (width_of taken) limits.width) (taken.revision == revision_of found + 1) (not (revision_of found == last_of_all))
+    (taken.number == (last_of taken.source (sources_of found)).number + 1) (nat_le taken.number last_of_all) (has_place limits taken.source (sources_of found))
+    (not (reaches_past taken.delta (units_of found))) (not (parts_pair taken.delta (units_of found)))
+    (nat_le (weight_after (units_of found) (sources_of found) taken) limits.weight)
+    ∙ ap₂ ◌&&◌ (ap₂ (λ r s. comes_next limits r s taken) revision sources) (ap₂ (λ u s. is_kept limits u s taken) units sources)
+
+-- what is kept beside a past whose changes are accepted
+pub accepted_comes : (keep : ℕ) (past : Prepared) (units : List Element) (sources : Sources) → units ≡ prepared_units past → sources ≡ prepared_sources past
+    → ComesOf (record { past = with_changes keep past.past past.next; next = [] }) units None (record { held = sources; prepared = sources })
+accepted_comes keep past units sources units_are sources_are = record {
+  newest = units_are ∙ sym (units-with_changes keep past.past past.next);
+  after = refl;
+  held = sources_are ∙ sym (sources-with_changes keep past.past past.next);
+  prepared = sources_are ∙ sym (sources-with_changes keep past.past past.next);
+}
+
+-- what is kept beside a past with one change more prepared
+pub prepared_comes : (past : Prepared) (units after : List Element) (next : Option (List Element)) (sources : Table) (taken : Taken) → ComesOf past units next sources
+    → after ≡ apply (prepared_units past) (counted taken.delta) → taken.revision ≡ prepared_revision past + 1
+    → ComesOf (record past { next = past.next ++ change_of taken ∷ [] }) units (Some after)
+    (record sources { prepared = with_last taken.source taken.number taken.revision sources.prepared })
+prepared_comes past units after next sources taken comes after_is revision = record {
+  newest = comes.newest;
+  after = after_is ∙ sym (units-more past (change_of taken));
+  held = comes.held;
+  prepared = ap₂ (with_last taken.source taken.number) revision comes.prepared ∙ sym (sources-prepared past (change_of taken));
+}
+
+pub first_holds : (first second answer : Bool) → first ≡ true → answer ≡ second → answer ≡ (first && second)
+first_holds first second answer holds is = is ∙ ap (λ b. b && second) (sym holds)
+
+pub first_fails : (first second answer : Bool) → answer ≡ first → answer ≡ false → answer ≡ (first && second)
+first_fails first second answer is fails = fails ∙ ap (λ b. b && second) (sym fails ∙ is)

@@ -1,0 +1,137 @@
+-- What is seen of a past that lets go of what lies below its floor.
+use Rattle.std.proofs.Common.{◌≡◌, ℕ, zero, suc, ◌+◌, ◌-◌, ◌≤◌, ◌<◌, List, [], ◌∷◌, length, take, drop, get_or, add-one, refl, sym, ap, ap₂, ◌∙◌, arith}
+use Rattle.std.proofs.lemmas.List.{drop-take, drop-drop, take-take, length-drop}
+use Rattle.delta.specs.Element.{Element}
+use Rattle.delta.specs.Operation.{Operation}
+use Rattle.delta.specs.Gaps.{counted, apply}
+use Rattle.compose.specs.Many.{applied}
+use Rattle.revision.specs.Sources.{Sources, with_last}
+use Rattle.revision.specs.declared.past.Taker.{Taker}
+use Rattle.revision.specs.Past.{Parts, AreParts, Past, Change, deltas_of, sources_at, sources_after, changes_by, whole_past, from_floor, seen}
+use Rattle.revision.proofs.Replays.{stand-drop}
+use Rattle.revision.proofs.Kept.{short-drop}
+use Rattle.revision.proofs.Floors.{from-from}
+use Rattle.revision.proofs.Parts.{changes-take, whole-deltas}
+
+pub changes-drop : (n : ℕ) (takers : List Taker) (deltas : List (List Operation)) → changes_by (drop n takers) (drop n deltas) ≡ drop n (changes_by takers deltas)
+changes-drop zero takers deltas = refl
+changes-drop (suc n) [] deltas = refl
+changes-drop (suc n) (taker ∷ takers) [] = none (drop n takers)
+  where
+    none : (left : List Taker) → changes_by left [] ≡ []
+    none [] = refl
+    none (t ∷ left) = refl
+changes-drop (suc n) (taker ∷ takers) (delta ∷ deltas) = changes-drop n takers deltas
+
+-- the change at a place
+pub changes-here : (i : ℕ) (takers : List Taker) (deltas : List (List Operation)) (taker : Taker) (delta : List Operation) → length takers ≡ length deltas
+    → i < length deltas → taker ≡ get_or takers i taker → delta ≡ get_or deltas i delta
+    → drop i (changes_by takers deltas) ≡ record { source = taker.source; number = taker.number; delta = delta } ∷ drop (suc i) (changes_by takers deltas)
+changes-here i [] [] taker delta same there t d = absurd (omega (arith, there))
+changes-here i [] (e ∷ deltas) taker delta same there t d = absurd (omega (arith, same))
+changes-here i (u ∷ takers) [] taker delta same there t d = absurd (omega (arith, there))
+changes-here zero (u ∷ takers) (e ∷ deltas) taker delta same there t d =
+    ap₂ (λ (v : Taker) (f : List Operation). record { source = v.source; number = v.number; delta = f } ∷ changes_by takers deltas) (sym t) (sym d)
+changes-here (suc i) (u ∷ takers) (e ∷ deltas) taker delta same there t d =
+    changes-here i takers deltas taker delta (omega (arith, same)) (omega (arith, there)) t d
+
+-- one delta more
+pub applied-next : (i : ℕ) (units : List Element) (deltas : List (List Operation)) (delta : List Operation) → i < length deltas → delta ≡ get_or deltas i delta
+    → applied units (take (suc i) deltas) ≡ apply (applied units (take i deltas)) (counted delta)
+applied-next i units [] delta there d = absurd (omega (arith, there))
+applied-next zero units (e ∷ deltas) delta there d = ap (λ f. apply units (counted f)) (sym d)
+applied-next (suc i) units (e ∷ deltas) delta there d = applied-next i (apply units (counted e)) deltas delta (omega (arith, there)) d
+
+-- the sources after the change at a place, and after those that come after it
+pub sources-here : (start i : ℕ) (sources : Sources) (takers : List Taker) (deltas : List (List Operation)) (taker : Taker) (delta : List Operation)
+    → length takers ≡ length deltas → i < length deltas → taker ≡ get_or takers i taker → delta ≡ get_or deltas i delta
+    → sources_after (start + i) sources (drop i (changes_by takers deltas))
+    ≡ sources_after (start + i + 1) (with_last taker.source taker.number (start + i + 1) sources) (drop (i + 1) (changes_by takers deltas))
+sources-here start i sources takers deltas taker delta same there t d =
+    ap (sources_after (start + i) sources) (changes-here i takers deltas taker delta same there t d)
+    ∙ ap (λ n. sources_after (start + i + 1) (with_last taker.source taker.number (start + i + 1) sources) (drop n (changes_by takers deltas))) (sym (add-one i))
+
+-- the parts once the first changes are let go of
+abbrev pub later_parts : Parts → ℕ → Sources → Parts
+later_parts parts gone sources = record {
+  start = parts.start + gone;
+  floor = parts.floor;
+  units = applied parts.units (take gone parts.deltas);
+  sources = sources;
+  takers = drop gone parts.takers;
+  deltas = drop gone parts.deltas;
+  count = parts.count - gone;
+}
+
+module _ (parts : Parts) (is : AreParts parts) (gone : ℕ) (sources : Sources) (within : gone ≤ parts.floor - parts.start) where
+  all : List Change
+  all = changes_by parts.takers parts.deltas
+
+  pub later_are : AreParts (later_parts parts gone sources)
+  later_are = record {
+    stand = stand-drop gone parts.units parts.deltas is.stand;
+    short = short-drop gone parts.units parts.deltas is.short;
+    same = length-drop gone parts.takers ∙ (ap (λ n. n - gone) is.same ∙ sym (length-drop gone parts.deltas));
+    count = omega (arith, is.count, length-drop gone parts.deltas);
+    start = omega (arith, within, is.start);
+    floor = omega (arith, within, is.start, is.floor);
+    held = omega (arith, within, is.start, is.floor, is.held);
+    revision = omega (arith, within, is.start, is.floor, is.count, length-drop gone parts.deltas, is.revision);
+  }
+
+  -- the changes that are left, of those taken
+  left : (whole_past (later_parts parts gone sources)).changes ≡ drop gone (whole_past parts).changes
+  unfolding all
+  left =
+      let sum : parts.count ≡ gone + (parts.count - gone) = omega (arith, within, is.start, is.floor) in
+      ap (take (parts.count - gone)) (changes-drop gone parts.takers parts.deltas)
+      ∙ (sym (drop-take gone (parts.count - gone) (changes_by parts.takers parts.deltas)) ∙ ap (λ n. drop gone (take n (changes_by parts.takers parts.deltas))) (sym sum))
+
+  prepared : (seen (later_parts parts gone sources)).next ≡ (seen parts).next
+  prepared =
+      let sum : gone + (parts.count - gone) ≡ parts.count = omega (arith, within, is.start, is.floor) in
+      ap (drop (parts.count - gone)) (changes-drop gone parts.takers parts.deltas)
+      ∙ (drop-drop (parts.count - gone) gone (changes_by parts.takers parts.deltas) ∙ ap (λ n. drop n (changes_by parts.takers parts.deltas)) sum)
+
+  module _ (noted : sources_after (parts.start + gone) sources (drop gone (changes_by (take (parts.floor - parts.start) parts.takers) (take (parts.floor - parts.start) parts.deltas)))
+      ≡ sources_after parts.start parts.sources (changes_by (take (parts.floor - parts.start) parts.takers) (take (parts.floor - parts.start) parts.deltas))) where
+    exact : Past
+    exact = from_floor (whole_past parts) (parts.start + gone)
+
+    but_sources : (record (whole_past (later_parts parts gone sources)) { sources = exact.sources }) ≡ exact
+    unfolding exact
+    but_sources =
+        let here : parts.start + gone - parts.start ≡ gone = omega arith in
+        ap₂ (λ (u : List Element) (l : List Change). record { floor = parts.start + gone; content = record { units = u }; sources = exact.sources; changes = l })
+        (ap (applied parts.units) (sym (take-take gone parts.count parts.deltas (omega (arith, within, is.start, is.floor))))
+        ∙ (ap (λ l. applied parts.units (take gone l)) (sym (whole-deltas parts is)) ∙ ap (λ n. applied parts.units (take n (deltas_of (whole_past parts)))) (sym here)))
+        (left ∙ ap (λ n. drop n (whole_past parts).changes) (sym here))
+
+    from_there : from_floor (record (whole_past (later_parts parts gone sources)) { sources = exact.sources }) parts.floor ≡ from_floor (whole_past parts) parts.floor
+    unfolding exact
+    from_there = ap (λ (p : Past). from_floor p parts.floor) but_sources ∙ from-from (whole_past parts) (parts.start + gone) (omega arith) parts.floor (omega (arith, within, is.start))
+
+    sources_there : sources_at (whole_past (later_parts parts gone sources)) parts.floor ≡ sources_at (whole_past parts) parts.floor
+    unfolding all
+    sources_there =
+        let below : ℕ = parts.floor - parts.start in
+        let more : ℕ = parts.floor - (parts.start + gone) in
+        let changes : List Change = changes_by parts.takers parts.deltas in
+        let sum : gone + more ≡ below = omega (arith, within, is.start) in
+        let fewer = take-take below parts.count changes (omega (arith, is.floor)) in
+        let cut : take more (whole_past (later_parts parts gone sources)).changes ≡ drop gone (take below changes) =
+        ap (take more) left ∙ (sym (drop-take gone more (take parts.count changes)) ∙ (ap (λ n. drop gone (take n (take parts.count changes))) sum ∙ ap (drop gone) fewer)) in
+        let first = changes-take below parts.takers parts.deltas in
+        ap (sources_after (parts.start + gone) sources) (cut ∙ ap (drop gone) (sym first))
+        ∙ (noted ∙ ap (sources_after parts.start parts.sources) (first ∙ sym fewer))
+
+    pub later_is : seen (later_parts parts gone sources) ≡ seen parts
+    later_is = λ i. record {
+      past = record {
+        floor = parts.floor;
+        content = (from_there i).content;
+        sources = sources_there i;
+        changes = (from_there i).changes;
+      };
+      next = prepared i;
+    }

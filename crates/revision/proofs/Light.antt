@@ -1,0 +1,98 @@
+-- The test of a change on a document, by what the document would weigh.
+use Rattle.std.proofs.Common.{inl, inr, ◌≡◌, ℕ, ◌+◌, ◌-◌, ◌*◌, ◌≤◌, ◌<◌, ◌^◌, ◌⊎◌, ◌↔◌, min, Bool, true, false, List, length, Result, Ok, Err, refl, sym, ap, ◌∙◌, arith}
+use Rattle.std.specs.Prelude.{◌&&◌, not, nat_le}
+use Rattle.std.proofs.lemmas.Bool.Decides.{nat_tests}
+use Rattle.refusal.specs.declared.Refusal.{Refusal}
+use Rattle.refusal.specs.declared.Refusal.TheVariants.{PastEnd, CutsPair}
+use Rattle.delta.specs.Element.{Element}
+use Rattle.delta.specs.Operation.{Operation}
+use Rattle.delta.specs.Gaps.{counted}
+use Rattle.delta.specs.Places.{IsDefined}
+use Rattle.document.specs.Places.{Cuts}
+use Rattle.document.specs.Weight as document
+use Rattle.revision.specs.Parting.{parts_pair}
+use Rattle.revision.specs.State.{reaches_past}
+use Rattle.revision.proofs.Room.{weight-some}
+use Rattle.revision.proofs.Told.{parts_told}
+
+module _ (delta : List Operation) (units : List Element) (weighed : Result ℕ Refusal)
+    (past_end : (weighed ≡ Err PastEnd) ↔ (¬ (IsDefined units (counted delta))))
+    (cuts : (weighed ≡ Err CutsPair) ↔ (IsDefined units (counted delta) × Cuts units (counted delta))) where
+  -- where a weight is given, both tests pass
+  pub reaches : (weight : ℕ) → weighed ≡ Ok weight → reaches_past delta units ≡ false
+  reaches weight is = by_test (reaches_past delta units) refl where
+    by_test : (b : Bool) → reaches_past delta units ≡ b → reaches_past delta units ≡ false
+    by_test false e = e
+    by_test true e =
+        let refused : weighed ≡ Err PastEnd = past_end.1 (λ defined. grind (arith, nat_tests)) in
+        absurd (cc)
+
+  pub whole : (weight : ℕ) → weighed ≡ Ok weight → parts_pair delta units ≡ false
+  whole weight is = by_test (parts_pair delta units) refl where
+    by_test : (b : Bool) → parts_pair delta units ≡ b → parts_pair delta units ≡ false
+    by_test false e = e
+    by_test true e =
+        let short : reaches_past delta units ≡ false = reaches weight is in
+        let defined : IsDefined units (counted delta) = grind (arith, nat_tests) in
+        let refused : weighed ≡ Err CutsPair = cuts.1 (defined, (parts_told delta units).0 e) in
+        absurd (cc)
+
+  pub is_defined : (weight : ℕ) → weighed ≡ Ok weight → IsDefined units (counted delta)
+  is_defined weight is =
+      let short : reaches_past delta units ≡ false = reaches weight is in
+      grind (arith, nat_tests)
+
+  pub no_cut : (weight : ℕ) → weighed ≡ Ok weight → ¬ (Cuts units (counted delta))
+  no_cut weight is = λ cut.
+      let refused : weighed ≡ Err CutsPair = cuts.1 (is_defined weight is, cut) in
+      absurd (cc)
+
+  -- where it is refused, one of them fails
+  pub fails : (refusal : Refusal) → weighed ≡ Err refusal → (refusal ≡ PastEnd) ⊎ (refusal ≡ CutsPair)
+      → (light : Bool) → (not (reaches_past delta units) && not (parts_pair delta units) && light) ≡ false
+  fails refusal is (inl end) light =
+      let undefined : ¬ (IsDefined units (counted delta)) = past_end.0 (is ∙ ap (λ r. Err r) end) in
+      let over : reaches_past delta units ≡ true = by_test undefined (reaches_past delta units) refl in
+      rw over refl
+    where
+      by_test : (¬ (IsDefined units (counted delta))) → (b : Bool) → reaches_past delta units ≡ b → reaches_past delta units ≡ true
+      by_test undefined true e = e
+      by_test undefined false e =
+          let defined : IsDefined units (counted delta) = grind (arith, nat_tests) in
+          absurd (undefined defined)
+  fails refusal is (inr cut) light =
+      let parted : parts_pair delta units ≡ true = (parts_told delta units).1 (cuts.0 (is ∙ ap (λ r. Err r) cut)).1 in
+      rw parted (neither (reaches_past delta units) light)
+    where
+      neither : (far light : Bool) → (not far && not true && light) ≡ false
+      neither true light = refl
+      neither false light = refl
+
+same_test : (x y m : ℕ) → (x ≤ m → y ≤ m) → (y ≤ m → x ≤ m) → nat_le x m ≡ nat_le y m
+same_test x y m there back = by_tests (nat_le x m) (nat_le y m) refl refl where
+  by_tests : (a b : Bool) → nat_le x m ≡ a → nat_le y m ≡ b → nat_le x m ≡ nat_le y m
+  by_tests true true p q = p ∙ sym q
+  by_tests false false p q = p ∙ sym q
+  by_tests true false p q =
+      let le : x ≤ m = grind (arith, nat_tests) in
+      let le' : y ≤ m = there le in
+      absurd (grind (arith, nat_tests))
+  by_tests false true p q =
+      let le : y ≤ m = grind (arith, nat_tests) in
+      let le' : x ≤ m = back le in
+      absurd (grind (arith, nat_tests))
+
+-- the sum as the program makes it is as large as the weight, as far as the limit goes
+pub light_sum : (weight count most sum w n beside : ℕ) → most < 2 ^ 32 → w ≡ min weight (2 ^ 64 - 1) → n ≡ min count (2 ^ 64 - 1)
+    → beside ≡ min (n * 64) (2 ^ 64 - 1) → sum ≡ min (w + beside) (2 ^ 64 - 1) → nat_le sum most ≡ nat_le (weight + 64 * count) most
+light_sum weight count most sum w n beside bound w_is n_is beside_is sum_is =
+    same_test sum (weight + 64 * count) most (λ le. omega arith) (λ le. omega arith)
+
+pub kept_is : (far cut light : Bool) (other : Bool) → far ≡ false → cut ≡ false → light ≡ other → light ≡ (not far && not cut && other)
+kept_is far cut light other f c same = rw (f, c) same
+
+-- what is that light is short
+pub light_short : (units : List Element) (count most : ℕ) → most < 2 ^ 32 → nat_le (document.weight_of units + 64 * count) most ≡ true → length units ≤ 2 ^ 29
+light_short units count most bound light =
+    let le : document.weight_of units + 64 * count ≤ most = grind (arith, nat_tests) in
+    omega (arith, weight-some units, le, bound)

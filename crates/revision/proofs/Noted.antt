@@ -1,0 +1,106 @@
+-- Sources after one of them was noted or dropped.
+use Rattle.std.proofs.Common.{◌≡◌, ℕ, zero, suc, ◌+◌, Bool, true, false, cond, List, [], ◌∷◌, length, drop, Option, Some, None, Result, Ok, Err, ◌++◌, refl, sym, ap, ◌∙◌}
+use Rattle.std.specs.Prelude.{◌||◌, is_some}
+use Rattle.std.specs.Result.{OnOk, OnErr}
+use Rattle.std.specs.Cmp.Lexicographic.{nat_list_cmp_total}
+use Rattle.std.specs.FinMap.Entries.{length-put}
+use Rattle.attributes.specs.Map.{by_bytes, get, insert}
+use Rattle.attributes.proofs.Maps.{is_name, same_name_from, same_map, get-insert, get-remove}
+use Rattle.attributes.proofs.Places.{entries-insert}
+use Rattle.revision.specs.Sources.{Sources, LastTaken, count_of, with_last, with_entry, is_among, EqualBut}
+
+-- how many there are once one was noted
+pub count-noted : (source : List ℕ) (number revision : ℕ) (sources : Sources)
+    → count_of (with_last source number revision sources) ≡ cond (is_some (get sources source)) (count_of sources) (count_of sources + 1)
+count-noted source number revision sources =
+    let last : LastTaken = record { number = number; revision = revision } in
+    ap length (entries-insert sources source last) ∙ length-put by_bytes nat_list_cmp_total source last sources.entries sources.ascending
+
+pub count-there : (source : List ℕ) (number revision : ℕ) (sources : Sources) (last : LastTaken) → get sources source ≡ Some last
+    → count_of (with_last source number revision sources) ≡ count_of sources
+count-there source number revision sources last is =
+    count-noted source number revision sources ∙ ap (λ found. cond (is_some found) (count_of sources) (count_of sources + 1)) is
+
+pub count-new : (source : List ℕ) (number revision : ℕ) (sources : Sources) → get sources source ≡ None
+    → count_of (with_last source number revision sources) ≡ count_of sources + 1
+count-new source number revision sources is =
+    count-noted source number revision sources ∙ ap (λ found. cond (is_some found) (count_of sources) (count_of sources + 1)) is
+
+chosen_twice : (b : Bool) (x y : Option LastTaken) (z : Option LastTaken) → cond b y (cond b x z) ≡ cond b y z
+chosen_twice true x y z = refl
+chosen_twice false x y z = refl
+
+-- one that is noted twice
+pub noted-twice : (source : List ℕ) (first second : LastTaken) (sources : Sources) → insert (insert sources source first) source second ≡ insert sources source second
+noted-twice source first second sources =
+    same_map _ _ (λ name. get-insert (insert sources source first) source second name
+    ∙ (ap (cond (is_name name source) (Some second)) (get-insert sources source first name)
+    ∙ (chosen_twice (is_name name source) (Some first) (Some second) (get sources name) ∙ sym (get-insert sources source second name))))
+
+-- what stands at a name once one was given or taken away
+get-entry : (source : List ℕ) (entry : Option LastTaken) (sources : Sources) (name : List ℕ)
+    → get (with_entry source entry sources) name ≡ cond (is_name name source) entry (get sources name)
+get-entry source None sources name = get-remove sources source name
+get-entry source (Some last) sources name = get-insert sources source last name
+
+same_here : (b : Bool) (one other : Sources) (first name : List ℕ) → is_name name first ≡ b → (b ≡ false → get one name ≡ get other name)
+    → get one name ≡ cond b (get one first) (get other name)
+same_here true one other first name is further = ap (get one) (same_name_from name first is)
+same_here false one other first name is further = further refl
+
+neither : (a b : Bool) → a ≡ false → b ≡ false → (a || b) ≡ false
+neither false b p q = q
+neither true b p q = cc
+
+-- one of them made equal
+pub but-rest : (first : List ℕ) (others : List (List ℕ)) (one other : Sources) → EqualBut (first ∷ others) one other
+    → EqualBut others one (with_entry first (get one first) other)
+but-rest first others one other but name absent =
+    same_here (is_name name first) one other first name refl (λ differs. but name (neither (is_name name first) (is_among name others) differs absent))
+    ∙ sym (get-entry first (get one first) other name)
+
+-- the same but for none of them
+pub but-none : (one other : Sources) → EqualBut [] one other → other ≡ one
+but-none one other but = same_map other one (λ name. sym (but name refl))
+
+later : (a b : Bool) → (a || b) ≡ false → b ≡ false
+later true b h = absurd (cc)
+later false b h = h
+
+-- the same but for fewer
+pub but-more : (n : ℕ) (names : List (List ℕ)) (one other : Sources) → EqualBut (drop n names) one other → EqualBut names one other
+but-more zero names one other but = but
+but-more (suc n) [] one other but = but
+but-more (suc n) (first ∷ others) one other but =
+    λ name absent. but-more n others one other but name (later (is_name name first) (is_among name others) absent)
+
+first_of_both : (a b : Bool) → (a || b) ≡ false → a ≡ false
+first_of_both true b h = h
+first_of_both false b h = refl
+
+-- a name that is not among them and one more
+among-more : (name : List ℕ) (names : List (List ℕ)) (source : List ℕ) → is_among name (names ++ source ∷ []) ≡ false
+    → (is_among name names ≡ false) × (is_name name source ≡ false)
+among-more name [] source absent = (refl, first_of_both (is_name name source) false absent)
+among-more name (first ∷ others) source absent =
+    let rest = among-more name others source (later (is_name name first) (is_among name (others ++ source ∷ [])) absent) in
+    let here = first_of_both (is_name name first) (is_among name (others ++ source ∷ [])) absent in
+    (neither (is_name name first) (is_among name others) here rest.0, rest.1)
+
+-- the same but for one more, which was noted or wasn't
+pub but-noted : {E : Type 0} (source : List ℕ) (last : LastTaken) (names : List (List ℕ)) (one other after : Sources) (done : Result (Unit {0}) E)
+    → OnOk done (after ≡ insert other source last) → OnErr done (after ≡ other) → EqualBut names one other → EqualBut (names ++ source ∷ []) one after
+but-noted source last names one other after (Ok _) taken left but = λ name absent.
+    let parts = among-more name names source absent in
+    but name parts.0
+    ∙ (sym (ap (λ b. cond b (Some last) (get other name)) parts.1)
+    ∙ (sym (get-insert other source last name) ∙ ap (λ (m : Sources). get m name) (sym taken)))
+but-noted source last names one other after (Err _) taken left but = λ name absent.
+    but name (among-more name names source absent).0 ∙ ap (λ (m : Sources). get m name) (sym left)
+
+-- the other way round
+pub but-turned : (names : List (List ℕ)) (one other : Sources) → EqualBut names one other → EqualBut names other one
+but-turned names one other but name absent = sym (but name absent)
+
+pub but-same : (names : List (List ℕ)) (one other : Sources) → other ≡ one → EqualBut names one other
+but-same names one other same = λ name absent. ap (λ (m : Sources). get m name) (sym same)

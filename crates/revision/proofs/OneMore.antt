@@ -1,0 +1,101 @@
+-- A state as it grows by a command, and its documents with what is prepared.
+use Rattle.std.proofs.Common.{◌≡◌, ℕ, zero, suc, ◌+◌, ◌<◌, true, ◌&&◌, List, [], ◌∷◌, ◌++◌, length, map, take, drop, get_or, Option, Some, None, refl, sym, ap, ap₂, ◌∙◌}
+use Rattle.std.specs.Prelude.{slice_get}
+use Rattle.std.proofs.lemmas.List.{take-map, at_drop_more, map-append}
+use Rattle.std.proofs.lemmas.Bool.Decides.{Decides-eqb, Decides-ltb}
+use Rattle.revision.specs.DocumentsView.{names_of}
+use Rattle.revision.specs.Index.{number_of}
+use Rattle.revision.proofs.Indexed.{number-found, none_from_test, room_parts}
+use Rattle.revision.specs.ChangedAt.{changed_at}
+use Rattle.revision.specs.Command.{Taken}
+use Rattle.revision.specs.Past.{Change, Past, with_change, with_changes}
+use Rattle.revision.specs.Pending.{PendingDocument, held, with_prepared}
+use Rattle.revision.specs.Preparing.{with_next, begun}
+use Rattle.revision.specs.State.{Limits, DocumentRecord, State, change_of, record_by_name, set_document, has_room, begins, continues_by_name, grows, grown, all_grow, fold}
+use Rattle.revision.proofs.ChangedAt.{map-changed_at}
+
+-- one change more, at the end
+with_changes-last : (keep : ℕ) (past : Past) (cs : List Change) (c : Change) → with_changes keep past (cs ++ c ∷ []) ≡ with_change keep (with_changes keep past cs) c
+with_changes-last keep past [] c = refl
+with_changes-last keep past (first ∷ others) c = with_changes-last keep (with_change keep past first) others c
+
+further : (i : ℕ) (found : Option DocumentRecord) (d : DocumentRecord) (ds : List DocumentRecord)
+    → set_document (suc i) found (d ∷ ds) ≡ d ∷ set_document i found ds
+further i None d ds = refl
+further i (Some found) d ds = refl
+
+-- a document that is there is changed
+pub changed_by : (keep : ℕ) (i : ℕ) (documents : List PendingDocument) (taken : Taken)
+    → set_document i (record_by_name keep (slice_get (map (with_prepared keep) documents) i) taken None) (map (with_prepared keep) documents)
+    ≡ map (with_prepared keep) (changed_at (with_next (change_of taken)) i documents)
+changed_by keep i [] taken = refl
+changed_by keep zero (d ∷ others) taken =
+    ap (λ (past : Past). record { name = d.name; past = past } ∷ map (with_prepared keep) others)
+    (sym (with_changes-last keep d.past.past d.past.next (change_of taken)))
+changed_by keep (suc i) (d ∷ others) taken =
+    further i (record_by_name keep (slice_get (map (with_prepared keep) others) i) taken None) (with_prepared keep d) (map (with_prepared keep) others)
+    ∙ ap (λ ds. with_prepared keep d ∷ ds) (changed_by keep i others taken)
+
+-- a document comes at the end
+pub set-last : (ds : List DocumentRecord) (d : DocumentRecord) → set_document (length ds) (Some d) ds ≡ ds ++ d ∷ []
+set-last [] d = refl
+set-last (e ∷ ds) d = ap (λ es. e ∷ es) (set-last ds d)
+
+pub none-past : (ds : List DocumentRecord) → slice_get ds (length ds) ≡ None
+none-past [] = refl
+none-past (d ∷ ds) = none-past ds
+
+-- what is held isn't changed
+pub held-changed : (change : PendingDocument → PendingDocument) → ((d : PendingDocument) → held (change d) ≡ held d) → (count i : ℕ) (documents : List PendingDocument)
+    → map held (take count (changed_at change i documents)) ≡ map held (take count documents)
+held-changed change same count i documents =
+    sym (take-map held count (changed_at change i documents))
+    ∙ ap (take count) (map-changed_at held change same i documents)
+    ∙ take-map held count documents
+
+-- one command more
+pub fold-step : (state : State) (batch : List Taken) (i : ℕ) (taken : Taken) → i < length batch → taken ≡ get_or batch i taken
+    → fold (grown state taken) (drop (i + 1) batch) ≡ fold state (drop i batch)
+fold-step state batch i taken inside is =
+    ap (λ t. fold (grown state t) (drop (i + 1) batch)) is ∙ sym (at_drop_more (fold state) batch i taken inside)
+
+pub all_grow-step : (state : State) (batch : List Taken) (i : ℕ) (taken : Taken) → i < length batch → taken ≡ get_or batch i taken
+    → (grows state taken && all_grow (grown state taken) (drop (i + 1) batch)) ≡ all_grow state (drop i batch)
+all_grow-step state batch i taken inside is =
+    ap (λ t. grows state t && all_grow (grown state t) (drop (i + 1) batch)) is ∙ sym (at_drop_more (all_grow state) batch i taken inside)
+
+same_length : (keep : ℕ) (documents : List PendingDocument) → length (map (with_prepared keep) documents) ≡ length documents
+same_length keep [] = refl
+same_length keep (d ∷ others) = ap suc (same_length keep others)
+
+-- a state by its documents
+abbrev pub state_by : Limits → List PendingDocument → State
+state_by limits documents = record { limits = limits; documents = map (with_prepared limits.keep) documents }
+
+module _ (limits : Limits) (documents : List PendingDocument) (taken : Taken) (name : List ℕ) where
+  -- what there is where there is room for a document
+  pub room_for : (number : ℕ) → has_room (state_by limits documents) number (Some name) ≡ true
+      → (number ≡ length documents) × (length documents < limits.docs) × (number_of name 0 (names_of documents) ≡ None)
+  room_for number room =
+      let parts = room_parts _ _ _ room in (
+        (Decides-eqb number (length (map (with_prepared limits.keep) documents))).0 parts.0 ∙ same_length limits.keep documents,
+        rw (sym (same_length limits.keep documents)) ((Decides-ltb (length (map (with_prepared limits.keep) documents)) limits.docs).0 parts.1),
+        none_from_test _ (number-found limits.keep name 0 documents ∙ parts.2),
+      )
+
+  -- the document that is made comes at the end
+  pub created_by : taken.document ≡ length documents → taken.name ≡ Some name
+      → map (with_prepared limits.keep) (documents ++ begun name (change_of taken) ∷ []) ≡ (grown (state_by limits documents) taken).documents
+  created_by at named =
+      let ds = map (with_prepared limits.keep) documents in
+      map-append (with_prepared limits.keep) documents (begun name (change_of taken) ∷ [])
+      ∙ sym (set-last ds (with_prepared limits.keep (begun name (change_of taken))))
+      ∙ ap (λ found. set_document (length ds) (record_by_name limits.keep found taken (Some name)) ds) (sym (none-past ds))
+      ∙ ap₂ (λ i n. set_document i (record_by_name limits.keep (slice_get ds i) taken n) ds) (same_length limits.keep documents ∙ sym at) (sym named)
+
+  pub created_grows : taken.document ≡ length documents → taken.name ≡ Some name → has_room (state_by limits documents) taken.document (Some name) ≡ true
+      → begins limits taken ≡ true → grows (state_by limits documents) taken ≡ true
+  created_grows at named room first =
+      let ds = map (with_prepared limits.keep) documents in
+      ap₂ (λ a b. a && b) (ap (has_room (state_by limits documents) taken.document) named ∙ room)
+      (ap₂ (λ found n. continues_by_name limits found taken n) (ap (slice_get ds) (at ∙ sym (same_length limits.keep documents)) ∙ none-past ds) named ∙ first)

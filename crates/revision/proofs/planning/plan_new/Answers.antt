@@ -1,0 +1,46 @@
+use Rattle.std.proofs.Common.{◌≡◌, inr, false, length, ap, sym, ◌∙◌, arith}
+use Rattle.std.specs.Prelude.{nat_lt, nat_le}
+use Rattle.std.proofs.lemmas.Bool.{ltb-true, leb-true, false_from_ne_true}
+use Rattle.std.proofs.lemmas.List.{length-map}
+use Rattle.revision.specs.Acceptance.{Takes, Refuses, creation}
+use Rattle.revision.specs.Command.{Taken}
+use Rattle.revision.specs.State.{Limits}
+use Rattle.revision.specs.Pending.{held}
+use Rattle.revision.proofs.Admitting.{new_answers, asked_new, same_new}
+use Rattle.revision.proofs.planning.plan_new.Goals as goal
+
+pub returns-in-Err : goal.returns-in-Err
+returns-in-Err c =
+    let state = c.args.state.now in
+    let asked = creation state c.args.command.now c.args.delta.now in
+    let count : length c.documents-count.result.now ≡ length state.documents = sym (length-map c.documents-count.result.now held) ∙ ap length c.documents-count.ensures.documents in
+    let first : nat_lt 1 c.args.command.now.number ≡ false =
+    false_from_ne_true _ (λ more. absurd (omega (arith, ltb-true 1 c.args.command.now.number more, c.if-number-gt1.false, c.number.ensures.number))) in
+    let room : nat_le state.limits.docs (length state.documents) ≡ false =
+    false_from_ne_true _ (λ full.
+    absurd (omega (arith, leb-true state.limits.docs (length state.documents) full, count, c.if-count-from.false, c.from.ensures, c.docs.ensures.docs, ap (λ (l : Limits). l.docs) c.limits-limits.ensures.limits))) in
+    inr (new_answers state c.args.command.now c.args.delta.now c.limits-limits.result c.empty-document.result c.new-sources.result c.limits-limits.ensures.limits
+    c.empty-document.ensures c.new-sources.ensures (Refuses c.in-Err.refusal) first room
+    (c.in-Err.ensures.err asked
+    (asked_new state c.args.command.now c.args.delta.now c.name.result.now c.source-2.result.now c.creation_width-width.result c.name.ensures c.source-2.ensures.source
+    (omega (arith, c.creation_width-width.ensures.width, ap length c.source.ensures.source, ap length c.source-2.ensures.source)))))
+
+pub returns : goal.returns
+returns c =
+    let state = c.args.state.now in
+    let asked = creation state c.args.command.now c.args.delta.now in
+    let count : length c.documents-count.result.now ≡ length state.documents = sym (length-map c.documents-count.result.now held) ∙ ap length c.documents-count.ensures.documents in
+    let first : nat_lt 1 c.args.command.now.number ≡ false =
+    false_from_ne_true _ (λ more. absurd (omega (arith, ltb-true 1 c.args.command.now.number more, c.if-number-gt1.false, c.number.ensures.number))) in
+    let room : nat_le state.limits.docs (length state.documents) ≡ false =
+    false_from_ne_true _ (λ full.
+    absurd (omega (arith, leb-true state.limits.docs (length state.documents) full, count, c.if-count-from.false, c.from.ensures, c.docs.ensures.docs, ap (λ (l : Limits). l.docs) c.limits-limits.ensures.limits))) in
+    let same : asked ≡ c.creation.result =
+    same_new state c.args.command.now c.args.delta.now c.in_ok-delta.delta (length c.documents-count.result.now) c.in_ok-name.name c.in_ok-source.source c.creation.result c.creation.ensures
+    count (c.in_ok-name.ensures.ok ∙ c.name-2.ensures) (c.in_ok-source.ensures.ok ∙ c.source-3.ensures.source) c.in_ok-delta.ensures.same in
+    new_answers state c.args.command.now c.args.delta.now c.limits-limits.result c.empty-document.result c.new-sources.result c.limits-limits.ensures.limits
+    c.empty-document.ensures c.new-sources.ensures (Takes asked) first room
+    (c.in_default.ensures.ok asked
+    (asked_new state c.args.command.now c.args.delta.now c.name.result.now c.source-2.result.now c.creation_width-width.result c.name.ensures c.source-2.ensures.source
+    (omega (arith, c.creation_width-width.ensures.width, ap length c.source.ensures.source, ap length c.source-2.ensures.source))))
+    ∙ ap Takes same

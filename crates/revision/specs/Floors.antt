@@ -1,0 +1,33 @@
+-- A past from higher floors on, and with changes more: what comes of one in whichever order.
+use Rattle.std.specs.Prelude.{◌≡◌, ℕ, ◌+◌, ◌≤◌, [], ◌∷◌, ◌++◌}
+use Rattle.delta.specs.Gaps.{counted, apply}
+use Rattle.revision.specs.Sources.{with_last}
+use Rattle.revision.specs.Past.{Change, Past, newest, content_at, sources_at, from_floor, with_change}
+
+-- the past with a change more, of which nothing is let go
+abbrev pub longer : Past → Change → Past
+longer past change = record past { changes = past.changes ++ change ∷ [] }
+
+-- from its own floor on it is itself
+abbrev pub FromItself : Type 0
+FromItself = (past : Past) → from_floor past past.floor ≡ past
+
+-- from a floor on and then from a higher one on is from the higher one on
+abbrev pub FromTwice : Type 0
+FromTwice = (past : Past) (first second : ℕ) → past.floor ≤ first → first ≤ second → from_floor (from_floor past first) second ≡ from_floor past second
+
+-- the newest revision stays
+abbrev pub FromNewest : Type 0
+FromNewest = (past : Past) (floor : ℕ) → past.floor ≤ floor → floor ≤ newest past → newest (from_floor past floor) ≡ newest past
+
+-- a change more, before or after
+abbrev pub FromLonger : Type 0
+FromLonger = (past : Past) (floor : ℕ) (change : Change) → past.floor ≤ floor → floor ≤ newest past
+    → longer (from_floor past floor) change ≡ from_floor (longer past change) floor
+
+-- a change makes the next revision, the units there by its delta, and the sources there by its source
+abbrev pub ChangeMakes : Type 0
+ChangeMakes = (keep : ℕ) (past : Past) (change : Change) → (newest (with_change keep past change) ≡ newest past + 1)
+    × ((content_at (with_change keep past change) (newest past + 1)).units ≡ apply (content_at past (newest past)).units (counted change.delta))
+    × (sources_at (with_change keep past change) (newest past + 1)
+    ≡ with_last change.source change.number (newest past + 1) (sources_at past (newest past)))

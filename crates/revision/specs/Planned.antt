@@ -1,0 +1,46 @@
+-- What the program answers, against the answer that is due.
+use Rattle.std.specs.Prelude.{◌≡◌, ◌⊎◌, ℕ, ◌-◌, ◌^◌, min, true, Option, Some, None, Result, Ok, Err, List}
+use Rattle.refusal.specs.declared.Refusal.{Refusal}
+use Rattle.refusal.specs.declared.Refusal.TheVariants.{NoMemory}
+use Rattle.delta.specs.Operation.{Operation}
+use Rattle.revision.specs.declared.planning.Plan as program
+use Rattle.revision.specs.declared.planning.Plan.TheVariants as plans
+use Rattle.revision.specs.declared.planning.Reply as replied
+use Rattle.revision.specs.declared.planning.Reply.TheVariants as replies
+use Rattle.revision.specs.Command.{Command, Taken, width_of}
+use Rattle.revision.specs.Sources.{LastTaken}
+use Rattle.revision.specs.State.{State, grows}
+use Rattle.revision.specs.Acceptance.{Answer, Takes, Repeats, Refuses, by_number, Reply, TakenAt, AgainAt, Refused, decide}
+
+-- the program's answer is the one that is due, or memory ran out
+abbrev pub Gives : Result program.Plan Refusal → Answer → Type 0
+Gives (Ok (plans.Taken taken)) due = due ≡ Takes taken
+Gives (Ok (plans.Again revision)) due = due ≡ Repeats revision
+Gives (Err refusal) due = (refusal ≡ NoMemory) ⊎ (due ≡ Refuses refusal)
+
+-- whether a number is a retry, the source's next one, or refused
+abbrev pub IsTurn : Result (Option ℕ) Refusal → LastTaken → ℕ → Type 0
+IsTurn (Ok (Some revision)) last number = (next : Answer) → by_number last number next ≡ Repeats revision
+IsTurn (Ok None) last number = (next : Answer) → by_number last number next ≡ next
+IsTurn (Err refusal) last number = (next : Answer) → by_number last number next ≡ Refuses refusal
+
+-- what is to be taken: by this source and this delta, with an entry of so many bytes
+pub record IsAsked (taken : Taken) (by : List ℕ) (change : List Operation) (bytes : ℕ) : Type 0 where
+  pub source : taken.source ≡ by
+  pub delta : taken.delta ≡ change
+  pub width : bytes ≡ min (width_of taken) (2 ^ 64 - 1)
+
+-- the program's reply
+abbrev pub reply_of : Result replied.Reply Refusal → Reply
+reply_of (Ok (replies.Taken revision)) = TakenAt revision
+reply_of (Ok (replies.Again revision)) = AgainAt revision
+reply_of (Err refusal) = Refused refusal
+
+-- the reply and the state after it are those that are due, or memory ran out and the state is as it was
+abbrev pub IsDecided : State → Command → Result replied.Reply Refusal → State → Type 0
+IsDecided old command result new = (decide old command ≡ (reply_of result, new)) ⊎ ((result ≡ Err NoMemory) × (new ≡ old))
+
+-- what is planned continues the state
+abbrev pub PlanGrows : State → program.Plan → Type 0
+PlanGrows state (plans.Taken taken) = grows state taken ≡ true
+PlanGrows state (plans.Again revision) = Unit {0}

@@ -1,0 +1,309 @@
+//! A document as a state holds it.
+ghost use Rattle.std.specs.Prelude.{◌≡◌, ◌↔◌, ◌+◌, ◌≤◌, ◌<◌, ◌^◌, ◌⊎◌, ◌∷◌, ◌++◌, true, false, [], length, IfOk, IfErr, OnOk, OnErr, IsErrOf, IsOkUnless};
+ghost use Rattle.delta.specs.Operation.{base_of, out_of};
+ghost use Rattle.delta.specs.Gaps.{counted, apply};
+ghost use Rattle.revision.specs.Late.{late as late_edit, HasCommandRoom};
+ghost use Rattle.revision.specs.Past.{empty_past, newest, content_at, deltas_of, deltas_above, undo_of, with_changes, prepared_units, prepared_revision};
+ghost use Rattle.document.specs.Outcome.{IsAccepted};
+ghost use Rattle.revision.specs.Sources.{last_of, with_last};
+ghost use Rattle.revision.specs.State.{revision_of, units_of, sources_of, follows, change_of};
+ghost use Rattle.revision.specs.Pending.{held, with_prepared, comes_next as spec_comes_next, is_kept};
+
+use crate::limits::Limits;
+use crate::name::Name;
+use crate::past::Past;
+use crate::source_table::SourceTable;
+use crate::sources::{LastTaken, Sources};
+use crate::taken::Taken;
+use delta::Delta;
+use document::Document;
+use refusal::Refusal;
+use std::alloc::Global;
+use std::marker::Model;
+
+/// The last revision, and the last number.
+const LAST: u64 = (1 << 53) - 1;
+
+/// A document: its name, its past as far back as it is held, and at its newest revision what stands in it and what each source
+/// has there, so that those are read without being computed.
+///
+/// Changes are first prepared, which leaves what is read as it is, and may find no memory. What is prepared is then accepted,
+/// which needs none, or dropped.
+#[derive(Drop)]
+pub struct DocState {
+    name: Name,
+    past: Past,
+    document: Document,
+    next: Option<Document>,
+    sources: SourceTable,
+}
+
+impl Model for DocState {
+    ghost use Rattle.revision.specs.Pending as spec;
+
+    ghost Value = { spec.PendingDocument };
+
+    ghost coded = { spec.pending_code };
+
+    ghost view = { λ d. record { name = d.name; past = d.past } };
+
+    ghost invariant = { λ d. spec.ComesOf d.past d.document d.next d.sources };
+}
+
+impl DocState {
+    /// A document that nothing was taken of yet. It takes no memory.
+    pub(crate) fn empty(alloc: Global, name: Name) -> DocState
+        ensures { result ≡ record { name = name; past = record { past = empty_past; next = [] } } }
+    {
+        DocState {
+            name,
+            past: Past::new(alloc, 0, Document::empty(alloc), Sources::new(alloc)),
+            document: Document::empty(alloc),
+            next: None,
+            sources: SourceTable::new(alloc),
+        }
+    }
+
+    /// A document whose past begins at a revision with what stands in it, at most 2^29 units, and with its sources. Refused
+    /// for want of memory alone.
+    pub(crate) fn adopted(
+        alloc: Global,
+        name: Name,
+        document: Document,
+        revision: u64,
+        sources: Sources,
+    ) -> Result<DocState, Refusal>
+        requires short { length document ≤ 2 ^ 29 }
+        requires revision { revision < 2 ^ 53 }
+        ensures ok { IfOk result (λ made. made ≡ record { name = name; past = record { past = record { floor = revision; content = record { units = document }; sources = sources; changes = [] }; next = [] } }) }
+        ensures only { IsOkUnless result Refusal.NoMemory }
+    {
+        let newest = document.copy(alloc)?;
+        let table = SourceTable::from_sources(alloc, &sources)?;
+        Ok(DocState {
+            name,
+            past: Past::new(alloc, revision, document, sources),
+            document: newest,
+            next: None,
+            sources: table,
+        })
+    }
+
+    /// Prepares a change: it has to follow what is prepared so far, and is refused with `Stranger` just where it doesn't.
+    /// Refused else for want of memory alone; refused, nothing more is prepared. What is read stays as it is.
+    pub(crate) fn prepare(
+        &mut self,
+        alloc: Global,
+        limits: Limits,
+        taken: &Taken,
+    ) -> Result<(), Refusal>
+        ensures ok { OnOk result (self.new ≡ record self.old { past = record self.old.past { next = self.old.past.next ++ change_of taken.now ∷ [] } }) }
+        ensures follows { OnOk result (follows limits (with_prepared limits.keep self.old) taken.now ≡ true) }
+        ensures stranger { IsErrOf result Refusal.Stranger ↔ (follows limits (with_prepared limits.keep self.old) taken.now ≡ false) }
+        ensures only { IfErr result (λ e. (e ≡ Refusal.Stranger) ⊎ (e ≡ Refusal.NoMemory)) }
+        ensures unchanged { OnErr result (self.new ≡ self.old) }
+    {
+        if !self.is_followed(limits, taken) {
+            return Err(Refusal::Stranger);
+        }
+        let after = after_taken(alloc, self.ahead(), taken.delta())?;
+        note(alloc, &mut self.past, &mut self.sources, taken)?;
+        self.next = Some(after);
+        Ok(())
+    }
+
+    // what stands in it after what is prepared
+    fn ahead(&self) -> &Document
+        ensures { result.now ≡ prepared_units self.now.past }
+    {
+        self.next.as_ref().unwrap_or(&self.document)
+    }
+
+    // whether a change follows what is prepared
+    fn is_followed(&self, limits: Limits, taken: &Taken) -> bool
+        ensures follows { result ≡ follows limits (with_prepared limits.keep self.now) taken.now }
+        ensures revision { result ≡ true → taken.now.revision ≡ prepared_revision self.now.past + 1 }
+        ensures bound { result ≡ true → prepared_revision self.now.past + 1 < 2 ^ 53 }
+        ensures accepted { result ≡ true → IsAccepted (prepared_units self.now.past) (counted taken.now.delta) }
+        ensures short { result ≡ true → length (apply (prepared_units self.now.past) (counted taken.now.delta)) ≤ 2 ^ 29 }
+    {
+        let sources = self.sources.prepared();
+        comes_next(limits, self.past.prepared_revision(), sources, taken)
+            && stays_light(limits, self.ahead(), sources, taken)
+    }
+
+    /// Accepts what was prepared: each change is the next revision, and the floor rises to `keep` below the newest one where it
+    /// is lower. It takes no memory, and isn't refused.
+    pub(crate) fn accept(&mut self, limits: Limits)
+        ensures { self.new ≡ record self.old { past = record { past = with_changes limits.keep self.old.past.past self.old.past.next; next = [] } } }
+    {
+        self.past.accept(limits.keep());
+        self.sources.accept();
+        if let Some(document) = self.next.take() {
+            self.document = document;
+        }
+    }
+
+    /// Drops what was prepared.
+    pub(crate) fn forget(&mut self)
+        ensures { self.new ≡ record self.old { past = record self.old.past { next = [] } } }
+    {
+        self.past.forget();
+        self.sources.forget();
+        self.next = None;
+    }
+
+    /// Its name, of 1 to 64 characters.
+    pub fn name(&self) -> &Name
+        ensures { result.now ≡ self.now.name }
+    {
+        &self.name
+    }
+
+    /// Its newest revision, below 2^53.
+    pub fn revision(&self) -> u64
+        ensures revision { result ≡ revision_of (held self.now) }
+        ensures bound { revision_of (held self.now) < 2 ^ 53 }
+    {
+        self.past.revision()
+    }
+
+    /// The lowest revision that is held.
+    pub fn floor(&self) -> u64
+        ensures { result ≡ self.now.past.past.floor }
+    {
+        self.past.floor()
+    }
+
+    /// What stands in it at the newest revision.
+    pub fn document(&self) -> &Document
+        ensures { result.now ≡ units_of (held self.now) }
+    {
+        &self.document
+    }
+
+    /// Its sources at the newest revision.
+    pub fn sources(&self) -> &Sources
+        ensures { result.now ≡ sources_of (held self.now) }
+    {
+        self.sources.held()
+    }
+
+    /// What a source has at the newest revision, 0 and 0 where it isn't there.
+    pub fn last(&self, source: &Name) -> LastTaken
+        ensures { result ≡ last_of source.now (sources_of (held self.now)) }
+    {
+        self.sources().last(source)
+    }
+
+    /// The deltas after a revision that is held. It takes no memory.
+    pub fn since(&self, revision: u64) -> &[Delta]
+        requires held { self.now.past.past.floor ≤ revision }
+        requires there { revision ≤ newest self.now.past.past }
+        ensures deltas { result.now ≡ deltas_above self.now.past.past revision }
+        ensures room { HasCommandRoom result.now }
+    {
+        self.past.since(revision)
+    }
+
+    /// What stood in it at a revision that is held. Refused for want of memory alone.
+    pub fn document_at(&self, alloc: Global, revision: u64) -> Result<Document, Refusal>
+        requires held { self.now.past.past.floor ≤ revision }
+        requires there { revision ≤ newest self.now.past.past }
+        ensures document { IfOk result (λ document. document ≡ (content_at self.now.past.past revision).units) }
+        ensures only { IsOkUnless result Refusal.NoMemory }
+    {
+        self.past.document_at(alloc, revision)
+    }
+
+    /// An edit that was made on a revision that is held, late past what was taken since. Its lengths are those of a
+    /// command's delta, at most 2^44 UTF-16 code units each. Refused for want of memory alone.
+    pub fn late(&self, alloc: Global, edit: &Delta, base: u64) -> Result<Delta, Refusal>
+        requires held { self.now.past.past.floor ≤ base }
+        requires there { base ≤ newest self.now.past.past }
+        requires base { base_of edit.now ≤ 2 ^ 44 }
+        requires out { out_of edit.now ≤ 2 ^ 44 }
+        ensures late { IfOk result (λ made. made ≡ late_edit edit.now (deltas_above self.now.past.past base)) }
+        ensures only { IsOkUnless result Refusal.NoMemory }
+    {
+        self.past.late(alloc, edit, base)
+    }
+
+    /// The delta that undoes a revision above the floor, late past what was taken since. Refused for want of memory alone.
+    pub fn undo(&self, alloc: Global, revision: u64) -> Result<Delta, Refusal>
+        requires held { self.now.past.past.floor < revision }
+        requires there { revision ≤ newest self.now.past.past }
+        ensures undo { IfOk result (λ back. back ≡ undo_of self.now.past.past.floor self.now.past.past.content.units (deltas_of self.now.past.past) revision) }
+        ensures only { IsOkUnless result Refusal.NoMemory }
+    {
+        self.past.undo(alloc, revision)
+    }
+}
+
+// whether a change is the next one after a revision with these sources, and its entry is as short as it has to be
+fn comes_next(limits: Limits, revision: u64, sources: &Sources, taken: &Taken) -> bool
+    requires { revision < 2 ^ 53 }
+    ensures { result ≡ spec_comes_next limits revision sources.now taken.now }
+{
+    let last = sources.last(taken.source());
+    taken.revision() == revision + 1
+        && revision != LAST
+        && taken.number() >= 1
+        && taken.number() - 1 == last.number
+        && taken.number() <= LAST
+        && (last.number != 0 || sources.count() < limits.sources() as usize)
+        && taken.width() <= u64::from(limits.width())
+}
+
+// whether a change's delta is defined on the document, parts no pair, and leaves what is no heavier than it may be
+fn stays_light(limits: Limits, document: &Document, sources: &Sources, taken: &Taken) -> bool
+    ensures kept { result ≡ is_kept limits document.now sources.now taken.now }
+    ensures accepted { result ≡ true → IsAccepted document.now (counted taken.now.delta) }
+    ensures short { result ≡ true → length (apply document.now (counted taken.now.delta)) ≤ 2 ^ 29 }
+{
+    let beside = sources.count_after(taken.source()).saturating_mul(64);
+    match document.weigh(taken.delta()) {
+        Ok(units) => units.saturating_add(beside) <= u64::from(limits.weight()),
+        Err(_) => false,
+    }
+}
+
+// the document after a delta that was taken on it
+fn after_taken(alloc: Global, document: &Document, taken: &Delta) -> Result<Document, Refusal>
+    requires { IsAccepted document.now (counted taken.now) }
+    ensures document { IfOk result (λ after. after ≡ apply document.now (counted taken.now)) }
+    ensures only { IsOkUnless result Refusal.NoMemory }
+{
+    match document.after(alloc, taken) {
+        Ok(after) => Ok(after),
+        Err(refusal) => Err(refusal),
+    }
+}
+
+// Prepares a change in the past and in the table of sources. Refused for want of memory alone, and then both are unchanged. What
+// lies below the floor is let go of, as far as memory goes.
+fn note(
+    alloc: Global,
+    past: &mut Past,
+    sources: &mut SourceTable,
+    taken: &Taken,
+) -> Result<(), Refusal>
+    requires accepted { IsAccepted (prepared_units past.old) (counted taken.now.delta) }
+    requires short { length (apply (prepared_units past.old) (counted taken.now.delta)) ≤ 2 ^ 29 }
+    requires revision { prepared_revision past.old + 1 < 2 ^ 53 }
+    ensures past { OnOk result (past.new ≡ record past.old { next = past.old.next ++ change_of taken.now ∷ [] }) }
+    ensures sources { OnOk result (sources.new ≡ record sources.old { prepared = with_last taken.now.source taken.now.number taken.now.revision sources.old.prepared }) }
+    ensures past_unchanged { OnErr result (past.new ≡ past.old) }
+    ensures sources_unchanged { OnErr result (sources.new ≡ sources.old) }
+    ensures only { IsOkUnless result Refusal.NoMemory }
+{
+    past.let_go(alloc);
+    let source = taken.source().copy(alloc)?;
+    let delta = taken.delta().copy(alloc)?;
+    past.prepare(source, taken.number(), delta)?;
+    let noted = sources.prepare(alloc, taken.source(), taken.number(), taken.revision());
+    if noted.is_err() {
+        past.take_back();
+    }
+    noted
+}

@@ -1,0 +1,317 @@
+//! Documents with what is prepared to follow.
+ghost use Rattle.std.specs.Prelude.{◌≡◌, ◌⊎◌, ◌≤◌, ◌<◌, ◌∷◌, ◌++◌, [], true, false, None, Some, ℕ, List, length, map, take, slice_get, bytes_eq, ◌==◌, ◌&&◌, nat_lt, is_none, cond, option_map, IfOk, IfErr, OnOk, OnErr, IsErrOf, IsOkUnless};
+ghost use Rattle.std.specs.BTreeMap.{get_by_text};
+ghost use Rattle.revision.specs.ChangedAt.{changed_at, changed_at_all};
+ghost use Rattle.revision.specs.Documents.{unprepared};
+ghost use Rattle.revision.specs.DocumentsView.{names_of};
+ghost use Rattle.revision.specs.Index.{IsIndex, NoneTwice};
+ghost use Rattle.revision.specs.Invariants.{IsLimits};
+ghost use Rattle.revision.specs.Pending.{held, with_prepared};
+ghost use Rattle.revision.specs.Preparing.{accepted, forgotten, with_next, begun};
+ghost use Rattle.revision.specs.State.{begins, has_room, change_of, continues_by_name, grows, grown, all_grow, fold, find};
+
+use crate::doc_state::DocState;
+use crate::limits::Limits;
+use crate::name::Name;
+use crate::names::Names;
+use crate::taken::Taken;
+use refusal::Refusal;
+use std::alloc::Global;
+use std::marker::Model;
+
+/// The documents that are held are the first `count`; the others are creations that are prepared. Nothing is prepared of
+/// a document that isn't `touched`. All names are in the index, also those of creations that are prepared.
+#[derive(Drop)]
+pub(crate) struct Documents {
+    limits: Limits,
+    documents: Vec<DocState>,
+    names: Names,
+    count: usize,
+    touched: Vec<u32>,
+}
+
+impl Model for Documents {
+    ghost use Rattle.revision.specs.Documents as spec;
+
+    ghost Value = { spec.PreparedState };
+
+    ghost coded = { spec.prepared_state_code };
+
+    ghost use Rattle.revision.specs.DocumentsView as inner;
+
+    ghost view = { λ d. inner.states_of d };
+
+    ghost invariant = { λ d. inner.AreDocuments d };
+}
+
+impl Documents {
+    /// None, under these limits. It takes no memory.
+    pub(crate) fn new(alloc: Global, limits: Limits) -> Documents
+        ensures { result ≡ unprepared (record { limits = limits; documents = [] }) }
+    {
+        Documents {
+            limits,
+            documents: Vec::new(alloc),
+            names: Names::new(alloc),
+            count: 0,
+            touched: Vec::new(alloc),
+        }
+    }
+
+    /// The limits.
+    pub(crate) fn limits(&self) -> Limits
+        ensures { result ≡ self.now.before.limits }
+    {
+        self.limits
+    }
+
+    /// The documents that are held.
+    pub(crate) fn documents(&self) -> &[DocState]
+        ensures documents { map held result.now ≡ self.now.before.documents }
+        ensures bound { length result.now ≤ 65536 }
+    {
+        &self.documents.as_slice()[..self.count]
+    }
+
+    /// The document that is held by this name, with its number.
+    pub(crate) fn find(&self, name: &Name) -> Option<(u32, &DocState)>
+        ensures { option_map (λ p. (p.0, held p.1.now)) result ≡ find name.now 0 self.now.before.documents }
+    {
+        match self.names.number(name) {
+            Some(number) => {
+                if number as usize >= self.count {
+                    return None;
+                }
+                Some((number, &self.documents[number as usize]))
+            }
+            None => None,
+        }
+    }
+
+    /// Prepares a command that was taken. Refused with `Stranger` just where it doesn't continue what was prepared, unless
+    /// memory runs out first (`NoMemory`). A refusal leaves all as it is.
+    pub(crate) fn prepare(&mut self, alloc: Global, taken: &Taken) -> Result<(), Refusal>
+        ensures ok { OnOk result (self.new ≡ record self.old { after = grown self.old.after taken.now }) }
+        ensures grow { OnOk result (grows self.old.after taken.now ≡ true) }
+        ensures stranger { IsErrOf result Refusal.Stranger → grows self.old.after taken.now ≡ false }
+        ensures only { IfErr result (λ e. (e ≡ Refusal.Stranger) ⊎ (e ≡ Refusal.NoMemory)) }
+        ensures unchanged { OnErr result (self.new ≡ self.old) }
+    {
+        match taken.name() {
+            Some(name) => self.create(alloc, taken, name),
+            None => {
+                self.touched.push(taken.document())?;
+                change(alloc, &mut self.documents, self.limits, taken)?;
+                Ok(())
+            }
+        }
+    }
+
+    // prepares a creation
+    fn create(&mut self, alloc: Global, taken: &Taken, name: &Name) -> Result<(), Refusal>
+        requires name { taken.now.name ≡ Some name.now }
+        ensures ok { OnOk result (self.new ≡ record self.old { after = grown self.old.after taken.now }) }
+        ensures grow { OnOk result (grows self.old.after taken.now ≡ true) }
+        ensures stranger { IsErrOf result Refusal.Stranger → grows self.old.after taken.now ≡ false }
+        ensures only { IfErr result (λ e. (e ≡ Refusal.Stranger) ⊎ (e ≡ Refusal.NoMemory)) }
+        ensures unchanged { OnErr result (self.new ≡ self.old) }
+    {
+        let number = taken.document();
+        if !self.has_room_for(number, name) {
+            return Err(Refusal::Stranger);
+        }
+        let document = begin(alloc, self.limits, taken, name)?;
+        self.touched.push(number)?;
+        push_named(
+            alloc,
+            &mut self.documents,
+            &mut self.names,
+            document,
+            name,
+            number,
+        )?;
+        Ok(())
+    }
+
+    /// Prepares a document of which nothing is prepared; there has to be room for it, and its name has to be new. Refused for
+    /// want of memory alone, and then all is as it was.
+    pub(crate) fn adopt(&mut self, alloc: Global, document: DocState) -> Result<(), Refusal>
+        requires room { length self.old.after.documents < self.old.after.limits.docs }
+        requires new { is_none (find document.name 0 self.old.after.documents) ≡ true }
+        requires still { document.past.next ≡ [] }
+        ensures ok { OnOk result (self.new ≡ record self.old { after = record self.old.after { documents = self.old.after.documents ++ held document ∷ [] } }) }
+        ensures only { IsOkUnless result Refusal.NoMemory }
+        ensures unchanged { OnErr result (self.new ≡ self.old) }
+    {
+        let name = document.name().copy(alloc)?;
+        let number = self.documents.len() as u32;
+        push_named(
+            alloc,
+            &mut self.documents,
+            &mut self.names,
+            document,
+            &name,
+            number,
+        )?;
+        Ok(())
+    }
+
+    // whether there is room for a new document of this number and name
+    fn has_room_for(&self, number: u32, name: &Name) -> bool
+        ensures { result ≡ has_room self.now.after number (Some name.now) }
+    {
+        self.is_next(number) && self.is_new(name)
+    }
+
+    fn is_next(&self, number: u32) -> bool
+        ensures { result ≡ ((number == length self.now.after.documents) && nat_lt (length self.now.after.documents) self.now.after.limits.docs) }
+    {
+        let count = self.documents.len() as u64;
+        u64::from(number) == count && count < u64::from(self.limits.docs())
+    }
+
+    fn is_new(&self, name: &Name) -> bool
+        ensures { result ≡ is_none (find name.now 0 self.now.after.documents) }
+    {
+        self.names.number(name).is_none()
+    }
+
+    /// Prepares commands in order. What it is refused with, and when, `prepare` says; then the first of them may be
+    /// prepared, but what is held stays as it is.
+    pub(crate) fn prepare_all(&mut self, alloc: Global, batch: &[Taken]) -> Result<(), Refusal>
+        ensures before { self.new.before ≡ self.old.before }
+        ensures ok { OnOk result (self.new.after ≡ fold self.old.after batch.now) }
+        ensures grow { OnOk result (all_grow self.old.after batch.now ≡ true) }
+        ensures stranger { IsErrOf result Refusal.Stranger → all_grow self.old.after batch.now ≡ false }
+        ensures only { IfErr result (λ e. (e ≡ Refusal.Stranger) ⊎ (e ≡ Refusal.NoMemory)) }
+    {
+        for taken in batch {
+            self.prepare(alloc, taken)?;
+        }
+        Ok(())
+    }
+
+    /// Accepts what was prepared. It takes no memory, isn't refused, and goes through what was touched alone.
+    pub(crate) fn accept(&mut self)
+        ensures { self.new ≡ unprepared self.old.after }
+    {
+        accept_each(&mut self.documents, self.touched.as_slice(), self.limits);
+        self.touched.clear();
+        self.count = self.documents.len();
+    }
+
+    /// Forgets what was prepared. It takes no memory, isn't refused, and goes through what was touched alone.
+    pub(crate) fn forget(&mut self)
+        ensures { self.new ≡ unprepared self.old.before }
+    {
+        drop_creations(&mut self.documents, &mut self.names, self.count);
+        forget_each(&mut self.documents, self.touched.as_slice());
+        self.touched.clear();
+    }
+}
+
+// prepares an edit or an undo of a document that is there
+fn change(
+    alloc: Global,
+    documents: &mut Vec<DocState>,
+    limits: Limits,
+    taken: &Taken,
+) -> Result<(), Refusal>
+    ensures ok { OnOk result (documents.new.items ≡ changed_at (with_next (change_of taken.now)) taken.now.document documents.old.items) }
+    ensures continues { OnOk result (continues_by_name limits (slice_get (map (with_prepared limits.keep) documents.old.items) taken.now.document) taken.now None ≡ true) }
+    ensures stranger { IsErrOf result Refusal.Stranger
+        → continues_by_name limits (slice_get (map (with_prepared limits.keep) documents.old.items) taken.now.document) taken.now None ≡ false }
+    ensures only { IfErr result (λ e. (e ≡ Refusal.Stranger) ⊎ (e ≡ Refusal.NoMemory)) }
+    ensures unchanged { OnErr result (documents.new.items ≡ documents.old.items) }
+{
+    let number = taken.document() as usize;
+    if number >= documents.len() {
+        return Err(Refusal::Stranger);
+    }
+    documents[number].prepare(alloc, limits, taken)?;
+    Ok(())
+}
+
+// the document that a creation begins, with its first change prepared
+fn begin(alloc: Global, limits: Limits, taken: &Taken, name: &Name) -> Result<DocState, Refusal>
+    requires { IsLimits limits }
+    ensures ok { IfOk result (λ made. made ≡ begun name.now (change_of taken.now)) }
+    ensures begins { OnOk result (begins limits taken.now ≡ true) }
+    ensures stranger { IsErrOf result Refusal.Stranger → begins limits taken.now ≡ false }
+    ensures only { IfErr result (λ e. (e ≡ Refusal.Stranger) ⊎ (e ≡ Refusal.NoMemory)) }
+{
+    let mut document = DocState::empty(alloc, name.copy(alloc)?);
+    document.prepare(alloc, limits, taken)?;
+    Ok(document)
+}
+
+// Adds a document with its name. Refused for want of memory alone, and then both are as they were.
+fn push_named(
+    alloc: Global,
+    documents: &mut Vec<DocState>,
+    names: &mut Names,
+    document: DocState,
+    name: &Name,
+    number: u32,
+) -> Result<(), Refusal>
+    ensures documents { OnOk result (documents.new.items ≡ documents.old.items ++ document ∷ []) }
+    ensures names { OnOk result ((q : List ℕ) → get_by_text names.new.map q ≡ cond (bytes_eq name.now q) (Some number) (get_by_text names.old.map q)) }
+    ensures only { IsOkUnless result Refusal.NoMemory }
+    ensures documents_unchanged { OnErr result (documents.new.items ≡ documents.old.items) }
+    ensures names_unchanged { OnErr result ((q : List ℕ) → get_by_text names.new.map q ≡ get_by_text names.old.map q) }
+{
+    documents.push(document)?;
+    if names.insert(alloc, name, number).is_err() {
+        drop(documents.pop());
+        return Err(Refusal::NoMemory);
+    }
+    Ok(())
+}
+
+fn accept_each(documents: &mut Vec<DocState>, touched: &[u32], limits: Limits)
+    ensures { documents.new.items ≡ changed_at_all (accepted limits.keep) touched.now documents.old.items }
+{
+    for number in touched {
+        accept_one(documents, *number as usize, limits);
+    }
+}
+
+fn accept_one(documents: &mut Vec<DocState>, number: usize, limits: Limits)
+    ensures { documents.new.items ≡ changed_at (accepted limits.keep) number documents.old.items }
+{
+    if number < documents.len() {
+        documents[number].accept(limits);
+    }
+}
+
+fn forget_each(documents: &mut Vec<DocState>, touched: &[u32])
+    ensures { documents.new.items ≡ changed_at_all forgotten touched.now documents.old.items }
+{
+    for number in touched {
+        forget_one(documents, *number as usize);
+    }
+}
+
+fn forget_one(documents: &mut Vec<DocState>, number: usize)
+    ensures { documents.new.items ≡ changed_at forgotten number documents.old.items }
+{
+    if number < documents.len() {
+        documents[number].forget();
+    }
+}
+
+// takes the last documents away, with their names, so that `count` are left
+fn drop_creations(documents: &mut Vec<DocState>, names: &mut Names, count: usize)
+    requires some { count ≤ length documents.old.items }
+    requires index { IsIndex (get_by_text names.old.map) (names_of documents.old.items) }
+    requires once { NoneTwice (names_of documents.old.items) }
+    ensures documents { documents.new.items ≡ take count documents.old.items }
+    ensures index { IsIndex (get_by_text names.new.map) (names_of documents.new.items) }
+    ensures once { NoneTwice (names_of documents.new.items) }
+{
+    while documents.len() > count {
+        if let Some(document) = documents.pop() {
+            names.remove(document.name());
+        }
+    }
+}

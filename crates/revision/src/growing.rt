@@ -1,0 +1,66 @@
+//! What was taken is added to the state.
+ghost use Rattle.std.specs.Prelude.{◌≡◌, ◌⊎◌, true, false, IfOk, IfErr, OnOk, OnErr, IsErrOf};
+ghost use Rattle.revision.specs.State.{grows, grown, fold, all_grow};
+
+use crate::state::{PreparedState, State, Unprepared};
+use crate::taken::Taken;
+use refusal::Refusal;
+use std::alloc::Global;
+
+impl State {
+    /// Prepares commands in order, all of them or none. Refused with `Stranger` where one of them doesn't continue what
+    /// those before it make, unless memory runs out first (`NoMemory`); the state then comes back as it was.
+    #[tactic(auto, using(crate::proofs::Keeping::all_keep))]
+    pub fn prepare(self, alloc: Global, batch: &[Taken]) -> Result<PreparedState, Unprepared>
+        ensures before { IfOk result (λ prepared. prepared.before ≡ self) }
+        ensures after { IfOk result (λ prepared. prepared.after ≡ fold self batch.now) }
+        ensures grow { OnOk result (all_grow self batch.now ≡ true) }
+        ensures unchanged { IfErr result (λ unprepared. unprepared.state ≡ self) }
+        ensures stranger { IfErr result (λ unprepared. unprepared.refusal ≡ Refusal.Stranger → all_grow self batch.now ≡ false) }
+        ensures only { IfErr result (λ unprepared. (unprepared.refusal ≡ Refusal.Stranger) ⊎ (unprepared.refusal ≡ Refusal.NoMemory)) }
+    {
+        let mut documents = self.documents;
+        match documents.prepare_all(alloc, batch) {
+            Ok(()) => Ok(PreparedState { documents }),
+            Err(refusal) => {
+                documents.forget();
+                Err(Unprepared {
+                    state: State { documents },
+                    refusal,
+                })
+            }
+        }
+    }
+
+    /// Adds a command that was taken. Refused with `Stranger` just where it doesn't continue the state, unless memory
+    /// runs out first (`NoMemory`). A refusal leaves the state unchanged.
+    pub fn absorb(&mut self, alloc: Global, taken: &Taken) -> Result<(), Refusal>
+        ensures ok { OnOk result (self.new ≡ grown self.old taken.now) }
+        ensures grow { OnOk result (grows self.old taken.now ≡ true) }
+        ensures stranger { IsErrOf result Refusal.Stranger → grows self.old taken.now ≡ false }
+        ensures only { IfErr result (λ e. (e ≡ Refusal.Stranger) ⊎ (e ≡ Refusal.NoMemory)) }
+        ensures unchanged { OnErr result (self.new ≡ self.old) }
+    {
+        self.documents.prepare(alloc, taken)?;
+        self.documents.accept();
+        Ok(())
+    }
+
+    /// Adds commands in order, all of them or none. Refused with `Stranger` where one of them doesn't continue what
+    /// those before it have made, unless memory runs out first (`NoMemory`). A refusal leaves the state unchanged.
+    #[tactic(auto, using(crate::proofs::Keeping::all_keep))]
+    pub fn absorb_all(&mut self, alloc: Global, batch: &[Taken]) -> Result<(), Refusal>
+        ensures ok { OnOk result (self.new ≡ fold self.old batch.now) }
+        ensures grow { OnOk result (all_grow self.old batch.now ≡ true) }
+        ensures stranger { IsErrOf result Refusal.Stranger → all_grow self.old batch.now ≡ false }
+        ensures only { IfErr result (λ e. (e ≡ Refusal.Stranger) ⊎ (e ≡ Refusal.NoMemory)) }
+        ensures unchanged { OnErr result (self.new ≡ self.old) }
+    {
+        let prepared = self.documents.prepare_all(alloc, batch);
+        match prepared {
+            Ok(()) => self.documents.accept(),
+            Err(_) => self.documents.forget(),
+        }
+        prepared
+    }
+}

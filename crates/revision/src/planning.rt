@@ -1,0 +1,283 @@
+//! Which commands are taken.
+ghost use Rattle.std.specs.Prelude.{◌≡◌, ◌≢◌, ◌⊎◌, ◌<◌, ◌≤◌, ◌^◌, ◌+◌, true, length, Some, IfOk, OnOk, IfErr};
+ghost use Rattle.revision.specs.Acceptance.{answer, by_number, take_on, create_existing, create_new, edit, undo, change, Takes, Refuses};
+ghost use Rattle.revision.specs.Command.{Taken as Change, IsShortDelta};
+ghost use Rattle.revision.specs.Invariants.{IsPast};
+ghost use Rattle.revision.specs.Pending.{held};
+ghost use Rattle.revision.specs.Sources.{last_of};
+ghost use Rattle.revision.specs.State.{sources_of, has_place as spec_has_place};
+ghost use Rattle.revision.specs.Planned.{Gives, IsTurn, IsAsked, IsDecided, PlanGrows};
+
+use crate::command::{Action, Command};
+use crate::doc_state::DocState;
+use crate::limits::Limits;
+use crate::name::Name;
+use crate::sources::{LastTaken, Sources};
+use crate::state::State;
+use crate::taken::{Taken, creation_width, edit_width};
+use delta::Delta;
+use document::Document;
+use refusal::Refusal;
+use std::alloc::Global;
+
+/// The last revision.
+const LAST: u64 = (1 << 53) - 1;
+
+/// What becomes of a command that isn't refused.
+#[derive(Drop)]
+pub enum Plan {
+    /// It is taken: this is to be added.
+    Taken(Taken),
+    /// It was taken before, and made this revision.
+    Again { rev: u64 },
+}
+
+/// The reply to a command that isn't refused, with the revision that it made.
+#[derive(Clone, Copy, Debug, PartialEq, Eq)]
+pub enum Reply {
+    /// It was taken now.
+    Taken { rev: u64 },
+    /// It was taken before.
+    Again { rev: u64 },
+}
+
+impl State {
+    /// The answer to a command, which leaves the state as it is. The first that holds decides.
+    ///
+    /// Of a creation: where the document is there, the source's last number is answered with `Again`, and any other is refused
+    /// with `Exists`; `Gap` for a number above 1, `TooManyDocuments` where there are `docs` documents. Of an edit or an undo:
+    /// `NoDocument`; `Again` for the source's last number, `OldNumber` for one below it, `Gap` for one above the next. Then of
+    /// an edit: `TooManySources` where the source isn't there and `sources` others are, `Future` for a base above the newest
+    /// revision, `TooOld` for one below the floor. Of an undo: `NothingToUndo` where the source has no change, `TooOld` where
+    /// its last one isn't held with the revision before it. Of both: `RevisionsSpent` where the newest revision is 2^53 - 1.
+    /// Of all: `PastEnd` where the delta, late past what was taken since its base, speaks of a unit that isn't there,
+    /// `CutsPair` where it parts a surrogate pair, `TooHeavy` and `TooWide` where the document's weight or the entry's bytes
+    /// would be above the limit; else it is taken. Want of memory (`NoMemory`) may come in place of any other answer.
+    /// specs/Acceptance.antt states it as `answer`.
+    pub fn plan(&self, alloc: Global, command: &Command) -> Result<Plan, Refusal>
+        ensures due { Gives result (answer self.now command.now) }
+        ensures grows { IfOk result (PlanGrows self.now) }
+    {
+        // its number is in range
+        let _ = command.number();
+        self.answer_to(alloc, command)
+    }
+
+    /// Answers a command, and adds what is taken. The reply and the refusals are those of `plan`; refused, the state is as it
+    /// was. specs/Acceptance.antt states it as `decide`.
+    pub fn decide(&mut self, alloc: Global, command: &Command) -> Result<Reply, Refusal>
+        ensures { IsDecided self.old command.now result self.new }
+    {
+        let taken = match self.plan(alloc, command) {
+            Ok(Plan::Taken(taken)) => taken,
+            Ok(Plan::Again { rev }) => return Ok(Reply::Again { rev }),
+            Err(refusal) => return Err(refusal),
+        };
+        if let Err(refusal) = self.absorb(alloc, &taken) {
+            return Err(refusal);
+        }
+        Ok(Reply::Taken {
+            rev: taken.revision(),
+        })
+    }
+
+    // the answer to a command
+    fn answer_to(&self, alloc: Global, command: &Command) -> Result<Plan, Refusal>
+        ensures { Gives result (answer self.now command.now) }
+    {
+        // a document that it holds has a past
+        let _ = self.limits();
+        let found = self.find(command.name());
+        match command.action() {
+            Action::Create(delta) => match found {
+                None => plan_new(alloc, self, command, delta),
+                Some((_, found)) => plan_existing(found, command),
+            },
+            Action::Edit { base, delta } => match found {
+                None => Err(Refusal::NoDocument),
+                Some((number, found)) => {
+                    plan_edit(alloc, self, number, found, command, *base, delta)
+                }
+            },
+            Action::Undo => match found {
+                None => Err(Refusal::NoDocument),
+                Some((number, found)) => plan_undo(alloc, self, number, found, command),
+            },
+        }
+    }
+}
+
+fn plan_existing(found: &DocState, command: &Command) -> Result<Plan, Refusal>
+    ensures { Gives result (create_existing (held found.now) command.now) }
+{
+    let last = found.last(command.source());
+    if 0 < last.number && command.number() == last.number {
+        Ok(Plan::Again { rev: last.revision })
+    } else {
+        Err(Refusal::Exists)
+    }
+}
+
+fn plan_new(alloc: Global, state: &State, command: &Command, delta: &Delta) -> Result<Plan, Refusal>
+    ensures { Gives result (create_new state.now command.now delta.now) }
+{
+    let limits = state.limits();
+    let count = state.documents().len();
+    if command.number() > 1 {
+        return Err(Refusal::Gap);
+    }
+    if count as u64 >= u64::from(limits.docs()) {
+        return Err(Refusal::TooManyDocuments);
+    }
+    let width = creation_width(command.name(), command.source(), delta);
+    let document = Document::empty(alloc);
+    let sources = Sources::new(alloc);
+    if let Err(refusal) = admit(limits, &document, &sources, command.source(), delta, width) {
+        return Err(refusal);
+    }
+    let name = command.name().copy(alloc)?;
+    let source = command.source().copy(alloc)?;
+    let delta = delta.copy(alloc)?;
+    Ok(Plan::Taken(Taken::creation(count as u32, name, source, delta)))
+}
+
+fn plan_edit(
+    alloc: Global,
+    state: &State,
+    number: u32,
+    found: &DocState,
+    command: &Command,
+    base: u64,
+    delta: &Delta,
+) -> Result<Plan, Refusal>
+    requires past { IsPast state.now.limits (held found.now).past }
+    requires short { IsShortDelta delta.now }
+    ensures { Gives result (by_number (last_of command.now.source (sources_of (held found.now))) command.now.number (edit state.now number (held found.now) command.now base delta.now)) }
+{
+    match turn(found.last(command.source()), command.number()) {
+        Ok(None) => {}
+        Ok(Some(rev)) => return Ok(Plan::Again { rev }),
+        Err(refusal) => return Err(refusal),
+    }
+    if !has_place(state.limits(), found.sources(), command.source()) {
+        return Err(Refusal::TooManySources);
+    }
+    if base > found.revision() {
+        return Err(Refusal::Future);
+    }
+    if base < found.floor() {
+        return Err(Refusal::TooOld);
+    }
+    let delta = found.late(alloc, delta, base)?;
+    plan_change(alloc, state, number, found, command, delta)
+}
+
+fn plan_undo(
+    alloc: Global,
+    state: &State,
+    number: u32,
+    found: &DocState,
+    command: &Command,
+) -> Result<Plan, Refusal>
+    requires past { IsPast state.now.limits (held found.now).past }
+    ensures { Gives result (by_number (last_of command.now.source (sources_of (held found.now))) command.now.number (undo state.now number (held found.now) command.now)) }
+{
+    let last = found.last(command.source());
+    match turn(last, command.number()) {
+        Ok(None) => {}
+        Ok(Some(rev)) => return Ok(Plan::Again { rev }),
+        Err(refusal) => return Err(refusal),
+    }
+    if last.number == 0 {
+        return Err(Refusal::NothingToUndo);
+    }
+    if last.revision <= found.floor() {
+        return Err(Refusal::TooOld);
+    }
+    let delta = found.undo(alloc, last.revision)?;
+    plan_change(alloc, state, number, found, command, delta)
+}
+
+// the next revision of a document by this delta
+fn plan_change(
+    alloc: Global,
+    state: &State,
+    number: u32,
+    found: &DocState,
+    command: &Command,
+    delta: Delta,
+) -> Result<Plan, Refusal>
+    requires past { IsPast state.now.limits (held found.now).past }
+    ensures { Gives result (change state.now number (held found.now) command.now delta) }
+{
+    let revision = found.revision();
+    if revision == LAST {
+        return Err(Refusal::RevisionsSpent);
+    }
+    let source = command.source();
+    let width = edit_width(source, &delta);
+    let limits = state.limits();
+    if let Err(refusal) = admit(
+        limits,
+        found.document(),
+        found.sources(),
+        source,
+        &delta,
+        width,
+    ) {
+        return Err(refusal);
+    }
+    let source = source.copy(alloc)?;
+    Ok(Plan::Taken(Taken::edit(number, revision + 1, source, command.number(), delta)))
+}
+
+// Whether a number is a retry, of which the revision comes back, or the source's next one; else it is refused.
+fn turn(last: LastTaken, number: u64) -> Result<Option<u64>, Refusal>
+    ensures { IsTurn result last number }
+{
+    if 0 < last.number && number == last.number {
+        return Ok(Some(last.revision));
+    }
+    if number < last.number {
+        return Err(Refusal::OldNumber);
+    }
+    if number - last.number > 1 {
+        return Err(Refusal::Gap);
+    }
+    Ok(None)
+}
+
+// a source is there, or there is room for one more
+fn has_place(limits: Limits, sources: &Sources, source: &Name) -> bool
+    ensures { result ≡ spec_has_place limits source.now sources.now }
+{
+    sources.last(source).number != 0 || (sources.count() as u64) < u64::from(limits.sources())
+}
+
+// Whether a delta is taken on a document with these sources, where its entry has so many bytes.
+fn admit(
+    limits: Limits,
+    document: &Document,
+    sources: &Sources,
+    source: &Name,
+    delta: &Delta,
+    width: u64,
+) -> Result<(), Refusal>
+    ensures ok { OnOk result ((asked : Change) → IsAsked asked source.now delta.now width → take_on limits document.now sources.now asked ≡ Takes asked) }
+    ensures err { IfErr result (λ e. (asked : Change) → IsAsked asked source.now delta.now width → take_on limits document.now sources.now asked ≡ Refuses e) }
+    ensures narrow { OnOk result (width < 2 ^ 32) }
+{
+    let weight = match document.weigh(delta) {
+        Ok(weight) => weight,
+        Err(refusal) => return Err(refusal),
+    };
+    let count = sources.count_after(source);
+    let weight = weight.saturating_add(count.saturating_mul(64));
+    if weight > u64::from(limits.weight()) {
+        return Err(Refusal::TooHeavy);
+    }
+    if width > u64::from(limits.width()) {
+        return Err(Refusal::TooWide);
+    }
+    Ok(())
+}

@@ -1,0 +1,158 @@
+//! The sources of a document, with what is prepared of them.
+ghost use Rattle.std.specs.Prelude.{◌≡◌, ℕ, IfOk, OnOk, OnErr, IsOkUnless};
+ghost use Rattle.attributes.specs.Map.{empty};
+ghost use Rattle.revision.specs.Sources.{with_last, with_entry, EqualBut};
+ghost use Rattle.attributes.specs.Map.{get};
+
+use crate::name::Name;
+use crate::sources::Sources;
+use refusal::Refusal;
+use std::alloc::Global;
+use std::marker::Model;
+use std::mem::swap;
+
+/// The sources that are held, and those after what is prepared.
+///
+/// They are kept twice. What is prepared is noted in the second list alone; to accept it the two change places, which takes no
+/// memory. `changed` names the sources in which the two may differ, and before the next change is prepared those alone are made
+/// equal.
+#[derive(Drop)]
+pub struct SourceTable {
+    held: Sources,
+    ahead: Sources,
+    changed: Vec<Name>,
+    prepared: bool,
+}
+
+impl Model for SourceTable {
+    ghost use Rattle.std.specs.Prelude.{if◌then◌else◌};
+    ghost use Rattle.revision.specs.Sources as spec;
+
+    ghost Value = { spec.Table };
+
+    ghost coded = { spec.table_code };
+
+    ghost view = { λ t. record { held = t.held; prepared = if t.prepared then t.ahead else t.held } };
+
+    ghost invariant = { λ t. spec.EqualBut t.changed.items t.held t.ahead };
+}
+
+impl SourceTable {
+    /// None. It takes no memory.
+    pub fn new(alloc: Global) -> SourceTable
+        ensures { result ≡ record { held = empty; prepared = empty } }
+    {
+        SourceTable {
+            held: Sources::new(alloc),
+            ahead: Sources::new(alloc),
+            changed: Vec::new(alloc),
+            prepared: false,
+        }
+    }
+
+    /// These sources, and nothing prepared. Refused for want of memory alone.
+    pub fn from_sources(alloc: Global, sources: &Sources) -> Result<SourceTable, Refusal>
+        ensures ok { IfOk result (λ table. table ≡ record { held = sources.now; prepared = sources.now }) }
+        ensures only { IsOkUnless result Refusal.NoMemory }
+    {
+        let held = sources.copy(alloc)?;
+        let ahead = sources.copy(alloc)?;
+        Ok(SourceTable {
+            held,
+            ahead,
+            changed: Vec::new(alloc),
+            prepared: false,
+        })
+    }
+
+    /// The sources that are held.
+    pub fn held(&self) -> &Sources
+        ensures { result.now ≡ self.now.held }
+    {
+        &self.held
+    }
+
+    /// The sources after what is prepared.
+    pub fn prepared(&self) -> &Sources
+        ensures { result.now ≡ self.now.prepared }
+    {
+        if self.prepared {
+            &self.ahead
+        } else {
+            &self.held
+        }
+    }
+
+    /// Prepares a source's command. Refused for want of memory alone, and then nothing more is prepared.
+    pub fn prepare(
+        &mut self,
+        alloc: Global,
+        source: &Name,
+        number: u64,
+        revision: u64,
+    ) -> Result<(), Refusal>
+        ensures ok { OnOk result (self.new ≡ record self.old { prepared = with_last source.now number revision self.old.prepared }) }
+        ensures only { IsOkUnless result Refusal.NoMemory }
+        ensures unchanged { OnErr result (self.new ≡ self.old) }
+    {
+        if !self.prepared {
+            align_all(alloc, self.changed.as_slice(), &self.held, &mut self.ahead)?;
+            self.changed.clear();
+            self.prepared = true;
+        }
+        let name = source.copy(alloc)?;
+        self.changed.push(source.copy(alloc)?)?;
+        self.ahead.set(name, number, revision)
+    }
+
+    /// Accepts what is prepared. It takes no memory, and isn't refused.
+    pub fn accept(&mut self)
+        ensures { self.new ≡ record { held = self.old.prepared; prepared = self.old.prepared } }
+    {
+        if self.prepared {
+            swap(&mut self.held, &mut self.ahead);
+            self.prepared = false;
+        }
+    }
+
+    /// Drops what is prepared.
+    pub fn forget(&mut self)
+        ensures { self.new ≡ record { held = self.old.held; prepared = self.old.held } }
+    {
+        self.prepared = false;
+    }
+}
+
+// Makes sources equal to others, which they are but for those of these names. Refused for want of memory alone; they are still
+// equal then, but for those.
+fn align_all(
+    alloc: Global,
+    names: &[Name],
+    held: &Sources,
+    ahead: &mut Sources,
+) -> Result<(), Refusal>
+    requires { EqualBut names.now held.now ahead.old }
+    ensures ok { OnOk result (ahead.new ≡ held.now) }
+    ensures still { EqualBut names.now held.now ahead.new }
+    ensures only { IsOkUnless result Refusal.NoMemory }
+{
+    for name in names {
+        align(alloc, name, held, ahead)?;
+    }
+    Ok(())
+}
+
+// Gives a source what it has in other sources. Refused for want of memory alone, and then unchanged.
+fn align(alloc: Global, source: &Name, held: &Sources, ahead: &mut Sources) -> Result<(), Refusal>
+    ensures ok { OnOk result (ahead.new ≡ with_entry source.now (get held.now source.now) ahead.old) }
+    ensures unchanged { OnErr result (ahead.new ≡ ahead.old) }
+    ensures only { IsOkUnless result Refusal.NoMemory }
+{
+    match held.find(source) {
+        Some(last) => ahead.set(source.copy(alloc)?, last.number, last.revision),
+        None => {
+            ahead.remove(source);
+            Ok(())
+        }
+    }
+}

@@ -1,0 +1,69 @@
+use super::{Said, talk};
+use std::test::Fail;
+
+const READS: [Said; 16] = [
+    ("", r#"{"code":1,"error":"BadLine"}"#),
+    (
+        r#"{"do":"fetch","doc":"d"}"#,
+        r#"{"code":5,"error":"NoHello"}"#,
+    ),
+    (r#"{"do":"hello","source":"ann"}"#, r#"{"ok":"hello"}"#),
+    (
+        r#"{"do":"create","doc":"d","n":1,"ops":[{"insert":"Hi"}]}"#,
+        r#"{"doc":"d","n":1,"ok":"taken","rev":1}"#,
+    ),
+    (
+        r#"{"base":1,"do":"edit","doc":"d","n":2,"ops":[{"retain":2},{"insert":"!","attributes":{"bold":true}}]}"#,
+        r#"{"doc":"d","n":2,"ok":"taken","rev":2}"#,
+    ),
+    (
+        r#"{"do":"fetch","doc":"d"}"#,
+        r#"{"doc":"d","ok":"doc","ops":[{"insert":"Hi"},{"attributes":{"bold":true},"insert":"!"}],"rev":2}"#,
+    ),
+    (
+        r#"{"do":"fetch","doc":"d","rev":1}"#,
+        r#"{"doc":"d","ok":"doc","ops":[{"insert":"Hi"}],"rev":1}"#,
+    ),
+    (
+        r#"{"do":"fetch","doc":"d","rev":3}"#,
+        r#"{"code":12,"error":"Future"}"#,
+    ),
+    (
+        r#"{"do":"fetch","doc":"e","rev":3}"#,
+        r#"{"code":6,"error":"NoDocument"}"#,
+    ),
+    (
+        r#"{"do":"fetch","doc":"d/","rev":3}"#,
+        r#"{"code":8,"error":"BadName"}"#,
+    ),
+    (
+        r#"{"do":"fetch","doc":"d","rev":-1}"#,
+        r#"{"code":2,"error":"BadMessage"}"#,
+    ),
+    (
+        r#"{"do":"since","doc":"d","rev":1}"#,
+        r#"{"deltas":[[{"retain":2},{"attributes":{"bold":true},"insert":"!"}]],"doc":"d","ok":"since","rev":2}"#,
+    ),
+    (
+        r#"{"do":"since","doc":"d","rev":2}"#,
+        r#"{"deltas":[],"doc":"d","ok":"since","rev":2}"#,
+    ),
+    (
+        r#"{"do":"undo","doc":"d","n":3}"#,
+        r#"{"doc":"d","n":3,"ok":"taken","rev":3}"#,
+    ),
+    (
+        r#"{"do":"fetch","doc":"d","rev":0}"#,
+        r#"{"code":13,"error":"TooOld"}"#,
+    ),
+    (
+        r#"{"do":"undo","doc":"d","n":3}"#,
+        r#"{"doc":"d","n":3,"ok":"again","rev":3}"#,
+    ),
+];
+
+#[test]
+fn what_is_asked_of_a_document_is_told(rt: HostRuntime) -> Result<(), Fail> {
+    talk(&rt, &READS, false)?;
+    talk(&rt, &READS, true)
+}
