@@ -26,14 +26,17 @@ const RUNS: [(&str, &str); 4] = [
     ),
 ];
 
-/// The names of a document and a source are so long that two records don't fit the slot.
+/// The names of documents and of a source are so long that a creation leaves 101 bytes of a slot's area, so that each of two
+/// opens a slot. An edit with a delta of 50 bytes is a batch of 109, and needs 6 more.
 const FULL: &str = "{\"do\":\"hello\",\"source\":\"s23456789_123456789_123456789_12\"}\n\
     {\"do\":\"create\",\"doc\":\"d23456789_123456789_123456789_123456789_123456789_123456789_1231\",\"n\":1,\"ops\":[{\"insert\":\"abc\"}]}\n\
     {\"do\":\"create\",\"doc\":\"d23456789_123456789_123456789_123456789_123456789_123456789_1232\",\"n\":1,\"ops\":[{\"insert\":\"abc\"}]}\n\
-    {\"do\":\"create\",\"doc\":\"d23456789_123456789_123456789_123456789_123456789_123456789_1231\",\"n\":1,\"ops\":[]}\n";
+    {\"base\":1,\"do\":\"edit\",\"doc\":\"d23456789_123456789_123456789_123456789_123456789_123456789_1231\",\"n\":2,\"ops\":[{\"retain\":1},{\"insert\":\"x\"},{\"retain\":1},{\"insert\":\"y\"}]}\n\
+    {\"do\":\"create\",\"doc\":\"d23456789_123456789_123456789_123456789_123456789_123456789_1231\",\"n\":1,\"ops\":[{\"insert\":\"abc\"}]}\n";
 
 const FULL_REPLIES: &str = "{\"ok\":\"hello\"}\n\
     {\"doc\":\"d23456789_123456789_123456789_123456789_123456789_123456789_1231\",\"n\":1,\"ok\":\"taken\",\"rev\":1}\n\
+    {\"doc\":\"d23456789_123456789_123456789_123456789_123456789_123456789_1232\",\"n\":1,\"ok\":\"taken\",\"rev\":1}\n\
     {\"code\":21,\"error\":\"StoreFailed\"}\n\
     {\"code\":21,\"error\":\"StoreFailed\"}\n";
 
