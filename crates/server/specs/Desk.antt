@@ -63,6 +63,7 @@ module _ {D : Type 0} {disk : Ghosts D} where
     -- the desk fails just with StoreFailed, and that comes just of a commit that failed
     pub fails : (has_failed new ≡ true) ↔ (result ≡ Err StoreFailed)
     pub cause : result ≡ Err StoreFailed → FailsCommit old taken new
+    pub full : store_has_failed (store_of old) ≡ false → has_room (store_of old) (taken ∷ []) ≡ false → result ≡ Err StoreFailed
     -- A crash at any moment leaves the state before, or the one with the command; once it is acknowledged, the device
     -- is synced and stands for the latter, so that every later crash holds it.
     pub any_moment : store_has_failed (store_of old) ≡ false → IsOpen (store_of old)

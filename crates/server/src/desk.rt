@@ -63,6 +63,7 @@ impl<D: Disk> StoreDesk<D> {
             → store_has_failed (store_of self.new) ≡ false }
         ensures fails { (has_failed self.new ≡ true) ↔ (result ≡ Err Refusal.StoreFailed) }
         ensures cause { result ≡ Err Refusal.StoreFailed → FailsCommit self.old taken self.new }
+        ensures full { store_has_failed (store_of self.old) ≡ false → has_room (store_of self.old) (taken ∷ []) ≡ false → result ≡ Err Refusal.StoreFailed }
         ensures any_moment { store_has_failed (store_of self.old) ≡ false → IsOpen (store_of self.old)
             → LeavesOnly ⟦<D as Disk>⟧ (IsWithOrWithout (state_of (store_of self.old)) (taken ∷ []))
             (device_of (store_of self.old)) (device_of (store_of self.new)) }

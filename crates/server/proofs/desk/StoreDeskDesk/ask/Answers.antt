@@ -28,6 +28,7 @@ returns-in-Taken g c =
         store_works = e.store_works;
         fails = e.fails;
         cause = e.cause;
+        full = e.full;
         any_moment = e.any_moment;
         done = e.done;
         kept = e.kept;
