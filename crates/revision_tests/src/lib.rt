@@ -4,6 +4,8 @@
 #![tactic(auto)]
 
 #[cfg(test)]
+mod adopting;
+#[cfg(test)]
 mod asking;
 #[cfg(test)]
 mod batches;
