@@ -150,19 +150,6 @@ impl Past {
         self.start + self.deltas.len() as u64
     }
 
-    /// The document after all that was prepared. Refused for want of memory alone.
-    pub fn prepared_document(&self, alloc: Global) -> Result<Document, Refusal>
-        ensures document { IfOk result (λ document. document ≡ prepared_units self.now) }
-        ensures only { IsOkUnless result Refusal.NoMemory }
-    {
-        document_after(
-            alloc,
-            &self.document,
-            self.deltas.as_slice(),
-            self.deltas.len(),
-        )
-    }
-
     /// Prepares the change of the revision after all that was prepared: the document takes it there, and stays short. What is
     /// seen of the past stays as it is. Refused for want of memory alone, and then nothing more is prepared.
     pub fn prepare(&mut self, source: Name, number: u64, delta: Delta) -> Result<(), Refusal>
