@@ -18,7 +18,7 @@ fn talk<R: AllocGlobal + Abort>(rt: &R, rows: &[Said], by_bytes: bool) -> Result
         let mut out = Vec::new(alloc);
         let input = format!(in alloc; "{line}\n")?;
         let wanted = format!(in alloc; "{reply}\n")?;
-        let size = if by_bytes { 1 } else { input.len() };
+        let size = if by_bytes { 1 } else { 65_536 };
         for piece in input.as_bytes().chunks(size) {
             desk.feed(alloc, &mut session, piece, &mut out)?;
         }

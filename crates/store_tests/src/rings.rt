@@ -122,10 +122,7 @@ const LEFT: [(Left, bool); 6] = [
 // A stop at a call of the second commit leaves the first batch, with the second one or without it.
 fn is_stopped(rt: &(impl Abort + AllocGlobal), call: u64, left: Left, wanted: &str) {
     let bytes = with_first(rt);
-    let before = open_store(rt, device_of(rt, &bytes))
-        .close()
-        .calls()
-        .len() as u64;
+    let before = open_store(rt, device_of(rt, &bytes)).close().calls().len() as u64;
     let plan = FaultPlan::stop(before.saturating_add(call), left);
     let mut store = open_store(rt, FaultDisk::new(device_of(rt, &bytes), plan));
     let steps = [step(rt, &store, &second(rt))];
