@@ -5,7 +5,7 @@
 //! moment of a call leaves of the table of slots. It knows bytes alone: what a body stands for is the layer's above. It
 //! stands on `journal` and `disk`.
 //!
-//! A caller, with its contract, which is proved as it stands:
+//! A caller, with its contract:
 //!
 //! ```text
 //! ghost use Rattle.std.specs.Prelude.{◌≡◌, ◌≤◌, [], ◌∷◌, Option, List, length};
