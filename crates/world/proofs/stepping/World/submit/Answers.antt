@@ -1,4 +1,7 @@
 use Rattle.std.proofs.Common.{◌≡◌, ℕ, [], ◌∷◌, ◌++◌, refl, sym, ap, ◌∙◌, subst, take, length, ◌≤◌, ◌<◌, ◌^◌, arith, inl, inr}
+use Rattle.std.proofs.lemmas.Bool.{both_ways}
+use denote.Enum.Bare.{sameb}
+use Rattle.refusal.specs.contracts.Refusal.{the_type}
 use Rattle.refusal.specs.declared.Refusal.TheVariants.{NoMemory}
 use Rattle.revision.specs.Acceptance.{answer, Refuses}
 use Rattle.world.specs.Event.{Submit}
@@ -41,7 +44,7 @@ refused : (c : goal.In_ok-push-in-Err) → answer c.self.inside.board.state c.ar
 refused c = elim c.in-Err.ensures.refused [ | inl e ↦ absurd (other c e) | inr e ↦ e ]
   where
     other : (c : goal.In_ok-push-in-Err) → c.in-Err.refusal ≡ NoMemory → ⊥
-    other c e = let x : ℕ = c.eq.ensures in let y : ℕ = c.if-eq.ensures in ?
+    other c e = both_ways c.eq.result c.if-eq.false (c.eq.ensures ∙ ap (λ r. sameb the_type r NoMemory) e)
 
 refused_sent_are : (c : goal.In_ok-push-in-Err) → c.push-in-Err.new.self.items ≡ c.self.inside.sent.items ++ c.args.command.now ∷ []
 refused_sent_are c =
