@@ -161,6 +161,8 @@ impl Ring {
         // Four calls of the device at most, and four more where a slot is opened.
         ensures calls { length (D.past disk.new) ≤ length (D.past disk.old) + 8 }
         ensures calls_where_it_fits { fits_newest self.old (length body.now) ≡ true → length (D.past disk.new) ≤ length (D.past disk.old) + 4 }
+        ensures calls_given_up { IsErrOf result Refusal.NoMemory → length (D.past disk.new) ≤ length (D.past disk.old) + 4 }
+        ensures given_up_where_it_fits { IsErrOf result Refusal.NoMemory → fits_newest self.old (length body.now) ≡ true → (disk.new ≡ disk.old) × (self.new ≡ self.old) }
         ensures only_written { HasOnlyWritten ⟦<D as Disk>⟧ disk.old disk.new }
         ensures faults { CountsFaultsAs ⟦<D as Disk>⟧ Refusal.Fault result disk.old disk.new }
     {
