@@ -1,8 +1,8 @@
 -- What the program that steps a world keeps, event by event.
-use Rattle.std.proofs.Common.{◌≡◌, ℕ, zero, suc, ◌+◌, ◌-◌, ◌≤◌, ◌<◌, ◌^◌, Bool, true, false, cond, List, [], ◌∷◌, ◌++◌, length, take, drop, Option, Some, None, refl, sym, ap, ◌∙◌, subst, arith, inl, inr}
-use Rattle.std.specs.Prelude.{◌==◌, ◌&&◌, ◌||◌, nat_lt, nat_le, if◌then◌else◌, slice_get, option_to_list}
+use Rattle.std.proofs.Common.{◌≡◌, ℕ, zero, suc, ◌≤◌, ◌<◌, ◌^◌, Bool, true, false, cond, List, [], ◌∷◌, ◌++◌, length, take, drop, Some, refl, sym, ap, ◌∙◌, subst, arith, inl, inr}
+use Rattle.std.specs.Prelude.{◌==◌, ◌&&◌, nat_lt, nat_le, if◌then◌else◌, slice_get, option_to_list}
 use Rattle.std.proofs.lemmas.Bool.{and_parts, and_from, or_cases, eqb-true, lt-ltb, le-leb, eq-eqb}
-use Rattle.std.proofs.lemmas.List.{append-nil, take_all, take-map, take-append-drop, take-append-le, take-take, length-append, length-take-le, length-map, map-append}
+use Rattle.std.proofs.lemmas.List.{append-nil, take-map, take-append-drop, take-append-le, take-take, length-append, length-take-le, length-map, map-append}
 use Rattle.revision.specs.Command.{Taken, Command}
 use Rattle.revision.specs.State.{Limits, State, grows, grown, all_grow, fold, last_of_all}
 use Rattle.revision.specs.Acceptance.{Answer, Takes, Repeats, Refuses, answer}
@@ -12,7 +12,7 @@ use Rattle.world.specs.Board.{Board, Ticket, submitted, submitted_by, ticket_of,
 use Rattle.world.specs.Event.{Submit, Publish, Compose}
 use Rattle.world.specs.World.{Entry, entry_of, takens, World}
 use Rattle.world.specs.Step.{revision_at, is_numbered, with_command, may_leave, may_pick, whole, opened, can_open, running_step}
-use Rattle.world.specs.Stepping.{empty_store, AreStepped, floors_of, floors_left}
+use Rattle.world.specs.Stepping.{empty_store, AreStepped, floors_left}
 use Rattle.world.proofs.Uncomposed.{uncomposed_picks, uncomposed_state}
 
 -- what is left of an order continues the start

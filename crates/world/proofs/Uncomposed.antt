@@ -4,11 +4,11 @@ use Rattle.std.specs.Prelude.{◌&&◌, nat_le, max, slice_get}
 use Rattle.std.proofs.lemmas.Bool.{and_from, le-leb}
 use Rattle.revision.specs.Command.{Taken}
 use Rattle.revision.specs.Past.{Change, Past, newest, empty_past, from_floor, with_change}
-use Rattle.revision.specs.State.{Limits, DocumentRecord, State, revision_of, change_of, last_of_all, record_by_name, set_document, grown, fold}
+use Rattle.revision.specs.State.{Limits, DocumentRecord, State, revision_of, change_of, last_of_all, record_by_name, set_document, fold}
 use Rattle.revision.specs.Floors.{longer}
 use Rattle.revision.proofs.CallerLemmas.{from_twice, from_newest}
 use Rattle.world.specs.World.{last_composed}
-use Rattle.world.specs.Step.{keeping_all, whole, with_floors, may_begin_at, may_pick}
+use Rattle.world.specs.Step.{whole, with_floors, may_begin_at, may_pick}
 use Rattle.world.specs.Stepping.{floors_of}
 use Rattle.world.proofs.Pasts.{newest-with_change}
 use Rattle.world.proofs.Cutting.{IsCut, cut-itself, cut-change}

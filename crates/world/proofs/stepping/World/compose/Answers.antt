@@ -1,4 +1,4 @@
-use Rattle.std.proofs.Common.{◌≡◌, ap, ◌∙◌, take}
+use Rattle.std.proofs.Common.{ap, ◌∙◌, take}
 use Rattle.revision.specs.State.{all_grow}
 use Rattle.world.specs.World.{takens}
 use Rattle.world.specs.Stepping.{empty_store}

@@ -1,6 +1,6 @@
-use Rattle.std.proofs.Common.{◌≡◌, [], true, false, refl, sym, ap, ◌∙◌, subst, take, ◌≤◌, arith}
+use Rattle.std.proofs.Common.{◌≡◌, true, false, sym, ap, ◌∙◌, subst, take, arith}
 use Rattle.std.specs.Prelude.{if◌then◌else◌}
-use Rattle.revision.specs.State.{all_grow, fold, last_of_all}
+use Rattle.revision.specs.State.{all_grow, fold}
 use Rattle.world.specs.World.{World, takens}
 use Rattle.world.specs.Step.{may_leave, can_open, opened}
 use Rattle.world.specs.Stepping.{empty_store, AreStepped, world_of, floors_left}

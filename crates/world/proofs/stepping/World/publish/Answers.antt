@@ -1,4 +1,4 @@
-use Rattle.std.proofs.Common.{◌≡◌, refl, ap, ◌∙◌, arith}
+use Rattle.std.proofs.Common.{refl, ap, ◌∙◌, arith}
 use Rattle.world.specs.Event.{Publish}
 use Rattle.world.specs.World.{World}
 use Rattle.world.specs.Step.{running_step}

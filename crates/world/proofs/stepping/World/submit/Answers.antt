@@ -1,4 +1,4 @@
-use Rattle.std.proofs.Common.{◌≡◌, ℕ, [], ◌∷◌, ◌++◌, refl, sym, ap, ◌∙◌, subst, take, length, ◌≤◌, ◌<◌, ◌^◌, arith, inl, inr}
+use Rattle.std.proofs.Common.{◌≡◌, [], ◌∷◌, ◌++◌, refl, sym, ap, ◌∙◌, subst, take, arith, inl, inr}
 use Rattle.std.proofs.lemmas.Bool.{both_ways}
 use denote.Enum.Bare.{sameb}
 use Rattle.refusal.specs.contracts.Refusal.{the_type}
