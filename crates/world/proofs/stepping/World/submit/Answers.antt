@@ -41,7 +41,7 @@ returns-in_ok-push-in-Ok-2-clause-ok c =
     ∙ ap (λ (w : World). running_step w (Submit c.args.command.now)) c.self.view_is)
 
 refused : (c : goal.In_ok-push-in-Err) → answer c.self.inside.board.state c.args.command.now ≡ Refuses c.in-Err.refusal
-refused c = elim c.in-Err.ensures.refused [ | inl e ↦ absurd (other c e) | inr e ↦ e ]
+refused c = elim c.in-Err.ensures.refused [ inl e ↦ absurd (other c e) | inr e ↦ e ]
   where
     other : (c : goal.In_ok-push-in-Err) → c.in-Err.refusal ≡ NoMemory → ⊥
     other c e = both_ways c.eq.result c.if-eq.false (c.eq.ensures ∙ ap (λ r. sameb the_type r NoMemory) e)
