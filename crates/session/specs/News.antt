@@ -1,5 +1,5 @@
 -- What is told of the documents that a session follows.
-use Rattle.std.specs.Prelude.{ℕ, ◌+◌, max, nat_lt, if◌then◌else◌, List, [], ◌∷◌, ◌++◌, Option, Some, None}
+use Rattle.std.specs.Prelude.{◌≡◌, ℕ, ◌+◌, max, length, nat_lt, if◌then◌else◌, List, [], ◌∷◌, ◌++◌, Option, Some, None}
 use Rattle.delta.specs.Operation.{Operation}
 use Rattle.revision.specs.Past.{Past, newest, deltas_above}
 use Rattle.revision.specs.State.{DocumentRecord, State, find}
@@ -64,3 +64,9 @@ news_shown subscriptions (Some state) = news subscriptions state
 abbrev pub subscriptions_shown : Subscriptions → Option State → Subscriptions
 subscriptions_shown subscriptions None = subscriptions
 subscriptions_shown subscriptions (Some state) = subscriptions_after subscriptions state
+
+-- What is found out before the news are told: their lines, and of each subscription the revision that is told last then.
+pub record AreNews (subscriptions : Subscriptions) (shown : Option State) (text : List ℕ) (last : List (Option ℕ)) : Type 0 where
+  pub lines : text ≡ news_shown subscriptions shown
+  pub left : going_on subscriptions last ≡ subscriptions_shown subscriptions shown
+  pub each : length last ≡ length subscriptions

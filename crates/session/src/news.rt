@@ -1,5 +1,5 @@
 //! What is told of the documents that a session follows.
-ghost use Rattle.std.specs.Prelude.{◌≡◌, ◌+◌, ◌<◌, ◌^◌, ◌++◌, Some, map, length, IfOk, OnOk};
+ghost use Rattle.std.specs.Prelude.{◌≡◌, ◌+◌, ◌<◌, ◌^◌, ◌++◌, Some, length, IfOk, OnOk};
 ghost use Rattle.std.specs.String.{string_bytes};
 ghost use Rattle.revision.specs.Pending.{held};
 ghost use Rattle.session.specs.News as spec;
@@ -20,9 +20,8 @@ pub struct News {
 impl News {
     /// The news of a state. Each revision that is told is printed from its delta as it is held; no document is looked at.
     pub fn of(alloc: Global, subscriptions: &Subscriptions, state: &State) -> Result<News, AllocError>
-        ensures text { IfOk result (λ news. string_bytes news.text ≡ spec.news subscriptions.now state.now) }
-        ensures last { IfOk result (λ news. news.last.items
-            ≡ map (λ one. spec.last_in state.now one.0 one.1) subscriptions.now) }
+        ensures { IfOk result (λ news.
+            spec.AreNews subscriptions.now (Some state.now) (string_bytes news.text) news.last.items) }
     {
         let entries = subscriptions.entries();
         let mut text = String::new(alloc);

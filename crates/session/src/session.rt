@@ -14,7 +14,7 @@ ghost use Rattle.session.specs.Reads.{shown_line};
 ghost use Rattle.session.specs.Exchange.{Exchange, Answered, Shown};
 ghost use Rattle.session.specs.Output.{AppendsFront};
 ghost use Rattle.session.specs.Subscriptions.{may_follow_shown, subscribed, without_subscription};
-ghost use Rattle.session.specs.News.{going_on, news_shown, subscriptions_shown};
+ghost use Rattle.session.specs.News.{AreNews, going_on};
 ghost use Rattle.session.specs.Calls.{TellsNews, StopsNews, with_subscriptions};
 ghost use Rattle.session.specs.Replies.{IsLine, IsReplied, Asks, Feeds, Stops, answer_line, text_told};
 
@@ -362,9 +362,7 @@ fn show_news<D: Desk>(
     subscriptions: &Subscriptions,
 ) -> Result<News, AllocError>
     ensures { (shown : Option state.State) × D.does desk.old (Shown shown) desk.new
-        × IfOk result (λ news. (string_bytes news.text ≡ news_shown subscriptions.now shown)
-            × (going_on subscriptions.now news.last.items ≡ subscriptions_shown subscriptions.now shown)
-            × (length news.last.items ≡ length subscriptions.now)) }
+        × IfOk result (λ news. AreNews subscriptions.now shown (string_bytes news.text) news.last.items) }
 {
     match desk.view(|state| News::of(alloc, subscriptions, state)) {
         Ok(news) => news,

@@ -1,8 +1,9 @@
-use Rattle.std.proofs.Common.{◌≡◌, ◌+◌, ◌<◌, ◌++◌, ◌∷◌, [], length, ap, ap₂, ◌∙◌, append_assoc, rules, arith}
+use Rattle.std.proofs.Common.{◌≡◌, ◌+◌, ◌<◌, ◌++◌, ◌∷◌, [], length, map, take, ap, ap₂, ◌∙◌, append_assoc, rules, arith}
 use Rattle.std.specs.String.{string_bytes}
 use Rattle.attributes.proofs.Places.{read_at}
-use Rattle.session.specs.News.{lines_in, last_in}
-use Rattle.session.proofs.Newsworthy.{news-next, last-next}
+use Rattle.std.proofs.lemmas.List.{take_all, length-map}
+use Rattle.session.specs.News.{lines_in, last_in, news, going_on}
+use Rattle.session.proofs.Newsworthy.{news-next, last-next, goes_on}
 use Rattle.session.proofs.news.News.of.Goals as goal
 
 pub loop-entry-preserved : goal.loop-entry-preserved
@@ -18,4 +19,19 @@ loop-entry-preserved c =
     record {
       text = text ∙ ap (λ l. l ++ lines_in state one.0 one.1) so_far.text ∙ news-next subscriptions c.loop-entry.entry-index one state read.0 read.1;
       last = pushed ∙ ap₂ (λ l n. l ++ n ∷ []) so_far.last next ∙ last-next subscriptions c.loop-entry.entry-index one state read.0 read.1;
+    }
+
+pub returns : goal.returns
+returns c =
+    let subscriptions = c.args.subscriptions.now in
+    let state = c.args.state.now in
+    let so_far = c.loop-entry.invariant in
+    let all : take c.loop-entry.entry-index subscriptions ≡ subscriptions =
+    take_all c.loop-entry.entry-index subscriptions (let past = c.loop-entry-test.false in let same = ap length c.entries-entries.ensures in omega (arith, past, same)) in
+    let last : c.loop-entry.last.items ≡ map (λ one. last_in state one.0 one.1) subscriptions =
+    so_far.last ∙ ap (map (λ one. last_in state one.0 one.1)) all in
+    record {
+      lines = so_far.text ∙ ap (λ l. news l state) all;
+      left = ap (going_on subscriptions) last ∙ goes_on subscriptions state;
+      each = ap length last ∙ length-map subscriptions (λ one. last_in state one.0 one.1);
     }

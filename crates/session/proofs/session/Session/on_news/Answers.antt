@@ -16,6 +16,6 @@ returns-clause-told g c =
     let done = c.in_ok-tell.ensures in
     told g.D.Desk.does c.args.self.now c.tell.new.self c.args.desk.now c.show_news.new.desk (g.O.Output.contents c.args.out.now) (g.O.Output.contents c.tell.new.out)
     _ (going_on c.args.self.now.peer.subscriptions c.in-Ok.news.last.items) shown.0 shown.1
-    (shown.2.0 ∙ ap (λ l. news_shown l shown.0) same)
-    (ap (λ l. going_on l c.in-Ok.news.last.items) (sym same) ∙ shown.2.1 ∙ ap (λ l. subscriptions_shown l shown.0) same)
+    (shown.2.lines ∙ ap (λ l. news_shown l shown.0) same)
+    (ap (λ l. going_on l c.in-Ok.news.last.items) (sym same) ∙ shown.2.left ∙ ap (λ l. subscriptions_shown l shown.0) same)
     done.written done.noted
