@@ -24,7 +24,9 @@ use crate::news::News;
 use crate::output::Output;
 use crate::question::Question;
 use crate::reads::{check_held, read};
-use crate::reply::{acknowledgement, greeting, refusal_reply, subscribed_reply, unsubscribed_reply};
+use crate::reply::{
+    acknowledgement, greeting, refusal_reply, subscribed_reply, unsubscribed_reply,
+};
 use crate::request::Request;
 use crate::subscriptions::Subscriptions;
 use refusal::Refusal;
@@ -56,9 +58,9 @@ impl Model for Session {
     ghost Value = { spec.Session };
 
     ghost view = { λ s. record {
-        line = s.line;
-        peer = record { source = s.source; subscriptions = s.subscriptions };
-        ended = s.ended;
+      line = s.line;
+      peer = record { source = s.source; subscriptions = s.subscriptions };
+      ended = s.ended;
     } };
 
     ghost invariant = { λ s. ForSome s.source (λ name. is_source_name name ≡ true) };
@@ -258,7 +260,7 @@ impl Session {
     ) -> Result<String, AllocError>
         ensures { (shown : Option state.State) × D.does desk.old (Shown shown) desk.new
             × OnOk result (self.new ≡ with_subscriptions self.old
-                (subscribed self.old.peer.subscriptions name rev (may_follow_shown name rev shown)))
+            (subscribed self.old.peer.subscriptions name rev (may_follow_shown name rev shown)))
             × IfOk result (λ text. string_bytes text ≡ subscribed_line name rev (may_follow_shown name rev shown))
             × OnErr result (self.new ≡ self.old) }
     {
