@@ -41,14 +41,18 @@ mod desk;
 pub mod laws;
 mod line;
 mod message;
+mod news;
+mod output;
 mod question;
 mod reads;
 mod reply;
 mod request;
 mod session;
 mod state_desk;
+mod subscriptions;
 
 pub use desk::Desk;
+pub use output::{Output, Stream, WriteFailed};
 pub use reply::Reply;
 pub use session::{Session, SessionEnded};
 pub use state_desk::StateDesk;
