@@ -1,0 +1,4 @@
+pub mod Milestone
+pub mod MilestoneView
+pub mod Job
+pub mod JobView
