@@ -1,10 +1,10 @@
 -- What a milestone is: a document at a revision, whose name, revision and sources are such as can be.
-use Rattle.std.specs.Prelude.{◌≡◌, ℕ, ◌≤◌, true, List, All, refl}
+use Rattle.std.specs.Prelude.{◌≡◌, ℕ, ◌≤◌, true, List, refl}
 use Rattle.std.specs.Coded.{Coded, code_by, coded×, coded_list, coded_ℕ}
 use Rattle.delta.specs.Element.{Element}
 use Rattle.delta.specs.ElementCode.{element_code}
-use Rattle.revision.specs.Name.{is_document_name, is_source_name}
-use Rattle.revision.specs.Sources.{Sources, sources_code}
+use Rattle.revision.specs.Name.{is_document_name}
+use Rattle.revision.specs.Sources.{Sources, sources_code, are_named}
 use Rattle.revision.specs.State.{last_of_all, are_sources}
 use Rattle.history.specs.Cell.{Cell}
 
@@ -14,8 +14,8 @@ pub record IsMilestone (cell : Cell) : Type 0 where
   pub name : is_document_name cell.name ≡ true
   pub first : 1 ≤ cell.revision
   pub last : cell.revision ≤ last_of_all
+  pub named : are_named cell.sources.entries ≡ true
   pub sources : are_sources cell.revision cell.sources.entries ≡ true
-  pub names : All (λ s. is_source_name s.0 ≡ true) cell.sources.entries
 
 -- how a cell is told from another
 abbrev pub cell_code : Coded Cell

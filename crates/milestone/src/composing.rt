@@ -1,5 +1,6 @@
 //! A milestone is made of a job.
-ghost use Rattle.std.specs.Prelude.{◌≡◌, IfOk, IfErr, IsOkUnless};
+ghost use Rattle.std.specs.Prelude.{◌≡◌, [], IfOk, IfErr, IsOkUnless};
+ghost use Rattle.compose.specs.Many.{applied};
 ghost use Rattle.milestone.specs.Job.{IsJob, cell_of_job};
 
 use crate::job::Job;
@@ -73,4 +74,19 @@ fn milestone_of(alloc: Global, job: &Job) -> Result<Milestone, Refusal>
     let name = job.name().copy(alloc)?;
     let sources = job.sources().copy(alloc)?;
     Ok(Milestone::new(name, job.revision(), document, sources))
+}
+
+// What a job's deltas make of the empty document. Refused for want of memory alone.
+fn content_of(alloc: Global, job: &Job) -> Result<Document, Refusal>
+    ensures content { IfOk result (λ document. document ≡ applied [] job.now.deltas) }
+    ensures only { IsOkUnless result Refusal.NoMemory }
+{
+    let one = match compose_many(alloc, job.deltas()) {
+        Ok(one) => one,
+        Err(refusal) => return Err(refusal),
+    };
+    match Document::from_delta(alloc, &one) {
+        Ok(document) => Ok(document),
+        Err(refusal) => Err(refusal),
+    }
 }
