@@ -8,7 +8,7 @@ use crate::failure::Failure;
 use crate::serve::serve;
 use clap::error::ErrorKind;
 use disk::{Fault, FileDisk};
-use recovery::{OpenFault, Shape, Store};
+use recovery::{OpenFault, Pick, Shape, Store};
 use refusal::Refusal;
 use std::alloc::Global;
 use std::convert::AsStr;
@@ -100,7 +100,7 @@ fn open<R: Files<File = File> + AllocGlobal>(
     path: &str,
 ) -> Result<Store<FileDisk>, Failure> {
     let disk = FileDisk::open(rt, path)?;
-    match Store::open(rt.alloc(), disk) {
+    match Store::open(rt.alloc(), disk, Pick::Newer) {
         Ok(store) => Ok(store),
         Err(OpenFault { disk: _, refusal }) => Err(Failure::Refused(refusal)),
     }

@@ -1,7 +1,8 @@
 -- What is read of the content of a device.
 use Rattle.std.specs.Prelude.{◌≡◌, ℕ, Option, List, length}
 use Rattle.revision.specs.Command.{Taken}
-use Rattle.history.specs.Cell.{Pair, Pick}
+use Rattle.history.specs.declared.pick.Pick.{Pick}
+use Rattle.history.specs.Cell.{Pair}
 use Rattle.history.specs.Found.{StandFor}
 use Rattle.segments.specs.Slot.{Segment}
 use Rattle.segments.specs.declared.ring.Ring.{Ring}
