@@ -3,7 +3,7 @@ use Rattle.std.proofs.Common.{◌≡◌, ℕ, zero, suc, ◌<◌, Option, List, 
 use Rattle.std.specs.List.{AllByRecursion}
 use Rattle.std.proofs.lemmas.List.Elements.{recursion_from_All}
 use Rattle.revision.specs.Command.{Taken}
-use Rattle.revision.specs.State.{Limits, State}
+use Rattle.revision.specs.State.{State}
 use Rattle.journal.specs.BatchSpelling.{IsBatch, batch}
 use Rattle.journal.proofs.CallerLemmas.{one_spelling}
 use Rattle.history.specs.declared.pick.Pick.{Pick}
@@ -13,7 +13,6 @@ use Rattle.history.specs.Running.{Runs}
 use Rattle.history.proofs.CallerLemmas.{at_most_one}
 use Rattle.milestone.proofs.CallerLemmas.{one_pair}
 use Rattle.segments.specs.Slot.{Segment}
-use Rattle.segments.specs.Order.{bodies_of}
 use Rattle.segments.proofs.CallerLemmas.{one_table}
 use Rattle.recovery.specs.declared.shape.Shape.{Shape}
 use Rattle.recovery.specs.Shape.{cells_place, slots_place}

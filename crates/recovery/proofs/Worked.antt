@@ -1,7 +1,8 @@
 -- What contents stand for, computed in a small shape: zeros, a formatted device, the device after a first and a second
 -- creation, and one on which the second one lies in a slot of its own, before the first.
-use Rattle.std.proofs.Common.{◌≡◌, ◌<◌, true, ℕ, zero, suc, Option, Some, None, List, [], ◌∷◌, ◌++◌, refl, sym, ◌∙◌, ap, lit<, lit≤, arith}
-use Rattle.std.specs.Prelude.{replicate, slice_get, map, All}
+use Rattle.std.proofs.Common.{◌≡◌, ◌<◌, Bool, true, ℕ, zero, suc, Option, Some, None, List, [], ◌∷◌, ◌++◌, get_or, refl, sym, ◌∙◌, ap, subst, lit<, lit≤, arith}
+use Rattle.std.proofs.lemmas.Bool.{ne_eqb}
+use Rattle.std.specs.Prelude.{replicate, slice_get, map, All, if◌then◌else◌}
 use Rattle.std.proofs.lemmas.List.Elements.{All-cons, All-nil}
 use Rattle.std.specs.Char.{encode_utf8}
 use Rattle.std.specs.Str.{chars, is_utf8}
@@ -82,6 +83,14 @@ names_differ first second apart (suc (suc k)) j a b at_i at_j same = absurd cc
 names_differ first second apart zero (suc (suc k)) a b at_i at_j same = absurd cc
 names_differ first second apart (suc zero) (suc (suc k)) a b at_i at_j same = absurd cc
 
+-- a command of another document isn't one of this document; and a document without a cell and without entries isn't there
+pub of_another : (number : ℕ) (taken : Taken) (others : List Taken) → (taken.document ≡ number → ⊥) → of_document number (taken ∷ others) ≡ of_document number others
+of_another number taken others apart =
+    ap (λ (b : Bool). if b then taken ∷ of_document number others else of_document number others) (ne_eqb taken.document number apart)
+
+pub stands_nowhere : (number : ℕ) (entries : List Taken) → of_document number entries ≡ [] → StandsFor (limits_of small) None (of_document number entries) None
+stands_nowhere number entries is = subst (λ (l : List Taken). StandsFor (limits_of small) None l None) (sym is) (record { cell_keeps = tt; continue = refl; is = refl })
+
 -- zeros have no superblock, so they stand for nothing
 abbrev zeros : List ℕ
 zeros = replicate 1600 0
@@ -110,10 +119,10 @@ formatted_laid_out = record {
   in_slots = slots_hold formatted None None zero_is_closed zero_is_closed (two_differ None None (λ n is other. absurd cc));
 }
 
-none_stand : (pick : Pick) (number : ℕ) → StandsFor (limits_of small) (picked pick (cells_at no_pairs number)) [] (slice_get {A = DocumentRecord} [] number)
+none_stand : (pick : Pick) (number : ℕ) → StandsFor (limits_of small) (picked pick (cells_at no_pairs number)) [] (slice_get (empty_state small).documents number)
 none_stand pick zero = record { cell_keeps = tt; continue = refl; is = refl }
 none_stand pick (suc zero) = record { cell_keeps = tt; continue = refl; is = refl }
-none_stand pick (suc (suc number)) = record { cell_keeps = tt; continue = refl; is = refl }
+none_stand pick (suc (suc k)) = record { cell_keeps = tt; continue = refl; is = refl }
 
 pub formatted_found : (pick : Pick) → Found formatted pick (empty_state small)
 formatted_found pick = record {
@@ -231,7 +240,7 @@ first_continues = refl
 first_stands : (pick : Pick) (number : ℕ) → StandsFor (limits_of small) (picked pick (cells_at no_pairs number)) (of_document number (creation 0 100 122 ∷ [])) (slice_get with_first.documents number)
 first_stands pick zero = record { cell_keeps = tt; continue = first_continues; is = refl }
 first_stands pick (suc zero) = record { cell_keeps = tt; continue = refl; is = refl }
-first_stands pick (suc (suc number)) = record { cell_keeps = tt; continue = refl; is = refl }
+first_stands pick (suc (suc k)) = stands_nowhere (suc (suc k)) (creation 0 100 122 ∷ []) (of_another (suc (suc k)) (creation 0 100 122) [] (λ e. absurd (omega (arith, e))))
 
 pub one_name : (found : DocumentRecord) → NamesDiffer (found ∷ [])
 one_name found zero zero a b at_i at_j same = refl
@@ -318,7 +327,10 @@ second_continues = refl
 both_stands : (pick : Pick) (number : ℕ) → StandsFor (limits_of small) (picked pick (cells_at no_pairs number)) (of_document number both) (slice_get with_both.documents number)
 both_stands pick zero = record { cell_keeps = tt; continue = first_continues; is = refl }
 both_stands pick (suc zero) = record { cell_keeps = tt; continue = second_continues; is = refl }
-both_stands pick (suc (suc number)) = record { cell_keeps = tt; continue = refl; is = refl }
+both_stands pick (suc (suc k)) =
+    stands_nowhere (suc (suc k)) both
+    (of_another (suc (suc k)) (creation 0 100 122) (creation 1 101 120 ∷ []) (λ e. absurd (omega (arith, e)))
+    ∙ of_another (suc (suc k)) (creation 1 101 120) [] (λ e. absurd (omega (arith, e))))
 
 -- the two batches, whichever slots they lie in
 abbrev both_batches : List (List Taken)
@@ -337,7 +349,7 @@ both_stand pick = record {
   same_limits = refl;
   count = lit≤ tt;
   each = both_stands pick;
-  names = names_differ (record_with 100 122) (record_with 101 120) (λ same. absurd cc);
+  names = names_differ (record_with 100 122) (record_with 101 120) (λ same. let first_letter : 100 ≡ 101 = ap (λ (l : List ℕ). get_or l 0 0) same in absurd (omega (arith, first_letter)));
 }
 
 pub created_twice_found : (pick : Pick) → Found created_twice pick with_both
