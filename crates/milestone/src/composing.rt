@@ -77,6 +77,7 @@ fn milestone_of(alloc: Global, job: &Job) -> Result<Milestone, Refusal>
 }
 
 // What a job's deltas make of the empty document. Refused for want of memory alone.
+#[tactic(auto, using(crate::proofs::InTurn::wants_memory, crate::proofs::InTurn::one_inserts, crate::proofs::InTurn::one_makes))]
 fn content_of(alloc: Global, job: &Job) -> Result<Document, Refusal>
     ensures content { IfOk result (λ document. document ≡ applied [] job.now.deltas) }
     ensures only { IsOkUnless result Refusal.NoMemory }

@@ -118,12 +118,41 @@ impl Job {
     pub fn is_same(&self, other: &Job) -> bool
         ensures { IsTrue result ↔ (self.now ≡ other.now) }
     {
-        self.document == other.document
-            && self.revision == other.revision
-            && self.name == other.name
-            && self.sources == other.sources
-            && self.deltas() == other.deltas()
+        if self.document() != other.document() {
+            return false;
+        }
+        if self.revision() != other.revision() {
+            return false;
+        }
+        if !same_name(self.name(), other.name()) {
+            return false;
+        }
+        if !same_sources(self.sources(), other.sources()) {
+            return false;
+        }
+        same_deltas(self.deltas(), other.deltas())
     }
+}
+
+// whether two names are equal
+fn same_name(one: &Name, other: &Name) -> bool
+    ensures { IsTrue result ↔ (one.now ≡ other.now) }
+{
+    one == other
+}
+
+// whether two have the same sources with the same
+fn same_sources(one: &Sources, other: &Sources) -> bool
+    ensures { IsTrue result ↔ (one.now ≡ other.now) }
+{
+    one == other
+}
+
+// whether they are the same deltas in the same order
+fn same_deltas(one: &[Delta], other: &[Delta]) -> bool
+    ensures { IsTrue result ↔ (one.now ≡ other.now) }
+{
+    one == other
 }
 
 // Equal deltas. Refused for want of memory alone.

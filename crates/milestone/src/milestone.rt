@@ -1,5 +1,5 @@
 //! A document at a revision.
-ghost use Rattle.std.specs.Prelude.{◌≡◌, ◌≤◌};
+ghost use Rattle.std.specs.Prelude.{◌≡◌, ◌≤◌, true};
 ghost use Rattle.revision.specs.State.{last_of_all, are_sources};
 ghost use Rattle.milestone.specs.Milestone.{IsMilestone};
 
