@@ -5,3 +5,4 @@ pub mod JobView
 pub mod CellSpelling
 pub mod Cells
 pub mod ReadCells
+pub mod Law

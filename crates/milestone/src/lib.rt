@@ -3,7 +3,9 @@
 
 mod cells;
 mod composing;
+mod content;
 mod job;
+pub mod laws;
 mod milestone;
 
 pub use cells::{Cells, ReadCells};
