@@ -1,2 +1,8 @@
 //! Milestones: a document at a revision, made of the deltas up to it, and the two cells of a device that hold such documents.
 #![tactic(auto)]
+
+mod cells;
+mod milestone;
+
+pub use cells::{Cells, ReadCells};
+pub use milestone::{Milestone, MilestoneParts};
