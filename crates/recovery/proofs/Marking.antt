@@ -1,5 +1,5 @@
 -- What a mark that is set or raised makes of all.
-use Rattle.std.proofs.Common.{◌≡◌, ◌≢◌, inl, inr, ⊎_elim, ℕ, zero, suc, ◌+◌, ◌<◌, max, Bool, true, false, List, [], ◌∷◌, ◌++◌, length, set, get_or, refl, sym, ◌∙◌, ap, arith}
+use Rattle.std.proofs.Common.{◌≡◌, ◌≢◌, ◌⊎◌, inl, inr, ⊎_elim, ℕ, zero, suc, ◌+◌, ◌<◌, ◌≤◌, max, Bool, true, false, List, [], ◌∷◌, ◌++◌, length, set, get_or, refl, sym, ◌∙◌, ap, arith}
 use Rattle.std.specs.Prelude.{◌==◌, ◌&&◌, if◌then◌else◌}
 use Rattle.std.proofs.lemmas.Bool.{cases_eq}
 use Rattle.std.proofs.lemmas.Bool.Decides.{nat_tests}
@@ -95,3 +95,40 @@ noted_more segment entries last before mid after noted raised = record {
   ];
   segments = λ other document apart. raised.segments other document apart ∙ noted.segments other document apart;
 }
+
+-- a mark is no higher than the greatest one
+pub marked_member : (segment : ℕ) (marks : List Mark) (place : ℕ) (mark : Mark) → place < length marks → get_or marks place mark ≡ mark → mark.segment ≡ segment
+    → mark.revision ≤ greatest_marked segment mark.document marks
+marked_member segment [] place mark inside is here = absurd (omega (arith, inside))
+marked_member segment (first ∷ others) zero mark inside is here =
+    let own_revision : revision_for segment mark.document first ≡ mark.revision = ap (revision_for segment mark.document) is ∙ rw (← here) (own mark.segment mark.document mark.revision) in
+    omega (arith, own_revision)
+marked_member segment (first ∷ others) (suc place) mark inside is here = omega (arith, marked_member segment others place mark (omega (arith, inside)) is here)
+
+-- a bound of the greatest marks holds with one mark more that keeps it
+pub low_more : (segment : ℕ) (marks : List Mark) (mark : Mark) (bound : ℕ → ℕ) → ((document : ℕ) → greatest_marked segment document marks ≤ bound document)
+    → (mark.segment ≢ segment) ⊎ (mark.revision ≤ bound mark.document) → (document : ℕ) → greatest_marked segment document (marks ++ mark ∷ []) ≤ bound document
+low_more segment marks mark bound low (inl other) document =
+    omega (arith, marked_push segment document marks mark, low document, other_segment segment document mark (λ same. other (sym same)))
+low_more segment marks mark bound low (inr here) document = elim (cases_eq mark.document document) [
+  | inl same ↦ omega (arith, marked_push segment document marks mark, low document, no_more segment document mark, here, ap bound same)
+  | inr apart ↦ omega (arith, marked_push segment document marks mark, low document, other_document segment document mark (λ same. apart (sym same)))
+]
+  where
+    no_more : (segment document : ℕ) (mark : Mark) → revision_for segment document mark ≤ mark.revision
+    no_more segment document mark = elim (cases_eq mark.segment segment) [
+      | inr away ↦ omega (arith, other_segment segment document mark (λ same. away (sym same)))
+      | inl is ↦ elim (cases_eq mark.document document) [
+        | inr away ↦ omega (arith, other_document segment document mark (λ same. away (sym same)))
+        | inl one ↦
+            let first : (mark.segment == segment) ≡ true = grind (arith, nat_tests) in
+            let second : (mark.document == document) ≡ true = grind (arith, nat_tests) in
+            rw (first, second) (omega arith)
+      ]
+    ]
+
+-- what stands at a place, whatever is given for a place past the end
+pub read_again : (marks : List Mark) (place : ℕ) (other : Mark) → place < length marks → get_or marks place (get_or marks place other) ≡ get_or marks place other
+read_again [] place other inside = absurd (omega (arith, inside))
+read_again (first ∷ others) zero other inside = refl
+read_again (first ∷ others) (suc place) other inside = read_again others place other (omega (arith, inside))
