@@ -2,7 +2,11 @@
 #![tactic(auto)]
 
 mod cells;
+mod composing;
+mod job;
 mod milestone;
 
 pub use cells::{Cells, ReadCells};
+pub use composing::{Composed, Uncomposed, compose_job};
+pub use job::Job;
 pub use milestone::{Milestone, MilestoneParts};
