@@ -1,0 +1,4 @@
+pub mod Bytes
+pub mod Holding
+pub mod Freeing
+pub mod Putting

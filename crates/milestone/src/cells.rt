@@ -5,8 +5,9 @@ ghost use Rattle.disk.specs.Device.{overwritten, SameOutside};
 ghost use Rattle.disk.specs.Crash.{LeavesOnly};
 
 use crate::milestone::Milestone;
+use crate::writing::framed;
 use disk::{Disk, Fault};
-use journal::CLOSED;
+use journal::{CLOSED, write_gated};
 use refusal::Refusal;
 use std::alloc::Global;
 
@@ -165,6 +166,17 @@ impl Cells {
         ensures only_written { HasOnlyWritten ⟦<D as Disk>⟧ disk.old disk.new }
         ensures faults { CountsFaultsAs ⟦<D as Disk>⟧ Refusal.Fault result disk.old disk.new }
     {
-        Err(Refusal::NoMemory)
+        let bytes = framed(alloc, self.number, milestone)?;
+        match self.first {
+            None => {
+                write_gated(disk, self.place, &bytes)?;
+                self.first = Some(milestone.revision());
+            }
+            Some(_) => {
+                write_gated(disk, self.place + self.size, &bytes)?;
+                self.second = Some(milestone.revision());
+            }
+        }
+        Ok(())
     }
 }

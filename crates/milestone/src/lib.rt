@@ -3,6 +3,7 @@
 
 mod cells;
 mod milestone;
+mod writing;
 
 pub use cells::{Cells, ReadCells};
 pub use milestone::{Milestone, MilestoneParts};
