@@ -6,7 +6,7 @@ use Rattle.std.proofs.Math.Seq.{take-append-add}
 use Rattle.disk.specs.Device.{overwritten, SameOutside}
 use Rattle.disk.proofs.CallerLemmas.{length_overwritten, drop_overwritten, overwritten_same_outside, same_outside_wider, same_outside_then}
 use Rattle.journal.specs.Area.{open_gate, IsGated}
-use Rattle.milestone.specs.Cells.{bytes_at}
+use Rattle.milestone.specs.OneCell.{bytes_at}
 
 -- a range before a place stays where all before the place does
 pub range_before : (p n q : ℕ) (old new : List ℕ) → p + n ≤ q → take q new ≡ take q old → take n (drop p new) ≡ take n (drop p old)

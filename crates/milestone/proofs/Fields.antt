@@ -158,14 +158,14 @@ module _ (revision : ℕ) (low : revision < 2 ^ 64) where
       (λ i. (names.0 i, record { number = numbers.0 i; revision = revisions.0 i }), revisions.1)
 
   -- a list of sources whose bytes begin those of another one begins the other one
-  prefix : (as bs : List (List ℕ × LastTaken)) (x y : List ℕ) → AllByRecursion (IsSource revision) as → AllByRecursion (IsSource revision) bs
-      → flat_map source as ++ x ≡ flat_map source bs ++ y → length as ≤ length bs → (more : List (List ℕ × LastTaken)) × (bs ≡ as ++ more) × (x ≡ flat_map source more ++ y)
-  prefix [] bs x y all_a all_b same few = (bs, refl, same)
-  prefix (a ∷ as) [] x y all_a all_b same few = absurd (omega arith)
-  prefix (a ∷ as) (b ∷ bs) x y all_a all_b same few =
-      let heads = one_source a b (flat_map source as ++ x) (flat_map source bs ++ y) all_a.0 all_b.0
-      (sym (append_assoc (source a) (flat_map source as) x) ∙ same ∙ append_assoc (source b) (flat_map source bs) y) in
-      let others = prefix as bs x y all_a.1 all_b.1 heads.1 (omega arith) in
+  prefix : (ps qs : List (List ℕ × LastTaken)) (x y : List ℕ) → AllByRecursion (IsSource revision) ps → AllByRecursion (IsSource revision) qs
+      → flat_map source ps ++ x ≡ flat_map source qs ++ y → length ps ≤ length qs → (more : List (List ℕ × LastTaken)) × (qs ≡ ps ++ more) × (x ≡ flat_map source more ++ y)
+  prefix [] qs x y all_a all_b same few = (qs, refl, same)
+  prefix (a ∷ ps) [] x y all_a all_b same few = absurd (omega arith)
+  prefix (a ∷ ps) (b ∷ qs) x y all_a all_b same few =
+      let heads = one_source a b (flat_map source ps ++ x) (flat_map source qs ++ y) all_a.0 all_b.0
+      (sym (append_assoc (source a) (flat_map source ps) x) ∙ same ∙ append_assoc (source b) (flat_map source qs) y) in
+      let others = prefix ps qs x y all_a.1 all_b.1 heads.1 (omega arith) in
       (others.0, λ i. sym heads.0 i ∷ others.1 i, others.2)
 
   pub one_sources : (a b : Sources) (x y : List ℕ) → AreSources revision a → AreSources revision b → sources_bytes a ++ x ≡ sources_bytes b ++ y → (a ≡ b) × (x ≡ y)

@@ -5,12 +5,14 @@ use Rattle.std.proofs.lemmas.Option.{none-some, same_Some}
 use Rattle.disk.specs.Device.{overwritten, SameOutside}
 use Rattle.disk.proofs.CallerLemmas.{overwritten_same_outside, same_outside_wider}
 use Rattle.history.specs.Cell.{Cell, Pair, freed}
-use Rattle.milestone.specs.Cells.{bytes_at, HoldsOpenCell, HoldsCell, HoldsPair, Revisions, revision_of, revisions_in, Fits, FitsNow, HoldsInCells, IsLeftByFreeing}
+use Rattle.milestone.specs.OneCell.{bytes_at, HoldsOpenCell, HoldsCell, HoldsPair}
+use Rattle.milestone.specs.Revisions.{Revisions, revision_in, revisions_in}
+use Rattle.milestone.specs.Cells.{Fits, FitsNow, HoldsInCells, IsLeftByFreeing}
 use Rattle.milestone.specs.declared.cells.Cells.{Cells}
 use Rattle.milestone.proofs.Holding.{first_changed, second_changed, closing_cell, closed_cell}
 
 -- an open cell, of a revision that is known
-pub open_of : (revision : ℕ) (cell : Option Cell) → Some revision ≡ revision_of cell → (x : Cell) × (cell ≡ Some x) × (x.revision ≡ revision)
+pub open_of : (revision : ℕ) (cell : Option Cell) → Some revision ≡ revision_in cell → (x : Cell) × (cell ≡ Some x) × (x.revision ≡ revision)
 open_of revision None known = absurd (none-some revision (sym known))
 open_of revision (Some x) known = (x, refl, sym (same_Some revision x.revision known))
 

@@ -6,7 +6,8 @@ use Rattle.disk.proofs.CallerLemmas.{overwritten_same_outside, byte_overwritten,
 use Rattle.journal.specs.Area.{open_gate, frame, entry, IsGated}
 use Rattle.history.specs.Cell.{Cell, Pair}
 use Rattle.milestone.specs.CellSpelling.{cell_body, IsCell}
-use Rattle.milestone.specs.Cells.{bytes_at, HoldsOpenCell, HoldsCell, HoldsPair, HoldsInCells}
+use Rattle.milestone.specs.OneCell.{bytes_at, HoldsOpenCell, HoldsCell, HoldsPair}
+use Rattle.milestone.specs.Cells.{HoldsInCells}
 use Rattle.milestone.specs.declared.cells.Cells.{Cells}
 use Rattle.milestone.proofs.Bytes.{range_before, first_byte, gate_written, gated_outside, gated_bytes, gating}
 

@@ -2,3 +2,5 @@ pub mod Bytes
 pub mod Holding
 pub mod Freeing
 pub mod Putting
+pub mod Order
+pub mod Fields

@@ -6,13 +6,15 @@ use Rattle.disk.proofs.CallerLemmas.{same_outside_wider}
 use Rattle.journal.specs.Area.{open_gate, frame, IsGated}
 use Rattle.history.specs.Cell.{Cell, Pair}
 use Rattle.milestone.specs.CellSpelling.{cell_body, IsCell}
-use Rattle.milestone.specs.Cells.{HoldsCell, HoldsPair, Revisions, HasClosed, revision_of, with_cell, Fits, FitsNow, IsLeftByPut}
+use Rattle.milestone.specs.OneCell.{HoldsCell, HoldsPair}
+use Rattle.milestone.specs.Revisions.{Revisions, revision_in}
+use Rattle.milestone.specs.Cells.{HasClosed, with_cell, Fits, FitsNow, IsLeftByPut}
 use Rattle.milestone.specs.declared.cells.Cells.{Cells}
 use Rattle.milestone.proofs.Holding.{first_changed, second_changed, putting_cell, put_cell, put_outside}
 use Rattle.milestone.proofs.Freeing.{open_of, holds_there}
 
 -- a cell of which no revision is known is closed
-pub closed_of : (cell : Option Cell) → None ≡ revision_of cell → cell ≡ None
+pub closed_of : (cell : Option Cell) → None ≡ revision_in cell → cell ≡ None
 closed_of None known = refl
 closed_of (Some x) known = absurd (none-some x.revision known)
 

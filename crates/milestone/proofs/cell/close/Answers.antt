@@ -1,7 +1,7 @@
 use Rattle.std.proofs.Common.{refl, rules}
 use Rattle.disk.specs.Crash.{history_of}
 use Rattle.disk.proofs.CallerLemmas.{begins, goes_on_first_write, goes_on_sync}
-use Rattle.milestone.proofs.cells.close.Goals as goal
+use Rattle.milestone.proofs.cell.close.Goals as goal
 
 pub returns-in_err-write_at-clause-any_moment : goal.returns-in_err-write_at-clause-any_moment
 returns-in_err-write_at-clause-any_moment g c synced =
