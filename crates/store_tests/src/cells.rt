@@ -1,7 +1,8 @@
 //! Devices with open cells, byte for byte: shape S of docs/FORMATS.md, whose cells lie at 64, 320, 576 and 832.
 use crate::batches::EDIT;
 use crate::stores::{
-    answer_text, edit, is_opened_as, is_picked_as, open_store, small_device, with_bytes_at, device_of,
+    answer_text, device_of, edit, is_opened_as, is_picked_as, open_store, small_device,
+    with_bytes_at,
 };
 use recovery::Pick;
 use std::process::Abort;
@@ -33,10 +34,15 @@ const TWO_SOURCES: [u8; 66] = [
 
 /// Where the parts of a cell stand in it.
 const NUMBER: usize = 5;
+
 const NAME: usize = 11;
+
 const REVISION: usize = 12;
+
 const TEXT: usize = 29;
+
 const SOURCE_NUMBER: usize = 41;
+
 const SOURCE_REVISION: usize = 49;
 
 /// The batch that puts x behind the z, as slot 0 holds it: a segment of number 1 with this record alone.
@@ -45,7 +51,13 @@ const SLOT_HEAD: [u8; 14] = [0xa5, 1, 0, 0, 0, 0, 0, 0, 0, 0xa5, 55, 0, 0, 0];
 const DAMAGED: &str = "error 32 Damaged";
 
 // A small device with a cell at a place, of which some bytes are others.
-fn with_cell(rt: &(impl Abort + AllocGlobal), device: &[u8], place: usize, at: usize, other: &[u8]) -> Vec<u8> {
+fn with_cell(
+    rt: &(impl Abort + AllocGlobal),
+    device: &[u8],
+    place: usize,
+    at: usize,
+    other: &[u8],
+) -> Vec<u8> {
     with_bytes_at(rt, device, place, &with_bytes_at(rt, &CELL, at, other))
 }
 
@@ -70,7 +82,11 @@ const ROWS: [(usize, &[u8], &str); 11] = [
     (NUMBER, &[1], DAMAGED),
     (REVISION, &[0], DAMAGED),
     (REVISION, &[0, 0, 0, 0, 0, 0, 32], DAMAGED),
-    (REVISION, &[255, 255, 255, 255, 255, 255, 31], "d 9007199254740991 z\n"),
+    (
+        REVISION,
+        &[255, 255, 255, 255, 255, 255, 31],
+        "d 9007199254740991 z\n",
+    ),
     (SOURCE_NUMBER, &[0], DAMAGED),
     (SOURCE_REVISION, &[2], DAMAGED),
     (TEXT, &[0xff], DAMAGED),
@@ -115,7 +131,12 @@ fn one_of_two_cells_is_picked(rt: HostRuntime) {
     let two = with_bytes_at(&rt, &first, 320, &newer);
     is_picked_as(&rt, &two, Pick::Newer, "d 2 q\n");
     is_picked_as(&rt, &two, Pick::Older, "d 1 z\n");
-    let turned = with_bytes_at(&rt, &with_cell(&rt, &empty(&rt), 320, 0, &[0xa5]), 64, &newer);
+    let turned = with_bytes_at(
+        &rt,
+        &with_cell(&rt, &empty(&rt), 320, 0, &[0xa5]),
+        64,
+        &newer,
+    );
     is_picked_as(&rt, &turned, Pick::Newer, "d 2 q\n");
     is_picked_as(&rt, &turned, Pick::Older, "d 1 z\n");
     let equal = with_bytes_at(&rt, &two, 64 + REVISION, &[2]);
@@ -132,14 +153,27 @@ fn cells_of_two_documents(rt: HostRuntime) {
     let first = with_cell(&rt, &device, 64, 0, &[0xa5]);
     is_opened_as(&rt, &with_bytes_at(&rt, &first, 576, &second), DAMAGED);
     let named = with_bytes_at(&rt, &second, NAME, b"e");
-    is_opened_as(&rt, &with_bytes_at(&rt, &first, 576, &named), "d 1 z\ne 1 z\n");
+    is_opened_as(
+        &rt,
+        &with_bytes_at(&rt, &first, 576, &named),
+        "d 1 z\ne 1 z\n",
+    );
 }
 
 // A document at the highest revision takes no edit more.
 #[test]
 fn revisions_are_spent(rt: HostRuntime) {
-    let device = with_cell(&rt, &empty(&rt), 64, REVISION, &[255, 255, 255, 255, 255, 255, 31]);
+    let device = with_cell(
+        &rt,
+        &empty(&rt),
+        64,
+        REVISION,
+        &[255, 255, 255, 255, 255, 255, 31],
+    );
     let mut store = open_store(&rt, device_of(&rt, &device));
     let command = edit(&rt, "a", "d", 2, 9_007_199_254_740_991, "x");
-    assert_eq!(&rt; answer_text(&rt, &mut store, &command).as_str(), "error 18 RevisionsSpent");
+    assert_eq!(&rt;
+        answer_text(&rt, &mut store, &command).as_str(),
+        "error 18 RevisionsSpent"
+    );
 }
