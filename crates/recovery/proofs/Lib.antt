@@ -6,7 +6,8 @@ pub mod Folds
 pub mod Commits
 pub mod Runs
 pub mod Named
-pub mod Replays
+pub mod Gathering
+pub mod Documents
 pub mod FoundOnce
 pub mod Fitting
 pub mod Worked

@@ -1,15 +1,16 @@
 -- What is read of the content of a device, and the steps of it: the entries of the slots, and then one document after the other.
-use Rattle.std.specs.Prelude.{◌≡◌, ◌⊎◌, ◌×◌, ℕ, ◌&&◌, nat_lt, Bool, true, false, Option, List, Vec, [], ◌∷◌, length, map, get_or, All}
+use Rattle.std.specs.Prelude.{◌≡◌, ◌⊎◌, ℕ, ◌&&◌, nat_lt, Bool, true, false, Option, List, Vec, [], ◌∷◌, ◌++◌, length, map, get_or, All}
 use Rattle.std.specs.List.{flat_map}
 use Rattle.std.specs.declared.alloc.Global.{Global}
 use Rattle.revision.specs.Command.{Taken}
 use Rattle.revision.specs.State.{State, all_grow, fold}
 use Rattle.journal.specs.BatchSpelling.{IsBatch, batch}
 use Rattle.history.specs.Entries.{of_document}
-use Rattle.history.specs.Cell.{Cell, Pair, Pick}
+use Rattle.history.specs.Cell.{Cell, Pair, Pick, picked}
 use Rattle.history.specs.Found.{StandFor, unread}
 use Rattle.history.specs.Reading.{entered, enters, is_there}
 use Rattle.milestone.specs.declared.cells.Cells.{Cells}
+use Rattle.milestone.specs.Cells as milestone
 use Rattle.segments.specs.Slot.{Segment}
 use Rattle.segments.specs.declared.ring.Ring.{Ring}
 use Rattle.segments.specs.Ring.{Fits, at_of, size_of, known_numbers}
@@ -17,7 +18,7 @@ use Rattle.recovery.specs.declared.shape.Shape.{Shape}
 use Rattle.recovery.specs.declared.reading.RecoveredStore.{RecoveredStore}
 use Rattle.recovery.specs.Shape.{slots_place}
 use Rattle.recovery.specs.Layout.{HoldsCells}
-use Rattle.recovery.specs.Cells.{FitEach}
+use Rattle.recovery.specs.Cells.{IsCellsOf, FitEach}
 use Rattle.recovery.specs.Found.{limits_of, commands_of, HoldsParts}
 
 -- the ring has the slots of this shape
@@ -56,8 +57,8 @@ pub record SpellEach (bodies : List (List ℕ)) (batches : List (List Taken)) : 
   pub each : All IsBatch batches
 
 -- the bodies of each segment spell the batches of one group
-pub record SpellGroups (bodies : List (List (List ℕ))) (groups : List (List (List Taken))) : Type 0 where
-  pub spelled : bodies ≡ map (λ batches. map batch batches) groups
+pub record SpellGroups (segments : List Segment) (groups : List (List (List Taken))) : Type 0 where
+  pub spelled : map (λ segment. segment.bodies) segments ≡ map (λ batches. map batch batches) groups
   pub each : All (λ batches. All IsBatch batches) groups
 
 -- the commands of all groups, in order
@@ -83,6 +84,17 @@ pub record IsNextRead (number : ℕ) (cell : Option Cell) (entries : List Taken)
 abbrev pub IsDocumentRead : ℕ → Option Cell → List Taken → State → State → Type 0
 IsDocumentRead number cell entries before after =
     ((is_there cell entries ≡ false) × (after ≡ before)) ⊎ IsNextRead number cell entries before after
+
+-- The cells of the next number are read, and the document from the one that is picked on; what the device holds there is known where it
+-- is honest.
+pub record IsNext (honest : Type 0) (content : List ℕ) (shape : Shape) (pick : Pick) (entries : List Taken) (known : List Cells) (before : State)
+    (now : List Cells) (after : State) : Type 0 where
+  pub pair : Pair
+  pub cells : Cells
+  pub is : now ≡ known ++ cells ∷ []
+  pub of : IsCellsOf shape (length known) cells
+  pub fits : honest → milestone.Fits content cells pair
+  pub read : IsDocumentRead (length known) (picked pick pair) entries before after
 
 -- the cells of all documents were read, and stand with the entries for this state
 pub record AreDocumentsRead (content : List ℕ) (shape : Shape) (pick : Pick) (entries : List Taken) (known : List Cells) (state : State) : Type 0 where

@@ -2,7 +2,7 @@
 ghost use Rattle.std.specs.Prelude.{◌≡◌, ◌⊎◌, true, false, OnOk, IfOk, IfErr};
 ghost use Rattle.revision.specs.State.{State as StateValue};
 ghost use Rattle.history.specs.Entries.{above};
-ghost use Rattle.history.specs.Cell as cell;
+ghost use Rattle.history.specs.Cell.{picked};
 ghost use Rattle.history.specs.Found.{unread};
 ghost use Rattle.history.specs.Reading.{entered, enters};
 ghost use Rattle.recovery.specs.steps.Reading.{IsDocumentRead};
@@ -14,12 +14,12 @@ use revision::{State, Taken};
 use std::alloc::Global;
 
 /// Which one of the milestones of a document's two cells is read.
-pub(super) fn picked(
+pub(super) fn pick_one(
     pick: Pick,
     first: Option<Milestone>,
     second: Option<Milestone>,
 ) -> Option<Milestone>
-    ensures { result ≡ cell.picked pick (first, second) }
+    ensures { result ≡ picked pick (first, second) }
 {
     match (first, second) {
         (None, second) => second,
@@ -40,7 +40,7 @@ pub(super) fn picked(
 pub(super) fn read_document(
     alloc: Global,
     state: &mut State,
-    number: u64,
+    number: u32,
     cell: Option<Milestone>,
     entries: Vec<Taken>,
 ) -> Result<(), Refusal>
@@ -51,7 +51,7 @@ pub(super) fn read_document(
     if cell.is_none() && entries.is_empty() {
         return Ok(());
     }
-    if state.documents().len() as u64 != number {
+    if state.documents().len() as u64 != u64::from(number) {
         return Err(Refusal::Damaged);
     }
     let unread = enter(alloc, state, cell, entries)?;

@@ -1,14 +1,15 @@
 //! The entries of the slots, gathered by their documents.
-ghost use Rattle.std.specs.Prelude.{◌≡◌, ◌⊎◌, ◌≤◌, ◌<◌, ℕ, List, [], ◌∷◌, ◌++◌, length, set, get_or, false, true, OnOk, IfOk, IfErr};
+ghost use Rattle.std.specs.Prelude.{◌≡◌, ◌⊎◌, ◌≤◌, ◌<◌, ℕ, List, [], ◌∷◌, ◌++◌, length, map, set, get_or, false, true, OnOk, IfOk, IfErr};
 ghost use Rattle.revision.specs.Command.{Taken as TakenValue};
 ghost use Rattle.journal.specs.Scan.{items_of};
-ghost use Rattle.segments.specs.Recovered.{groups_in};
+ghost use Rattle.segments.specs.Recovered.{segment_in};
 ghost use Rattle.recovery.specs.Found.{commands_of};
 ghost use Rattle.recovery.specs.steps.Reading.{lists_of, are_below, AreByDocument, SpellEach, SpellGroups, commands_in, AreAdded};
 
 use journal::decode_batch;
 use refusal::Refusal;
 use revision::Taken;
+use segments::RecoveredSegment;
 use std::alloc::Global;
 
 /// The commands that the bodies of all segments spell, one list for each document number below `docs`. `Damaged` comes just where
@@ -16,18 +17,18 @@ use std::alloc::Global;
 pub(super) fn gather(
     alloc: Global,
     docs: u32,
-    segments: &[Vec<Vec<u8>>],
+    segments: &[RecoveredSegment],
 ) -> Result<Vec<Vec<Taken>>, Refusal>
-    ensures found { IfOk result (λ lists. (groups : List (List (List TakenValue))) × SpellGroups (groups_in segments.now) groups
+    ensures found { IfOk result (λ lists. (groups : List (List (List TakenValue))) × SpellGroups (map segment_in segments.now) groups
         × AreByDocument (commands_in groups) (lists_of lists.items)) }
     ensures count { IfOk result (λ lists. length lists.items ≡ docs) }
-    ensures damaged { IfErr result (λ e. e ≡ Refusal.Damaged → (groups : List (List (List TakenValue))) → SpellGroups (groups_in segments.now) groups
+    ensures damaged { IfErr result (λ e. e ≡ Refusal.Damaged → (groups : List (List (List TakenValue))) → SpellGroups (map segment_in segments.now) groups
         → are_below docs (commands_in groups) ≡ false) }
     ensures only { IfErr result (λ e. (e ≡ Refusal.Damaged) ⊎ (e ≡ Refusal.NoMemory)) }
 {
     let mut lists = empty_lists(alloc, docs)?;
-    for bodies in segments {
-        add_bodies(alloc, &mut lists, bodies)?;
+    for segment in segments {
+        add_bodies(alloc, &mut lists, &segment.bodies)?;
     }
     Ok(lists)
 }
