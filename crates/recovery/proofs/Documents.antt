@@ -1,14 +1,15 @@
 -- Documents that are read one after the other, in order of their numbers.
 use Rattle.std.proofs.Common.{◌≡◌, ℕ, zero, suc, ◌+◌, ◌-◌, ◌≤◌, ◌<◌, Bool, true, false, List, [], ◌∷◌, ◌++◌, length, get_or, Option, Some, None, length-append, refl, sym, ap, subst, ◌∙◌, ⊎_elim, inl, inr, arith}
 use Rattle.std.specs.Prelude.{unwrap_or, slice_get}
-use Rattle.std.proofs.lemmas.Bool.{cases_lt, both_ways}
+use Rattle.std.proofs.lemmas.Bool.{cases_lt}
 use Rattle.std.proofs.lemmas.List.{get_or_past}
-use Rattle.std.proofs.lemmas.Option.{same_Some, slice_get_past, slice_get-get_or}
+use Rattle.std.proofs.lemmas.Option.{same_Some, slice_get_past, slice_get_within}
 use Rattle.revision.specs.Command.{Taken}
 use Rattle.revision.specs.State.{Limits, State, all_grow, fold}
 use Rattle.revision.specs.Invariants.{IsLimits}
 use Rattle.history.specs.Entries.{of_document}
-use Rattle.history.specs.Cell.{Cell, Pair, no_cells, cells_at, Pick, picked}
+use Rattle.history.specs.declared.pick.Pick.{Pick}
+use Rattle.history.specs.Cell.{Cell, Pair, no_cells, cells_at, picked}
 use Rattle.history.specs.Found.{unread, StandsFor, StandFor}
 use Rattle.history.specs.Reading.{HasRead, entered, enters, is_there, ReadsNext, NothingLeft}
 use Rattle.history.proofs.CallerLemmas.{reading_begins, reading_goes_on, reading_ends, reading_finds}
@@ -153,61 +154,63 @@ module _ (pick : Pick) (entries : List Taken) (lists : List (List Taken)) (by : 
       (ap (picked pick) (cells-past pairs number past), sym (by number) ∙ get_or_past lists number [] (omega (arith, all, past))))
       (cases_lt number (length pairs)))
 
-  -- where the parts stand for a state, the next number's document is read
-  pub goes_on : (pairs whole : List Pair) (state found : State) → ReadTo pairs pick entries lists state
-      → ((n : ℕ) → n < length pairs → cells_at whole n ≡ cells_at pairs n) → StandFor state.limits whole entries pick found
-      → ((after : State) → ¬ IsDocumentRead (length pairs) (picked pick (cells_at whole (length pairs))) (get_or lists (length pairs) []) state after) → ⊥
-  goes_on pairs whole state found to alike stand none =
-      by_test (is_there cell own) refl
-    where
-      abbrev cell : Option Cell
-      cell = picked pick (cells_at whole (length pairs))
+-- Where the parts stand for a state, the next number's document is read.
+module _ (pick : Pick) (entries : List Taken) (lists : List (List Taken)) (by : AreByDocument entries lists) (pairs whole : List Pair) (state found : State)
+    (to : ReadTo pairs pick entries lists state) (alike : (n : ℕ) → n < length pairs → cells_at whole n ≡ cells_at pairs n)
+    (stand : StandFor state.limits whole entries pick found)
+    (none : (after : State) → ¬ IsDocumentRead (length pairs) (picked pick (cells_at whole (length pairs))) (get_or lists (length pairs) []) state after) where
+  abbrev next_number : ℕ
+  next_number = length state.documents
 
-      abbrev own : List Taken
-      own = get_or lists (length pairs) []
+  abbrev cell : Option Cell
+  cell = picked pick (cells_at whole (length pairs))
 
-      has : HasRead whole entries pick state
-      has = read-alike pairs whole entries pick state to.has (λ n lt. alike n (omega (arith, lt, to.low)))
+  abbrev own : List Taken
+  own = get_or lists (length pairs) []
 
-      finds : (length state.documents < length found.documents → ReadsNext whole entries pick state)
-          × (length found.documents ≤ length state.documents → (state ≡ found) × NothingLeft whole entries pick state)
-      finds = reading_finds whole entries pick state found has stand
+  has-whole : HasRead whole entries pick state
+  has-whole = read-alike pairs whole entries pick state to.has (λ n lt. alike n (omega (arith, lt, to.low)))
 
-      at_next : (number : ℕ) → length state.documents ≡ number → number ≡ length pairs → is_there cell own ≡ true → ReadsNext whole entries pick state → ⊥
-      at_next number is_next is_number there next =
-          let same : length state.documents ≡ length pairs = is_next ∙ is_number in
-          let is_cell : picked pick (cells_at whole (length state.documents)) ≡ cell = ap (λ n. picked pick (cells_at whole n)) same in
-          let all : of_document (length state.documents) entries ≡ own = sym (by (length state.documents)) ∙ ap (λ n. get_or lists n []) same in
-          none (fold (entered state cell) (unread cell own))
-          (inr (record {
-            there = there;
-            next = same;
-            enters = subst (λ c. enters state c ≡ true) is_cell next.enters;
-            grow = subst (λ l. all_grow (entered state cell) (unread cell l) ≡ true) all
-                (subst (λ c. all_grow (entered state c) (unread c (of_document (length state.documents) entries)) ≡ true) is_cell next.grow);
-            is = refl;
-          }))
+  finds : (length state.documents < length found.documents → ReadsNext whole entries pick state)
+      × (length found.documents ≤ length state.documents → (state ≡ found) × NothingLeft whole entries pick state)
+  finds = reading_finds whole entries pick state found has-whole stand
 
-      before : length state.documents < length pairs → ReadsNext whole entries pick state → ⊥
-      before lt next =
-          let gap = to.gap (length state.documents) (omega arith) lt in
-          none-there (picked pick (cells_at whole (length state.documents))) (of_document (length state.documents) entries)
-          (ap (picked pick) (alike (length state.documents) lt) ∙ gap.0) (sym (by (length state.documents)) ∙ gap.1) next.there
+  at-next : next_number ≡ length pairs → is_there cell own ≡ true → ReadsNext whole entries pick state → ⊥
+  at-next same there reads =
+      let is_cell : picked pick (cells_at whole next_number) ≡ cell = ap (λ n. picked pick (cells_at whole n)) same in
+      let all : of_document next_number entries ≡ own = sym (by next_number) ∙ ap (λ n. get_or lists n []) same in
+      none (fold (entered state cell) (unread cell own))
+      (inr (record {
+        there = there;
+        next = same;
+        enters = subst (λ c. enters state c ≡ true) is_cell reads.enters;
+        grow = subst (λ l. all_grow (entered state cell) (unread cell l) ≡ true) all
+            (subst (λ c. all_grow (entered state c) (unread c (of_document next_number entries)) ≡ true) is_cell reads.grow);
+        is = refl;
+      }))
 
-      by_test : (b : Bool) → is_there cell own ≡ b → ⊥
-      by_test false is = none state (inl (is, refl))
-      by_test true is =
-          ⊎_elim
-          (λ (less : length state.documents < length found.documents).
-          let next = finds.0 less in
-          ⊎_elim
-          (λ (lt : length state.documents < length pairs). before lt next)
-          (λ (top : length pairs ≤ length state.documents). at_next (length pairs) (omega (arith, top, to.low)) refl is next)
-          (cases_lt (length state.documents) (length pairs)))
-          (λ (all : length found.documents ≤ length state.documents).
-          let left = (finds.1 all).1 (length pairs) to.low in
-          none-there cell own left.0 (by (length pairs) ∙ left.1) is)
-          (cases_lt (length state.documents) (length found.documents))
+  behind-gap : next_number < length pairs → ReadsNext whole entries pick state → ⊥
+  behind-gap lt reads =
+      let gap = to.gap next_number (omega arith) lt in
+      none-there (picked pick (cells_at whole next_number)) (of_document next_number entries)
+      (ap (picked pick) (alike next_number lt) ∙ gap.0) (sym (by next_number) ∙ gap.1) reads.there
+
+  by-test : (b : Bool) → is_there cell own ≡ b → ⊥
+  by-test false is = none state (inl (is, refl))
+  by-test true is =
+      ⊎_elim
+      (λ (less : length state.documents < length found.documents).
+      ⊎_elim
+      (λ (lt : length state.documents < length pairs). behind-gap lt (finds.0 less))
+      (λ (top : length pairs ≤ length state.documents). at-next (omega (arith, top, to.low)) is (finds.0 less))
+      (cases_lt (length state.documents) (length pairs)))
+      (λ (all : length found.documents ≤ length state.documents).
+      let left = (finds.1 all).1 (length pairs) to.low in
+      none-there cell own left.0 (by (length pairs) ∙ left.1) is)
+      (cases_lt (length state.documents) (length found.documents))
+
+  pub goes_on : ⊥
+  goes_on = by-test (is_there cell own) refl
 
 -- The limits of a shape are in their ranges.
 pub limits_in_range : (shape : Shape) → is_in_range shape ≡ true → IsLimits (limits_of shape)
@@ -260,7 +263,7 @@ one_more honest now_honest content shape pick lists own known now state after so
       fit = λ h. each-push (λ n (cells : Cells). Fits content cells (cells_at (so_far.pairs ++ next.pair ∷ []) n)) known next.cells
           (λ n cells there.
           let fits = so_far.fit (was_honest h) n cells there in
-          subst (Fits content cells) (sym (cells-before so_far.pairs next.pair n ?)) fits)
+          subst (Fits content cells) (sym (cells-before so_far.pairs next.pair n (omega (arith, so_far.count, slice_get_within known n cells there)))) fits)
           (subst (Fits content next.cells) (sym (ap (cells_at (so_far.pairs ++ next.pair ∷ [])) (sym so_far.count) ∙ cells-own so_far.pairs next.pair)) (next.fits h));
       limits = document-limits (length known) (picked pick next.pair) own state after next.read ∙ so_far.limits;
       reads = λ entries by.
@@ -273,6 +276,11 @@ one_more honest now_honest content shape pick lists own known now state after so
           next.read;
     })
 
+not-within : {A : Type 0} (xs : List A) (n : ℕ) → n < length xs → slice_get xs n ≡ None → ⊥
+not-within [] n lt is = omega (arith, lt)
+not-within (x ∷ xs) zero lt is = absurd (cc)
+not-within (x ∷ xs) (suc n) lt is = not-within xs n (omega (arith, lt)) is
+
 -- the cells of a content that were read are those that it holds
 held : (content : List ℕ) (shape : Shape) (known : List Cells) (pairs : List Pair)
     → ((number : ℕ) (cells : Cells) → slice_get known number ≡ Some cells → IsCellsOf shape number cells) → FitEach content known pairs
@@ -280,13 +288,13 @@ held : (content : List ℕ) (shape : Shape) (known : List Cells) (pairs : List P
 held content shape known pairs of fit number lt = on (slice_get known number) refl
   where
     on : (found : Option Cells) → slice_get known number ≡ found → HoldsPair (cells_place shape number) shape.cell number content (cells_at pairs number)
-    on None is = ?
+    on None is = absurd (not-within known number lt is)
     on (Some cells) is =
         let place = of number cells is in
         let fits = fit number cells is in
         subst (λ n. HoldsPair n shape.cell number content (cells_at pairs number)) place.place
         (subst (λ n. HoldsPair (place_of cells) n number content (cells_at pairs number)) place.size
-        (subst (λ n. HoldsPair (place_of cells) (size_of cells) n content (cells_at pairs number)) place.number fits.holds))
+        (subst (λ n. HoldsPair (place_of cells) (size_of cells) n content (cells_at pairs number)) place.of fits.holds))
 
 pub all_read : (honest : Type 0) (content : List ℕ) (shape : Shape) (pick : Pick) (lists : List (List Taken)) (known : List Cells) (state : State)
     → SoFar honest content shape pick lists known state → length known ≡ shape.docs → length lists ≡ shape.docs → honest

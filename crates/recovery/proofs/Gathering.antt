@@ -1,6 +1,6 @@
 -- Commands that are put into the lists of their documents.
 use Rattle.std.proofs.Common.{◌≡◌, ◌≢◌, ℕ, zero, suc, ◌+◌, ◌≤◌, ◌<◌, Bool, true, false, cond, List, [], ◌∷◌, ◌++◌, length, get_or, set, take, map, Vec, refl, sym, ap, subst, ◌∙◌, ⊎_elim, arith, append_assoc, length-set}
-use Rattle.std.specs.Prelude.{◌&&◌, ◌==◌, nat_lt, replicate}
+use Rattle.std.specs.Prelude.{◌&&◌, ◌==◌, nat_lt, All}
 use Rattle.std.specs.List.{flat_map, filter}
 use Rattle.std.specs.declared.alloc.Global.{Global}
 use Rattle.std.proofs.lemmas.Bool.{and_left, and_right, and_from, le-ltb, lt-ltb, cases_eq, eq-eqb, ne_eqb}
@@ -10,6 +10,7 @@ use Rattle.std.proofs.lemmas.List.Elements.{All-get_or, All-nil, All-push}
 use Rattle.revision.specs.Command.{Taken}
 use Rattle.history.specs.Entries.{of_document, above}
 use Rattle.journal.specs.BatchSpelling.{IsBatch, batch}
+use Rattle.journal.proofs.CallerLemmas.{one_spelling}
 use Rattle.segments.specs.Slot.{Segment}
 use Rattle.recovery.specs.Found.{commands_of}
 use Rattle.recovery.proofs.Folds.{commands_of-push}
@@ -94,6 +95,21 @@ added-then first second old now new one other = record {
   added = λ entries by. subst (λ (e : List Taken). AreByDocument e new) (append_assoc entries first second) (other.added (entries ++ first) (one.added entries by));
 }
 
+-- one element more of those that are mapped, and one of them
+pub map-take-more : {A B : Type 0} (f : A → B) (xs : List A) (i : ℕ) (x : A) → i < length xs → x ≡ get_or xs i x → map f (take (i + 1) xs) ≡ map f (take i xs) ++ f x ∷ []
+map-take-more {A} {B} f xs i x lt is =
+    ap (map f) (take_more xs i x lt) ∙ (map_push f (take i xs) (get_or xs i x) ∙ ap (λ (y : A). map f (take i xs) ++ f y ∷ []) (sym is))
+
+pub map-at : {A B : Type 0} (f : A → B) (xs : List A) (i : ℕ) (x : A) (d : B) → i < length xs → x ≡ get_or xs i x → get_or (map f xs) i d ≡ f x
+map-at f xs i x d lt is = get_or-map f xs i x d lt ∙ ap f (sym is)
+
+pub map-within : {A B : Type 0} (f : A → B) (xs : List A) (i : ℕ) → i < length xs → i < length (map f xs)
+map-within f xs i lt = subst (λ n. i < n) (sym (length-map xs f)) lt
+
+-- no spelling is that of two batches
+pub batch-same : (a b : List Taken) → IsBatch a → IsBatch b → batch a ≡ batch b → a ≡ b
+batch-same a b is_a is_b same = (one_spelling a b [] [] is_a is_b (ap (λ (l : List ℕ). l ++ []) same)).0
+
 -- Bodies so far, and one more.
 abbrev pub AddedBy : List (List ℕ) → List (List Taken) → List (List Taken) → Type 0
 AddedBy bodies old new = (batches : List (List Taken)) × SpellEach bodies batches × AreAdded (commands_of batches) old new
@@ -111,6 +127,9 @@ by-more bodies body commands old now new (batches, spell, so_far) is spelled add
   },
   subst (λ (l : List Taken). AreAdded l old new) (sym (commands_of-push batches commands)) (added-then (commands_of batches) commands old now new so_far added),
 )
+
+pub by-count : (bodies : List (List ℕ)) (old new : List (List Taken)) → AddedBy bodies old new → length new ≡ length old
+by-count bodies old new (batches, spell, added) = added.count
 
 -- the batch that a body spells among others
 pub record SpelledAt (body : List ℕ) (batches : List (List Taken)) : Type 0 where

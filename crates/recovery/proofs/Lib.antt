@@ -8,6 +8,7 @@ pub mod Runs
 pub mod Named
 pub mod Gathering
 pub mod Documents
+pub mod Parts
 pub mod FoundOnce
 pub mod Fitting
 pub mod Worked

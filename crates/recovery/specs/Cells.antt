@@ -10,7 +10,7 @@ use Rattle.recovery.specs.Shape.{cells_place}
 pub record IsCellsOf (shape : Shape) (number : ℕ) (cells : Cells) : Type 0 where
   pub place : place_of cells ≡ cells_place shape number
   pub size : size_of cells ≡ shape.cell
-  pub number : number_of cells ≡ number
+  pub of : number_of cells ≡ number
 
 -- those of all documents that a store of this shape may have, in order of their numbers
 pub record AreCellsOf (shape : Shape) (known : List Cells) : Type 0 where

@@ -37,5 +37,5 @@ pub record HoldsSlots (content : List ℕ) (shape : Shape) (table : List (Option
 -- A device is laid out in a shape: its superblock names it, and its cells and its slots hold these.
 pub record IsLaidOut (content : List ℕ) (shape : Shape) (cells : List Pair) (table : List (Option Segment)) : Type 0 where
   pub names : Names content shape
-  pub cells : HoldsCells content shape cells
-  pub slots : HoldsSlots content shape table
+  pub in_cells : HoldsCells content shape cells
+  pub in_slots : HoldsSlots content shape table

@@ -6,7 +6,8 @@ use Rattle.revision.specs.Command.{Taken}
 use Rattle.revision.specs.State.{State, all_grow, fold}
 use Rattle.journal.specs.BatchSpelling.{IsBatch, batch}
 use Rattle.history.specs.Entries.{of_document}
-use Rattle.history.specs.Cell.{Cell, Pair, Pick, picked}
+use Rattle.history.specs.declared.pick.Pick.{Pick}
+use Rattle.history.specs.Cell.{Cell, Pair, picked}
 use Rattle.history.specs.Found.{StandFor, unread}
 use Rattle.history.specs.Reading.{entered, enters, is_there}
 use Rattle.milestone.specs.declared.cells.Cells.{Cells}
