@@ -1,5 +1,5 @@
 -- The layout of a device: which shape it has, and what its cells and its slots hold.
-use Rattle.std.specs.Prelude.{◌≡◌, ◌≢◌, ℕ, ◌+◌, ◌*◌, ◌<◌, ◌≤◌, true, Option, List, length, take, drop, slice_index}
+use Rattle.std.specs.Prelude.{◌≡◌, ◌≢◌, ℕ, ◌<◌, ◌≤◌, true, Option, List, length, take, drop, slice_index}
 use Rattle.journal.specs.Area.{open_gate}
 use Rattle.history.specs.Cell.{Pair, cells_at}
 use Rattle.milestone.specs.Cells.{HoldsPair}
