@@ -18,13 +18,12 @@ use Rattle.history.specs.Reading.{HasRead, NothingLeft}
 use Rattle.history.proofs.CallerLemmas.{stand_is_state, reading_finds}
 use Rattle.segments.specs.Slot.{Segment}
 use Rattle.segments.specs.Order.{segments_of, bodies_of}
-use Rattle.segments.proofs.CallerLemmas.{one_table}
 use Rattle.recovery.specs.declared.shape.Shape.{Shape}
-use Rattle.recovery.specs.Shape.{slots_place}
 use Rattle.recovery.specs.Layout.{Names, HoldsCells, HoldsSlots}
 use Rattle.recovery.specs.Found.{Found, HoldsParts, SpellBatches, limits_of, commands_of}
 use Rattle.recovery.specs.steps.Reading.{are_below, AreByDocument, SpellEach, SpellGroups, commands_in}
 use Rattle.recovery.proofs.Documents.{limits_in_range}
+use Rattle.recovery.proofs.FoundOnce.{slots_same, batches_same}
 use Rattle.recovery.proofs.Named.{named_same}
 
 -- all batches of groups, in order
@@ -173,7 +172,7 @@ pub in-groups : (content : List ℕ) (shape : Shape) (pick : Pick) (table : List
 in-groups content shape pick table state names slots found =
     let here = found-at content shape pick state names found in
     let in_slots = here.holds.laid_out.in_slots in
-    let same : here.table ≡ table = one_table (slots_place shape) shape.slot content here.table table (in_slots.count ∙ sym slots.count) in_slots.holds slots.holds in
+    let same : here.table ≡ table = slots_same content shape here.table table in_slots slots in
     let spell = subst (λ (t : List (Option Segment)). SpellBatches t here.batches) same here.holds.spell in
     let groups = grouped (segments_of table) here.batches spell.spelled (recursion_from_All IsBatch here.batches spell.each) in
     let commands : commands_of here.batches ≡ commands_in groups.groups = ap commands_of (sym groups.is) ∙ commands-all groups.groups in
@@ -194,3 +193,8 @@ not-slots content shape pick state names none found =
     let here = found-at content shape pick state names found in
     none here.table here.holds.laid_out.in_slots
 
+-- segments spell the commands of one list of groups at most
+pub groups-same : (table : List (Option Segment)) (a b : List (List (List Taken))) → SpellGroups (segments_of table) a → SpellGroups (segments_of table) b
+    → commands_in a ≡ commands_in b
+groups-same table a b is_a is_b =
+    sym (commands-all a) ∙ (ap commands_of (batches_same table (all_in a) (all_in b) (spell-all table a is_a) (spell-all table b is_b)) ∙ commands-all b)

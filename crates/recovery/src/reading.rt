@@ -51,7 +51,6 @@ pub fn read_store<D: Disk>(
     pick: Pick,
 ) -> Result<RecoveredStore, Refusal>
     ensures read { IfOk result (λ recovered. D.honest disk.new → IsReadAs (D.seen disk.old) pick recovered) }
-    ensures ring { IfOk result (λ recovered. IsRingOf recovered.shape recovered.ring) }
     ensures cells { IfOk result (λ recovered. AreCellsOf recovered.shape recovered.cells.items) }
     ensures limits { IfOk result (λ recovered. recovered.state.limits ≡ limits_of recovered.shape) }
     ensures in_range { IfOk result (λ recovered. is_in_range recovered.shape ≡ true) }
@@ -82,7 +81,6 @@ fn read_content<D: Disk>(
     pick: Pick,
 ) -> Result<RecoveredStore, Refusal>
     ensures read { IfOk result (λ recovered. D.honest disk.new → IsReadAs (D.seen disk.old) pick recovered) }
-    ensures ring { IfOk result (λ recovered. IsRingOf recovered.shape recovered.ring) }
     ensures cells { IfOk result (λ recovered. AreCellsOf recovered.shape recovered.cells.items) }
     ensures limits { IfOk result (λ recovered. recovered.state.limits ≡ limits_of recovered.shape) }
     ensures in_range { IfOk result (λ recovered. is_in_range recovered.shape ≡ true) }

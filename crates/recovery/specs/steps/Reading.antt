@@ -36,6 +36,7 @@ pub record IsReadAs (content : List ℕ) (pick : Pick) (recovered : RecoveredSto
   pub batches : List (List Taken)
   pub holds : HoldsParts content recovered.shape cells table batches
   pub fits : Fits content recovered.ring table
+  pub place : IsRingOf recovered.shape recovered.ring
   pub cells_fit : FitEach content recovered.cells.items cells
   pub stand : StandFor (limits_of recovered.shape) cells (commands_of batches) pick recovered.state
 
