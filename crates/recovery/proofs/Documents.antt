@@ -1,5 +1,5 @@
 -- Documents that are read one after the other, in order of their numbers.
-use Rattle.std.proofs.Common.{◌≡◌, ℕ, zero, suc, ◌+◌, ◌-◌, ◌≤◌, ◌<◌, Bool, true, false, List, [], ◌∷◌, ◌++◌, length, get_or, Option, Some, None, length-append, refl, sym, ap, subst, ◌∙◌, ⊎_elim, inl, inr, arith}
+use Rattle.std.proofs.Common.{◌≡◌, ℕ, zero, suc, ◌+◌, ◌-◌, ◌≤◌, ◌<◌, Bool, true, false, List, [], ◌∷◌, ◌++◌, length, map, get_or, Option, Some, None, length-append, refl, sym, ap, subst, ◌∙◌, ⊎_elim, inl, inr, arith}
 use Rattle.std.specs.Prelude.{unwrap_or, slice_get}
 use Rattle.std.proofs.lemmas.Bool.{cases_lt}
 use Rattle.std.proofs.lemmas.List.{get_or_past}
@@ -276,6 +276,23 @@ one_more honest now_honest content shape pick lists own known now state after so
           next.read;
     })
 
+-- cells that fit hold their pair where those of their number lie
+pub held-pair : (content : List ℕ) (shape : Shape) (number : ℕ) (cells : Cells) (pair : Pair) → IsCellsOf shape number cells → Fits content cells pair
+    → HoldsPair (cells_place shape number) shape.cell number content pair
+held-pair content shape number cells pair place fits =
+    subst (λ n. HoldsPair n shape.cell number content pair) place.place
+    (subst (λ n. HoldsPair (place_of cells) n number content pair) place.size
+    (subst (λ n. HoldsPair (place_of cells) (size_of cells) n content pair) place.of fits.holds))
+
+-- the list that comes behind others
+pub own-at : {A B : Type 0} (f : A → B) (before : List A) (own : A) (rest : List A) (d : B) → get_or (map f (before ++ own ∷ rest)) (length before) d ≡ f own
+own-at f [] own rest d = refl
+own-at f (x ∷ before) own rest d = own-at f before own rest d
+
+pub length-behind : {A : Type 0} (before : List A) (own : A) (rest : List A) → length (before ++ own ∷ rest) ≡ length before + 1 + length rest
+length-behind [] own rest = omega arith
+length-behind (x ∷ before) own rest = omega (arith, length-behind before own rest)
+
 not-within : {A : Type 0} (xs : List A) (n : ℕ) → n < length xs → slice_get xs n ≡ None → ⊥
 not-within [] n lt is = omega (arith, lt)
 not-within (x ∷ xs) zero lt is = absurd (cc)
@@ -289,12 +306,7 @@ held content shape known pairs of fit number lt = on (slice_get known number) re
   where
     on : (found : Option Cells) → slice_get known number ≡ found → HoldsPair (cells_place shape number) shape.cell number content (cells_at pairs number)
     on None is = absurd (not-within known number lt is)
-    on (Some cells) is =
-        let place = of number cells is in
-        let fits = fit number cells is in
-        subst (λ n. HoldsPair n shape.cell number content (cells_at pairs number)) place.place
-        (subst (λ n. HoldsPair (place_of cells) n number content (cells_at pairs number)) place.size
-        (subst (λ n. HoldsPair (place_of cells) (size_of cells) n content (cells_at pairs number)) place.of fits.holds))
+    on (Some cells) is = held-pair content shape number cells (cells_at pairs number) (of number cells is) (fit number cells is)
 
 pub all_read : (honest : Type 0) (content : List ℕ) (shape : Shape) (pick : Pick) (lists : List (List Taken)) (known : List Cells) (state : State)
     → SoFar honest content shape pick lists known state → length known ≡ shape.docs → length lists ≡ shape.docs → honest

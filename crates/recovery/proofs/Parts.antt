@@ -198,3 +198,13 @@ pub groups-same : (table : List (Option Segment)) (a b : List (List (List Taken)
     → commands_in a ≡ commands_in b
 groups-same table a b is_a is_b =
     sym (commands-all a) ∙ (ap commands_of (batches_same table (all_in a) (all_in b) (spell-all table a is_a) (spell-all table b is_b)) ∙ commands-all b)
+
+-- the groups that were read of the segments of a table, and their commands by document
+pub record Gathered (segments : List Segment) (lists : List (List Taken)) : Type 0 where
+  pub groups : List (List (List Taken))
+  pub spell : SpellGroups segments groups
+  pub by : AreByDocument (commands_in groups) lists
+
+pub gathered : (segments : List Segment) (lists : List (List Taken)) → ((groups : List (List (List Taken))) × SpellGroups segments groups × AreByDocument (commands_in groups) lists)
+    → Gathered segments lists
+gathered segments lists (groups, spell, by) = record { groups = groups; spell = spell; by = by }
