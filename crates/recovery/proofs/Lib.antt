@@ -5,6 +5,11 @@ pub mod Layouts
 pub mod Folds
 pub mod Commits
 pub mod Runs
+pub mod Marking
+pub mod Marked
+pub mod KnownCells
+pub mod Retirement
+pub mod Upkeep
 pub mod Named
 pub mod Gathering
 pub mod Documents

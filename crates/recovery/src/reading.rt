@@ -18,7 +18,9 @@ mod document;
 mod documents;
 mod entries;
 mod gates;
+mod marking;
 
+use crate::marks::Marks;
 use crate::shape::Shape;
 use crate::superblock::{BODY_LEN, SUPERBLOCK_LEN, read_superblock};
 use disk::Disk;
@@ -26,19 +28,21 @@ use documents::{ReadDocuments, read_documents};
 use entries::gather;
 use gates::{is_open, read_at};
 use history::Pick;
+use marking::mark_segments;
 use milestone::Cells;
 use refusal::Refusal;
 use revision::State;
 use segments::{RecoveredRing, Ring};
 use std::alloc::Global;
 
-/// What was read of a device: its shape, the ring of its slots, the cells of each document number in order, and the state that it
-/// stands for.
+/// What was read of a device: its shape, the ring of its slots, the cells of each document number in order, the marks of its
+/// segments, and the state that it stands for.
 #[derive(Drop)]
 pub struct RecoveredStore {
     pub shape: Shape,
     pub ring: Ring,
     pub cells: Vec<Cells>,
+    pub marks: Marks,
     pub state: State,
 }
 
@@ -97,11 +101,13 @@ fn read_content<D: Disk>(
     let shape = read_shape(disk)?;
     let RecoveredRing { ring, segments } = read_slots(alloc, disk, &shape)?;
     let entries = gather(alloc, shape.docs, &segments)?;
+    let marks = mark_segments(alloc, &segments)?;
     let ReadDocuments { state, cells } = read_documents(alloc, disk, &shape, pick, entries)?;
     Ok(RecoveredStore {
         shape,
         ring,
         cells,
+        marks,
         state,
     })
 }

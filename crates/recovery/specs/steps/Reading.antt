@@ -19,7 +19,9 @@ use Rattle.recovery.specs.declared.shape.Shape.{Shape}
 use Rattle.recovery.specs.declared.reading.RecoveredStore.{RecoveredStore}
 use Rattle.recovery.specs.Shape.{slots_place}
 use Rattle.recovery.specs.Layout.{HoldsCells}
-use Rattle.recovery.specs.Cells.{IsCellsOf, FitEach}
+use Rattle.recovery.specs.Cells.{IsCellsOf, AreCellsOf, FitEach}
+use Rattle.recovery.specs.Marks.{marks_of}
+use Rattle.recovery.specs.Marked.{AreMarked}
 use Rattle.recovery.specs.Found.{limits_of, commands_of, HoldsParts}
 
 -- the ring has the slots of this shape
@@ -28,8 +30,8 @@ pub record IsRingOf (shape : Shape) (ring : Ring) : Type 0 where
   pub size : size_of ring ≡ shape.slot
   pub count : length (known_numbers ring) ≡ shape.slots
 
--- A content was read so, by a pick: it holds parts of this shape, which stand for this state, and the ring is that of its slots and
--- the cells are those of its documents.
+-- A content was read so, by a pick: it holds parts of this shape, which stand for this state, the ring is that of its slots, the cells
+-- are those of its documents, and its segments are marked.
 pub record IsReadAs (content : List ℕ) (pick : Pick) (recovered : RecoveredStore) : Type 0 where
   pub cells : List Pair
   pub table : List (Option Segment)
@@ -37,7 +39,9 @@ pub record IsReadAs (content : List ℕ) (pick : Pick) (recovered : RecoveredSto
   pub holds : HoldsParts content recovered.shape cells table batches
   pub fits : Fits content recovered.ring table
   pub place : IsRingOf recovered.shape recovered.ring
+  pub cells_are : AreCellsOf recovered.shape recovered.cells.items
   pub cells_fit : FitEach content recovered.cells.items cells
+  pub marked : AreMarked table (marks_of recovered.marks)
   pub stand : StandFor (limits_of recovered.shape) cells (commands_of batches) pick recovered.state
 
 -- the commands in each vector

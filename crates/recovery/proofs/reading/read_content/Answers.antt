@@ -94,6 +94,8 @@ returns-clause-read g c honest =
       };
       fits = fits;
       place = c.in_ok-ring.ensures.place;
+      cells_are = c.in_ok-state.ensures.cells;
       cells_fit = subst (λ (l : List ℕ). FitEach l documents.cells.items there.pairs) same there.fit;
+      marked = c.in_ok-marks.ensures.marked read.table fits.holds.differ (ap (map segment_in) c.deref-2.ensures.value ∙ read.segments);
       stand = subst (λ (e : List Taken). StandFor (limits_of shape) there.pairs e c.args.pick documents.state) (sym (commands-all own.groups)) there.stand;
     }

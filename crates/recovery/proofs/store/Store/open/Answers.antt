@@ -2,6 +2,7 @@ use Rattle.std.proofs.Common.{◌∙◌, ⊎_elim, ℕ, List, subst, sym}
 use Rattle.disk.proofs.CallerLemmas.{synced_leaves}
 use Rattle.segments.specs.Ring.{Fits}
 use Rattle.recovery.specs.Found.{HoldsParts}
+use Rattle.recovery.specs.Cells.{FitEach}
 use Rattle.recovery.proofs.FoundOnce.{found_once, runs_at}
 use Rattle.recovery.proofs.Runs.{found_again}
 use Rattle.recovery.proofs.store.Store.open.Goals as goal
@@ -33,6 +34,9 @@ returns-in-Ok-clause-open g c honest state of =
         fits = subst (λ (l : List ℕ). Fits l recovered.ring read.table) (sym c.read_store.ensures.seen) read.fits;
         ring_at = read.place.at;
         ring_size = read.place.size;
+        cells_are = read.cells_are;
+        cells_fit = subst (λ (l : List ℕ). FitEach l recovered.cells.items read.cells) (sym c.read_store.ensures.seen) read.cells_fit;
+        marked = read.marked;
         limits = runs.0;
         runs = runs.1;
       },

@@ -1,0 +1,9 @@
+pub mod InTurn
+pub mod Sizes
+pub mod Bytes
+pub mod Holding
+pub mod Freeing
+pub mod Putting
+pub mod Order
+pub mod Fields
+pub mod CallerLemmas
