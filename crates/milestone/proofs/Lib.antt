@@ -1,6 +1,10 @@
+pub mod CallerLemmas
 pub mod Bytes
 pub mod Holding
 pub mod Freeing
 pub mod Putting
 pub mod Order
 pub mod Fields
+pub mod Bodies
+pub mod OnePair
+pub mod CellsRead

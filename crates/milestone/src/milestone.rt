@@ -1,7 +1,7 @@
 //! A document at a revision.
 ghost use Rattle.std.specs.Prelude.{◌≡◌, ◌≤◌, true};
 ghost use Rattle.revision.specs.State.{last_of_all, are_sources};
-ghost use Rattle.milestone.specs.Milestone.{IsMilestone, are_named};
+ghost use Rattle.milestone.specs.Milestone.{IsMilestone};
 
 use document::Document;
 use revision::{Name, Sources};
@@ -48,7 +48,6 @@ impl Milestone {
     pub fn new(name: Name, revision: u64, document: Document, sources: Sources) -> Milestone
         requires first { 1 ≤ revision }
         requires last { revision ≤ last_of_all }
-        requires named { are_named sources.entries ≡ true }
         requires sources { are_sources revision sources.entries ≡ true }
         ensures { result ≡ record { name = name; revision = revision; content = record { units = document }; sources = sources } }
     {
