@@ -14,7 +14,8 @@ use Rattle.history.specs.Found.{unread, StandsFor, StandFor}
 use Rattle.history.specs.Reading.{HasRead, entered, enters, is_there, ReadsNext, NothingLeft}
 use Rattle.history.proofs.CallerLemmas.{reading_begins, reading_goes_on, reading_ends, reading_finds}
 use Rattle.milestone.specs.declared.cells.Cells.{Cells}
-use Rattle.milestone.specs.Cells.{HoldsPair, Fits, place_of, size_of, number_of}
+use Rattle.milestone.specs.OneCell.{HoldsPair}
+use Rattle.milestone.specs.Cells.{Fits, place_of, size_of, number_of}
 use Rattle.milestone.proofs.CallerLemmas.{one_pair}
 use Rattle.recovery.specs.declared.shape.Shape.{Shape}
 use Rattle.recovery.specs.Shape.{is_in_range, cells_place}

@@ -2,7 +2,7 @@ use Rattle.std.proofs.Common.{◌≡◌, ◌+◌, ◌*◌, ℕ, subst}
 use Rattle.std.specs.Prelude.{IfErr}
 use Rattle.refusal.specs.declared.Refusal.TheVariants.{Damaged}
 use Rattle.history.specs.Cell.{Pair}
-use Rattle.milestone.specs.Cells.{HoldsPair}
+use Rattle.milestone.specs.OneCell.{HoldsPair}
 use Rattle.recovery.proofs.reading.documents.read_cells.Goals as goal
 
 pub returns-clause-damaged : goal.returns-clause-damaged

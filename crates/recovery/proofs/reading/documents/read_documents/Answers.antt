@@ -7,7 +7,7 @@ use Rattle.disk.specs.Device.{History}
 use Rattle.revision.specs.Command.{Taken}
 use Rattle.revision.specs.State.{Limits, State}
 use Rattle.history.specs.Cell.{Pair, picked}
-use Rattle.milestone.specs.Cells.{HoldsPair}
+use Rattle.milestone.specs.OneCell.{HoldsPair}
 use Rattle.milestone.specs.declared.cells.Cells.{Cells}
 use Rattle.recovery.specs.Shape.{cells_place}
 use Rattle.recovery.specs.Found.{limits_of, empty_state}

@@ -2,7 +2,7 @@ use Rattle.std.proofs.Common.{◌≡◌, ◌∙◌, ℕ, Option, length, ap, sym
 use Rattle.std.proofs.lemmas.Result.{err_from_is_err_and}
 use Rattle.revision.specs.State.{State}
 use Rattle.history.specs.Cell.{Cell, Pair, picked}
-use Rattle.milestone.specs.Cells.{HoldsPair}
+use Rattle.milestone.specs.OneCell.{HoldsPair}
 use Rattle.milestone.specs.ReadCells.{pair_of}
 use Rattle.milestone.proofs.CallerLemmas.{one_pair}
 use Rattle.recovery.specs.Shape.{cells_place}
