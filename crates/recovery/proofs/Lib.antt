@@ -14,3 +14,4 @@ pub mod Named
 pub mod FoundOnce
 pub mod Fitting
 pub mod Worked
+pub mod WorkedCells
