@@ -17,3 +17,4 @@ pub mod Parts
 pub mod FoundOnce
 pub mod Fitting
 pub mod Worked
+pub mod WorkedCells
