@@ -8,3 +8,4 @@ pub mod Fields
 pub mod Bodies
 pub mod OnePair
 pub mod CellsRead
+pub mod Worked
