@@ -1,4 +1,6 @@
 pub mod CallerLemmas
+pub mod InTurn
+pub mod Sizes
 pub mod Bytes
 pub mod Holding
 pub mod Freeing

@@ -5,8 +5,13 @@ pub mod Layouts
 pub mod Folds
 pub mod Commits
 pub mod Runs
+pub mod Marking
+pub mod Marked
+pub mod KnownCells
+pub mod Retirement
+pub mod Upkeep
 pub mod Named
-pub mod Replays
 pub mod FoundOnce
 pub mod Fitting
 pub mod Worked
+pub mod WorkedCells

@@ -2,7 +2,7 @@
 use attributes::Attrs;
 use delta::{Builder, Delta, Op, OpRef};
 use disk::{Disk, MemDisk};
-use recovery::{Shape, Store, format_device};
+use recovery::{Pick, Shape, Store, format_device};
 use refusal::Refusal;
 use revision::{Command, Name, Plan, State};
 use std::process::Abort;
@@ -86,7 +86,7 @@ pub fn device_of(rt: &(impl Abort + AllocGlobal), bytes: &[u8]) -> MemDisk {
 
 /// A store over a device that is to open.
 pub fn open_store<D: Disk + Drop>(rt: &(impl Abort + AllocGlobal), disk: D) -> Store<D> {
-    match Store::open(rt.alloc(), disk) {
+    match Store::open(rt.alloc(), disk, Pick::Newer) {
         Ok(store) => store,
         Err(fault) => panic!(rt; "{}", fault.refusal),
     }
@@ -123,9 +123,15 @@ pub fn has_documents(rt: &(impl Abort + AllocGlobal), state: &State, lines: &str
     assert_eq!(rt; lines_of(rt, state).as_str(), lines);
 }
 
-/// A device of these bytes is opened, with these documents or this refusal. Opening it changes nothing.
+/// A device of these bytes is opened by either pick, with these documents or this refusal. Opening it changes nothing.
 pub fn is_opened_as(rt: &(impl Abort + AllocGlobal), bytes: &[u8], wanted: &str) {
-    match Store::open(rt.alloc(), device_of(rt, bytes)) {
+    is_picked_as(rt, bytes, Pick::Newer, wanted);
+    is_picked_as(rt, bytes, Pick::Older, wanted);
+}
+
+/// And by this pick.
+pub fn is_picked_as(rt: &(impl Abort + AllocGlobal), bytes: &[u8], pick: Pick, wanted: &str) {
+    match Store::open(rt.alloc(), device_of(rt, bytes), pick) {
         Ok(store) => {
             has_documents(rt, store.state(), wanted);
             assert_eq!(rt; store.close().bytes(), bytes);

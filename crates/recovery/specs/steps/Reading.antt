@@ -1,7 +1,8 @@
 -- What is read of the content of a device.
 use Rattle.std.specs.Prelude.{◌≡◌, ℕ, Option, List, length}
 use Rattle.revision.specs.Command.{Taken}
-use Rattle.history.specs.Cell.{Pair, Pick}
+use Rattle.history.specs.declared.pick.Pick.{Pick}
+use Rattle.history.specs.Cell.{Pair}
 use Rattle.history.specs.Found.{StandFor}
 use Rattle.segments.specs.Slot.{Segment}
 use Rattle.segments.specs.declared.ring.Ring.{Ring}
@@ -10,6 +11,9 @@ use Rattle.recovery.specs.declared.shape.Shape.{Shape}
 use Rattle.recovery.specs.declared.reading.RecoveredStore.{RecoveredStore}
 use Rattle.recovery.specs.Shape.{slots_place}
 use Rattle.recovery.specs.Found.{limits_of, commands_of, HoldsParts}
+use Rattle.recovery.specs.Cells.{AreCellsOf, FitEach}
+use Rattle.recovery.specs.Marks.{marks_of}
+use Rattle.recovery.specs.Marked.{AreMarked}
 
 -- the ring has the slots of this shape
 pub record IsRingOf (shape : Shape) (ring : Ring) : Type 0 where
@@ -25,4 +29,7 @@ pub record IsReadAs (content : List ℕ) (pick : Pick) (recovered : RecoveredSto
   pub holds : HoldsParts content recovered.shape cells table batches
   pub fits : Fits content recovered.ring table
   pub place : IsRingOf recovered.shape recovered.ring
+  pub cells_are : AreCellsOf recovered.shape recovered.cells.items
+  pub cells_fit : FitEach content recovered.cells.items cells
+  pub marked : AreMarked table (marks_of recovered.marks)
   pub stand : StandFor (limits_of recovered.shape) cells (commands_of batches) pick recovered.state
