@@ -60,11 +60,7 @@ behind_document cell more = text16 cell.name ++ behind_name cell more
 
 cell_parts : (n : ℕ) (cell : Cell) (more : List ℕ) → cell_body n cell ++ more ≡ number w32 n ++ behind_document cell more
 unfolding cell_body content_bytes
-cell_parts n cell more =
-    append_assoc (number w32 n) (text16 cell.name ++ (number w64 cell.revision ++ (content_bytes cell.content.units ++ sources_bytes cell.sources))) more
-    ∙ ap (λ (l : List ℕ). number w32 n ++ l) (append_assoc (text16 cell.name) (number w64 cell.revision ++ (content_bytes cell.content.units ++ sources_bytes cell.sources)) more
-        ∙ ap (λ (l : List ℕ). text16 cell.name ++ l) (append_assoc (number w64 cell.revision) (content_bytes cell.content.units ++ sources_bytes cell.sources) more
-            ∙ ap (λ (l : List ℕ). number w64 cell.revision ++ l) (append_assoc (content_bytes cell.content.units) (sources_bytes cell.sources) more)))
+cell_parts n cell more = simp append_assoc
 
 -- the bytes are the body of no cell of this document
 abbrev pub IsNone : ℕ → List ℕ → Type 0
@@ -142,12 +138,12 @@ module _ (n : ℕ) (low : n < 2 ^ 32) (bytes : List ℕ) where
                 count = are.count;
               },
               there
-              ∙ ap (λ (l : List ℕ). number w32 n ++ l) (name_there
+                  ∙ ap (λ (l : List ℕ). number w32 n ++ l) (name_there
                   ∙ ap (λ (l : List ℕ). text16 name ++ l) (revision_there
-                      ∙ ap (λ (l : List ℕ). number w64 revision ++ l) (content_there
-                          ∙ ap (λ (l : List ℕ). content_bytes units ++ l) (sources_there ∙ ap (λ (l : List ℕ). sources_bytes all ++ l) none))))
-              ∙ sym (cell_parts n found [])
-              ∙ append-nil (cell_body n found),
+                  ∙ ap (λ (l : List ℕ). number w64 revision ++ l) (content_there
+                  ∙ ap (λ (l : List ℕ). content_bytes units ++ l) (sources_there ∙ ap (λ (l : List ℕ). sources_bytes all ++ l) none))))
+                  ∙ sym (cell_parts n found [])
+                  ∙ append-nil (cell_body n found),
             )
 
 -- Two cells of a document whose bodies begin one list of bytes are equal.

@@ -5,7 +5,7 @@ use Rattle.std.specs.List.{list_all, flat_map, AllByRecursion}
 use Rattle.std.specs.Str.{is_utf8}
 use Rattle.std.specs.Ordering.{is_lt}
 use Rattle.std.specs.FinMap.Entries.{is_sorted}
-use Rattle.std.proofs.lemmas.Bool.{and_parts, and_from, leb-true, le-leb}
+use Rattle.std.proofs.lemmas.Bool.{and_parts, and_from, leb-true, ltb-true, le-leb}
 use Rattle.std.proofs.lemmas.Bool.Decides.{nat_tests}
 use Rattle.std.proofs.lemmas.List.{nil_from_length}
 use Rattle.std.proofs.lemmas.List.Concat.{flat_map-append}
@@ -47,7 +47,9 @@ pub name_short : (longest : ℕ) (text : List ℕ) → is_name longest text ≡ 
 name_short longest text e = leb-true _ _ (and_parts _ _ (and_parts _ (list_all is_name_byte text) e).0).1
 
 pub name_some : (longest : ℕ) (text : List ℕ) → is_name longest text ≡ true → 1 ≤ length text
-name_some longest text e = grind (arith, nat_tests, (and_parts _ _ (and_parts _ (list_all is_name_byte text) e).0).0)
+name_some longest text e =
+    let both = and_parts (nat_lt 0 (length text) && nat_le (length text) longest) (list_all is_name_byte text) e in
+    ltb-true _ _ (and_parts (nat_lt 0 (length text)) (nat_le (length text) longest) both.0).0
 
 -- where no text begins the bytes no name does
 pub name_none : (longest : ℕ) (bytes : List ℕ) → longest < 2 ^ 16
@@ -114,14 +116,19 @@ other_content operations bytes rest is there some units other content spelled =
     let same = delta-append_same operations (inserts_of units) rest other is content (sym there ∙ spelled) in
     absurd (omega (arith, some, ap base_of same.0, inserts_none units))
 
+pub read_content : (operations : List Operation) (units : List Element) (bytes rest : List ℕ) → IsSpellable operations → bytes ≡ delta operations ++ rest → base_of operations ≡ 0
+    → units ≡ apply [] (counted operations) → IsContent units × (bytes ≡ content_bytes units ++ rest)
+unfolding content_bytes
+read_content operations units bytes rest is there none made =
+    let same : operations ≡ inserts_of units = inserts_back operations is.normal none ∙ ap inserts_of (sym made) in
+    (subst IsSpellable same is, there ∙ ap (λ (ops : List Operation). delta ops ++ rest) same)
+
 -- ---- sources
 
 -- the parts of a source's bytes, one by one
 pub source_parts : (s : List ℕ × LastTaken) (x : List ℕ) → source s ++ x ≡ text16 s.0 ++ (number w64 s.1.number ++ (number w64 s.1.revision ++ x))
 unfolding source
-source_parts s x =
-    append_assoc (text16 s.0) (number w64 s.1.number ++ number w64 s.1.revision) x
-    ∙ ap (λ (l : List ℕ). text16 s.0 ++ l) (append_assoc (number w64 s.1.number) (number w64 s.1.revision) x)
+source_parts s x = simp append_assoc
 
 pub source_within : (revision : ℕ) (s : List ℕ × LastTaken) → IsSource revision s → IsWithin last_of_all s.1.number × IsWithin revision s.1.revision
 source_within revision s is =
@@ -178,6 +185,11 @@ module _ (revision : ℕ) (low : revision < 2 ^ 64) where
       let entries : a.entries ≡ b.entries = sym (append-nil a.entries) ∙ ap (λ (l : List (List ℕ × LastTaken)). a.entries ++ l) (sym nothing) ∙ sym others.1 in
       (same_entries_map a b entries, others.2 ∙ ap (λ (l : List (List ℕ × LastTaken)). flat_map source l ++ y) nothing)
 
+  pub sources_short : (bytes : List ℕ) → length bytes < 4 → BeginsNone sources_bytes (AreSources revision) bytes
+  unfolding sources
+  sources_short bytes short others rest are spelled =
+      number32_none (count_of others) bytes short (flat_map source others.entries ++ rest) (spelled ∙ append_assoc (number w32 (count_of others)) (flat_map source others.entries) rest)
+
   -- so many sources are read, and no further one that is above them begins the bytes
   pub none_more : (entries : List (List ℕ × LastTaken)) (last : List ℕ) (count : ℕ) (bytes rest : List ℕ) → bytes ≡ number w32 count ++ (flat_map source entries ++ rest) → count < 2 ^ 32
       → length entries < count → AllByRecursion (IsSource revision) entries → IsLast entries last
@@ -194,9 +206,34 @@ module _ (revision : ℕ) (low : revision < 2 ^ 64) where
       behind_all : (front more : List (List ℕ × LastTaken)) → AllByRecursion (IsSource revision) (front ++ more) → AllByRecursion (IsSource revision) more
       behind_all [] more each = each
       behind_all (f ∷ front) more each = behind_all front more each.1
+
       further : (more : List (List ℕ × LastTaken)) → others.entries ≡ entries ++ more → rest ≡ flat_map source more ++ behind → AllByRecursion (IsSource revision) (entries ++ more) → 0 < length more → ⊥
       further [] same then each some = absurd (omega arith)
       further (x ∷ more) same then each some =
           let here = behind_all entries (x ∷ more) each in
           let order : above entries x.0 ≡ true = sorted_above entries x more (ap (is_sorted by_bytes) (sym same) ∙ from_T _ others.ascending) in
           none x (flat_map source more ++ behind) here.0 (is.back x.0 (name_some 32 x.0 here.0.named) order) (then ∙ append_assoc (source x) (flat_map source more) behind)
+
+pub each_more : (revision : ℕ) (entries : List (List ℕ × LastTaken)) (x : List ℕ × LastTaken) → AllByRecursion (IsSource revision) entries → IsSource revision x
+    → AllByRecursion (IsSource revision) (entries ++ x ∷ [])
+each_more revision [] x all is = (is, tt)
+each_more revision (e ∷ entries) x all is = (all.0, each_more revision entries x all.1 is)
+
+-- a source more is read
+pub split_more : (count : ℕ) (entries : List (List ℕ × LastTaken)) (x : List ℕ × LastTaken) (bytes rest after : List ℕ) → bytes ≡ number w32 count ++ (flat_map source entries ++ rest)
+    → rest ≡ source x ++ after → bytes ≡ number w32 count ++ (flat_map source (entries ++ x ∷ []) ++ after)
+split_more count entries x bytes rest after there next =
+    let more : flat_map source (entries ++ x ∷ []) ≡ flat_map source entries ++ source x =
+    flat_map-append source entries (x ∷ []) ∙ ap (λ (l : List ℕ). flat_map source entries ++ l) (append-nil (source x)) in
+    there
+    ∙ ap (λ (l : List ℕ). number w32 count ++ (flat_map source entries ++ l)) next
+    ∙ ap (λ (l : List ℕ). number w32 count ++ l) (sym (append_assoc (flat_map source entries) (source x) after) ∙ ap (λ (l : List ℕ). l ++ after) (sym more))
+
+-- all are
+pub all_read : (revision : ℕ) (all : Sources) (count : ℕ) (bytes rest : List ℕ) → bytes ≡ number w32 count ++ (flat_map source all.entries ++ rest) → count < 2 ^ 32
+    → count_of all ≡ count → AllByRecursion (IsSource revision) all.entries → AreSources revision all × (bytes ≡ sources_bytes all ++ rest)
+unfolding sources
+all_read revision all count bytes rest there low same each = (
+  record { count = omega (arith, low, same); each = All-from_recursion (IsSource revision) all.entries each },
+  there ∙ ap (λ k. number w32 k ++ (flat_map source all.entries ++ rest)) (sym same) ∙ sym (append_assoc (number w32 (count_of all)) (flat_map source all.entries) rest),
+)

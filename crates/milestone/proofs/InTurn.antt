@@ -1,18 +1,18 @@
 -- The one delta for deltas that lead from the empty document.
-use Rattle.std.proofs.Common.{◌≡◌, ◌⊎◌, inl, inr, ◌+◌, ◌≤◌, ◌^◌, List, [], ◌∷◌, ◌++◌, length, refl, sym, ap, subst, ◌∙◌, arith}
+use Rattle.std.proofs.Common.{◌≡◌, inl, inr, ◌≤◌, List, [], ◌∷◌, length, refl, sym, ap, subst, arith}
 use Rattle.std.proofs.lemmas.List.{append-nil}
 use Rattle.refusal.specs.declared.Refusal.{Refusal}
 use Rattle.refusal.specs.declared.Refusal.TheVariants.{CutsPair, BadOps, NoMemory}
 use Rattle.delta.specs.Element.{Element}
-use Rattle.delta.specs.Operation.{Operation, base_of, out_of, IsBounded}
+use Rattle.delta.specs.Operation.{Operation, base_of}
 use Rattle.delta.specs.Gaps.{Gaps, End, Gap, counted, apply, units_below}
 use Rattle.delta.specs.Places.{IsDefined}
 use Rattle.delta.proofs.CallerLemmas.{units_below-counted, length-apply_counted}
 use Rattle.document.specs.Places.{Cuts}
 use Rattle.document.specs.Outcome.{IsAccepted}
 use Rattle.compose.specs.Composed.{one_for}
-use Rattle.compose.specs.Cuts.{CutsInserted, CutsText}
-use Rattle.compose.specs.Many.{many, AreDefined, applied, ComposesAll}
+use Rattle.compose.specs.Cuts.{CutsInserted}
+use Rattle.compose.specs.Many.{AreDefined, applied, ComposesAll}
 use Rattle.compose.specs.Outcome.{CanCompose, CanComposeAll, IsComposeRefused, IsComposeAllRefused}
 use Rattle.compose.proofs.CallerLemmas.{composes_by_normal}
 use Rattle.compose.proofs.ManyDeltas.{defined-one}

@@ -1,5 +1,6 @@
 pub mod InTurn
 pub mod Sizes
+pub mod CallerLemmas
 pub mod Bytes
 pub mod Holding
 pub mod Freeing
@@ -7,3 +8,6 @@ pub mod Putting
 pub mod Order
 pub mod Fields
 pub mod CallerLemmas
+pub mod Bodies
+pub mod OnePair
+pub mod CellsRead

@@ -7,7 +7,7 @@ use Rattle.std.specs.FinMap.Entries.{put, is_sorted, below_all}
 use Rattle.std.proofs.lemmas.Bool.{and_parts, and_from}
 use Rattle.attributes.specs.Map.{Map, insert, by_bytes}
 
-less : (o : Ordering) → is_lt o ≡ true → o ≡ Less
+pub less : (o : Ordering) → is_lt o ≡ true → o ≡ Less
 less Less h = refl
 less Equal h = absurd cc
 less Greater h = absurd cc
@@ -21,7 +21,7 @@ lower a b c p q = ap is_lt (nat_list_cmp_total.trans a b c (less _ p) (less _ q)
 
 module _ {X : Type 0} where
   -- the name is above all that stand there
-  abbrev above : List (List ℕ × X) → List ℕ → Bool
+  abbrev pub above : List (List ℕ × X) → List ℕ → Bool
   above [] name = true
   above (e ∷ es) name = is_lt (by_bytes e.0 name) && above es name
 

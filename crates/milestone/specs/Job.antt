@@ -1,5 +1,5 @@
 -- What a milestone is made of: deltas that lead from the empty document to a revision, with the document's sources there.
-use Rattle.std.specs.Prelude.{◌≡◌, ℕ, ◌<◌, ◌^◌, List, [], refl}
+use Rattle.std.specs.Prelude.{ℕ, ◌<◌, ◌^◌, List, [], refl}
 use Rattle.std.specs.Coded.{Coded, code_by, coded×, coded_list, coded_ℕ}
 use Rattle.delta.specs.Operation.{Operation, operation_code}
 use Rattle.compose.specs.Many.{applied}

@@ -1,5 +1,6 @@
 //! One cell on a device: its gate, and what it holds.
 ghost use Rattle.std.specs.Prelude.{◌≡◌, ◌⊎◌, ◌+◌, ◌≤◌, ◌<◌, ◌^◌, ℕ, Option, [], ◌∷◌, length, take, drop, OnOk, IfOk, IfErr};
+ghost use Rattle.std.specs.Int.{w32, to_le_bytes};
 ghost use Rattle.disk.specs.Calls.{HasOnlyRead, HasOnlyWritten, CountsFaults, CountsFaultsAs};
 ghost use Rattle.disk.specs.Crash.{LeavesOnly};
 ghost use Rattle.disk.specs.Device.{overwritten, SameOutside};
@@ -56,16 +57,25 @@ pub(crate) fn read_cell<D: Disk>(
     if head[0] != OPEN {
         return Ok(None);
     }
-    let len = u32::from_le_bytes([head[1], head[2], head[3], head[4]]) as u64;
+    let len = body_len(&head[1..]);
     if len > size - 5 {
         return Err(Refusal::Damaged);
     }
     let mut body = vec![in alloc; 0u8; len as usize]?;
     read_at(disk, at + 5, &mut body)?;
-    match read_body(alloc, number, &body)? {
-        Some(milestone) => Ok(Some(milestone)),
-        None => Err(Refusal::Damaged),
-    }
+    let Some(milestone) = read_body(alloc, number, &body)? else {
+        return Err(Refusal::Damaged);
+    };
+    Ok(Some(milestone))
+}
+
+// A body's length, as four bytes spell it.
+fn body_len(bytes: &[u8]) -> u64
+    requires { length bytes.now ≡ 4 }
+    ensures len { bytes.now ≡ to_le_bytes w32 result }
+    ensures bound { result < 2 ^ 32 }
+{
+    u32::from_le_bytes([bytes[0], bytes[1], bytes[2], bytes[3]]) as u64
 }
 
 // Fills `out` with the bytes from this place on.

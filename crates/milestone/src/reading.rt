@@ -7,6 +7,7 @@ ghost use Rattle.history.specs.Cell.{Cell};
 ghost use Rattle.journal.specs.Spelling as fields;
 ghost use Rattle.revision.specs.Name.{is_document_name, is_source_name};
 ghost use Rattle.revision.specs.Sources as specs;
+ghost use Rattle.revision.specs.declared.sources.LastTaken.{LastTaken};
 ghost use Rattle.revision.specs.State.{last_of_all};
 ghost use Rattle.milestone.specs.CellSpelling as spelling;
 ghost use Rattle.milestone.specs.CellSpelling.{IsCell, cell_body};
@@ -75,14 +76,31 @@ fn whole(alloc: Global, number: u32, bytes: &[u8]) -> Result<Milestone, Unread>
     Ok(Milestone::new(name, revision, document, sources))
 }
 
+// A number of four bytes is below 2^32, and one of eight below 2^64.
+fn below_2_to_32(number: u32)
+    ensures { number < 2 ^ 32 }
+{
+    let _ = number;
+}
+
+fn below_2_to_64(number: u64)
+    ensures { number < 2 ^ 64 }
+{
+    let _ = number;
+}
+
 fn this_number(number: u32, bytes: &[u8]) -> Result<&[u8], Unread>
     ensures found { IfOk result (λ rest. bytes.now ≡ fields.number w32 number ++ rest.now) }
     ensures none { IfErr result (λ e. e ≡ Unread.Malformed → (rest : List ℕ) → bytes.now ≡ fields.number w32 number ++ rest → ⊥) }
 {
-    match read_number32(bytes) {
-        Some((read, rest)) if read == number => Ok(rest),
-        _ => Err(Unread::Malformed),
+    let Some((read, rest)) = read_number32(bytes) else {
+        return Err(Unread::Malformed);
+    };
+    below_2_to_32(read);
+    if read != number {
+        return Err(Unread::Malformed);
     }
+    Ok(rest)
 }
 
 // a number from 1 to this one
@@ -90,10 +108,15 @@ fn number_within(high: u64, bytes: &[u8]) -> Result<(u64, &[u8]), Unread>
     ensures found { IfOk result (λ x. IsWithin high x.0 × (bytes.now ≡ fields.number w64 x.0 ++ x.1.now)) }
     ensures none { IfErr result (λ e. e ≡ Unread.Malformed → BeginsNone (fields.number w64) (IsWithin high) bytes.now) }
 {
-    match read_number64(bytes) {
-        Some((number, rest)) if number >= 1 && number <= high => Ok((number, rest)),
-        _ => Err(Unread::Malformed),
+    let Some((number, rest)) = read_number64(bytes) else {
+        return Err(Unread::Malformed);
+    };
+    below_2_to_64(number);
+    let within = number >= 1 && number <= high;
+    if !within {
+        return Err(Unread::Malformed);
     }
+    Ok((number, rest))
 }
 
 fn document_name(alloc: Global, bytes: &[u8]) -> Result<(Name, &[u8]), Unread>
@@ -105,8 +128,8 @@ fn document_name(alloc: Global, bytes: &[u8]) -> Result<(Name, &[u8]), Unread>
     };
     match Name::doc(alloc, text) {
         Ok(name) => Ok((name, rest)),
-        Err(Refusal::NoMemory) => Err(Unread::NoMemory),
-        Err(_) => Err(Unread::Malformed),
+        Err(Refusal::BadName) => Err(Unread::Malformed),
+        Err(_) => Err(Unread::NoMemory),
     }
 }
 
@@ -120,8 +143,8 @@ fn source_name(alloc: Global, bytes: &[u8]) -> Result<(&str, Name, &[u8]), Unrea
     };
     match Name::source(alloc, text) {
         Ok(name) => Ok((text, name, rest)),
-        Err(Refusal::NoMemory) => Err(Unread::NoMemory),
-        Err(_) => Err(Unread::Malformed),
+        Err(Refusal::BadName) => Err(Unread::Malformed),
+        Err(_) => Err(Unread::NoMemory),
     }
 }
 
@@ -136,8 +159,8 @@ fn content(alloc: Global, bytes: &[u8]) -> Result<(Document, &[u8]), Unread>
     };
     match Document::from_delta(alloc, &delta) {
         Ok(document) => Ok((document, rest)),
-        Err(Refusal::NoMemory) => Err(Unread::NoMemory),
-        Err(_) => Err(Unread::Malformed),
+        Err(Refusal::PastEnd) => Err(Unread::Malformed),
+        Err(_) => Err(Unread::NoMemory),
     }
 }
 
@@ -148,6 +171,7 @@ fn sources(alloc: Global, revision: u64, bytes: &[u8]) -> Result<(Sources, &[u8]
     let Some((count, rest)) = read_number32(bytes) else {
         return Err(Unread::Malformed);
     };
+    below_2_to_32(count);
     let mut sources = Sources::new(alloc);
     let mut last = "";
     let mut rest = rest;
@@ -171,7 +195,7 @@ fn source_above<'a>(
     ensures found { IfOk result (λ x. IsSource revision (x.1, x.2) × (bytes.now ≡ spelling.source (x.1, x.2) ++ x.3.now)) }
     ensures same { IfOk result (λ x. x.1 ≡ x.0.now) }
     ensures above { IfOk result (λ x. is_lt (by_bytes last.now x.1) ≡ true) }
-    ensures none { IfErr result (λ e. e ≡ Unread.Malformed → (x : List ℕ × specs.LastTaken) (rest : List ℕ) → IsSource revision x
+    ensures none { IfErr result (λ e. e ≡ Unread.Malformed → (x : List ℕ × LastTaken) (rest : List ℕ) → IsSource revision x
         → is_lt (by_bytes last.now x.0) ≡ true → bytes.now ≡ spelling.source x ++ rest → ⊥) }
 {
     let (text, name, rest) = source_name(alloc, bytes)?;

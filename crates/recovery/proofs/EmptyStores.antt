@@ -14,7 +14,7 @@ use Rattle.journal.specs.BatchSpelling.{IsBatch}
 use Rattle.revision.specs.Invariants.{IsLimits}
 use Rattle.history.specs.Cell.{Pair, no_cells, cells_at}
 use Rattle.history.proofs.CallerLemmas.{begins as begins_empty}
-use Rattle.milestone.specs.Cells.{HoldsPair}
+use Rattle.milestone.specs.OneCell.{HoldsPair}
 use Rattle.segments.specs.Slot.{Segment, HoldsSlot, number_of}
 use Rattle.segments.specs.Numbers.{number_at}
 use Rattle.segments.specs.Table.{slot_place, slot_bytes, slot_at, numbers_of}

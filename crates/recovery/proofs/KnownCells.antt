@@ -4,8 +4,10 @@ use Rattle.std.specs.Prelude.{slice_get}
 use Rattle.std.proofs.lemmas.Option.{slice_get_within}
 use Rattle.history.specs.Cell.{Cell, Pair, cells_at, lowest}
 use Rattle.milestone.specs.declared.cells.Cells.{Cells}
-use Rattle.milestone.specs.Cells.{Fits, HoldsPair, place_of, size_of, number_of, revisions_of, revisions_in, lowest_of}
-use Rattle.milestone.proofs.CallerLemmas.{pair_stays}
+use Rattle.milestone.specs.OneCell.{HoldsPair}
+use Rattle.milestone.specs.Revisions.{revisions_in, lowest_of}
+use Rattle.milestone.specs.Cells.{Fits, place_of, size_of, number_of, revisions_of}
+use Rattle.milestone.proofs.CallerLemmas.{agree_within}
 use Rattle.recovery.specs.declared.shape.Shape.{Shape}
 use Rattle.recovery.specs.Shape.{is_in_range, cells_place, slots_place}
 use Rattle.recovery.specs.Cells.{AreCellsOf, FitEach, lowest_known}
@@ -41,7 +43,7 @@ fit_stays old content shape known pairs in_range are same fit number cells is =
     (subst (λ n. HoldsPair (cells_place shape number) n (number_of cells) old pair) its.size
     (subst (λ n. HoldsPair n (size_of cells) (number_of cells) old pair) its.place fits.holds)) in
     let now : HoldsPair (cells_place shape number) shape.cell number content pair =
-    pair_stays (cells_place shape number) shape.cell number old content pair (omega (arith, some.cell_low))
+    agree_within (cells_place shape number) shape.cell number old content pair
     (part_same (cells_place shape number) (2 * shape.cell) (slots_place shape) old content (cells_before shape number below) same) held in
     record {
       holds = subst (λ n. HoldsPair n (size_of cells) (number_of cells) content pair) (sym its.place)

@@ -6,7 +6,7 @@ use Rattle.disk.specs.Device.{SameOutside}
 use Rattle.disk.proofs.CallerLemmas.{same_at}
 use Rattle.revision.specs.State.{Limits, State}
 use Rattle.history.specs.Cell.{Pair, cells_at}
-use Rattle.milestone.proofs.CallerLemmas.{pair_stays}
+use Rattle.milestone.proofs.CallerLemmas.{agree_within}
 use Rattle.segments.specs.Slot.{Segment, number_of}
 use Rattle.segments.specs.Table.{HoldsTable}
 use Rattle.segments.specs.declared.ring.Ring.{Ring}
@@ -78,7 +78,7 @@ module _ (old content : List ℕ) (shape : Shape) (cells : List Pair) (table now
         in_cells = record {
           count = laid_out.in_cells.count;
           each = λ number below.
-              pair_stays (cells_place shape number) shape.cell number old content (cells_at cells number) (omega (arith, ranges.cell_low))
+              agree_within (cells_place shape number) shape.cell number old content (cells_at cells number)
               (part_same (cells_place shape number) (2 * shape.cell) (slots_place shape) old content (cells_before shape number below) same.before)
               (laid_out.in_cells.each number below);
         };

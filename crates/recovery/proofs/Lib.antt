@@ -13,6 +13,10 @@ pub mod KnownCells
 pub mod Retirement
 pub mod Upkeep
 pub mod Named
+pub mod Gathering
+pub mod Documents
+pub mod Parts
 pub mod FoundOnce
 pub mod Fitting
 pub mod Worked
+pub mod WorkedCells

@@ -20,7 +20,7 @@ use Rattle.history.specs.declared.pick.Pick.{Pick}
 use Rattle.history.specs.Cell.{Pair, no_cells, cells_at, picked}
 use Rattle.history.specs.Entries.{of_document}
 use Rattle.history.specs.Found.{StandsFor, StandFor}
-use Rattle.milestone.specs.Cells.{HoldsPair}
+use Rattle.milestone.specs.OneCell.{HoldsPair}
 use Rattle.recovery.specs.declared.shape.Shape.{Shape}
 use Rattle.segments.specs.Slot.{Segment, HoldsSlot, HoldsSegment, number_of}
 use Rattle.segments.specs.Numbers.{NumbersDiffer}

@@ -2,7 +2,8 @@
 use Rattle.std.specs.Prelude.{◌≡◌, ℕ, Option, Some, None, List, length, slice_get}
 use Rattle.history.specs.Cell.{Pair, cells_at}
 use Rattle.milestone.specs.declared.cells.Cells.{Cells}
-use Rattle.milestone.specs.Cells.{Fits, place_of, size_of, number_of, revisions_of, lowest_of}
+use Rattle.milestone.specs.Revisions.{lowest_of}
+use Rattle.milestone.specs.Cells.{Fits, place_of, size_of, number_of, revisions_of}
 use Rattle.recovery.specs.declared.shape.Shape.{Shape}
 use Rattle.recovery.specs.Shape.{cells_place}
 

@@ -2,7 +2,7 @@
 use Rattle.std.specs.Prelude.{◌≡◌, ◌≢◌, ℕ, ◌<◌, ◌≤◌, true, Option, List, length, take, drop, slice_index}
 use Rattle.journal.specs.Area.{open_gate}
 use Rattle.history.specs.Cell.{Pair, cells_at}
-use Rattle.milestone.specs.Cells.{HoldsPair}
+use Rattle.milestone.specs.OneCell.{HoldsPair}
 use Rattle.segments.specs.Slot.{Segment}
 use Rattle.segments.specs.Table.{HoldsTable}
 use Rattle.recovery.specs.declared.shape.Shape.{Shape}

@@ -1,5 +1,6 @@
 pub mod Shape
 pub mod Layout
+pub mod Cells
 pub mod Found
 pub mod Cells
 pub mod Marks
