@@ -2,7 +2,7 @@
 use Rattle.std.proofs.Common.{◌≡◌, ◌≢◌, ℕ, ◌+◌, ◌-◌, ◌^◌, ◌≤◌, ◌<◌, Option, Some, None, List, [], ◌∷◌, ◌++◌, length, take, drop, get_or, refl, sym, ◌∙◌, ap, subst, arith, append_assoc, take-append-drop, length-take, length-drop, length-append}
 use Rattle.std.specs.Int.{w32, to_le_bytes, from_le_bytes}
 use Rattle.std.proofs.lemmas.Nat.{from_le_bytes-to_le_bytes_4}
-use Rattle.std.proofs.lemmas.List.{take_at, drop_at, take-take, drop-take, drop-drop, drop_more, get_or-take}
+use Rattle.std.proofs.lemmas.List.{take_at, drop_at, take_all, take-take, drop-take, drop-drop, drop_more, get_or-take}
 use Rattle.journal.specs.Area.{open_gate, frame, entry}
 use Rattle.history.specs.Cell.{Cell}
 use Rattle.milestone.specs.CellSpelling.{cell_body, IsCell}
@@ -26,12 +26,12 @@ module _ (q size number : ℕ) (content head : List ℕ) (large : 256 ≤ size) 
       let whole : 5 + (size - 5) ≡ size = omega (arith, large) in
       ap (λ k. drop 5 (take k (drop q content))) (sym whole) ∙ drop-take 5 (size - 5) (drop q content) ∙ ap (λ (l : List ℕ). take (size - 5) l) (drop-drop 5 q content)
 
-  module _ (len : ℕ) (low : len < 2 ^ 32) (gate : get_or head 0 0 ≡ open_gate) (spelled : drop 1 head ≡ to_le_bytes w32 len) where
+  module _ (len : ℕ) (low : len < 2 ^ 32) (gate : get_or head 0 0 ≡ open_gate) (spelled : take 4 (drop 1 head) ≡ to_le_bytes w32 len) where
     head_long : length head ≡ 5
     head_long = omega (arith, ap (length {A = ℕ}) read, length-take 5 (drop q content), length-drop q content, within, large)
 
     head_is : head ≡ open_gate ∷ to_le_bytes w32 len
-    head_is = drop_more head 0 0 (omega (arith, head_long)) ∙ ap (λ g. g ∷ drop 1 head) gate ∙ ap (λ (l : List ℕ). open_gate ∷ l) spelled
+    head_is = drop_more head 0 0 (omega (arith, head_long)) ∙ ap (λ g. g ∷ drop 1 head) gate ∙ ap (λ (l : List ℕ). open_gate ∷ l) (sym (take_all _ _ (omega (arith, length-drop 1 head, head_long))) ∙ spelled)
 
     -- of a document that the cell holds this is the body's length
     is_length : (cell : Cell) → HoldsOpenCell number (bytes_at q size content) cell → len ≡ length (cell_body number cell)

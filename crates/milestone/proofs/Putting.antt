@@ -1,5 +1,5 @@
 -- What putting a cell leaves.
-use Rattle.std.proofs.Common.{◌≡◌, ⊎_elim, inl, inr, ℕ, ◌+◌, ◌*◌, ◌≤◌, ◌<◌, Option, Some, None, List, [], ◌∷◌, length, refl, sym, ◌∙◌, ap, subst, arith}
+use Rattle.std.proofs.Common.{◌≡◌, ◌≢◌, ⊎_elim, inl, inr, ℕ, ◌+◌, ◌*◌, ◌≤◌, ◌<◌, Option, Some, None, List, [], ◌∷◌, length, refl, sym, ◌∙◌, ap, subst, arith}
 use Rattle.std.proofs.lemmas.Option.{none-some}
 use Rattle.disk.specs.Device.{overwritten, SameOutside}
 use Rattle.disk.proofs.CallerLemmas.{same_outside_wider}
@@ -8,7 +8,7 @@ use Rattle.history.specs.Cell.{Cell, Pair}
 use Rattle.milestone.specs.CellSpelling.{cell_body, IsCell}
 use Rattle.milestone.specs.OneCell.{HoldsCell, HoldsPair}
 use Rattle.milestone.specs.Revisions.{Revisions, revision_in}
-use Rattle.milestone.specs.Cells.{HasClosed, with_cell, Fits, FitsNow, IsLeftByPut}
+use Rattle.milestone.specs.Cells.{HasClosed, with_cell, Fits, FitsNow, IsLeftByPut, revisions_of}
 use Rattle.milestone.specs.declared.cells.Cells.{Cells}
 use Rattle.milestone.proofs.Holding.{first_changed, second_changed, putting_cell, put_cell, put_outside}
 use Rattle.milestone.proofs.Freeing.{open_of, holds_there}
@@ -17,6 +17,10 @@ use Rattle.milestone.proofs.Freeing.{open_of, holds_there}
 pub closed_of : (cell : Option Cell) → None ≡ revision_in cell → cell ≡ None
 closed_of None known = refl
 closed_of (Some x) known = absurd (none-some x.revision known)
+
+some_of : (first : Option ℕ) → first ≢ None → (k : ℕ) × (first ≡ Some k)
+some_of None there = absurd (there refl)
+some_of (Some k) there = (k, refl)
 
 put_first : (cell : Cell) (pair : Pair) → pair.0 ≡ None → with_cell cell pair ≡ (Some cell, pair.1)
 put_first cell (None, second) closed = refl
@@ -79,9 +83,15 @@ module _ (old : List ℕ) (cells : Cells) (pair : Pair) (fits : Fits old cells p
         })
 
   -- the second one is
-  module _ (known : ℕ) (first_known : cells.first ≡ Some known) (none_known : cells.second ≡ None) where
-    first_there : (x : Cell) × (pair.0 ≡ Some x) × (x.revision ≡ known)
-    first_there = open_of known pair.0 (sym first_known ∙ ap (λ (r : Revisions). r.0) fits.revisions)
+  module _ (there : cells.first ≢ None) (closed : HasClosed (revisions_of cells)) where
+    known : (k : ℕ) × (cells.first ≡ Some k)
+    known = some_of cells.first there
+
+    none_known : cells.second ≡ None
+    none_known = ⊎_elim (λ first. absurd (there first)) (λ second. second) closed
+
+    first_there : (x : Cell) × (pair.0 ≡ Some x) × (x.revision ≡ known.0)
+    first_there = open_of known.0 pair.0 (sym known.1 ∙ ap (λ (r : Revisions). r.0) fits.revisions)
 
     second_closed : pair.1 ≡ None
     second_closed = closed_of pair.1 (sym none_known ∙ ap (λ (r : Revisions). r.1) fits.revisions)

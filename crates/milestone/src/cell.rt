@@ -61,8 +61,7 @@ pub(crate) fn read_cell<D: Disk>(
     if len > size - 5 {
         return Err(Refusal::Damaged);
     }
-    let mut body = vec![in alloc; 0u8; len as usize]?;
-    read_at(disk, at + 5, &mut body)?;
+    let body = read_range(alloc, disk, at + 5, len)?;
     let Some(milestone) = read_body(alloc, number, &body)? else {
         return Err(Refusal::Damaged);
     };
@@ -88,4 +87,17 @@ fn read_at<D: Disk>(disk: &mut D, at: u64, out: &mut [u8]) -> Result<(), Refusal
 {
     disk.read(at, out)?;
     Ok(())
+}
+
+// The bytes of a range of the device.
+fn read_range<D: Disk>(alloc: Global, disk: &mut D, at: u64, len: u64) -> Result<Vec<u8>, Refusal>
+    requires { at + len ≤ length (D.seen disk.old) }
+    ensures bytes { IfOk result (λ v. D.honest disk.new → v.items ≡ take len (drop at (D.seen disk.old))) }
+    ensures only { IfErr result (λ e. (e ≡ Refusal.NoMemory) ⊎ (e ≡ Refusal.Fault)) }
+    ensures only_read { HasOnlyRead ⟦<D as Disk>⟧ disk.old disk.new }
+    ensures faults { CountsFaultsAs ⟦<D as Disk>⟧ Refusal.Fault result disk.old disk.new }
+{
+    let mut bytes = vec![in alloc; 0u8; len as usize]?;
+    disk.read(at, &mut bytes)?;
+    Ok(bytes)
 }
