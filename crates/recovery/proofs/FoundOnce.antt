@@ -89,7 +89,7 @@ module _ (content : List ℕ) (shape : Shape) (cells : List Pair) (table : List 
       let same = parts_once content shape running.shape cells running.cells table running.table batches running.batches holds running.holds in (
         running.limits ∙ ap limits_of same.shapes,
         subst (λ (c : List Pair). Runs running.order c (commands_of batches) state) same.cells_are
-        (subst (λ (b : List (List Taken)). Runs running.order running.cells (commands_of b) state) same.batches_are running.runs),
+            (subst (λ (b : List (List Taken)). Runs running.order running.cells (commands_of b) state) same.batches_are running.runs),
       )
 
 pub found_once : (content : List ℕ) (pick : Pick) (a b : State) → Found content pick a → Found content pick b → a ≡ b

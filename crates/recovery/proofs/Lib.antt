@@ -7,6 +7,8 @@ pub mod Commits
 pub mod Runs
 pub mod Marking
 pub mod Marked
+pub mod Splitting
+pub mod MarkedRead
 pub mod KnownCells
 pub mod Retirement
 pub mod Upkeep

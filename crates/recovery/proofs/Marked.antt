@@ -37,7 +37,7 @@ there [] slot segment is = absurd cc
 there (first ∷ table) zero segment is = omega arith
 there (first ∷ table) (suc slot) segment is = omega (arith, there table slot segment is)
 
-some_same : (a b : Segment) → ◌≡◌ {A = Option Segment} (Some a) (Some b) → a ≡ b
+pub some_same : (a b : Segment) → ◌≡◌ {A = Option Segment} (Some a) (Some b) → a ≡ b
 some_same a b is = cc
 
 -- another slot than the one that is set
@@ -86,7 +86,7 @@ marked_opened table after marks differ opened marked =
     none_spelled (first ∷ others) is = absurd cc
 
 -- the last of the batches that bodies spell, where the last body is known
-last_spelled : (bodies : List (List ℕ)) (commands : List Taken) (batches : List (List Taken)) → IsBatch commands → AllByRecursion IsBatch batches → bodies ++ batch commands ∷ [] ≡ map batch batches
+pub last_spelled : (bodies : List (List ℕ)) (commands : List Taken) (batches : List (List Taken)) → IsBatch commands → AllByRecursion IsBatch batches → bodies ++ batch commands ∷ [] ≡ map batch batches
     → (before : List (List Taken)) × (bodies ≡ map batch before) × AllByRecursion IsBatch before × (batches ≡ before ++ commands ∷ [])
 last_spelled [] commands [] is each same = absurd cc
 last_spelled [] commands (only ∷ []) is each same =
@@ -104,7 +104,7 @@ last_spelled (body ∷ bodies) commands (first ∷ others) is each same =
     ap2 : {a b : List ℕ} {x y : List (List ℕ)} → a ≡ b → x ≡ y → a ∷ x ≡ b ∷ y
     ap2 p q i = p i ∷ q i
 
-greatest_both : (document : ℕ) (first second : List Taken) → greatest document (first ++ second) ≡ max (greatest document second) (greatest document first)
+pub greatest_both : (document : ℕ) (first second : List Taken) → greatest document (first ++ second) ≡ max (greatest document second) (greatest document first)
 greatest_both document [] second = omega arith
 greatest_both document (taken ∷ others) second = elim (cases_eq taken.document document) [
   | inl same ↦ let test : (taken.document == document) ≡ true = grind (arith, nat_tests) in rw test (omega (arith, greatest_both document others second))

@@ -1,5 +1,5 @@
 -- What the marks of a store say of the entries that its slots hold.
-use Rattle.std.specs.Prelude.{◌≡◌, ◌≢◌, ℕ, ◌≤◌, Option, Some, List, map, All}
+use Rattle.std.specs.Prelude.{◌≡◌, ◌≢◌, ℕ, ◌≤◌, max, Option, Some, List, map, All}
 use Rattle.revision.specs.Command.{Taken}
 use Rattle.journal.specs.BatchSpelling.{IsBatch, batch}
 use Rattle.history.specs.Entries.{greatest}
@@ -21,6 +21,13 @@ pub record SpellSegment (segment : Segment) (batches : List (List Taken)) : Type
 abbrev pub IsMarked : Segment → List Mark → Type 0
 IsMarked segment marks = (batches : List (List Taken)) → SpellSegment segment batches
     → (document : ℕ) → greatest_marked segment.number document marks ≡ greatest document (commands_of batches)
+
+-- The marks of a segment are raised to the greatest revisions among the entries that more bodies of it spell, and those of other
+-- segments stay.
+pub record AreBodiesMarked (number : ℕ) (bodies : List (List ℕ)) (before after : List Mark) : Type 0 where
+  pub here : (batches : List (List Taken)) → bodies ≡ map batch batches → All IsBatch batches
+      → (document : ℕ) → greatest_marked number document after ≡ max (greatest document (commands_of batches)) (greatest_marked number document before)
+  pub segments : (other document : ℕ) → other ≢ number → greatest_marked other document after ≡ greatest_marked other document before
 
 -- Each segment of a table is marked, and there are no marks of others.
 pub record AreMarked (table : List (Option Segment)) (marks : List Mark) : Type 0 where
