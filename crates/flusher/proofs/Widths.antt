@@ -1,21 +1,19 @@
 -- The width of a batch with one command more.
-use Rattle.std.proofs.Common.{◌≡◌, ℕ, zero, suc, ◌+◌, ◌-◌, ◌^◌, ◌<◌, ◌≤◌, List, [], ◌∷◌, length, take, get_or, refl, sym, ap, ◌∙◌, subst, arith}
+use Rattle.std.proofs.Common.{◌≡◌, ℕ, zero, suc, ◌+◌, ◌-◌, ◌^◌, ◌<◌, ◌≤◌, List, [], ◌∷◌, length, take, get_or, sym, ap, ◌∙◌, arith}
+use Rattle.std.specs.List.{fold}
 use Rattle.std.specs.Prelude.{sum_by, min}
 use Rattle.revision.specs.Command.{Taken, width_of}
 use Rattle.world.specs.World.{Entry, takens}
 
-one_more : (f : Taken → ℕ) (entries : List Entry) (i : ℕ) (e : Entry) → i < length entries → e ≡ get_or entries i e
-    → sum_by f (take (suc i) (takens entries)) ≡ sum_by f (take i (takens entries)) + f e.taken
-one_more f [] i e inside is = absurd (omega arith)
-one_more f (first ∷ others) zero e inside is = let same : f e.taken ≡ f first.taken = ap (λ (x : Entry). f x.taken) is in omega (arith, same)
-one_more f (first ∷ others) (suc i) e inside is = ap (λ n. f first.taken + n) (one_more f others i e (omega arith) is) ∙ turned
-  where
-    turned : f first.taken + (sum_by f (take i (takens others)) + f e.taken) ≡ (f first.taken + sum_by f (take i (takens others))) + f e.taken
-    turned = omega arith
+one_more : (f : Taken → ℕ) (sum : ℕ) (entries : List Entry) (i : ℕ) (e : Entry) → i < length entries → e ≡ get_or entries i e
+    → fold (λ a x. a + f x) sum (take (suc i) (takens entries)) ≡ fold (λ a x. a + f x) sum (take i (takens entries)) + f e.taken
+one_more f sum [] i e inside is = absurd (omega arith)
+one_more f sum (first ∷ others) zero e inside is = ap (λ (x : Entry). sum + f x.taken) (sym is)
+one_more f sum (first ∷ others) (suc i) e inside is = one_more f (sum + f first.taken) others i e (omega arith) is
 
 pub width-more : (entries : List Entry) (i : ℕ) (e : Entry) → i < length entries → e ≡ get_or entries i e
     → sum_by width_of (take (i + 1) (takens entries)) ≡ sum_by width_of (take i (takens entries)) + width_of e.taken
-width-more entries i e inside is = ap (λ n. sum_by width_of (take n (takens entries))) next ∙ one_more width_of entries i e inside is
+width-more entries i e inside is = ap (λ n. sum_by width_of (take n (takens entries))) next ∙ one_more width_of 0 entries i e inside is
   where
     next : i + 1 ≡ suc i
     next = omega arith

@@ -1,5 +1,5 @@
 -- Which commands of the order make a batch.
-use Rattle.std.specs.Prelude.{◌≡◌, ◌⊎◌, ◌<◌, ◌≤◌, ◌+◌, ◌&&◌, ℕ, true, List, drop, length, take}
+use Rattle.std.specs.Prelude.{◌≡◌, ◌⊎◌, ◌<◌, ◌≤◌, ◌+◌, ℕ, true, List, drop, length, take}
 use Rattle.revision.specs.Command.{Taken}
 use Rattle.journal.specs.BatchSpelling.{batch_width}
 use Rattle.world.specs.Board.{Board, can_settle}

@@ -1,9 +1,8 @@
-use Rattle.std.proofs.Common.{◌≡◌, ◌⊎◌, ℕ, ◌+◌, ◌-◌, ◌^◌, ◌<◌, ◌≤◌, length, take, sym, ap, ◌∙◌, subst, arith, inl, inr}
+use Rattle.std.proofs.Common.{◌≡◌, ◌⊎◌, ◌+◌, ◌-◌, ◌^◌, ◌<◌, ◌≤◌, take, sym, ap, ◌∙◌, subst, arith, inl, inr}
 use Rattle.std.proofs.lemmas.List.{length-map}
 use Rattle.std.specs.Prelude.{min, sum_by}
 use Rattle.revision.specs.Command.{Taken, width_of}
 use Rattle.world.specs.World.{Entry, takens}
-use Rattle.flusher.specs.Runs.{IsLongest}
 use Rattle.flusher.proofs.Widths.{width-more, above, within}
 use Rattle.flusher.proofs.run.longest.Goals as goal
 
