@@ -123,6 +123,13 @@ impl Board {
         &self.order.as_slice()[self.taken..]
     }
 
+    /// The commands that are not settled yet.
+    pub fn unsettled(&self) -> &[Entry]
+        ensures { result.now ≡ drop self.now.settled self.now.order }
+    {
+        &self.order.as_slice()[self.settled..]
+    }
+
     /// What is taken off beyond what is shown: the first `shown` commands, no more than are taken off.
     pub fn unshown(&self, shown: usize) -> &[Entry]
         requires { shown ≤ self.now.taken }

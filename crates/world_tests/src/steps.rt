@@ -125,23 +125,23 @@ fn an_acknowledged_edit_stays(rt: HostRuntime) {
 
 #[test]
 fn a_revision_that_was_given_up_is_taken_again(rt: HostRuntime) {
-    let (first, second, third, fourth) = (
+    let commands = [
         command(&rt, 1),
         command(&rt, 2),
         command(&rt, 3),
         command(&rt, 4),
-    );
+    ];
     let mut world = store(&rt);
     let three = [
-        Event::Submit(&first),
-        Event::Submit(&second),
-        Event::Submit(&third),
+        Event::Submit(&commands[0]),
+        Event::Submit(&commands[1]),
+        Event::Submit(&commands[2]),
         Event::Take(3),
         Event::Device(Outcome::Done),
         Event::Publish,
         Event::Settle,
         Event::Compose(0, 3),
-        Event::Submit(&fourth),
+        Event::Submit(&commands[3]),
         Event::Take(1),
         Event::Device(Outcome::Stopped),
         Event::Ack(3),
@@ -152,7 +152,7 @@ fn a_revision_that_was_given_up_is_taken_again(rt: HostRuntime) {
     assert!(rt; has_tickets(world.tickets(), &[]));
     assert!(rt; has_acks(world.acks(), &[]));
     // A number that isn't the last one isn't sent again. What the crash took back is taken again, as the same revision.
-    let again = [Event::Resend(&third), Event::Resend(&fourth)];
+    let again = [Event::Resend(&commands[2]), Event::Resend(&commands[3])];
     go(&rt, &mut world, &again);
     assert!(rt; has_tickets(world.tickets(), &[(Reply::Taken { rev: 4 }, 4)]));
 }
