@@ -1,1 +1,13 @@
+pub mod CallerLemmas
 pub mod InTurn
+pub mod Sizes
+pub mod Bytes
+pub mod Holding
+pub mod Freeing
+pub mod Putting
+pub mod Order
+pub mod Fields
+pub mod Bodies
+pub mod OnePair
+pub mod CellsRead
+pub mod Worked

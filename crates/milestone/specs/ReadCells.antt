@@ -1,7 +1,8 @@
 -- What was read of the two cells of a document.
 use Rattle.std.specs.Prelude.{ℕ, ◌≡◌}
 use Rattle.history.specs.Cell.{Pair}
-use Rattle.milestone.specs.Cells.{place_of, size_of, number_of, revisions_of, revisions_in}
+use Rattle.milestone.specs.Revisions.{revisions_in}
+use Rattle.milestone.specs.Cells.{place_of, size_of, number_of, revisions_of}
 use Rattle.milestone.specs.declared.cells.ReadCells.{ReadCells}
 
 -- what the two cells hold

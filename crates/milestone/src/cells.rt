@@ -1,12 +1,13 @@
 //! The two cells of a document, as they are known in memory.
-ghost use Rattle.std.specs.Prelude.{◌≡◌, ◌⊎◌, ◌+◌, ◌*◌, ◌≤◌, ◌<◌, ◌^◌, List, ℕ, [], ◌∷◌, Some, None, length, OnOk, OnErr, IsErrOf, IfOk, IfErr};
-ghost use Rattle.disk.specs.Calls.{HasOnlyRead, HasOnlyWritten, CountsFaults, CountsFaultsAs};
-ghost use Rattle.disk.specs.Device.{overwritten, SameOutside};
-ghost use Rattle.disk.specs.Crash.{LeavesOnly};
+ghost use Rattle.std.specs.Prelude.{◌≡◌, ◌⊎◌, ◌+◌, ◌*◌, ◌≤◌, ◌<◌, ◌^◌, List, ℕ, [], Some, None, length, OnOk, OnErr, IsErrOf, IfOk, IfErr};
+ghost use Rattle.disk.specs.Calls.{HasOnlyRead, HasOnlyWritten, CountsFaultsAs};
+ghost use Rattle.milestone.specs.Revisions.{revision_in};
 
+use crate::cell::{close, read_cell};
 use crate::milestone::Milestone;
-use disk::{Disk, Fault};
-use journal::CLOSED;
+use crate::writing::framed;
+use disk::Disk;
+use journal::write_gated;
 use refusal::Refusal;
 use std::alloc::Global;
 
@@ -35,27 +36,23 @@ pub struct ReadCells {
     pub second: Option<Milestone>,
 }
 
-// Closes the gate of a cell.
-fn close<D: Disk>(disk: &mut D, gate: u64) -> Result<(), Fault>
-    requires within { gate < length (D.seen disk.old) }
-    requires bound { gate < 2 ^ 62 }
-
-    ensures any_moment { D.unsynced disk.old ≡ [] → LeavesOnly ⟦<D as Disk>⟧ (SameOutside gate 1 (D.seen disk.old)) disk.old disk.new }
-    ensures seen { OnOk result (D.seen disk.new ≡ overwritten (D.seen disk.old) gate (0 ∷ [])) }
-    ensures synced { OnOk result (D.unsynced disk.new ≡ []) }
-    ensures calls { length (D.past disk.new) ≤ length (D.past disk.old) + 2 }
-    ensures only_written { HasOnlyWritten ⟦<D as Disk>⟧ disk.old disk.new }
-    ensures faults { CountsFaults ⟦<D as Disk>⟧ result disk.old disk.new }
+// The revision of what a cell holds.
+fn revision_of(cell: &Option<Milestone>) -> Option<u64>
+    ensures { result ≡ revision_in cell.now }
 {
-    disk.write_at(gate, &[CLOSED])?;
-    disk.sync()?;
-    Ok(())
+    match cell {
+        Some(milestone) => Some(milestone.revision()),
+        None => None,
+    }
 }
 
 impl Cells {
+    ghost use Rattle.disk.specs.Crash.{LeavesOnly};
     ghost use Rattle.history.specs.Cell.{Pair, freed, lowest};
     ghost use Rattle.milestone.specs.CellSpelling.{cell_body, IsCell};
-    ghost use Rattle.milestone.specs.Cells.{place_of, size_of, number_of, revisions_of, lowest_of, freed_of, with_revision, with_cell, HasClosed, HoldsPair, Fits, FitsNow, SameCells, IsLeftByFreeing, IsLeftByPut};
+    ghost use Rattle.milestone.specs.OneCell.{HoldsPair};
+    ghost use Rattle.milestone.specs.Revisions.{lowest_of, freed_of, with_revision};
+    ghost use Rattle.milestone.specs.Cells.{place_of, size_of, number_of, revisions_of, with_cell, HasClosed, Fits, FitsNow, SameCells, IsLeftByFreeing, IsLeftByPut};
     ghost use Rattle.milestone.specs.ReadCells.{pair_of, IsReadAs};
 
     /// Reads the two cells of `size` bytes, 256 to 16,777,216, of the document of this number, the first of which begins at
@@ -81,7 +78,20 @@ impl Cells {
         ensures only_read { HasOnlyRead ⟦<D as Disk>⟧ disk.old disk.new }
         ensures faults { CountsFaultsAs ⟦<D as Disk>⟧ Refusal.Fault result disk.old disk.new }
     {
-        Err(Refusal::NoMemory)
+        let first = read_cell(alloc, disk, place, size, number)?;
+        let second = read_cell(alloc, disk, place + size, size, number)?;
+        let cells = Cells {
+            place,
+            size,
+            number,
+            first: revision_of(&first),
+            second: revision_of(&second),
+        };
+        Ok(ReadCells {
+            cells,
+            first,
+            second,
+        })
     }
 
     /// The lowest revision of the open cells, 0 where none is open.
@@ -165,6 +175,14 @@ impl Cells {
         ensures only_written { HasOnlyWritten ⟦<D as Disk>⟧ disk.old disk.new }
         ensures faults { CountsFaultsAs ⟦<D as Disk>⟧ Refusal.Fault result disk.old disk.new }
     {
-        Err(Refusal::NoMemory)
+        let bytes = framed(alloc, self.number, milestone)?;
+        if self.first.is_none() {
+            write_gated(disk, self.place, &bytes)?;
+            self.first = Some(milestone.revision());
+            return Ok(());
+        }
+        write_gated(disk, self.place + self.size, &bytes)?;
+        self.second = Some(milestone.revision());
+        Ok(())
     }
 }

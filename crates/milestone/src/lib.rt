@@ -32,10 +32,15 @@
 //! ```
 #![tactic(auto)]
 
+mod cell;
 mod cells;
 mod composing;
+mod content;
 mod job;
+pub mod laws;
 mod milestone;
+mod reading;
+mod writing;
 
 pub use cells::{Cells, ReadCells};
 pub use composing::{Composed, Uncomposed, compose_job};

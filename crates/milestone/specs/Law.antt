@@ -1,0 +1,21 @@
+-- What holds of cells.
+use Rattle.std.specs.Prelude.{ℕ, ◌≡◌, ◌+◌, ◌*◌, ◌≤◌, List, length, take, drop}
+use Rattle.revision.specs.State.{Limits}
+use Rattle.history.specs.Cell.{Cell, Pair, CellKeeps}
+use Rattle.milestone.specs.CellSpelling.{cell_body, IsCell}
+use Rattle.milestone.specs.OneCell.{HoldsPair}
+
+-- What has a spelling as a cell and keeps the limits fits a cell that has 128 bytes more than a document may weigh: the gate and the
+-- length of the body take five bytes.
+abbrev pub FitsItsCell : Type 0
+FitsItsCell = (number : ℕ) (limits : Limits) (cell : Cell) → IsCell number cell → CellKeeps limits cell
+    → 5 + length (cell_body number cell) ≤ limits.weight + 128
+
+-- A content holds one pair at most at a place.
+abbrev pub OnePair : Type 0
+OnePair = (place size number : ℕ) (content : List ℕ) (a b : Pair) → HoldsPair place size number content a → HoldsPair place size number content b → a ≡ b
+
+-- Contents that agree within the range of two cells hold the same pair there.
+abbrev pub AgreeWithin : Type 0
+AgreeWithin = (place size number : ℕ) (a b : List ℕ) (pair : Pair) → take (2 * size) (drop place b) ≡ take (2 * size) (drop place a)
+    → HoldsPair place size number a pair → HoldsPair place size number b pair
