@@ -7,6 +7,7 @@ use Rattle.revision.specs.State.{State, fold}
 use Rattle.history.specs.Cell.{Pair}
 use Rattle.history.specs.Running.{Runs}
 use Rattle.segments.specs.Slot.{Segment}
+use Rattle.segments.specs.declared.ring.Ring.{Ring}
 use Rattle.segments.specs.Ring.{Fits, at_of, size_of, fits_newest}
 use Rattle.segments.specs.Room.{has_room_for}
 use Rattle.recovery.specs.declared.store.Store.{Store}
@@ -26,6 +27,10 @@ module _ {D : Type 0} {disk : Ghosts D} where
   -- the device under a store
   abbrev pub device_of : Store D disk → D
   device_of store = store.device
+
+  -- the ring of its slots
+  abbrev pub ring_of : Store D disk → Ring
+  ring_of store = store.ring
 
   -- the state that a store holds
   abbrev pub state_of : Store D disk → State
@@ -65,10 +70,3 @@ module _ {D : Type 0} {disk : Ghosts D} where
     pub ring_size : size_of store.ring ≡ store.shape.slot
     pub limits : store.state.limits ≡ limits_of store.shape
     pub runs : Runs order cells (commands_of batches) store.state
-
--- A store was open over this device, and held this state, when the device was given back.
-pub record WasOpen {D : Type 0} (disk : Ghosts D) (device : D) (state : State) : Type 0 where
-  pub store : Store D disk
-  pub is_open : IsOpen store
-  pub over : device_of store ≡ device
-  pub holds : state_of store ≡ state
