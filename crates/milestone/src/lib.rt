@@ -1,2 +1,48 @@
-//! Milestones: a document at a revision, made of the deltas up to it, and the two cells of a device that hold such documents.
+//! Milestones: a document at a revision with its sources there, how they are made, and the two cells of a device that hold them.
+//!
+//! A `Milestone` is what a cell holds, a document of a name and a revision that can be (specs/Milestone.antt). It is made of a `Job`,
+//! which stands apart from the store: deltas that lead in turn from the empty document to the revision (specs/Job.antt). The layer
+//! above takes the job of a document's replay, `compose_job` does it in a thread of its own, and what comes back holds the job, so
+//! that the layer above can tell by `Job::is_same` that it is the one that it gave. To it the crate promises that the milestone is
+//! what the job's deltas make, and that memory alone can be wanted.
+//!
+//! `Cells` are the two cells of a document as they are known in memory. How a cell spells a milestone stands in
+//! specs/CellSpelling.antt, what two cells hold and what a crash at any moment of a call leaves of them in specs/Cells.antt. The
+//! crate stands on `history`, whose cells it holds, on `revision` and `compose`, and on `journal` and `disk`.
+//!
+//! A caller, with its contract:
+//!
+//! ```text
+//! ghost use Rattle.std.specs.Prelude.{◌≡◌, [], length, IfOk, IfErr};
+//! ghost use Rattle.compose.specs.Many.{applied};
+//!
+//! use milestone::{Job, Uncomposed, compose_job};
+//! use std::alloc::Global;
+//!
+//! /// How many units a document has at the revision of a job. Refused for want of memory alone, and then the job comes back.
+//! pub fn length_of(alloc: Global, job: Job) -> Result<u64, Uncomposed>
+//!     ensures length { IfOk result (λ len. len ≡ length (applied [] job.deltas)) }
+//!     ensures back { IfErr result (λ back. back.job ≡ job) }
+//! {
+//!     match compose_job(alloc, job) {
+//!         Ok(composed) => Ok(composed.milestone().document().len16()),
+//!         Err(back) => Err(back),
+//!     }
+//! }
+//! ```
 #![tactic(auto)]
+
+mod cell;
+mod cells;
+mod composing;
+mod content;
+mod job;
+pub mod laws;
+mod milestone;
+mod reading;
+mod writing;
+
+pub use cells::{Cells, ReadCells};
+pub use composing::{Composed, Uncomposed, compose_job};
+pub use job::Job;
+pub use milestone::{Milestone, MilestoneParts};

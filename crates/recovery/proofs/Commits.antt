@@ -55,12 +55,12 @@ module _ {D : Type 0} {disk : Ghosts D} (store : Store D disk) (is_open : IsOpen
   pub again : (content : List ℕ) (now : List (Option Segment)) → length now ≡ length is_open.table → HoldsInRing old store.ring now content → IsLaidOut content store.shape is_open.cells now
   again content now count held =
       let laid_out = is_open.holds.laid_out in
-      let many : length (known_numbers store.ring) ≡ store.shape.slots = as_many old store.ring is_open.table is_open.fits ∙ laid_out.slots.count in
+      let many : length (known_numbers store.ring) ≡ store.shape.slots = as_many old store.ring is_open.table is_open.fits ∙ laid_out.in_slots.count in
       let size : ring_size store.ring ≡ store.shape.slots * store.shape.slot = ap (λ n. n * size_of store.ring) many ∙ ap (λ n. store.shape.slots * n) is_open.ring_size in
       let outside : SameOutside (slots_place store.shape) (store.shape.slots * store.shape.slot) old content =
       subst (λ n. SameOutside n (store.shape.slots * store.shape.slot) old content) is_open.ring_at (subst (λ n. SameOutside (at_of store.ring) n old content) size held.outside) in
       laid_out_again old content store.shape is_open.cells is_open.table now laid_out outside
-      (slots_held content store.shape (at_of store.ring) (size_of store.ring) now is_open.ring_at is_open.ring_size (count ∙ laid_out.slots.count) held.holds)
+      (slots_held content store.shape (at_of store.ring) (size_of store.ring) now is_open.ring_at is_open.ring_size (count ∙ laid_out.in_slots.count) held.holds)
 
   -- the table that a body is appended to stands for the same
   pub ready_same : (len : ℕ) (ready : List (Option Segment)) → IsReady store.ring len is_open.table ready → SameBodies is_open.table ready

@@ -14,7 +14,7 @@ use Rattle.journal.specs.BatchSpelling.{IsBatch}
 use Rattle.revision.specs.Invariants.{IsLimits}
 use Rattle.history.specs.Cell.{Pair, no_cells, cells_at}
 use Rattle.history.proofs.CallerLemmas.{begins as begins_empty}
-use Rattle.milestone.specs.Cells.{HoldsPair}
+use Rattle.milestone.specs.OneCell.{HoldsPair}
 use Rattle.segments.specs.Slot.{Segment, HoldsSlot, number_of}
 use Rattle.segments.specs.Numbers.{number_at}
 use Rattle.segments.specs.Table.{slot_place, slot_bytes, slot_at, numbers_of}
@@ -125,8 +125,8 @@ cells_empty shape content in_range closed = record {
   each = λ number below.
       let some : 0 < shape.cell = omega (arith, (ranges_of shape in_range).cell_low) in
       let place = cells_place shape number in
-      let first : cell_place shape (2 * number) ≡ place = cc in
-      let second : cell_place shape (2 * number + 1) ≡ place + shape.cell = cc in
+      let first : cell_place shape (2 * number) ≡ place = omega arith in
+      let second : cell_place shape (2 * number + 1) ≡ place + shape.cell = omega arith in
       let closed_first : IsClosed content place = subst (IsClosed content) first (closed (2 * number) (omega (arith, below))) in
       let closed_second : IsClosed content (place + shape.cell) = subst (IsClosed content) second (closed (2 * number + 1) (omega (arith, below))) in
       subst (λ (p : Pair). HoldsPair place shape.cell number content p) (sym (no_pair shape.docs number))
@@ -158,8 +158,8 @@ empty_store shape content in_range is gate = record { laid_out = laid_out; found
     laid_out : IsLaidOut content shape (replicate shape.docs no_cells) (empty_table shape)
     laid_out = record {
       names = record { formatted = record { long = omega (arith, is.long); gate = gate }; named = is.named; in_range = in_range; long = is.long };
-      cells = cells_empty shape content in_range is.cells;
-      slots = slots_empty shape content in_range is.slots;
+      in_cells = cells_empty shape content in_range is.cells;
+      in_slots = slots_empty shape content in_range is.slots;
     }
 
     runs_with : RunsWith content (empty_state shape)

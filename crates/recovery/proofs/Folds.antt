@@ -1,12 +1,9 @@
 -- Batches that are added to those before them.
-use Rattle.std.proofs.Common.{◌≡◌, ℕ, Bool, true, ◌&&◌, List, [], ◌∷◌, ◌++◌, refl, sym, ◌∙◌, ap}
-use Rattle.std.proofs.lemmas.List.{map_push, append-nil}
+use Rattle.std.proofs.Common.{◌≡◌, Bool, ◌&&◌, List, [], ◌∷◌, ◌++◌, refl, ◌∙◌, ap}
+use Rattle.std.proofs.lemmas.List.{append-nil}
 use Rattle.std.proofs.lemmas.List.Concat.{flat_map-append}
-use Rattle.std.proofs.lemmas.List.Elements.{All-append, All-cons, All-nil}
 use Rattle.revision.specs.Command.{Taken}
-use Rattle.journal.specs.BatchSpelling.{IsBatch, batch}
 use Rattle.revision.specs.State.{State, grows, grown, fold, all_grow}
-use Rattle.recovery.specs.declared.shape.Shape.{Shape}
 use Rattle.recovery.specs.Found.{commands_of}
 
 pub fold-append : (state : State) (first second : List Taken) → fold state (first ++ second) ≡ fold (fold state first) second

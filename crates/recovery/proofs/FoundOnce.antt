@@ -3,16 +3,16 @@ use Rattle.std.proofs.Common.{◌≡◌, ℕ, zero, suc, ◌<◌, Option, List, 
 use Rattle.std.specs.List.{AllByRecursion}
 use Rattle.std.proofs.lemmas.List.Elements.{recursion_from_All}
 use Rattle.revision.specs.Command.{Taken}
-use Rattle.revision.specs.State.{Limits, State}
+use Rattle.revision.specs.State.{State}
 use Rattle.journal.specs.BatchSpelling.{IsBatch, batch}
 use Rattle.journal.proofs.CallerLemmas.{one_spelling}
-use Rattle.history.specs.Cell.{Pair, Pick, cells_at}
+use Rattle.history.specs.declared.pick.Pick.{Pick}
+use Rattle.history.specs.Cell.{Pair, cells_at}
 use Rattle.history.specs.Found.{StandFor}
 use Rattle.history.specs.Running.{Runs}
 use Rattle.history.proofs.CallerLemmas.{at_most_one}
 use Rattle.milestone.proofs.CallerLemmas.{one_pair}
 use Rattle.segments.specs.Slot.{Segment}
-use Rattle.segments.specs.Order.{bodies_of}
 use Rattle.segments.proofs.CallerLemmas.{one_table}
 use Rattle.recovery.specs.declared.shape.Shape.{Shape}
 use Rattle.recovery.specs.Shape.{cells_place, slots_place}
@@ -68,10 +68,10 @@ pub parts_once : (content : List ℕ) (shape other : Shape) (cells other_cells :
 parts_once content shape other cells other_cells table other_table batches other_batches holds others =
     let shapes : other ≡ shape = named_same content other shape others.laid_out.names holds.laid_out.names in
     let here : HoldsParts content shape other_cells other_table other_batches = subst (λ (s : Shape). HoldsParts content s other_cells other_table other_batches) shapes others in
-    let tables : other_table ≡ table = slots_same content shape other_table table here.laid_out.slots holds.laid_out.slots in
+    let tables : other_table ≡ table = slots_same content shape other_table table here.laid_out.in_slots holds.laid_out.in_slots in
     record {
       shapes = shapes;
-      cells_are = cells_same content shape other_cells cells here.laid_out.cells holds.laid_out.cells;
+      cells_are = cells_same content shape other_cells cells here.laid_out.in_cells holds.laid_out.in_cells;
       batches_are = batches_same table other_batches batches (subst (λ (t : List (Option Segment)). SpellBatches t other_batches) tables here.spell) holds.spell;
     }
 
@@ -84,12 +84,12 @@ module _ (content : List ℕ) (shape : Shape) (cells : List Pair) (table : List 
       (subst (λ (c : List Pair). StandFor (limits_of found.shape) c (commands_of batches) pick state) same.cells_are
       (subst (λ (b : List (List Taken)). StandFor (limits_of found.shape) found.cells (commands_of b) pick state) same.batches_are found.stand))
 
-  pub runs_at : (state : State) (with : RunsWith content state) → (state.limits ≡ limits_of shape) × Runs with.order cells (commands_of batches) state
-  runs_at state with =
-      let same = parts_once content shape with.shape cells with.cells table with.table batches with.batches holds with.holds in (
-        with.limits ∙ ap limits_of same.shapes,
-        subst (λ (c : List Pair). Runs with.order c (commands_of batches) state) same.cells_are
-        (subst (λ (b : List (List Taken)). Runs with.order with.cells (commands_of b) state) same.batches_are with.runs),
+  pub runs_at : (state : State) (running : RunsWith content state) → (state.limits ≡ limits_of shape) × Runs running.order cells (commands_of batches) state
+  runs_at state running =
+      let same = parts_once content shape running.shape cells running.cells table running.table batches running.batches holds running.holds in (
+        running.limits ∙ ap limits_of same.shapes,
+        subst (λ (c : List Pair). Runs running.order c (commands_of batches) state) same.cells_are
+        (subst (λ (b : List (List Taken)). Runs running.order running.cells (commands_of b) state) same.batches_are running.runs),
       )
 
 pub found_once : (content : List ℕ) (pick : Pick) (a b : State) → Found content pick a → Found content pick b → a ≡ b

@@ -1,12 +1,12 @@
 -- A layout stays when the slots alone change.
-use Rattle.std.proofs.Common.{◌≡◌, ℕ, ◌+◌, ◌-◌, ◌*◌, ◌≤◌, ◌<◌, true, Option, List, length, take, drop, get_or, sym, ◌∙◌, ap, subst, arith}
+use Rattle.std.proofs.Common.{◌≡◌, ℕ, ◌+◌, ◌-◌, ◌*◌, ◌≤◌, ◌<◌, true, Option, List, length, take, drop, sym, ◌∙◌, ap, subst, arith}
 use Rattle.std.proofs.lemmas.List.{take-take, drop-take, length-map}
 use Rattle.std.proofs.Math.Nat.{mul-le-mul_right}
 use Rattle.disk.specs.Device.{SameOutside}
 use Rattle.disk.proofs.CallerLemmas.{same_at}
 use Rattle.revision.specs.State.{Limits, State}
 use Rattle.history.specs.Cell.{Pair, cells_at}
-use Rattle.milestone.proofs.CallerLemmas.{pair_stays}
+use Rattle.milestone.proofs.CallerLemmas.{agree_within}
 use Rattle.segments.specs.Slot.{Segment, number_of}
 use Rattle.segments.specs.Table.{HoldsTable}
 use Rattle.segments.specs.declared.ring.Ring.{Ring}
@@ -57,7 +57,7 @@ part_same place count bound old content within same =
 pub cells_before : (shape : Shape) (number : ℕ) → number < shape.docs → cells_place shape number + 2 * shape.cell ≤ slots_place shape
 cells_before shape number below =
     let room = part_before number shape.docs (2 * shape.cell) below in
-    let all : shape.docs * (2 * shape.cell) ≡ 2 * shape.docs * shape.cell = cc in
+    let all : shape.docs * (2 * shape.cell) ≡ 2 * shape.docs * shape.cell = omega arith in
     omega (arith, room, all)
 
 module _ (old content : List ℕ) (shape : Shape) (cells : List Pair) (table now : List (Option Segment)) (laid_out : IsLaidOut old shape cells table)
@@ -75,12 +75,12 @@ module _ (old content : List ℕ) (shape : Shape) (cells : List Pair) (table now
           in_range = laid_out.names.in_range;
           long = omega (arith, laid_out.names.long, same.same_length);
         };
-        cells = record {
-          count = laid_out.cells.count;
+        in_cells = record {
+          count = laid_out.in_cells.count;
           each = λ number below.
-              pair_stays (cells_place shape number) shape.cell number old content (cells_at cells number) (omega (arith, ranges.cell_low))
+              agree_within (cells_place shape number) shape.cell number old content (cells_at cells number)
               (part_same (cells_place shape number) (2 * shape.cell) (slots_place shape) old content (cells_before shape number below) same.before)
-              (laid_out.cells.each number below);
+              (laid_out.in_cells.each number below);
         };
-        slots = holds;
+        in_slots = holds;
       }

@@ -5,8 +5,16 @@ pub mod Layouts
 pub mod Folds
 pub mod Commits
 pub mod Runs
+pub mod Marking
+pub mod Marked
+pub mod KnownCells
+pub mod Retirement
+pub mod Upkeep
 pub mod Named
-pub mod Replays
+pub mod Gathering
+pub mod Documents
+pub mod Parts
 pub mod FoundOnce
 pub mod Fitting
 pub mod Worked
+pub mod WorkedCells

@@ -5,7 +5,7 @@ use Rattle.disk.specs.declared.device.Disk.{Ghosts}
 use Rattle.revision.specs.Command.{Taken}
 use Rattle.revision.specs.State.{Limits, State, fold}
 use Rattle.revision.specs.Agree.{Agree}
-use Rattle.history.specs.Cell.{Pick}
+use Rattle.history.specs.declared.pick.Pick.{Pick}
 use Rattle.history.specs.Found.{StandFor}
 use Rattle.history.proofs.CallerLemmas.{at_most_one, recovers, reopens}
 use Rattle.recovery.specs.declared.run.StoreStep.{StoreStep}
@@ -45,23 +45,23 @@ found_as content state is = record { by_either = by_either; runs = is }
 
 -- and with whichever state it is found as, its store runs on
 pub found_again : (content : List ℕ) (state : State) (pick : Pick) (found : State) → FoundAs content state → Found content pick found → Agree found state × RunsWith content found
-found_again content state pick found as is =
-    let with = as.runs in
-    let entries = commands_of with.batches in
-    let here : StandFor (limits_of with.shape) with.cells entries pick found = stand_at content with.shape with.cells with.table with.batches with.holds pick found is in
-    let stand : StandFor state.limits with.cells entries pick found = subst (λ (l : Limits). StandFor l with.cells entries pick found) (sym with.limits) here in
-    let recovered = recovers with.order with.cells entries state pick with.runs in
-    let same : recovered.0 ≡ found = at_most_one state.limits with.cells entries pick recovered.0 found recovered.1 stand in (
+found_again content state pick found of is =
+    let running = of.runs in
+    let entries = commands_of running.batches in
+    let here : StandFor (limits_of running.shape) running.cells entries pick found = stand_at content running.shape running.cells running.table running.batches running.holds pick found is in
+    let stand : StandFor state.limits running.cells entries pick found = subst (λ (l : Limits). StandFor l running.cells entries pick found) (sym running.limits) here in
+    let recovered = recovers running.order running.cells entries state pick running.runs in
+    let same : recovered.0 ≡ found = at_most_one state.limits running.cells entries pick recovered.0 found recovered.1 stand in (
       subst (λ (s : State). Agree s state) same recovered.2,
       record {
-        shape = with.shape;
-        cells = with.cells;
-        table = with.table;
-        batches = with.batches;
-        order = with.order;
-        holds = with.holds;
+        shape = running.shape;
+        cells = running.cells;
+        table = running.table;
+        batches = running.batches;
+        order = running.order;
+        holds = running.holds;
         limits = here.same_limits;
-        runs = reopens with.order with.cells entries state pick found with.runs stand;
+        runs = reopens running.order running.cells entries state pick found running.runs stand;
       },
     )
 

@@ -1,7 +1,8 @@
 -- What contents stand for, computed in a small shape: zeros, a formatted device, the device after a first and a second
 -- creation, and one on which the second one lies in a slot of its own, before the first.
-use Rattle.std.proofs.Common.{◌≡◌, ◌<◌, true, ℕ, zero, suc, Option, Some, None, List, [], ◌∷◌, ◌++◌, refl, sym, ◌∙◌, ap, lit<, lit≤, arith}
-use Rattle.std.specs.Prelude.{replicate, slice_get, map, All}
+use Rattle.std.proofs.Common.{◌≡◌, ◌<◌, Bool, true, ℕ, zero, suc, Option, Some, None, List, [], ◌∷◌, ◌++◌, get_or, refl, sym, ◌∙◌, ap, subst, lit<, lit≤, arith}
+use Rattle.std.proofs.lemmas.Bool.{ne_eqb}
+use Rattle.std.specs.Prelude.{replicate, slice_get, map, All, if◌then◌else◌}
 use Rattle.std.proofs.lemmas.List.Elements.{All-cons, All-nil}
 use Rattle.std.specs.Char.{encode_utf8}
 use Rattle.std.specs.Str.{chars, is_utf8}
@@ -15,10 +16,11 @@ use Rattle.journal.specs.BatchSpelling.{IsBatch, created_name, entry, batch}
 use Rattle.journal.specs.DeltaSpelling.{value, pairs, operation, delta}
 use Rattle.revision.specs.State.{State, DocumentRecord, all_continue}
 use Rattle.revision.specs.Invariants.{NamesDiffer}
-use Rattle.history.specs.Cell.{Pair, Pick, no_cells, cells_at, picked}
+use Rattle.history.specs.declared.pick.Pick.{Pick}
+use Rattle.history.specs.Cell.{Pair, no_cells, cells_at, picked}
 use Rattle.history.specs.Entries.{of_document}
 use Rattle.history.specs.Found.{StandsFor, StandFor}
-use Rattle.milestone.specs.Cells.{HoldsPair}
+use Rattle.milestone.specs.OneCell.{HoldsPair}
 use Rattle.recovery.specs.declared.shape.Shape.{Shape}
 use Rattle.segments.specs.Slot.{Segment, HoldsSlot, HoldsSegment, number_of}
 use Rattle.segments.specs.Numbers.{NumbersDiffer}
@@ -28,23 +30,23 @@ use Rattle.recovery.specs.Layout.{IsFormatted, HoldsCells, HoldsSlots, IsLaidOut
 use Rattle.recovery.specs.Found.{Found, limits_of, empty_state, commands_of}
 
 -- 2 slots of 256 bytes, 2 documents with cells of 256: 1,600 bytes
-abbrev small : Shape
+abbrev pub small : Shape
 small = record { slots = 2; slot = 256; docs = 2; cell = 256; sources = 4; keep = 2 }
 
 small_length : layout_length small ≡ 1600
 small_length = refl
 
-zero_is_closed : ◌≡◌ {A = ℕ} 0 165 → ⊥
+pub zero_is_closed : ◌≡◌ {A = ℕ} 0 165 → ⊥
 zero_is_closed e = absurd cc
 
 -- what holds at each of two places
-two : (P : ℕ → Type 0) → P 0 → P 1 → (k : ℕ) → k < 2 → P k
+pub two : (P : ℕ → Type 0) → P 0 → P 1 → (k : ℕ) → k < 2 → P k
 two P p0 p1 zero l = p0
 two P p0 p1 (suc zero) l = p1
 two P p0 p1 (suc (suc k)) l = absurd (omega arith)
 
 -- the numbers of two slots differ, where they aren't one
-two_differ : (a b : Option ℕ) → ((n : ℕ) → a ≡ Some n → b ≡ Some n → ⊥) → NumbersDiffer (a ∷ b ∷ [])
+pub two_differ : (a b : Option ℕ) → ((n : ℕ) → a ≡ Some n → b ≡ Some n → ⊥) → NumbersDiffer (a ∷ b ∷ [])
 two_differ a b apart zero zero n one other = refl
 two_differ a b apart zero (suc zero) n one other = absurd (apart n one other)
 two_differ a b apart (suc zero) zero n one other = absurd (apart n other one)
@@ -54,7 +56,7 @@ two_differ a b apart (suc zero) (suc (suc k)) n one other = absurd cc
 two_differ a b apart (suc (suc k)) other n one there = absurd cc
 
 -- the slots of the small shape hold what each of them holds
-slots_hold : (content : List ℕ) (first second : Option Segment) → HoldsSlot (slot_bytes 1088 256 content 0) first → HoldsSlot (slot_bytes 1088 256 content 1) second
+pub slots_hold : (content : List ℕ) (first second : Option Segment) → HoldsSlot (slot_bytes 1088 256 content 0) first → HoldsSlot (slot_bytes 1088 256 content 1) second
     → NumbersDiffer (number_of first ∷ number_of second ∷ []) → HoldsSlots content small (first ∷ second ∷ [])
 slots_hold content first second in_first in_second differ = record {
   count = refl;
@@ -81,6 +83,14 @@ names_differ first second apart (suc (suc k)) j a b at_i at_j same = absurd cc
 names_differ first second apart zero (suc (suc k)) a b at_i at_j same = absurd cc
 names_differ first second apart (suc zero) (suc (suc k)) a b at_i at_j same = absurd cc
 
+-- a command of another document isn't one of this document; and a document without a cell and without entries isn't there
+pub of_another : (number : ℕ) (taken : Taken) (others : List Taken) → (taken.document ≡ number → ⊥) → of_document number (taken ∷ others) ≡ of_document number others
+of_another number taken others apart =
+    ap (λ (b : Bool). if b then taken ∷ of_document number others else of_document number others) (ne_eqb taken.document number apart)
+
+pub stands_nowhere : (number : ℕ) (entries : List Taken) → of_document number entries ≡ [] → StandsFor (limits_of small) None (of_document number entries) None
+stands_nowhere number entries is = subst (λ (l : List Taken). StandsFor (limits_of small) None l None) (sym is) (record { cell_keeps = tt; continue = refl; is = refl })
+
 -- zeros have no superblock, so they stand for nothing
 abbrev zeros : List ℕ
 zeros = replicate 1600 0
@@ -98,21 +108,21 @@ formatted = 165 ∷ superblock small ++ replicate 1567 0
 formatted_cells : HoldsCells formatted small no_pairs
 formatted_cells = record {
   count = refl;
-  each = two (λ number. HoldsPair (cells_place small number) 256 number formatted no_cells)
+  each = two (λ number. HoldsPair (cells_place small number) 256 number formatted (cells_at no_pairs number))
       (record { first = zero_is_closed; second = zero_is_closed }) (record { first = zero_is_closed; second = zero_is_closed });
 }
 
 pub formatted_laid_out : IsLaidOut formatted small no_pairs (None ∷ None ∷ [])
 formatted_laid_out = record {
   names = record { formatted = record { long = lit≤ tt; gate = refl }; named = refl; in_range = refl; long = lit≤ tt };
-  cells = formatted_cells;
-  slots = slots_hold formatted None None zero_is_closed zero_is_closed (two_differ None None (λ n is other. absurd cc));
+  in_cells = formatted_cells;
+  in_slots = slots_hold formatted None None zero_is_closed zero_is_closed (two_differ None None (λ n is other. absurd cc));
 }
 
-none_stand : (pick : Pick) (number : ℕ) → StandsFor (limits_of small) (picked pick (cells_at no_pairs number)) [] (slice_get {A = DocumentRecord} [] number)
+none_stand : (pick : Pick) (number : ℕ) → StandsFor (limits_of small) (picked pick (cells_at no_pairs number)) [] (slice_get (empty_state small).documents number)
 none_stand pick zero = record { cell_keeps = tt; continue = refl; is = refl }
 none_stand pick (suc zero) = record { cell_keeps = tt; continue = refl; is = refl }
-none_stand pick (suc (suc number)) = record { cell_keeps = tt; continue = refl; is = refl }
+none_stand pick (suc (suc k)) = record { cell_keeps = tt; continue = refl; is = refl }
 
 pub formatted_found : (pick : Pick) → Found formatted pick (empty_state small)
 formatted_found pick = record {
@@ -179,15 +189,15 @@ created_held = record {
 created_cells : HoldsCells created small no_pairs
 created_cells = record {
   count = refl;
-  each = two (λ number. HoldsPair (cells_place small number) 256 number created no_cells)
+  each = two (λ number. HoldsPair (cells_place small number) 256 number created (cells_at no_pairs number))
       (record { first = zero_is_closed; second = zero_is_closed }) (record { first = zero_is_closed; second = zero_is_closed });
 }
 
 pub created_laid_out : IsLaidOut created small no_pairs (Some first_segment ∷ None ∷ [])
 created_laid_out = record {
   names = record { formatted = record { long = lit≤ tt; gate = refl }; named = refl; in_range = refl; long = lit≤ tt };
-  cells = created_cells;
-  slots = slots_hold created (Some first_segment) None created_held zero_is_closed (two_differ (Some 1) None (λ n is other. absurd cc));
+  in_cells = created_cells;
+  in_slots = slots_hold created (Some first_segment) None created_held zero_is_closed (two_differ (Some 1) None (λ n is other. absurd cc));
 }
 
 -- the record of a document of one letter that a source made
@@ -208,7 +218,7 @@ with_first = record { limits = limits_of small; documents = record_with 100 122 
 is_batch : (document name letter : ℕ) → IsTaken (creation document name letter) → IsBatch (creation document name letter ∷ [])
 is_batch document name letter is = record { some = lit≤ tt; short = lit< tt; taken = All-cons IsTaken (creation document name letter) [] is (All-nil IsTaken) }
 
-spellable_first : IsSpellable (insert_text (122 ∷ []) empty ∷ [])
+pub spellable_first : IsSpellable (insert_text (122 ∷ []) empty ∷ [])
 unfolding is_utf8 chars utf16_chars encode_utf8
 spellable_first = record {
   normal = refl;
@@ -230,9 +240,9 @@ first_continues = refl
 first_stands : (pick : Pick) (number : ℕ) → StandsFor (limits_of small) (picked pick (cells_at no_pairs number)) (of_document number (creation 0 100 122 ∷ [])) (slice_get with_first.documents number)
 first_stands pick zero = record { cell_keeps = tt; continue = first_continues; is = refl }
 first_stands pick (suc zero) = record { cell_keeps = tt; continue = refl; is = refl }
-first_stands pick (suc (suc number)) = record { cell_keeps = tt; continue = refl; is = refl }
+first_stands pick (suc (suc k)) = stands_nowhere (suc (suc k)) (creation 0 100 122 ∷ []) (of_another (suc (suc k)) (creation 0 100 122) [] (λ e. absurd (omega (arith, e))))
 
-one_name : (found : DocumentRecord) → NamesDiffer (found ∷ [])
+pub one_name : (found : DocumentRecord) → NamesDiffer (found ∷ [])
 one_name found zero zero a b at_i at_j same = refl
 one_name found (suc i) j a b at_i at_j same = absurd cc
 one_name found zero (suc j) a b at_i at_j same = absurd cc
@@ -278,15 +288,15 @@ created_twice_held = record {
 created_twice_cells : HoldsCells created_twice small no_pairs
 created_twice_cells = record {
   count = refl;
-  each = two (λ number. HoldsPair (cells_place small number) 256 number created_twice no_cells)
+  each = two (λ number. HoldsPair (cells_place small number) 256 number created_twice (cells_at no_pairs number))
       (record { first = zero_is_closed; second = zero_is_closed }) (record { first = zero_is_closed; second = zero_is_closed });
 }
 
 pub created_twice_laid_out : IsLaidOut created_twice small no_pairs (Some second_segment ∷ None ∷ [])
 created_twice_laid_out = record {
   names = record { formatted = record { long = lit≤ tt; gate = refl }; named = refl; in_range = refl; long = lit≤ tt };
-  cells = created_twice_cells;
-  slots = slots_hold created_twice (Some second_segment) None created_twice_held zero_is_closed (two_differ (Some 1) None (λ n is other. absurd cc));
+  in_cells = created_twice_cells;
+  in_slots = slots_hold created_twice (Some second_segment) None created_twice_held zero_is_closed (two_differ (Some 1) None (λ n is other. absurd cc));
 }
 
 abbrev with_both : State
@@ -317,7 +327,10 @@ second_continues = refl
 both_stands : (pick : Pick) (number : ℕ) → StandsFor (limits_of small) (picked pick (cells_at no_pairs number)) (of_document number both) (slice_get with_both.documents number)
 both_stands pick zero = record { cell_keeps = tt; continue = first_continues; is = refl }
 both_stands pick (suc zero) = record { cell_keeps = tt; continue = second_continues; is = refl }
-both_stands pick (suc (suc number)) = record { cell_keeps = tt; continue = refl; is = refl }
+both_stands pick (suc (suc k)) =
+    stands_nowhere (suc (suc k)) both
+    (of_another (suc (suc k)) (creation 0 100 122) (creation 1 101 120 ∷ []) (λ e. absurd (omega (arith, e)))
+    ∙ of_another (suc (suc k)) (creation 1 101 120) [] (λ e. absurd (omega (arith, e))))
 
 -- the two batches, whichever slots they lie in
 abbrev both_batches : List (List Taken)
@@ -336,7 +349,7 @@ both_stand pick = record {
   same_limits = refl;
   count = lit≤ tt;
   each = both_stands pick;
-  names = names_differ (record_with 100 122) (record_with 101 120) (λ same. absurd cc);
+  names = names_differ (record_with 100 122) (record_with 101 120) (λ same. let first_letter : 100 ≡ 101 = ap (λ (l : List ℕ). get_or l 0 0) same in absurd (omega (arith, first_letter)));
 }
 
 pub created_twice_found : (pick : Pick) → Found created_twice pick with_both
@@ -380,7 +393,7 @@ turned_older = record {
 turned_cells : HoldsCells turned small no_pairs
 turned_cells = record {
   count = refl;
-  each = two (λ number. HoldsPair (cells_place small number) 256 number turned no_cells)
+  each = two (λ number. HoldsPair (cells_place small number) 256 number turned (cells_at no_pairs number))
       (record { first = zero_is_closed; second = zero_is_closed }) (record { first = zero_is_closed; second = zero_is_closed });
 }
 
@@ -394,8 +407,8 @@ turned_found pick = record {
   holds = record {
     laid_out = record {
       names = record { formatted = record { long = lit≤ tt; gate = refl }; named = refl; in_range = refl; long = lit≤ tt };
-      cells = turned_cells;
-      slots = slots_hold turned (Some newer_segment) (Some first_segment) turned_newer turned_older (two_differ (Some 2) (Some 1) (λ n is other. absurd cc));
+      in_cells = turned_cells;
+      in_slots = slots_hold turned (Some newer_segment) (Some first_segment) turned_newer turned_older (two_differ (Some 2) (Some 1) (λ n is other. absurd cc));
     };
     spell = record { spelled = both_spelled; each = both_are };
   };

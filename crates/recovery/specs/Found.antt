@@ -5,7 +5,8 @@ use Rattle.revision.specs.Command.{Taken}
 use Rattle.revision.specs.State.{Limits, State}
 use Rattle.revision.specs.Agree.{Agree}
 use Rattle.journal.specs.BatchSpelling.{IsBatch, batch}
-use Rattle.history.specs.Cell.{Pair, Pick}
+use Rattle.history.specs.declared.pick.Pick.{Pick}
+use Rattle.history.specs.Cell.{Pair}
 use Rattle.history.specs.Found.{StandFor}
 use Rattle.history.specs.Running.{Runs}
 use Rattle.segments.specs.Slot.{Segment}

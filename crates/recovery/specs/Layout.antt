@@ -1,8 +1,8 @@
 -- The layout of a device: which shape it has, and what its cells and its slots hold.
-use Rattle.std.specs.Prelude.{◌≡◌, ◌≢◌, ℕ, ◌+◌, ◌*◌, ◌<◌, ◌≤◌, true, Option, List, length, take, drop, slice_index}
+use Rattle.std.specs.Prelude.{◌≡◌, ◌≢◌, ℕ, ◌<◌, ◌≤◌, true, Option, List, length, take, drop, slice_index}
 use Rattle.journal.specs.Area.{open_gate}
 use Rattle.history.specs.Cell.{Pair, cells_at}
-use Rattle.milestone.specs.Cells.{HoldsPair}
+use Rattle.milestone.specs.OneCell.{HoldsPair}
 use Rattle.segments.specs.Slot.{Segment}
 use Rattle.segments.specs.Table.{HoldsTable}
 use Rattle.recovery.specs.declared.shape.Shape.{Shape}
@@ -37,5 +37,5 @@ pub record HoldsSlots (content : List ℕ) (shape : Shape) (table : List (Option
 -- A device is laid out in a shape: its superblock names it, and its cells and its slots hold these.
 pub record IsLaidOut (content : List ℕ) (shape : Shape) (cells : List Pair) (table : List (Option Segment)) : Type 0 where
   pub names : Names content shape
-  pub cells : HoldsCells content shape cells
-  pub slots : HoldsSlots content shape table
+  pub in_cells : HoldsCells content shape cells
+  pub in_slots : HoldsSlots content shape table

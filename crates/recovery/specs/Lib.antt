@@ -1,6 +1,10 @@
 pub mod Shape
 pub mod Layout
+pub mod Cells
 pub mod Found
+pub mod Cells
+pub mod Marks
+pub mod Marked
 pub mod Open
 pub mod Run
 pub mod Formatting

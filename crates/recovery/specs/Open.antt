@@ -7,11 +7,15 @@ use Rattle.revision.specs.State.{State, fold}
 use Rattle.history.specs.Cell.{Pair}
 use Rattle.history.specs.Running.{Runs}
 use Rattle.segments.specs.Slot.{Segment}
+use Rattle.segments.specs.Table.{IsRetired}
 use Rattle.segments.specs.declared.ring.Ring.{Ring}
 use Rattle.segments.specs.Ring.{Fits, at_of, size_of, fits_newest}
 use Rattle.segments.specs.Room.{has_room_for}
 use Rattle.recovery.specs.declared.store.Store.{Store}
 use Rattle.recovery.specs.Shape.{slots_place}
+use Rattle.recovery.specs.Cells.{AreCellsOf, FitEach}
+use Rattle.recovery.specs.Marks.{marks_of}
+use Rattle.recovery.specs.Marked.{AreMarked}
 use Rattle.recovery.specs.Found.{limits_of, commands_of, HoldsParts, FoundAs}
 
 -- a content that stands for a state that agrees with the one before a batch, or with the one with it
@@ -53,11 +57,14 @@ module _ {D : Type 0} {disk : Ghosts D} where
     pub device : new.device ≡ old.device
     pub shape : new.shape ≡ old.shape
     pub ring : new.ring ≡ old.ring
+    pub cells : new.cells ≡ old.cells
+    pub marks : marks_of new.marks ≡ marks_of old.marks
     pub state : new.state ≡ old.state
     pub failed : new.failed ≡ old.failed
 
   -- The device is synced, and a store runs on it with the state that is held: its content holds these parts, the ring is that of its
-  -- slots, and its cells and entries are of the order of commands that the state shows.
+  -- slots, its cells and the marks of its segments are known, and its cells and entries are of the order of commands that the state
+  -- shows.
   pub record IsOpen (store : Store D disk) : Type 0 where
     pub synced : disk.unsynced store.device ≡ []
     pub cells : List Pair
@@ -68,5 +75,15 @@ module _ {D : Type 0} {disk : Ghosts D} where
     pub fits : Fits (disk.seen store.device) store.ring table
     pub ring_at : at_of store.ring ≡ slots_place store.shape
     pub ring_size : size_of store.ring ≡ store.shape.slot
+    pub cells_are : AreCellsOf store.shape store.cells.items
+    pub cells_fit : FitEach (disk.seen store.device) store.cells.items cells
+    pub marked : AreMarked table (marks_of store.marks)
     pub limits : store.state.limits ≡ limits_of store.shape
     pub runs : Runs order cells (commands_of batches) store.state
+
+-- After a retirement: the store goes on over the same cells, and the slot of the oldest segment is closed.
+module _ {D : Type 0} {disk : Ghosts D} where
+  pub record IsRetiredNow (cells : List Pair) (table : List (Option Segment)) (store : Store D disk) : Type 0 where
+    pub goes_on : IsOpen store
+    pub same_cells : goes_on.cells ≡ cells
+    pub retired : IsRetired table goes_on.table

@@ -4,7 +4,7 @@ ghost use Rattle.std.specs.Prelude.{◌≡◌, ℕ, true, List, [], ◌∷◌};
 ghost use Rattle.revision.specs.Command.{Taken};
 ghost use Rattle.revision.specs.State.{State, grows};
 ghost use Rattle.revision.specs.Agree.{Agree};
-ghost use Rattle.history.specs.Cell.{Pick};
+ghost use Rattle.history.specs.declared.pick.Pick.{Pick};
 ghost use Rattle.recovery.specs.Found.{Found, FoundAs, RunsWith};
 ghost use Rattle.recovery.specs.Open.{FitsSlot, IsOpen, device_of, state_of};
 ghost use Rattle.recovery.specs.declared.store.Store.{Store};

@@ -32,7 +32,9 @@
 
 mod formatting;
 pub mod laws;
+mod marks;
 mod reading;
+mod retiring;
 mod run;
 mod shape;
 mod store;

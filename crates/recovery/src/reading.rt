@@ -1,4 +1,4 @@
-//! Reading the content of a device: the superblock, the gates of the cells, and the batches of the slots.
+//! Reading the content of a device: the superblock, the batches of the slots, and from its cells on each document.
 ghost use Rattle.std.specs.Prelude.{◌≡◌, ◌⊎◌, ◌↔◌, ◌+◌, ◌≤◌, true, List, Option, [], length, IsTrue, OnOk, IfOk, IfErr};
 ghost use Rattle.disk.specs.Device.{IsSync, IsAtMostOneStep};
 ghost use Rattle.disk.specs.Calls.{HasOnlyRead, CountsFaults, CountsFaultsAs};
@@ -9,41 +9,62 @@ ghost use Rattle.segments.specs.Slot.{Segment};
 ghost use Rattle.segments.specs.Recovered.{IsReadAs as IsRingReadAs};
 ghost use Rattle.segments.specs.Ring.{size_of, end_of};
 ghost use Rattle.recovery.specs.Shape.{is_in_range, layout_length};
-ghost use Rattle.recovery.specs.Layout.{IsFormatted, HoldsSlots};
-ghost use Rattle.recovery.specs.Found.{Found};
-ghost use Rattle.recovery.specs.steps.Reading.{Names, IsRingOf, IsReadAs};
+ghost use Rattle.recovery.specs.Layout.{IsFormatted, Names, HoldsSlots};
+ghost use Rattle.recovery.specs.Cells.{AreCellsOf};
+ghost use Rattle.recovery.specs.Found.{Found, limits_of};
+ghost use Rattle.recovery.specs.steps.Reading.{IsRingOf, IsReadAs};
 
+mod document;
+mod documents;
+mod entries;
 mod gates;
-mod replay;
+mod marking;
 
+use crate::marks::Marks;
 use crate::shape::Shape;
 use crate::superblock::{BODY_LEN, SUPERBLOCK_LEN, read_superblock};
 use disk::Disk;
-use gates::{are_cells_closed, is_open, read_at};
+use documents::{ReadDocuments, read_documents};
+use entries::gather;
+use gates::{is_open, read_at};
+use history::Pick;
+use marking::mark_segments;
+use milestone::Cells;
 use refusal::Refusal;
-use replay::replay_bodies;
 use revision::State;
 use segments::{RecoveredRing, Ring};
 use std::alloc::Global;
 
-/// What was read of a device: its shape, the state that it stands for, and where its next batch goes.
+/// What was read of a device: its shape, the ring of its slots, the cells of each document number in order, the marks of its
+/// segments, and the state that it stands for.
 #[derive(Drop)]
 pub struct RecoveredStore {
     pub shape: Shape,
     pub ring: Ring,
+    pub cells: Vec<Cells>,
+    pub marks: Marks,
     pub state: State,
 }
 
-/// Reads a device after a sync of it, and writes nothing. `NotFormatted` comes where the superblock's gate is closed or
-/// the device has less than 64 bytes, and `Damaged` where it is formatted and its content stands for no state.
-pub fn read_store<D: Disk>(alloc: Global, disk: &mut D) -> Result<RecoveredStore, Refusal>
-    ensures read { IfOk result (λ recovered. D.honest disk.new → IsReadAs (D.seen disk.old) recovered) }
+/// Reads a device after a sync of it, by the newer or the older cell of each document, and writes nothing. `NotFormatted` comes
+/// where the superblock's gate is closed or the device has less than 64 bytes, and `Damaged` where it is formatted and its content
+/// stands for no state by this pick.
+pub fn read_store<D: Disk>(
+    alloc: Global,
+    disk: &mut D,
+    pick: Pick,
+) -> Result<RecoveredStore, Refusal>
+    ensures read { IfOk result (λ recovered. D.honest disk.new → IsReadAs (D.seen disk.old) pick recovered) }
+    ensures cells { IfOk result (λ recovered. AreCellsOf recovered.shape recovered.cells.items) }
+    ensures limits { IfOk result (λ recovered. recovered.state.limits ≡ limits_of recovered.shape) }
+    ensures in_range { IfOk result (λ recovered. is_in_range recovered.shape ≡ true) }
+    ensures long { IfOk result (λ recovered. layout_length recovered.shape ≤ length (D.seen disk.old)) }
     ensures slot { IfOk result (λ recovered. size_of recovered.ring ≡ recovered.state.limits.width + 19) }
     ensures within { IfOk result (λ recovered. end_of recovered.ring ≤ length (D.seen disk.old)) }
 
     ensures not_formatted { IfErr result (λ e. e ≡ Refusal.NotFormatted → D.honest disk.new → ¬ IsFormatted (D.seen disk.old)) }
     ensures formatted { IfErr result (λ e. e ≡ Refusal.Damaged → D.honest disk.new → IsFormatted (D.seen disk.old)) }
-    ensures damaged { IfErr result (λ e. e ≡ Refusal.Damaged → D.honest disk.new → (found : StateValue) → ¬ Found (D.seen disk.old) found) }
+    ensures damaged { IfErr result (λ e. e ≡ Refusal.Damaged → D.honest disk.new → (found : StateValue) → ¬ Found (D.seen disk.old) pick found) }
     ensures only { IfErr result (λ e. (e ≡ Refusal.NotFormatted) ⊎ ((e ≡ Refusal.Damaged) ⊎ ((e ≡ Refusal.NoMemory) ⊎ (e ≡ Refusal.Fault)))) }
 
     // The sync alone moves the device on.
@@ -54,31 +75,44 @@ pub fn read_store<D: Disk>(alloc: Global, disk: &mut D) -> Result<RecoveredStore
     ensures faults { CountsFaultsAs ⟦<D as Disk>⟧ Refusal.Fault result disk.old disk.new }
 {
     disk.sync()?;
-    read_content(alloc, disk)
+    read_content(alloc, disk, pick)
 }
 
 // Reads what stands on the device. No call of it moves the device on.
-fn read_content<D: Disk>(alloc: Global, disk: &mut D) -> Result<RecoveredStore, Refusal>
-    ensures read { IfOk result (λ recovered. D.honest disk.new → IsReadAs (D.seen disk.old) recovered) }
+fn read_content<D: Disk>(
+    alloc: Global,
+    disk: &mut D,
+    pick: Pick,
+) -> Result<RecoveredStore, Refusal>
+    ensures read { IfOk result (λ recovered. D.honest disk.new → IsReadAs (D.seen disk.old) pick recovered) }
+    ensures cells { IfOk result (λ recovered. AreCellsOf recovered.shape recovered.cells.items) }
+    ensures limits { IfOk result (λ recovered. recovered.state.limits ≡ limits_of recovered.shape) }
+    ensures in_range { IfOk result (λ recovered. is_in_range recovered.shape ≡ true) }
+    ensures long { IfOk result (λ recovered. layout_length recovered.shape ≤ length (D.seen disk.old)) }
     ensures slot { IfOk result (λ recovered. size_of recovered.ring ≡ recovered.state.limits.width + 19) }
     ensures within { IfOk result (λ recovered. end_of recovered.ring ≤ length (D.seen disk.old)) }
     ensures not_formatted { IfErr result (λ e. e ≡ Refusal.NotFormatted → D.honest disk.new → ¬ IsFormatted (D.seen disk.old)) }
     ensures formatted { IfErr result (λ e. e ≡ Refusal.Damaged → D.honest disk.new → IsFormatted (D.seen disk.old)) }
-    ensures damaged { IfErr result (λ e. e ≡ Refusal.Damaged → D.honest disk.new → (found : StateValue) → ¬ Found (D.seen disk.old) found) }
+    ensures damaged { IfErr result (λ e. e ≡ Refusal.Damaged → D.honest disk.new → (found : StateValue) → ¬ Found (D.seen disk.old) pick found) }
     ensures only { IfErr result (λ e. (e ≡ Refusal.NotFormatted) ⊎ ((e ≡ Refusal.Damaged) ⊎ ((e ≡ Refusal.NoMemory) ⊎ (e ≡ Refusal.Fault)))) }
     ensures only_read { HasOnlyRead ⟦<D as Disk>⟧ disk.old disk.new }
     ensures faults { CountsFaultsAs ⟦<D as Disk>⟧ Refusal.Fault result disk.old disk.new }
 {
     let shape = read_shape(disk)?;
-    if !are_cells_closed(disk, &shape)? {
-        return Err(Refusal::Damaged);
-    }
-    let RecoveredRing { ring, bodies } = read_slots(alloc, disk, &shape)?;
-    let state = replay_bodies(alloc, &shape, &bodies)?;
-    Ok(RecoveredStore { shape, ring, state })
+    let RecoveredRing { ring, segments } = read_slots(alloc, disk, &shape)?;
+    let entries = gather(alloc, shape.docs, &segments)?;
+    let marks = mark_segments(alloc, &segments)?;
+    let ReadDocuments { state, cells } = read_documents(alloc, disk, &shape, pick, entries)?;
+    Ok(RecoveredStore {
+        shape,
+        ring,
+        cells,
+        marks,
+        state,
+    })
 }
 
-// The ring of the slots, and the bodies that they hold.
+// The ring of the slots, and the segments that they hold.
 fn read_slots<D: Disk>(alloc: Global, disk: &mut D, shape: &Shape) -> Result<RecoveredRing, Refusal>
     requires in_range { is_in_range shape.now ≡ true }
     requires within { layout_length shape.now ≤ length (D.seen disk.old) }

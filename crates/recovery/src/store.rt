@@ -7,12 +7,17 @@ ghost use Rattle.segments.specs.Slot.{Segment};
 ghost use Rattle.segments.specs.Ring.{Fits, SamePlaces, IsSameOrOpened, IsLeftReady, IsLeftByAppend, end_of, size_of, fits_newest};
 ghost use Rattle.recovery.specs.steps.Appending.{IsDone, IsGivenUp};
 ghost use Rattle.segments.specs.Room.{has_room_for};
+ghost use Rattle.segments.specs.Numbers.{IsNewest};
+ghost use Rattle.segments.specs.Ring.{known_numbers};
+ghost use Rattle.recovery.specs.Marks.{marks_of, room_of, IsNoted};
 
+use crate::marks::Marks;
 use crate::reading::read_store;
 use crate::shape::Shape;
 use disk::Disk;
 use history::Pick;
 use journal::{batch_len, encode_batch};
+use milestone::Cells;
 use refusal::Refusal;
 use revision::{State, Taken};
 use segments::Ring;
@@ -29,11 +34,13 @@ pub struct OpenFault<D> {
 /// A store over a device: the documents that the device stands for, and where the next batch goes.
 #[derive(Drop)]
 pub struct Store<D: Disk> {
-    device: D,
-    shape: Shape,
-    ring: Ring,
-    state: State,
-    failed: bool,
+    pub(crate) device: D,
+    pub(crate) shape: Shape,
+    pub(crate) ring: Ring,
+    pub(crate) cells: Vec<Cells>,
+    pub(crate) marks: Marks,
+    pub(crate) state: State,
+    pub(crate) failed: bool,
     ghost within: { end_of ring ≤ length (D.seen device) },
     ghost slot: { size_of ring ≡ state.limits.width + 19 },
 }
@@ -91,6 +98,8 @@ impl<D: Disk> Store<D> {
                 device,
                 shape: recovered.shape,
                 ring: recovered.ring,
+                cells: recovered.cells,
+                marks: recovered.marks,
                 state: recovered.state,
                 failed: false,
             }),
@@ -123,6 +132,8 @@ impl<D: Disk> Store<D> {
             device,
             shape: _,
             ring: _,
+            cells: _,
+            marks: _,
             state: _,
             failed: _,
         } = self;
@@ -186,6 +197,7 @@ impl<D: Disk> Store<D> {
         if !self.has_room(batch) {
             return Err(Refusal::JournalFull);
         }
+        self.marks.make_room(batch.len())?;
         let empty = State::new(alloc, self.state.limits());
         let prepared = match replace(&mut self.state, empty).prepare(alloc, batch) {
             Ok(prepared) => prepared,
@@ -197,6 +209,7 @@ impl<D: Disk> Store<D> {
         match append_batch(alloc, &mut self.ring, &mut self.device, batch) {
             Ok(()) => {
                 self.state = prepared.accept();
+                mark_batch(&self.ring, &mut self.marks, batch);
                 Ok(())
             }
             Err(refusal) => {
@@ -263,4 +276,15 @@ fn append_batch<D: Disk>(
 {
     let body = encode_batch(alloc, batch)?;
     ring.append(alloc, disk, &body)
+}
+
+// Marks the documents of a batch in the newest segment, which it was appended to. It takes no memory.
+fn mark_batch(ring: &Ring, marks: &mut Marks, batch: &[Taken])
+    requires { length batch.now ≤ room_of marks.old }
+    ensures { (slot : ℕ) (number : ℕ) → IsNewest (known_numbers ring.now) slot number
+        → IsNoted number batch.now (marks_of marks.old) (marks_of marks.new) }
+{
+    if let Some(segment) = ring.newest_number() {
+        marks.note(segment, batch);
+    }
 }

@@ -8,8 +8,9 @@ use crate::failure::Failure;
 use crate::serve::serve;
 use clap::error::ErrorKind;
 use disk::{Fault, FileDisk};
-use recovery::{OpenFault, Shape, Store};
+use recovery::{OpenFault, Pick, Shape, Store};
 use refusal::Refusal;
+use session::Stream;
 use std::alloc::Global;
 use std::convert::AsStr;
 use std::fs::{self, File};
@@ -56,10 +57,14 @@ fn invoke<R: Files<File = File> + AllocGlobal, I: Read, O: Write>(
             Ok(())
         }
         Invocation::Serve { path } => {
-            let mut desk = StoreDesk::new(open(rt, path)?);
-            serve(rt.alloc(), &mut desk, input, output)
+            let mut desk = StoreDesk::new(open(rt, path, Pick::Newer)?);
+            let mut stream = Stream::new(output);
+            serve(rt.alloc(), &mut desk, input, &mut stream)
         }
-        Invocation::Dump { path } => dump(rt.alloc(), open(rt, path)?.state(), output),
+        Invocation::Dump { path, older } => {
+            let store = open(rt, path, pick_of(older))?;
+            dump(rt.alloc(), store.state(), output)
+        }
         Invocation::Delta(task) => print_answer(rt.alloc(), task, output),
     }
 }
@@ -95,12 +100,18 @@ fn is_there<R: Files<File = File> + AllocGlobal>(rt: &R, path: &str) -> Result<b
     Ok(fs::exists(rt, path)?)
 }
 
+// Which milestone of a document its reading begins with.
+fn pick_of(older: bool) -> Pick {
+    if older { Pick::Older } else { Pick::Newer }
+}
+
 fn open<R: Files<File = File> + AllocGlobal>(
     rt: &R,
     path: &str,
+    pick: Pick,
 ) -> Result<Store<FileDisk>, Failure> {
     let disk = FileDisk::open(rt, path)?;
-    match Store::open(rt.alloc(), disk) {
+    match Store::open(rt.alloc(), disk, pick) {
         Ok(store) => Ok(store),
         Err(OpenFault { disk: _, refusal }) => Err(Failure::Refused(refusal)),
     }

@@ -2,7 +2,7 @@
 use attributes::Attrs;
 use delta::{Builder, Delta, Op, OpRef};
 use disk::{Disk, MemDisk};
-use recovery::{Shape, Store, format_device};
+use recovery::{Pick, Shape, Store, format_device};
 use refusal::Refusal;
 use revision::{Command, Name, Plan, State};
 use std::process::Abort;
@@ -86,7 +86,7 @@ pub fn device_of(rt: &(impl Abort + AllocGlobal), bytes: &[u8]) -> MemDisk {
 
 /// A store over a device that is to open.
 pub fn open_store<D: Disk + Drop>(rt: &(impl Abort + AllocGlobal), disk: D) -> Store<D> {
-    match Store::open(rt.alloc(), disk) {
+    match Store::open(rt.alloc(), disk, Pick::Newer) {
         Ok(store) => store,
         Err(fault) => panic!(rt; "{}", fault.refusal),
     }
@@ -123,9 +123,15 @@ pub fn has_documents(rt: &(impl Abort + AllocGlobal), state: &State, lines: &str
     assert_eq!(rt; lines_of(rt, state).as_str(), lines);
 }
 
-/// A device of these bytes is opened, with these documents or this refusal. Opening it changes nothing.
+/// A device of these bytes is opened by either pick, with these documents or this refusal. Opening it changes nothing.
 pub fn is_opened_as(rt: &(impl Abort + AllocGlobal), bytes: &[u8], wanted: &str) {
-    match Store::open(rt.alloc(), device_of(rt, bytes)) {
+    is_picked_as(rt, bytes, Pick::Newer, wanted);
+    is_picked_as(rt, bytes, Pick::Older, wanted);
+}
+
+/// And by this pick.
+pub fn is_picked_as(rt: &(impl Abort + AllocGlobal), bytes: &[u8], pick: Pick, wanted: &str) {
+    match Store::open(rt.alloc(), device_of(rt, bytes), pick) {
         Ok(store) => {
             has_documents(rt, store.state(), wanted);
             assert_eq!(rt; store.close().bytes(), bytes);
@@ -175,6 +181,20 @@ fn creation(rt: &(impl Abort + AllocGlobal), source: &str, doc: &str, text: &str
     Command::create(doc, source, 1, insert_of(rt, text)).expect(rt, "a creation")
 }
 
+/// An edit of a source, made on a revision, that inserts a text at the beginning.
+pub fn edit(
+    rt: &(impl Abort + AllocGlobal),
+    source: &str,
+    doc: &str,
+    number: u64,
+    base: u64,
+    text: &str,
+) -> Command {
+    let source = Name::source(rt.alloc(), source).expect(rt, "a source");
+    let doc = Name::doc(rt.alloc(), doc).expect(rt, "a document");
+    Command::edit(doc, source, number, base, insert_of(rt, text)).expect(rt, "an edit")
+}
+
 // How a command is answered, and which revision it has made. It is committed where it is taken.
 fn answer<D: Disk>(
     rt: &(impl Abort + AllocGlobal),
@@ -193,8 +213,8 @@ fn answer<D: Disk>(
     }
 }
 
-// A command's answer in words.
-fn answer_text<D: Disk>(
+/// A command's answer in words.
+pub fn answer_text<D: Disk>(
     rt: &(impl Abort + AllocGlobal),
     store: &mut Store<D>,
     command: &Command,

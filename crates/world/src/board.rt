@@ -138,9 +138,7 @@ impl Board {
         ensures settled { result ≡ can_settle self.old count told }
         ensures board { self.new ≡ (if can_settle self.old count told then settled_more self.old count else self.old) }
     {
-        let can = 0 < count
-            && count <= self.taken - self.settled
-            && told == self.settled + count;
+        let can = 0 < count && count <= self.taken - self.settled && told == self.settled + count;
         if can {
             self.settled += count;
         }

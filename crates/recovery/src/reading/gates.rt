@@ -1,12 +1,8 @@
 //! Reading gates.
-ghost use Rattle.std.specs.Prelude.{◌≡◌, ◌↔◌, ◌+◌, ◌≤◌, true, length, take, drop, slice_index, IsTrue, OnOk, IfOk, IfErr};
+ghost use Rattle.std.specs.Prelude.{◌≡◌, ◌↔◌, ◌+◌, ◌≤◌, length, take, drop, slice_index, IsTrue, OnOk, IfOk, IfErr};
 ghost use Rattle.disk.specs.Calls.{HasOnlyRead, CountsFaults};
 ghost use Rattle.journal.specs.Area.{open_gate};
-ghost use Rattle.recovery.specs.Shape.{is_in_range, layout_length};
-ghost use Rattle.recovery.specs.steps.Reading.{CellsClosed};
 
-use crate::shape::Shape;
-use crate::superblock::SUPERBLOCK_LEN;
 use disk::Disk;
 use journal::OPEN;
 use refusal::Refusal;
@@ -34,22 +30,4 @@ pub(super) fn is_open<D: Disk>(disk: &mut D, at: u64) -> Result<bool, Refusal>
     let mut gate = [0u8];
     read_at(disk, at, &mut gate)?;
     Ok(gate[0] == OPEN)
-}
-
-/// Whether each cell's gate is closed.
-pub(super) fn are_cells_closed<D: Disk>(disk: &mut D, shape: &Shape) -> Result<bool, Refusal>
-    requires in_range { is_in_range shape.now ≡ true }
-    requires within { layout_length shape.now ≤ length (D.seen disk.old) }
-    ensures closed { IfOk result (λ b. D.honest disk.new → (IsTrue b ↔ CellsClosed (D.seen disk.old) shape.now)) }
-    ensures only { IfErr result (λ e. e ≡ Refusal.Fault) }
-    ensures only_read { HasOnlyRead ⟦<D as Disk>⟧ disk.old disk.new }
-    ensures faults { CountsFaults ⟦<D as Disk>⟧ result disk.old disk.new }
-{
-    let cell = u64::from(shape.cell);
-    for k in 0..2 * u64::from(shape.docs) {
-        if is_open(disk, SUPERBLOCK_LEN + k * cell)? {
-            return Ok(false);
-        }
-    }
-    Ok(true)
 }

@@ -1,5 +1,5 @@
 use disk::{Call, Disk, FaultDisk, FaultPlan, Left, MemDisk};
-use recovery::{OpenFault, Shape, Store, format_device};
+use recovery::{OpenFault, Pick, Shape, Store, format_device};
 use refusal::Refusal;
 use server::desk::StoreDesk;
 use server::dump::dump;
@@ -43,7 +43,7 @@ fn formatted<R: AllocGlobal>(rt: &R) -> Result<MemDisk, Fail> {
 }
 
 fn opened<R: AllocGlobal, D: Disk + Drop>(rt: &R, disk: D) -> Result<Store<D>, Refusal> {
-    match Store::open(rt.alloc(), disk) {
+    match Store::open(rt.alloc(), disk, Pick::Newer) {
         Ok(store) => Ok(store),
         Err(OpenFault { disk: _, refusal }) => Err(refusal),
     }

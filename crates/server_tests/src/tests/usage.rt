@@ -10,7 +10,7 @@ const FAULTS: [(&str, &str); 13] = [
     ("richd format p --docs two", "--help"),
     ("richd serve p --listen 127.0.0.1:0", "--help"),
     ("richd serve p --every 1", "--help"),
-    ("richd dump p --pick newer", "--help"),
+    ("richd dump p --pick best", "--help"),
     ("richd delta", "Usage: richd delta"),
     ("richd delta merge x y", "Usage: richd delta"),
     ("richd delta compose x", "Usage: richd delta"),

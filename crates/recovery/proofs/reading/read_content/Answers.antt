@@ -1,73 +1,101 @@
-use Rattle.std.proofs.Common.{◌≡◌, ◌∙◌, List, ℕ, ap, sym, subst, rules}
+use Rattle.std.proofs.Common.{◌≡◌, ◌∙◌, List, ℕ, map, false, ap, sym, subst}
 use Rattle.std.proofs.lemmas.Result.{err_from_is_err_and}
-use Rattle.std.proofs.lemmas.Bool.{iff_false}
+use Rattle.std.proofs.lemmas.Bool.{both_ways}
 use Rattle.disk.specs.Device.{History}
-use Rattle.journal.specs.Scan.{items_of}
-use Rattle.segments.specs.Order.{bodies_of}
+use Rattle.revision.specs.Command.{Taken}
+use Rattle.history.specs.Found.{StandFor}
+use Rattle.milestone.specs.declared.cells.Cells.{Cells}
+use Rattle.segments.specs.Slot.{Segment}
+use Rattle.segments.specs.Order.{segments_of}
+use Rattle.segments.specs.Recovered.{segment_in}
 use Rattle.segments.specs.Ring.{Fits}
-use Rattle.recovery.specs.Found.{StandFor}
-use Rattle.recovery.specs.steps.Reading.{CellsClosed}
-use Rattle.recovery.proofs.FoundOnce.{not_cells, not_slots, not_stand}
-use Rattle.recovery.proofs.Layouts.{slots_of, slot_width}
+use Rattle.recovery.specs.Layout.{HoldsCells, HoldsSlots}
+use Rattle.recovery.specs.Cells.{FitEach}
+use Rattle.recovery.specs.Found.{limits_of}
+use Rattle.recovery.specs.steps.Reading.{lists_of, are_below, AreByDocument, SpellGroups, commands_in}
+use Rattle.recovery.proofs.Layouts.{slots_of}
+use Rattle.recovery.proofs.Parts.{all_in, spell-all, commands-all, in-groups, not-slots, groups-same, gathered}
 use Rattle.recovery.proofs.reading.read_content.Goals as goal
-
-pub returns-then-not-branch-clause-damaged : goal.returns-then-not-branch-clause-damaged
-returns-then-not-branch-clause-damaged g c is honest found =
-    let same : g.D.Disk.seen c.read_shape.new.disk ≡ g.D.Disk.seen c.args.disk.now = ap (λ (h : History). h.now.seen) c.read_shape.ensures.only_read.history in
-    let names = c.in_ok-shape.ensures.named (c.are_cells_closed.ensures.only_read.honest honest) in
-    not_cells _ _ same _ names found (iff_false (c.in_ok-are_cells_closed.ensures.closed honest) c.if-not-branch.true)
 
 pub returns-in_err-ring-clause-damaged : goal.returns-in_err-ring-clause-damaged
 returns-in_err-ring-clause-damaged g c =
     let p = err_from_is_err_and c.from_residual-in_err-ring.result c.from_residual-in_err-ring.ensures.1 in
-    let same : g.D.Disk.seen c.are_cells_closed.new.disk ≡ g.D.Disk.seen c.args.disk.now = ap (λ (h : History). h.now.seen) (c.are_cells_closed.ensures.only_read.history ∙ c.read_shape.ensures.only_read.history) in
+    let content = g.D.Disk.seen c.args.disk.now in
+    let shape = c.in_ok-shape.shape in
+    let before : g.D.Disk.seen c.read_shape.new.disk ≡ content = ap (λ (h : History). h.now.seen) c.read_shape.ensures.only_read.history in
     rw p.1 (λ is honest found.
-    let names = c.in_ok-shape.ensures.named (c.are_cells_closed.ensures.only_read.honest (c.read_slots.ensures.only_read.honest honest)) in
-    not_slots _ _ same _ names found (c.in_err-ring.ensures.damaged (sym p.2 ∙ is) honest))
+    not-slots content shape c.args.pick found (c.in_ok-shape.ensures.named (c.read_slots.ensures.only_read.honest honest))
+    (λ table holds. c.in_err-ring.ensures.damaged (sym p.2 ∙ is) honest table (subst (λ (l : List ℕ). HoldsSlots l shape table) (sym before) holds)))
+
+pub returns-in_err-entries-clause-damaged : goal.returns-in_err-entries-clause-damaged
+returns-in_err-entries-clause-damaged g c =
+    let p = err_from_is_err_and c.from_residual-in_err-entries.result c.from_residual-in_err-entries.ensures.1 in
+    let content = g.D.Disk.seen c.args.disk.now in
+    let shape = c.in_ok-shape.shape in
+    let ring = c.in_ok-ring.field-0.ring in
+    let before : g.D.Disk.seen c.read_shape.new.disk ≡ content = ap (λ (h : History). h.now.seen) c.read_shape.ensures.only_read.history in
+    rw p.1 (λ is honest found holds.
+    let names = c.in_ok-shape.ensures.named (c.read_slots.ensures.only_read.honest honest) in
+    let read = c.in_ok-ring.ensures.found honest in
+    let fits : Fits content ring read.table = subst (λ (l : List ℕ). Fits l ring read.table) before read.fits in
+    let segments : map segment_in c.deref.result.now ≡ segments_of read.table = ap (map segment_in) c.deref.ensures.value ∙ read.segments in
+    let there = in-groups content shape c.args.pick read.table found names (slots_of content shape ring read.table c.in_ok-ring.ensures.place fits) holds in
+    both_ways (are_below shape.docs (commands_in there.groups))
+    (c.in_err-entries.ensures.damaged (sym p.2 ∙ is) there.groups (subst (λ (s : List Segment). SpellGroups s there.groups) (sym segments) there.spell)) there.below)
 
 pub returns-in_err-state-clause-damaged : goal.returns-in_err-state-clause-damaged
 returns-in_err-state-clause-damaged g c =
     let p = err_from_is_err_and c.from_residual-in_err-state.result c.from_residual-in_err-state.ensures.1 in
-    let after = g.D.Disk.seen c.are_cells_closed.new.disk in
-    let same : after ≡ g.D.Disk.seen c.args.disk.now = ap (λ (h : History). h.now.seen) (c.are_cells_closed.ensures.only_read.history ∙ c.read_shape.ensures.only_read.history) in
-    rw p.1 (λ is honest found.
-    let names = c.in_ok-shape.ensures.named (c.are_cells_closed.ensures.only_read.honest (c.read_slots.ensures.only_read.honest honest)) in
-    let read = c.in_ok-ring.ensures.found honest in
-    let bodies : items_of c.deref.result.now ≡ bodies_of read.table = ap items_of c.deref.ensures.value ∙ read.bodies in
-    not_stand _ after same _ names found read.table (items_of c.deref.result.now) (slots_of after c.in_ok-shape.shape c.in_ok-ring.field-0.ring read.table c.in_ok-ring.ensures.place read.fits) bodies
-    (c.in_err-state.ensures.damaged (sym p.2 ∙ is)))
+    let content = g.D.Disk.seen c.args.disk.now in
+    let shape = c.in_ok-shape.shape in
+    let ring = c.in_ok-ring.field-0.ring in
+    let lists = lists_of c.in_ok-entries.entries.items in
+    let before : g.D.Disk.seen c.read_shape.new.disk ≡ content = ap (λ (h : History). h.now.seen) c.read_shape.ensures.only_read.history in
+    let same : g.D.Disk.seen c.read_slots.new.disk ≡ content = ap (λ (h : History). h.now.seen) (c.read_slots.ensures.only_read.history ∙ c.read_shape.ensures.only_read.history) in
+    rw p.1 (λ is honest found holds.
+    let honest_slots = c.read_documents.ensures.only_read.honest honest in
+    let names = c.in_ok-shape.ensures.named (c.read_slots.ensures.only_read.honest honest_slots) in
+    let read = c.in_ok-ring.ensures.found honest_slots in
+    let fits : Fits content ring read.table = subst (λ (l : List ℕ). Fits l ring read.table) before read.fits in
+    let segments : map segment_in c.deref.result.now ≡ segments_of read.table = ap (map segment_in) c.deref.ensures.value ∙ read.segments in
+    let there = in-groups content shape c.args.pick read.table found names (slots_of content shape ring read.table c.in_ok-ring.ensures.place fits) holds in
+    let own = gathered (map segment_in c.deref.result.now) lists c.in_ok-entries.ensures.found in
+    let commands = groups-same read.table own.groups there.groups (subst (λ (s : List Segment). SpellGroups s own.groups) segments own.spell) there.spell in
+    c.in_err-state.ensures.damaged (sym p.2 ∙ is) honest there.cells (subst (λ (l : List ℕ). HoldsCells l shape there.cells) (sym same) there.in_cells)
+    (commands_in there.groups) (subst (λ (e : List Taken). AreByDocument e lists) commands own.by) found there.stand)
 
 pub returns-clause-read : goal.returns-clause-read
 returns-clause-read g c honest =
     let content = g.D.Disk.seen c.args.disk.now in
-    let before : g.D.Disk.seen c.read_shape.new.disk ≡ content = ap (λ (h : History). h.now.seen) c.read_shape.ensures.only_read.history in
-    let same : g.D.Disk.seen c.are_cells_closed.new.disk ≡ content = ap (λ (h : History). h.now.seen) (c.are_cells_closed.ensures.only_read.history ∙ c.read_shape.ensures.only_read.history) in
     let shape = c.in_ok-shape.shape in
     let ring = c.in_ok-ring.field-0.ring in
-    let honest_cells = c.read_slots.ensures.only_read.honest honest in
-    let names = c.in_ok-shape.ensures.named (c.are_cells_closed.ensures.only_read.honest honest_cells) in
-    let cells : CellsClosed content shape = subst (λ (l : List ℕ). CellsClosed l shape) before ((c.in_ok-are_cells_closed.ensures.closed honest_cells).0 (search rules)) in
-    let read = c.in_ok-ring.ensures.found honest in
-    let fits : Fits content ring read.table = subst (λ (l : List ℕ). Fits l ring read.table) same read.fits in
-    let stand = c.in_ok-state.ensures.stand in
-    let bodies : items_of c.deref.result.now ≡ bodies_of read.table = ap items_of c.deref.ensures.value ∙ read.bodies in
+    let documents = c.in_ok-state.field-0 in
+    let lists = lists_of c.in_ok-entries.entries.items in
+    let before : g.D.Disk.seen c.read_shape.new.disk ≡ content = ap (λ (h : History). h.now.seen) c.read_shape.ensures.only_read.history in
+    let same : g.D.Disk.seen c.read_slots.new.disk ≡ content = ap (λ (h : History). h.now.seen) (c.read_slots.ensures.only_read.history ∙ c.read_shape.ensures.only_read.history) in
+    let honest_slots = c.read_documents.ensures.only_read.honest honest in
+    let names = c.in_ok-shape.ensures.named (c.read_slots.ensures.only_read.honest honest_slots) in
+    let read = c.in_ok-ring.ensures.found honest_slots in
+    let fits : Fits content ring read.table = subst (λ (l : List ℕ). Fits l ring read.table) before read.fits in
+    let segments : map segment_in c.deref.result.now ≡ segments_of read.table = ap (map segment_in) c.deref.ensures.value ∙ read.segments in
+    let own = gathered (map segment_in c.deref.result.now) lists c.in_ok-entries.ensures.found in
+    let there = c.in_ok-state.ensures.found honest (commands_in own.groups) own.by in
     record {
+      cells = there.pairs;
       table = read.table;
-      batches = stand.0;
-      laid_out = record {
-        formatted = names.formatted;
-        named = names.named;
-        in_range = names.in_range;
-        long = names.long;
-        cells = cells;
-        slots = slots_of content shape ring read.table c.in_ok-ring.ensures.place fits;
+      batches = all_in own.groups;
+      holds = record {
+        laid_out = record {
+          names = names;
+          in_cells = subst (λ (l : List ℕ). HoldsCells l shape there.pairs) same there.holds;
+          in_slots = slots_of content shape ring read.table c.in_ok-ring.ensures.place fits;
+        };
+        spell = spell-all read.table own.groups (subst (λ (s : List Segment). SpellGroups s own.groups) segments own.spell);
       };
       fits = fits;
       place = c.in_ok-ring.ensures.place;
-      stand = subst (λ (b : List (List ℕ)). StandFor shape b stand.0 c.in_ok-state.state) bodies stand.1;
+      cells_are = c.in_ok-state.ensures.cells;
+      cells_fit = subst (λ (l : List ℕ). FitEach l documents.cells.items there.pairs) same there.fit;
+      marked = c.in_ok-marks.ensures.marked read.table fits.holds.differ (ap (map segment_in) c.deref-2.ensures.value ∙ read.segments);
+      stand = subst (λ (e : List Taken). StandFor (limits_of shape) there.pairs e c.args.pick documents.state) (sym (commands-all own.groups)) there.stand;
     }
-
-pub returns-clause-slot : goal.returns-clause-slot
-returns-clause-slot g c =
-    let stand = c.in_ok-state.ensures.stand in
-    c.in_ok-ring.ensures.place.size ∙ slot_width c.in_ok-shape.shape _ stand.0 c.in_ok-state.state c.in_ok-shape.ensures.in_range stand.1

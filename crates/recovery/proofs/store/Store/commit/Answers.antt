@@ -9,6 +9,11 @@ use Rattle.refusal.specs.declared.Refusal.TheVariants.{NoMemory}
 use Rattle.disk.specs.Crash.{history_of}
 use Rattle.disk.proofs.CallerLemmas.{begins, leaves_map}
 use Rattle.recovery.proofs.Commits.{found_before, opened_for, with_or_without, parts_after, parts_left, runs_with, limits_with}
+use Rattle.std.proofs.Common.{List}
+use Rattle.recovery.specs.declared.marks.Mark.{Mark}
+use Rattle.recovery.specs.Marks.{marks_of, IsNoted}
+use Rattle.recovery.specs.Marked.{AreMarked}
+use Rattle.recovery.proofs.Upkeep.{cells_later, marked_with, marked_left}
 use Rattle.recovery.proofs.Folds.{fold-limits}
 use Rattle.recovery.proofs.store.Store.commit.Goals as goal
 
@@ -56,6 +61,10 @@ returns-in-Ok-append_batch-clause-done g c is_open =
       fits = done.fits.fits;
       ring_at = places.at ∙ is_open.ring_at;
       ring_size = places.size ∙ is_open.ring_size;
+      cells_are = is_open.cells_are;
+      cells_fit = cells_later store is_open _ done.fits.outside;
+      marked = marked_with store is_open commands c.has_room.ensures.is_batch _ c.append_batch.new.ring done (marks_of c.mark_batch.new.marks)
+          (λ slot number newest. subst (λ (m : List Mark). IsNoted number commands m (marks_of c.mark_batch.new.marks)) c.make_room.ensures.same (c.mark_batch.ensures slot number newest));
       limits = subst (λ (s : State). s.limits ≡ limits_of store.shape) (sym state) (limits_with store is_open commands c.has_room.ensures.is_batch grow);
       runs = subst (Runs (is_open.order ++ commands) is_open.cells (commands_of (is_open.batches ++ commands ∷ []))) (sym state)
           (runs_with store is_open commands c.has_room.ensures.is_batch grow);
@@ -91,6 +100,9 @@ returns-in-Err-append_batch-clause-kept g c not_fault is_open =
       fits = kept.fits.fits;
       ring_at = places.at ∙ is_open.ring_at;
       ring_size = places.size ∙ is_open.ring_size;
+      cells_are = is_open.cells_are;
+      cells_fit = cells_later store is_open _ kept.fits.outside;
+      marked = subst (AreMarked kept.left) (sym c.make_room.ensures.same) (marked_left store is_open _ kept.left kept.is_left);
       limits = subst (λ (s : State). s.limits ≡ limits_of store.shape) (sym state) is_open.limits;
       runs = subst (Runs is_open.order is_open.cells (commands_of is_open.batches)) (sym state) is_open.runs;
     }
@@ -102,3 +114,12 @@ returns-in-Err-clause-unwritten g c memory is_open =
 pub returns-in-Err-append_batch-clause-unwritten : goal.returns-in-Err-append_batch-clause-unwritten
 returns-in-Err-append_batch-clause-unwritten g c memory is_open =
     leaves_map (λ content left. opened_for c.args.self.now is_open _ content left) (c.in-Err-append_batch.ensures.unwritten memory is_open.table is_open.synced is_open.fits)
+
+-- no room could be made for the marks
+pub returns-in_err-make_room-clause-any_moment : goal.returns-in_err-make_room-clause-any_moment
+returns-in_err-make_room-clause-any_moment g c unfailed is_open =
+    begins (history_of g.D.Disk c.args.self.now.device) is_open.synced (inl (found_before c.args.self.now is_open))
+
+pub returns-in_err-make_room-clause-unwritten : goal.returns-in_err-make_room-clause-unwritten
+returns-in_err-make_room-clause-unwritten g c memory is_open =
+    begins (history_of g.D.Disk c.args.self.now.device) is_open.synced (found_before c.args.self.now is_open)

@@ -1,6 +1,8 @@
-use Rattle.std.proofs.Common.{◌≡◌, ◌∙◌, ⊎_elim}
+use Rattle.std.proofs.Common.{◌∙◌, ⊎_elim, ℕ, List, subst, sym}
 use Rattle.disk.proofs.CallerLemmas.{synced_leaves}
-use Rattle.recovery.specs.Found.{Found}
+use Rattle.segments.specs.Ring.{Fits}
+use Rattle.recovery.specs.Found.{HoldsParts}
+use Rattle.recovery.specs.Cells.{FitEach}
 use Rattle.recovery.proofs.FoundOnce.{found_once, runs_at}
 use Rattle.recovery.proofs.Runs.{found_again}
 use Rattle.recovery.proofs.store.Store.open.Goals as goal
@@ -16,11 +18,11 @@ returns-in-Ok-clause-only_state g c honest state found =
 
 -- the store that ran on the content runs on with what was read
 pub returns-in-Ok-clause-open : goal.returns-in-Ok-clause-open
-returns-in-Ok-clause-open g c honest state as =
+returns-in-Ok-clause-open g c honest state of =
     let content = g.D.Disk.seen c.args.disk in
     let recovered = c.in-Ok.recovered in
     let read = c.in-Ok.ensures.read honest in
-    let again = found_again content state c.args.pick recovered.state as (returns-in-Ok-clause-found g c honest) in
+    let again = found_again content state c.args.pick recovered.state of (returns-in-Ok-clause-found g c honest) in
     let runs = runs_at content recovered.shape read.cells read.table read.batches read.holds recovered.state again.1 in (
       record {
         synced = c.in-Ok.ensures.synced;
@@ -32,6 +34,9 @@ returns-in-Ok-clause-open g c honest state as =
         fits = subst (λ (l : List ℕ). Fits l recovered.ring read.table) (sym c.read_store.ensures.seen) read.fits;
         ring_at = read.place.at;
         ring_size = read.place.size;
+        cells_are = read.cells_are;
+        cells_fit = subst (λ (l : List ℕ). FitEach l recovered.cells.items read.cells) (sym c.read_store.ensures.seen) read.cells_fit;
+        marked = read.marked;
         limits = runs.0;
         runs = runs.1;
       },
@@ -46,8 +51,8 @@ returns-in-Err-clause-damaged g c is honest = (c.in-Err.ensures.formatted is hon
 
 -- such a content is formatted, and found as a state
 pub returns-in-Err-clause-open_or : goal.returns-in-Err-clause-open_or
-returns-in-Err-clause-open_or g c honest state as =
-    let by = as.by_either c.args.pick in
+returns-in-Err-clause-open_or g c honest state of =
+    let by = of.by_either c.args.pick in
     ⊎_elim (λ unformatted. absurd (c.in-Err.ensures.not_formatted unformatted honest by.found.holds.laid_out.names.formatted))
     (λ more. ⊎_elim (λ damaged. absurd (c.in-Err.ensures.damaged damaged honest by.there by.found)) (λ others. others) more)
     c.in-Err.ensures.only

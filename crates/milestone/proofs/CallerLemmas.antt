@@ -1,0 +1,4 @@
+-- Laws of `laws`, as the proofs of other crates cite them.
+pub use Rattle.milestone.proofs.Sizes.{cell_fits}
+pub use Rattle.milestone.proofs.OnePair.{one_pair}
+pub use Rattle.milestone.proofs.Holding.{agree_within}

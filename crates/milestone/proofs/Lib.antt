@@ -1,0 +1,13 @@
+pub mod InTurn
+pub mod Sizes
+pub mod CallerLemmas
+pub mod Bytes
+pub mod Holding
+pub mod Freeing
+pub mod Putting
+pub mod Order
+pub mod Fields
+pub mod CallerLemmas
+pub mod Bodies
+pub mod OnePair
+pub mod CellsRead

@@ -1,0 +1,11 @@
+pub mod Milestone
+pub mod MilestoneView
+pub mod Job
+pub mod JobView
+pub mod CellSpelling
+pub mod OneCell
+pub mod Revisions
+pub mod Cells
+pub mod ReadCells
+pub mod Law
+pub mod steps

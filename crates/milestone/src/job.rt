@@ -1,0 +1,168 @@
+//! What a milestone is made of.
+ghost use Rattle.std.specs.Prelude.{◌≡◌, ◌≤◌, ◌↔◌, true, [], IsTrue, IfOk, IsOkUnless};
+ghost use Rattle.revision.specs.Past.{StandInTurn};
+ghost use Rattle.revision.specs.State.{last_of_all, are_sources};
+ghost use Rattle.milestone.specs.Job.{IsJob};
+
+use delta::Delta;
+use refusal::Refusal;
+use revision::{Name, Sources};
+use std::alloc::Global;
+use std::marker::Model;
+
+/// What a milestone is made of: deltas that lead in turn from the empty document to a revision of a document, and the document's
+/// sources there. It stands apart from the store, so that the deltas can be composed in another thread.
+#[derive(Drop)]
+pub struct Job {
+    document: u32,
+    name: Name,
+    revision: u64,
+    deltas: Vec<Delta>,
+    sources: Sources,
+}
+
+impl Model for Job {
+    ghost use Rattle.milestone.specs.Job as spec;
+
+    ghost Value = { spec.Job };
+
+    ghost coded = { spec.job_code };
+
+    ghost use Rattle.milestone.specs.JobView.{job_of};
+
+    ghost view = { job_of };
+
+    ghost invariant = { λ j. spec.IsJob (job_of j) };
+}
+
+impl Job {
+    /// A job for the document of this number, counted from 0 in order of creation, at a revision of 1 to 2^53 - 1. Each delta is
+    /// accepted by the document that those before it make of the empty one, and the sources have numbers of 1 to 2^53 - 1 and
+    /// revisions of 1 to this one. It takes no memory.
+    pub fn new(
+        document: u32,
+        name: Name,
+        revision: u64,
+        deltas: Vec<Delta>,
+        sources: Sources,
+    ) -> Job
+        requires stand { StandInTurn [] deltas.items }
+        requires first { 1 ≤ revision }
+        requires last { revision ≤ last_of_all }
+        requires sources { are_sources revision sources.entries ≡ true }
+        ensures { result ≡ record { document = document; name = name; revision = revision; deltas = deltas.items; sources = sources } }
+    {
+        let _ = name.as_str();
+        let _ = sources.entries();
+        Job {
+            document,
+            name,
+            revision,
+            deltas,
+            sources,
+        }
+    }
+
+    /// The document's number in order of creation.
+    pub fn document(&self) -> u32
+        ensures { result ≡ self.now.document }
+    {
+        self.document
+    }
+
+    /// The document's name.
+    pub fn name(&self) -> &Name
+        ensures { result.now ≡ self.now.name }
+    {
+        &self.name
+    }
+
+    /// The revision of the milestone that comes of it, 1 to 2^53 - 1.
+    pub fn revision(&self) -> u64
+        ensures revision { result ≡ self.now.revision }
+        ensures job { IsJob self.now }
+    {
+        self.revision
+    }
+
+    /// The deltas that lead from the empty document to the revision.
+    pub fn deltas(&self) -> &[Delta]
+        ensures deltas { result.now ≡ self.now.deltas }
+        ensures job { IsJob self.now }
+    {
+        self.deltas.as_slice()
+    }
+
+    /// The document's sources at the revision.
+    pub fn sources(&self) -> &Sources
+        ensures { result.now ≡ self.now.sources }
+    {
+        &self.sources
+    }
+
+    /// An equal job. Refused for want of memory alone.
+    pub fn copy(&self, alloc: Global) -> Result<Job, Refusal>
+        ensures same { IfOk result (λ job. job ≡ self.now) }
+        ensures only { IsOkUnless result Refusal.NoMemory }
+    {
+        Ok(Job {
+            document: self.document,
+            name: self.name.copy(alloc)?,
+            revision: self.revision,
+            deltas: copies(alloc, self.deltas())?,
+            sources: self.sources.copy(alloc)?,
+        })
+    }
+
+    /// Whether the two are equal in all that they have. Linear in the deltas, and it takes no memory.
+    pub fn is_same(&self, other: &Job) -> bool
+        ensures { IsTrue result ↔ (self.now ≡ other.now) }
+    {
+        if self.document() != other.document() {
+            return false;
+        }
+        if self.revision() != other.revision() {
+            return false;
+        }
+        if !same_name(self.name(), other.name()) {
+            return false;
+        }
+        if !same_sources(self.sources(), other.sources()) {
+            return false;
+        }
+        same_deltas(self.deltas(), other.deltas())
+    }
+}
+
+// whether two names are equal
+fn same_name(one: &Name, other: &Name) -> bool
+    ensures { IsTrue result ↔ (one.now ≡ other.now) }
+{
+    one == other
+}
+
+// whether two have the same sources with the same
+fn same_sources(one: &Sources, other: &Sources) -> bool
+    ensures { IsTrue result ↔ (one.now ≡ other.now) }
+{
+    one == other
+}
+
+// whether they are the same deltas in the same order
+fn same_deltas(one: &[Delta], other: &[Delta]) -> bool
+    ensures { IsTrue result ↔ (one.now ≡ other.now) }
+{
+    one == other
+}
+
+// Equal deltas. Refused for want of memory alone.
+fn copies(alloc: Global, deltas: &[Delta]) -> Result<Vec<Delta>, Refusal>
+    ensures same { IfOk result (λ copies. copies.items ≡ deltas.now) }
+    ensures only { IsOkUnless result Refusal.NoMemory }
+{
+    let mut copies = Vec::new(alloc);
+    for delta in deltas {
+        copies.push(delta.copy(alloc)?)?;
+    }
+    Ok(copies)
+}

@@ -1,0 +1,219 @@
+//! Reading the body of a cell: each part of the spelling has one function, which answers what it read and the bytes behind it.
+ghost use Rattle.std.specs.Prelude.{◌≡◌, ◌+◌, ◌≤◌, ◌<◌, ◌^◌, ◌++◌, List, ℕ, true, length, OnOk, IfOk, IfErr, IfSome, IfNone};
+ghost use Rattle.std.specs.Int.{w32, w64};
+ghost use Rattle.std.specs.Ordering.{is_lt};
+ghost use Rattle.attributes.specs.Map.{by_bytes};
+ghost use Rattle.history.specs.Cell.{Cell};
+ghost use Rattle.journal.specs.Spelling as fields;
+ghost use Rattle.revision.specs.Name.{is_document_name, is_source_name};
+ghost use Rattle.revision.specs.Sources as specs;
+ghost use Rattle.revision.specs.declared.sources.LastTaken.{LastTaken};
+ghost use Rattle.revision.specs.State.{last_of_all};
+ghost use Rattle.milestone.specs.CellSpelling as spelling;
+ghost use Rattle.milestone.specs.CellSpelling.{IsCell, cell_body};
+ghost use Rattle.milestone.specs.steps.Reading.{BeginsNone, IsWithin, IsContent, content_bytes, IsSource, AreSources, sources_bytes};
+
+use crate::milestone::Milestone;
+use document::Document;
+use journal::{read_delta, read_number32, read_number64, read_text16};
+use refusal::Refusal;
+use revision::{LastTaken, Name, Sources};
+use std::alloc::{AllocError, Global};
+use std::cmp::Ordering;
+
+/// 2^53 - 1: the last revision and the last number.
+const LAST_OF_ALL: u64 = (1 << 53) - 1;
+
+/// Why nothing was read.
+#[derive(Clone, Copy, Debug)]
+pub(crate) enum Unread {
+    /// The bytes are no spelling.
+    Malformed,
+    /// Memory ran out.
+    NoMemory,
+}
+
+impl From<AllocError> for Unread {
+    ghost use Rattle.milestone.specs.declared.reading.Unread.TheVariants.{NoMemory};
+
+    ghost from_gives = { λ _ e. e ≡ NoMemory };
+
+    fn from(_e: AllocError) -> Unread {
+        Unread::NoMemory
+    }
+}
+
+/// The milestone whose spelling as a cell of the document of this number the bytes are, all of them, or none.
+pub(crate) fn read_body(
+    alloc: Global,
+    number: u32,
+    bytes: &[u8],
+) -> Result<Option<Milestone>, Refusal>
+    ensures found { IfOk result (λ found. IfSome found (λ m. IsCell number m × (bytes.now ≡ cell_body number m))) }
+    ensures none { IfOk result (λ found. IfNone found ((cell : Cell) → IsCell number cell → bytes.now ≡ cell_body number cell → ⊥)) }
+    ensures only { IfErr result (λ e. e ≡ Refusal.NoMemory) }
+{
+    match whole(alloc, number, bytes) {
+        Ok(milestone) => Ok(Some(milestone)),
+        Err(Unread::Malformed) => Ok(None),
+        Err(Unread::NoMemory) => Err(Refusal::NoMemory),
+    }
+}
+
+#[tactic(auto, unfolding(crate::specs::CellSpelling::cell_body))]
+fn whole(alloc: Global, number: u32, bytes: &[u8]) -> Result<Milestone, Unread>
+    ensures found { IfOk result (λ m. IsCell number m × (bytes.now ≡ cell_body number m)) }
+    ensures none { IfErr result (λ e. e ≡ Unread.Malformed → (cell : Cell) → IsCell number cell → bytes.now ≡ cell_body number cell → ⊥) }
+{
+    let rest = this_number(number, bytes)?;
+    let (name, rest) = document_name(alloc, rest)?;
+    let (revision, rest) = number_within(LAST_OF_ALL, rest)?;
+    let (document, rest) = content(alloc, rest)?;
+    let (sources, rest) = sources(alloc, revision, rest)?;
+    if !rest.is_empty() {
+        return Err(Unread::Malformed);
+    }
+    Ok(Milestone::new(name, revision, document, sources))
+}
+
+// A number of four bytes is below 2^32, and one of eight below 2^64.
+fn below_2_to_32(number: u32)
+    ensures { number < 2 ^ 32 }
+{
+    let _ = number;
+}
+
+fn below_2_to_64(number: u64)
+    ensures { number < 2 ^ 64 }
+{
+    let _ = number;
+}
+
+fn this_number(number: u32, bytes: &[u8]) -> Result<&[u8], Unread>
+    ensures found { IfOk result (λ rest. bytes.now ≡ fields.number w32 number ++ rest.now) }
+    ensures none { IfErr result (λ e. e ≡ Unread.Malformed → (rest : List ℕ) → bytes.now ≡ fields.number w32 number ++ rest → ⊥) }
+{
+    let Some((read, rest)) = read_number32(bytes) else {
+        return Err(Unread::Malformed);
+    };
+    below_2_to_32(read);
+    if read != number {
+        return Err(Unread::Malformed);
+    }
+    Ok(rest)
+}
+
+// a number from 1 to this one
+fn number_within(high: u64, bytes: &[u8]) -> Result<(u64, &[u8]), Unread>
+    ensures found { IfOk result (λ x. IsWithin high x.0 × (bytes.now ≡ fields.number w64 x.0 ++ x.1.now)) }
+    ensures none { IfErr result (λ e. e ≡ Unread.Malformed → BeginsNone (fields.number w64) (IsWithin high) bytes.now) }
+{
+    let Some((number, rest)) = read_number64(bytes) else {
+        return Err(Unread::Malformed);
+    };
+    below_2_to_64(number);
+    let within = number >= 1 && number <= high;
+    if !within {
+        return Err(Unread::Malformed);
+    }
+    Ok((number, rest))
+}
+
+fn document_name(alloc: Global, bytes: &[u8]) -> Result<(Name, &[u8]), Unread>
+    ensures found { IfOk result (λ x. (is_document_name x.0 ≡ true) × (bytes.now ≡ fields.text16 x.0 ++ x.1.now)) }
+    ensures none { IfErr result (λ e. e ≡ Unread.Malformed → BeginsNone fields.text16 (λ name. is_document_name name ≡ true) bytes.now) }
+{
+    let Some((text, rest)) = read_text16(bytes) else {
+        return Err(Unread::Malformed);
+    };
+    match Name::doc(alloc, text) {
+        Ok(name) => Ok((name, rest)),
+        Err(Refusal::BadName) => Err(Unread::Malformed),
+        Err(_) => Err(Unread::NoMemory),
+    }
+}
+
+fn source_name(alloc: Global, bytes: &[u8]) -> Result<(&str, Name, &[u8]), Unread>
+    ensures found { IfOk result (λ x. (is_source_name x.1 ≡ true) × (bytes.now ≡ fields.text16 x.1 ++ x.2.now)) }
+    ensures same { IfOk result (λ x. x.1 ≡ x.0.now) }
+    ensures none { IfErr result (λ e. e ≡ Unread.Malformed → BeginsNone fields.text16 (λ name. is_source_name name ≡ true) bytes.now) }
+{
+    let Some((text, rest)) = read_text16(bytes) else {
+        return Err(Unread::Malformed);
+    };
+    match Name::source(alloc, text) {
+        Ok(name) => Ok((text, name, rest)),
+        Err(Refusal::BadName) => Err(Unread::Malformed),
+        Err(_) => Err(Unread::NoMemory),
+    }
+}
+
+// a document by the delta that makes it of the empty one
+#[tactic(auto, unfolding(crate::specs::steps::Reading::content_bytes))]
+fn content(alloc: Global, bytes: &[u8]) -> Result<(Document, &[u8]), Unread>
+    ensures found { IfOk result (λ x. IsContent x.0 × (bytes.now ≡ content_bytes x.0 ++ x.1.now)) }
+    ensures none { IfErr result (λ e. e ≡ Unread.Malformed → BeginsNone content_bytes IsContent bytes.now) }
+{
+    let Some((delta, rest)) = read_delta(alloc, bytes)? else {
+        return Err(Unread::Malformed);
+    };
+    match Document::from_delta(alloc, &delta) {
+        Ok(document) => Ok((document, rest)),
+        Err(Refusal::PastEnd) => Err(Unread::Malformed),
+        Err(_) => Err(Unread::NoMemory),
+    }
+}
+
+fn sources(alloc: Global, revision: u64, bytes: &[u8]) -> Result<(Sources, &[u8]), Unread>
+    ensures found { IfOk result (λ x. AreSources revision x.0 × (bytes.now ≡ sources_bytes x.0 ++ x.1.now)) }
+    ensures none { IfErr result (λ e. e ≡ Unread.Malformed → BeginsNone sources_bytes (AreSources revision) bytes.now) }
+{
+    let Some((count, rest)) = read_number32(bytes) else {
+        return Err(Unread::Malformed);
+    };
+    below_2_to_32(count);
+    let mut sources = Sources::new(alloc);
+    let mut last = "";
+    let mut rest = rest;
+    for _ in 0..count {
+        let (text, name, taken, after) = source_above(alloc, last, revision, rest)?;
+        set(&mut sources, name, taken)?;
+        last = text;
+        rest = after;
+    }
+    Ok((sources, rest))
+}
+
+// a source whose name is above the one before it
+#[tactic(auto, unfolding(crate::specs::CellSpelling::source))]
+fn source_above<'a>(
+    alloc: Global,
+    last: &str,
+    revision: u64,
+    bytes: &'a [u8],
+) -> Result<(&'a str, Name, LastTaken, &'a [u8]), Unread>
+    ensures found { IfOk result (λ x. IsSource revision (x.1, x.2) × (bytes.now ≡ spelling.source (x.1, x.2) ++ x.3.now)) }
+    ensures same { IfOk result (λ x. x.1 ≡ x.0.now) }
+    ensures above { IfOk result (λ x. is_lt (by_bytes last.now x.1) ≡ true) }
+    ensures none { IfErr result (λ e. e ≡ Unread.Malformed → (x : List ℕ × LastTaken) (rest : List ℕ) → IsSource revision x
+        → is_lt (by_bytes last.now x.0) ≡ true → bytes.now ≡ spelling.source x ++ rest → ⊥) }
+{
+    let (text, name, rest) = source_name(alloc, bytes)?;
+    let (number, rest) = number_within(LAST_OF_ALL, rest)?;
+    let (revision, rest) = number_within(revision, rest)?;
+    match last.cmp(text) {
+        Ordering::Less => Ok((text, name, LastTaken { number, revision }, rest)),
+        _ => Err(Unread::Malformed),
+    }
+}
+
+fn set(sources: &mut Sources, name: Name, taken: LastTaken) -> Result<(), Unread>
+    requires { is_source_name name ≡ true }
+    ensures ok { OnOk result (sources.new ≡ specs.with_last name taken.number taken.revision sources.old) }
+    ensures only { IfErr result (λ e. e ≡ Unread.NoMemory) }
+{
+    match sources.set(name, taken.number, taken.revision) {
+        Ok(()) => Ok(()),
+        Err(_) => Err(Unread::NoMemory),
+    }
+}

@@ -1,0 +1,76 @@
+//! Writing the body of a cell: each part of the spelling has one function.
+ghost use Rattle.std.specs.Prelude.{◌≡◌, ◌++◌, ◌<◌, ◌^◌, length, OnOk, IfOk, IfErr};
+ghost use Rattle.revision.specs.Sources.{count_of};
+ghost use Rattle.journal.specs.Area.{frame};
+ghost use Rattle.journal.specs.Spelling as fields;
+ghost use Rattle.milestone.specs.CellSpelling as spelling;
+ghost use Rattle.milestone.specs.CellSpelling.{IsCell, cell_body};
+
+use crate::milestone::Milestone;
+use journal::{write_delta, write_number32, write_number64, write_text16};
+use refusal::Refusal;
+use revision::{LastTaken, Name, Sources};
+use std::alloc::{AllocError, Global};
+
+/// What stands behind the gate of a cell of the document of this number: the body's length in four bytes, and the body.
+pub(crate) fn framed(alloc: Global, number: u32, milestone: &Milestone) -> Result<Vec<u8>, Refusal>
+    requires is { IsCell number milestone.now }
+    requires short { length (cell_body number milestone.now) < 2 ^ 32 }
+    ensures bytes { IfOk result (λ v. v.items ≡ frame (cell_body number milestone.now)) }
+    ensures only { IfErr result (λ e. e ≡ Refusal.NoMemory) }
+{
+    let body = body_of(alloc, number, milestone)?;
+    let mut bytes = Vec::with_capacity(alloc, body.len() + 4)?;
+    bytes.extend_from_slice(&(body.len() as u32).to_le_bytes())?;
+    bytes.extend_from_slice(&body)?;
+    Ok(bytes)
+}
+
+/// The body of a cell of the document of this number.
+#[tactic(auto, unfolding(crate::specs::CellSpelling::cell_body))]
+fn body_of(alloc: Global, number: u32, milestone: &Milestone) -> Result<Vec<u8>, Refusal>
+    requires { IsCell number milestone.now }
+    ensures bytes { IfOk result (λ v. v.items ≡ cell_body number milestone.now) }
+    ensures only { IfErr result (λ e. e ≡ Refusal.NoMemory) }
+{
+    let mut out = Vec::new(alloc);
+    let content = milestone.document().as_delta(alloc)?;
+    write_number32(&mut out, number)?;
+    write_name(&mut out, milestone.name())?;
+    write_number64(&mut out, milestone.revision())?;
+    write_delta(&mut out, &content)?;
+    write_sources(&mut out, milestone.sources())?;
+    Ok(out)
+}
+
+fn write_name(out: &mut Vec<u8>, name: &Name) -> Result<(), AllocError>
+    ensures { OnOk result (out.new.items ≡ out.old.items ++ fields.text16 name.now) }
+{
+    // a name has at most 64 bytes
+    let _ = name.len();
+    write_text16(out, name.as_str())?;
+    Ok(())
+}
+
+#[tactic(auto, unfolding(crate::specs::CellSpelling::sources))]
+fn write_sources(out: &mut Vec<u8>, sources: &Sources) -> Result<(), AllocError>
+    requires { count_of sources.now < 2 ^ 32 }
+    ensures { OnOk result (out.new.items ≡ out.old.items ++ spelling.sources sources.now.entries) }
+{
+    let entries = sources.entries();
+    write_number32(out, entries.len() as u32)?;
+    for entry in entries {
+        write_source(out, entry)?;
+    }
+    Ok(())
+}
+
+#[tactic(auto, unfolding(crate::specs::CellSpelling::source))]
+fn write_source(out: &mut Vec<u8>, entry: &(Name, LastTaken)) -> Result<(), AllocError>
+    ensures { OnOk result (out.new.items ≡ out.old.items ++ spelling.source entry.now) }
+{
+    write_name(out, &entry.0)?;
+    write_number64(out, entry.1.number)?;
+    write_number64(out, entry.1.revision)?;
+    Ok(())
+}

@@ -1,0 +1,7 @@
+use Rattle.std.proofs.Common.{ℕ, ◌≤◌, take}
+use Rattle.recovery.specs.Marks.{greatest_marked}
+use Rattle.recovery.specs.Cells.{lowest_known}
+use Rattle.recovery.proofs.retiring.are_covered.Given as goal
+
+abbrev pub invariant-loop-mark : goal.invariant-loop-mark
+invariant-loop-mark l = (document : ℕ) → greatest_marked l.segment document (take l.mark-index l.marks) ≤ lowest_known l.cells document

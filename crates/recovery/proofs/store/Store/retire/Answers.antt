@@ -1,0 +1,87 @@
+use Rattle.std.proofs.Common.{◌≡◌, ◌≤◌, ◌<◌, ◌∙◌, ℕ, List, filter, not, subst, sym, rules, refl}
+use Rattle.disk.specs.Crash.{history_of}
+use Rattle.disk.proofs.CallerLemmas.{begins, leaves_map}
+use Rattle.segments.specs.Numbers.{IsOldest, open_count}
+use Rattle.segments.specs.Ring.{known_numbers}
+use Rattle.recovery.specs.declared.marks.Mark.{Mark}
+use Rattle.recovery.specs.Cells.{lowest_known}
+use Rattle.recovery.specs.Marks.{marks_of, is_of, greatest_marked}
+use Rattle.recovery.specs.Marked.{AreMarked}
+use Rattle.recovery.proofs.Commits.{found_before, held_now}
+use Rattle.recovery.proofs.Marked.{marked_retired}
+use Rattle.recovery.proofs.Retirement.{parted, above_cells, same_number, may_retire, runs_on, parts_on, left_retiring}
+use Rattle.recovery.proofs.Upkeep.{cells_later}
+use Rattle.recovery.proofs.store.Store.retire.Goals as goal
+
+-- nothing was called
+pub returns-in_default-clause-any_moment : goal.returns-in_default-clause-any_moment
+returns-in_default-clause-any_moment g c unfailed is_open =
+    begins (history_of g.D.Disk c.args.self.now.device) is_open.synced (found_before c.args.self.now is_open)
+
+pub returns-then-not-are_covered-clause-any_moment : goal.returns-then-not-are_covered-clause-any_moment
+returns-then-not-are_covered-clause-any_moment g c unfailed is_open =
+    begins (history_of g.D.Disk c.args.self.now.device) is_open.synced (found_before c.args.self.now is_open)
+
+-- a mark is above the cells
+pub returns-then-not-are_covered-clause-needed : goal.returns-then-not-are_covered-clause-needed
+returns-then-not-are_covered-clause-needed g c told is_open =
+    let store = c.args.self.now in
+    let oldest = c.in-Some.ensures.oldest in
+    let above : (document : ℕ) × (lowest_known store.cells.items document < greatest_marked c.in-Some.oldest document (marks_of store.marks)) = search rules in
+    above_cells store is_open oldest.0 c.in-Some.oldest above.0 oldest.1 above.1
+
+pub returns-in-Ok-clause-not_needed : goal.returns-in-Ok-clause-not_needed
+returns-in-Ok-clause-not_needed g c is_open =
+    let store = c.args.self.now in
+    let oldest = c.in-Some.ensures.oldest in
+    let low : (document : ℕ) → greatest_marked c.in-Some.oldest document (marks_of store.marks) ≤ lowest_known store.cells.items document = search rules in
+    let two : 2 ≤ open_count (known_numbers store.ring) = search rules in
+    may_retire store is_open oldest.0 c.in-Some.oldest oldest.1 low two
+
+pub returns-in-Ok-clause-any_moment : goal.returns-in-Ok-clause-any_moment
+returns-in-Ok-clause-any_moment g c unfailed is_open =
+    let store = c.args.self.now in
+    let oldest = c.in-Some.ensures.oldest in
+    let low : (document : ℕ) → greatest_marked c.in-Some.oldest document (marks_of store.marks) ≤ lowest_known store.cells.items document = search rules in
+    leaves_map (left_retiring store is_open oldest.0 c.in-Some.oldest oldest.1 low) (c.retire_oldest.ensures.any_moment is_open.table is_open.synced is_open.fits)
+
+pub returns-in-Err-clause-any_moment : goal.returns-in-Err-clause-any_moment
+returns-in-Err-clause-any_moment g c unfailed is_open =
+    let store = c.args.self.now in
+    let oldest = c.in-Some.ensures.oldest in
+    let low : (document : ℕ) → greatest_marked c.in-Some.oldest document (marks_of store.marks) ≤ lowest_known store.cells.items document = search rules in
+    leaves_map (left_retiring store is_open oldest.0 c.in-Some.oldest oldest.1 low) (c.retire_oldest.ensures.any_moment is_open.table is_open.synced is_open.fits)
+
+pub returns-in-Ok-clause-done : goal.returns-in-Ok-clause-done
+returns-in-Ok-clause-done g c is_open =
+    let store = c.args.self.now in
+    let oldest = c.in-Some.ensures.oldest in
+    let low : (document : ℕ) → greatest_marked c.in-Some.oldest document (marks_of store.marks) ≤ lowest_known store.cells.items document = search rules in
+    let done = c.in-Ok.ensures.done is_open.table is_open.fits in
+    let after = done.0 in
+    let retired = done.1 in
+    let now = done.2 in
+    let places = c.retire_oldest.ensures.places in
+    let number = same_number store is_open oldest.0 c.in-Some.oldest oldest.1 low after retired in
+    record {
+      goes_on = record {
+        synced = c.in-Ok.ensures.synced;
+        cells = is_open.cells;
+        table = after;
+        batches = (parted store is_open after retired).left;
+        order = is_open.order;
+        holds = parts_on store is_open oldest.0 c.in-Some.oldest oldest.1 low _ after retired (held_now _ _ store.ring c.retire_oldest.new.self after places now);
+        fits = now.fits;
+        ring_at = places.at ∙ is_open.ring_at;
+        ring_size = places.size ∙ is_open.ring_size;
+        cells_are = is_open.cells_are;
+        cells_fit = cells_later store is_open _ now.outside;
+        marked = subst (λ (m : List Mark). AreMarked after m) (sym c.forget.ensures)
+            (subst (λ n. AreMarked after (filter (λ mark. not (is_of n mark)) (marks_of store.marks))) (sym number)
+            (marked_retired is_open.table after (marks_of store.marks) is_open.fits.holds.differ retired is_open.marked));
+        limits = is_open.limits;
+        runs = runs_on store is_open oldest.0 c.in-Some.oldest oldest.1 low after retired;
+      };
+      same_cells = refl;
+      retired = retired;
+    }

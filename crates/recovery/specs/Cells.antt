@@ -1,0 +1,31 @@
+-- The cells of a store's documents, as they are known in memory.
+use Rattle.std.specs.Prelude.{◌≡◌, ℕ, Option, Some, None, List, length, slice_get}
+use Rattle.history.specs.Cell.{Pair, cells_at}
+use Rattle.milestone.specs.declared.cells.Cells.{Cells}
+use Rattle.milestone.specs.Revisions.{lowest_of}
+use Rattle.milestone.specs.Cells.{Fits, place_of, size_of, number_of, revisions_of}
+use Rattle.recovery.specs.declared.shape.Shape.{Shape}
+use Rattle.recovery.specs.Shape.{cells_place}
+
+-- the two cells of the document of a number, in a store of this shape
+pub record IsCellsOf (shape : Shape) (number : ℕ) (cells : Cells) : Type 0 where
+  pub place : place_of cells ≡ cells_place shape number
+  pub size : size_of cells ≡ shape.cell
+  pub of : number_of cells ≡ number
+
+-- those of all documents that a store of this shape may have, in order of their numbers
+pub record AreCellsOf (shape : Shape) (known : List Cells) : Type 0 where
+  pub count : length known ≡ shape.docs
+  pub each : (number : ℕ) (cells : Cells) → slice_get known number ≡ Some cells → IsCellsOf shape number cells
+
+-- cells are those of a content, where the ones of each number hold the pair of that number
+abbrev pub FitEach : List ℕ → List Cells → List Pair → Type 0
+FitEach content known pairs = (number : ℕ) (cells : Cells) → slice_get known number ≡ Some cells → Fits content cells (cells_at pairs number)
+
+-- the lowest revision that is known of the open cells of a document, 0 where none is open
+abbrev pub lowest_in : Option Cells → ℕ
+lowest_in None = 0
+lowest_in (Some cells) = lowest_of (revisions_of cells)
+
+abbrev pub lowest_known : List Cells → ℕ → ℕ
+lowest_known known number = lowest_in (slice_get known number)
