@@ -1,9 +1,8 @@
 -- The body of a cell, part by part: what begins it, and which one it is where its parts are known.
-use Rattle.std.proofs.Common.{◌≡◌, ℕ, ◌+◌, ◌^◌, ◌≤◌, ◌<◌, ◌&&◌, true, List, [], ◌∷◌, ◌++◌, length, refl, sym, ◌∙◌, ap, subst, arith, append_assoc, append-nil, length-append, All}
+use Rattle.std.proofs.Common.{◌≡◌, ℕ, ◌^◌, ◌<◌, true, List, [], ◌∷◌, ◌++◌, length, refl, sym, ◌∙◌, ap, subst, arith, append_assoc, append-nil}
 use Rattle.std.specs.Int.{w32, w64}
 use Rattle.std.specs.List.{AllByRecursion}
 use Rattle.std.proofs.lemmas.Bool.{and_parts, and_from}
-use Rattle.std.proofs.lemmas.List.{nil_from_length}
 use Rattle.std.proofs.lemmas.List.Elements.{All-from_recursion, recursion_from_All}
 use Rattle.delta.specs.Element.{Element}
 use Rattle.revision.specs.Name.{is_document_name, is_source_name}
@@ -13,7 +12,7 @@ use Rattle.revision.specs.State.{last_of_all, is_last_taken, are_sources}
 use Rattle.journal.specs.Spelling.{number, text16}
 use Rattle.journal.proofs.CallerLemmas.{one_number32_spelling, one_number64_spelling}
 use Rattle.history.specs.Cell.{Cell}
-use Rattle.milestone.specs.CellSpelling.{inserts_of, sources, cell_body, IsCell}
+use Rattle.milestone.specs.CellSpelling.{cell_body, IsCell}
 use Rattle.milestone.specs.steps.Reading.{BeginsNone, IsWithin, IsContent, content_bytes, IsSource, AreSources, sources_bytes}
 use Rattle.milestone.proofs.Fields.{one_name, one_content, one_sources}
 

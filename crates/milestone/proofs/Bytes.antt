@@ -1,7 +1,7 @@
 -- The bytes of a cell, where the gate is written, and where it is written behind the gate.
-use Rattle.std.proofs.Common.{◌≡◌, ◌≢◌, ◌⊎◌, inl, inr, ℕ, ◌+◌, ◌-◌, ◌*◌, ◌≤◌, ◌<◌, List, [], ◌∷◌, ◌++◌, length, take, drop, get_or, refl, sym, ◌∙◌, ap, subst, arith}
+use Rattle.std.proofs.Common.{◌≡◌, ◌≢◌, ◌⊎◌, inl, inr, ℕ, ◌+◌, ◌-◌, ◌≤◌, ◌<◌, List, [], ◌∷◌, ◌++◌, length, take, drop, get_or, sym, ◌∙◌, ap, subst, arith}
 use Rattle.std.proofs.lemmas.Bool.{cases_eq}
-use Rattle.std.proofs.lemmas.List.{take_at, drop_at, take-take, drop-take, drop-drop, drop_more, get_or-take, get_or-drop, length-take, length-drop}
+use Rattle.std.proofs.lemmas.List.{take-take, drop-take, drop-drop, drop_more, get_or-take, get_or-drop, length-take, length-drop}
 use Rattle.std.proofs.Math.Seq.{take-append-add}
 use Rattle.disk.specs.Device.{overwritten, SameOutside}
 use Rattle.disk.proofs.CallerLemmas.{length_overwritten, drop_overwritten, overwritten_same_outside, same_outside_wider, same_outside_then}

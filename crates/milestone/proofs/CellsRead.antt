@@ -1,9 +1,9 @@
 -- What is read of a cell: its gate, the length of its body, and the body.
-use Rattle.std.proofs.Common.{◌≡◌, ◌≢◌, ℕ, ◌+◌, ◌-◌, ◌^◌, ◌≤◌, ◌<◌, Option, Some, None, List, [], ◌∷◌, ◌++◌, length, take, drop, get_or, refl, sym, ◌∙◌, ap, subst, arith, append_assoc, take-append-drop, length-take, length-drop, length-append}
+use Rattle.std.proofs.Common.{◌≡◌, ◌≢◌, ℕ, ◌+◌, ◌-◌, ◌^◌, ◌≤◌, ◌<◌, Option, Some, None, List, ◌∷◌, ◌++◌, length, take, drop, get_or, refl, sym, ◌∙◌, ap, arith, append_assoc, take-append-drop, length-take, length-drop}
 use Rattle.std.specs.Int.{w32, to_le_bytes, from_le_bytes}
 use Rattle.std.proofs.lemmas.Nat.{from_le_bytes-to_le_bytes_4}
-use Rattle.std.proofs.lemmas.List.{take_at, drop_at, take_all, take-take, drop-take, drop-drop, drop_more, get_or-take}
-use Rattle.journal.specs.Area.{open_gate, frame, entry}
+use Rattle.std.proofs.lemmas.List.{take_at, take_all, take-take, drop-take, drop-drop, drop_more, get_or-take}
+use Rattle.journal.specs.Area.{open_gate, entry}
 use Rattle.history.specs.Cell.{Cell}
 use Rattle.milestone.specs.CellSpelling.{cell_body, IsCell}
 use Rattle.milestone.specs.OneCell.{bytes_at, HoldsOpenCell, HoldsCell}
@@ -31,7 +31,7 @@ module _ (q size number : ℕ) (content head : List ℕ) (large : 256 ≤ size) 
     head_long = omega (arith, ap (length {A = ℕ}) read, length-take 5 (drop q content), length-drop q content, within, large)
 
     head_is : head ≡ open_gate ∷ to_le_bytes w32 len
-    head_is = drop_more head 0 0 (omega (arith, head_long)) ∙ ap (λ g. g ∷ drop 1 head) gate ∙ ap (λ (l : List ℕ). open_gate ∷ l) (sym (take_all _ _ (omega (arith, length-drop 1 head, head_long))) ∙ spelled)
+    head_is = drop_more head 0 0 (omega (arith, head_long)) ∙ ap (λ g. g ∷ drop 1 head) gate ∙ ap (λ (l : List ℕ). open_gate ∷ l) (sym (take_all 4 (drop 1 head) (omega (arith, length-drop 1 head, head_long))) ∙ spelled)
 
     -- of a document that the cell holds this is the body's length
     is_length : (cell : Cell) → HoldsOpenCell number (bytes_at q size content) cell → len ≡ length (cell_body number cell)

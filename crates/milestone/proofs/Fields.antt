@@ -1,5 +1,5 @@
 -- The parts of a cell's body: each has one spelling, and where none begins the bytes.
-use Rattle.std.proofs.Common.{◌≡◌, ◌⊎◌, inl, inr, ℕ, zero, suc, ◌+◌, ◌^◌, ◌≤◌, ◌<◌, ◌&&◌, nat_le, nat_lt, Bool, true, false, List, [], ◌∷◌, ◌++◌, length, get_or, refl, sym, ◌∙◌, ap, subst, arith, append_assoc, append-nil, length-append, All}
+use Rattle.std.proofs.Common.{◌≡◌, ℕ, zero, suc, ◌^◌, ◌≤◌, ◌<◌, ◌&&◌, nat_le, nat_lt, true, false, List, [], ◌∷◌, ◌++◌, length, get_or, refl, sym, ◌∙◌, ap, subst, arith, append_assoc, append-nil, length-append}
 use Rattle.std.specs.Int.{w32, w64}
 use Rattle.std.specs.List.{list_all, flat_map, AllByRecursion}
 use Rattle.std.specs.Str.{is_utf8}
@@ -16,12 +16,12 @@ use Rattle.delta.specs.Element.{Element}
 use Rattle.delta.specs.Operation.{Operation, base_of}
 use Rattle.delta.specs.Gaps.{Gaps, End, Gap, counted, apply, units_below}
 use Rattle.delta.specs.Normal.{nf, IsNormal}
-use Rattle.delta.proofs.CallerLemmas.{nf-same, apply-nf, counted-spelled, base_of-nf, units_below-counted}
-use Rattle.revision.specs.Name.{is_name_byte, is_name, is_source_name, is_document_name}
+use Rattle.delta.proofs.CallerLemmas.{nf-same, apply-nf, base_of-nf, units_below-counted}
+use Rattle.revision.specs.Name.{is_name_byte, is_name, is_source_name}
 use Rattle.revision.specs.declared.sources.LastTaken.{LastTaken}
 use Rattle.revision.specs.Sources.{Sources, count_of}
 use Rattle.revision.specs.Spellable.{IsSpellable}
-use Rattle.revision.specs.State.{last_of_all, is_last_taken, are_sources}
+use Rattle.revision.specs.State.{last_of_all}
 use Rattle.journal.specs.Spelling.{number, text16}
 use Rattle.journal.specs.DeltaSpelling.{delta}
 use Rattle.journal.proofs.CallerLemmas.{delta-append_same, one_text_spelling, one_number32_spelling, one_number64_spelling}

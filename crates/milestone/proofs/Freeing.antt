@@ -1,12 +1,12 @@
 -- What closing the older one of two open cells leaves.
-use Rattle.std.proofs.Common.{◌≡◌, ⊎_elim, inl, inr, ℕ, ◌+◌, ◌*◌, ◌≤◌, ◌<◌, Option, Some, None, List, [], ◌∷◌, length, true, false, refl, sym, ◌∙◌, ap, subst, arith, ltb, cond}
+use Rattle.std.proofs.Common.{◌≡◌, ⊎_elim, inl, inr, ℕ, ◌+◌, ◌*◌, ◌≤◌, ◌<◌, Option, Some, None, List, [], ◌∷◌, length, refl, sym, ◌∙◌, ap, subst, arith}
 use Rattle.std.proofs.lemmas.Bool.{lt-ltb, le-ltb}
 use Rattle.std.proofs.lemmas.Option.{none-some, same_Some}
 use Rattle.disk.specs.Device.{overwritten, SameOutside}
 use Rattle.disk.proofs.CallerLemmas.{overwritten_same_outside, same_outside_wider}
 use Rattle.history.specs.Cell.{Cell, Pair, freed}
 use Rattle.milestone.specs.OneCell.{bytes_at, HoldsOpenCell, HoldsCell, HoldsPair}
-use Rattle.milestone.specs.Revisions.{Revisions, revision_in, revisions_in}
+use Rattle.milestone.specs.Revisions.{Revisions, revision_in}
 use Rattle.milestone.specs.Cells.{Fits, FitsNow, HoldsInCells, IsLeftByFreeing}
 use Rattle.milestone.specs.declared.cells.Cells.{Cells}
 use Rattle.milestone.proofs.Holding.{first_changed, second_changed, closing_cell, closed_cell}

@@ -1,14 +1,12 @@
 -- What two cells hold after the writes of a call.
-use Rattle.std.proofs.Common.{◌≡◌, ◌≢◌, ◌⊎◌, ⊎_elim, inl, inr, ℕ, ◌+◌, ◌-◌, ◌*◌, ◌≤◌, ◌<◌, Option, Some, None, List, [], ◌∷◌, ◌++◌, length, take, drop, get_or, refl, sym, ◌∙◌, ap, subst, arith, append_assoc, length-append, length-take}
+use Rattle.std.proofs.Common.{◌≡◌, ◌⊎◌, ⊎_elim, inl, inr, ℕ, ◌+◌, ◌-◌, ◌*◌, ◌≤◌, ◌<◌, Option, Some, None, List, [], ◌∷◌, length, take, drop, get_or, sym, ◌∙◌, ap, subst, arith, length-append, length-take}
 use Rattle.std.proofs.lemmas.List.{take-take, drop-take, drop-drop}
 use Rattle.disk.specs.Device.{overwritten, SameOutside}
-use Rattle.disk.proofs.CallerLemmas.{overwritten_same_outside, byte_overwritten, same_outside_wider}
+use Rattle.disk.proofs.CallerLemmas.{byte_overwritten}
 use Rattle.journal.specs.Area.{open_gate, frame, entry, IsGated}
 use Rattle.history.specs.Cell.{Cell, Pair}
 use Rattle.milestone.specs.CellSpelling.{cell_body, IsCell}
 use Rattle.milestone.specs.OneCell.{bytes_at, HoldsOpenCell, HoldsCell, HoldsPair}
-use Rattle.milestone.specs.Cells.{HoldsInCells}
-use Rattle.milestone.specs.declared.cells.Cells.{Cells}
 use Rattle.milestone.proofs.Bytes.{range_before, first_byte, gate_written, gated_outside, gated_bytes, gating}
 
 -- what a cell holds, it holds by its bytes alone

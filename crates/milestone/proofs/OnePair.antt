@@ -1,8 +1,6 @@
 -- A content holds one pair of a document's cells at most.
-use Rattle.std.proofs.Common.{◌≡◌, ℕ, ◌+◌, ◌*◌, ◌≤◌, Option, Some, None, List, ◌++◌, take, drop, refl, sym, ◌∙◌, ap}
-use Rattle.journal.specs.Area.{entry}
+use Rattle.std.proofs.Common.{◌≡◌, ℕ, ◌+◌, ◌*◌, ◌≤◌, Option, Some, None, List, take, drop, refl, sym, ◌∙◌, ap}
 use Rattle.history.specs.Cell.{Cell, Pair}
-use Rattle.milestone.specs.CellSpelling.{cell_body}
 use Rattle.milestone.specs.OneCell.{bytes_at, HoldsOpenCell, HoldsCell, HoldsPair}
 use Rattle.milestone.proofs.Holding.{open_there, agree_within}
 use Rattle.milestone.proofs.Bodies.{one_cell_body}

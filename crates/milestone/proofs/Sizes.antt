@@ -1,7 +1,6 @@
 -- A cell that keeps the limits has its place in as many bytes as a document may weigh, and 128 more.
-use Rattle.std.proofs.Common.{◌≡◌, ℕ, ◌+◌, ◌*◌, ◌≤◌, ◌<◌, ◌^◌, true, List, [], ◌∷◌, ◌++◌, length, sum_by, refl, sym, ap, subst, ◌∙◌, ⊎_elim, arith}
-use Rattle.std.specs.Prelude.{◌&&◌}
-use Rattle.std.specs.Int.{w16, w32, w64}
+use Rattle.std.proofs.Common.{◌≡◌, ℕ, ◌+◌, ◌*◌, ◌≤◌, ◌<◌, true, List, [], ◌∷◌, ◌++◌, length, sum_by, refl, sym, ap, subst, ◌∙◌, ⊎_elim, arith}
+use Rattle.std.specs.Int.{w32, w64}
 use Rattle.std.specs.List.{flat_map, AllByRecursion}
 use Rattle.std.specs.Char.{encode_utf8, len_utf8}
 use Rattle.std.specs.Char.Escape.{encode_utf16}
@@ -21,7 +20,7 @@ use Rattle.delta.specs.Operation.{Operation, insert_text, insert_embed, retain, 
 use Rattle.delta.specs.Normal.{spell_unit, spell_item, spell_inserts}
 use Rattle.document.specs.Weight.{named_weight, entries_weight, unit_weight, weight_of}
 use Rattle.revision.specs.Name.{is_name, is_source_name}
-use Rattle.revision.specs.Sources.{Sources, count_of, are_named}
+use Rattle.revision.specs.Sources.{are_named}
 use Rattle.revision.specs.declared.sources.LastTaken.{LastTaken}
 use Rattle.revision.specs.State.{Limits}
 use Rattle.revision.specs.Spellable.{IsOperation}

@@ -6,9 +6,10 @@
 //! that the layer above can tell by `Job::is_same` that it is the one that it gave. To it the crate promises that the milestone is
 //! what the job's deltas make, and that memory alone can be wanted.
 //!
-//! `Cells` are the two cells of a document as they are known in memory. How a cell spells a milestone stands in
-//! specs/CellSpelling.antt, what two cells hold and what a crash at any moment of a call leaves of them in specs/Cells.antt. The
-//! crate stands on `history`, whose cells it holds, on `revision` and `compose`, and on `journal` and `disk`.
+//! `Cells` are the two cells of a document as they are known in memory: they are read together, the older one is closed, and a
+//! milestone is put where one is closed. How a cell spells a milestone stands in specs/CellSpelling.antt, what two cells hold in
+//! specs/OneCell.antt, and what a crash at any moment of a call leaves of them in specs/Cells.antt. The crate stands on `history`,
+//! whose cells it holds, on `revision` and `compose`, and on `journal` and `disk`.
 //!
 //! A caller, with its contract:
 //!

@@ -6,6 +6,8 @@
 mod batches;
 pub mod callers;
 #[cfg(test)]
+mod cells;
+#[cfg(test)]
 mod creating;
 #[cfg(test)]
 mod damage;

@@ -27,9 +27,12 @@ mod board;
 mod entry;
 mod follower;
 pub mod laws;
+mod sent;
+mod stepping;
 mod ticket;
 
 pub use board::Board;
 pub use entry::Entry;
 pub use follower::{Follower, Happening, Place, Waiting};
-pub use ticket::Ticket;
+pub use stepping::{Event, Outcome, World};
+pub use ticket::{Ack, Ticket};

@@ -1,10 +1,5 @@
-use Rattle.std.proofs.Common.{◌≡◌, ◌<◌, ◌++◌, ◌∙◌, [], sym, ap, subst, arith, rules}
-use Rattle.delta.specs.Gaps.{apply, counted}
-use Rattle.delta.specs.Operation.{Operation, base_of}
-use Rattle.journal.specs.DeltaSpelling.{delta}
-use Rattle.revision.specs.Spellable.{IsSpellable}
-use Rattle.milestone.specs.CellSpelling.{inserts_of}
-use Rattle.milestone.specs.steps.Reading.{content_bytes}
+use Rattle.std.proofs.Common.{◌≡◌, ◌<◌, rules}
+use Rattle.delta.specs.Operation.{base_of}
 use Rattle.milestone.proofs.Fields.{content_none, other_content, read_content}
 use Rattle.milestone.proofs.reading.content.Goals as goal
 

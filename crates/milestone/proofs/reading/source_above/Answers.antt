@@ -1,4 +1,4 @@
-use Rattle.std.proofs.Common.{◌≡◌, ◌≢◌, ◌∙◌, sym, ap, arith, rules, Less}
+use Rattle.std.proofs.Common.{◌≢◌, ◌∙◌, sym, ap, arith, rules, Less}
 use Rattle.std.proofs.lemmas.Result.{err_from_is_err_and}
 use Rattle.attributes.specs.Map.{by_bytes}
 use Rattle.milestone.proofs.Order.{less}
