@@ -18,6 +18,8 @@ mod devices;
 #[cfg(test)]
 mod opening;
 #[cfg(test)]
+mod picks;
+#[cfg(test)]
 mod plans;
 #[cfg(test)]
 mod rings;
