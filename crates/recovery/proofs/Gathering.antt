@@ -178,8 +178,8 @@ gathered-more segments segment now new (groups, spell, so_far) (batches, spell_o
     each = All-push AreBatches groups batches spell.each spell_own.each;
   },
   subst (λ (l : List Taken). AreByDocument l new)
-  (sym (flat_map-append commands_of groups (batches ∷ []) ∙ ap (λ (l : List Taken). commands_in groups ++ l) (append-nil (commands_of batches))))
-  (added.added (commands_in groups) so_far),
+      (sym (flat_map-append commands_of groups (batches ∷ []) ∙ ap (λ (l : List Taken). commands_in groups ++ l) (append-nil (commands_of batches))))
+      (added.added (commands_in groups) so_far),
 )
 
 -- a segment among others

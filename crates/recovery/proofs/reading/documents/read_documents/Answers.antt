@@ -56,7 +56,7 @@ loop-own-preserved g c =
     let done = c.in_ok-read_next.ensures in
     let own = own-is at.yielded (into_iter_items c.next.new.self) c.args.entries.items c.in-Some.own (length at.read.cells.items) all so.number in
     let next : IsNext (g.D.Disk.honest c.read_next.new.disk) (g.D.Disk.seen c.args.disk.now) c.args.shape.now c.args.pick c.in-Some.own.items at.read.cells.items at.read.state
-        c.read_next.new.self.cells.items c.read_next.new.self.state =
+    c.read_next.new.self.cells.items c.read_next.new.self.state =
     subst (λ (l : List ℕ). IsNext (g.D.Disk.honest c.read_next.new.disk) l c.args.shape.now c.args.pick c.in-Some.own.items at.read.cells.items at.read.state
     c.read_next.new.self.cells.items c.read_next.new.self.state) same done.next in
     record {
