@@ -8,3 +8,4 @@ pub mod Exchange
 pub mod Session
 pub mod Replies
 pub mod Alone
+pub mod Shelf

@@ -12,6 +12,7 @@ ghost use Rattle.session.specs.Exchange.{Exchange};
 ghost use Rattle.revision.specs.State.{State};
 ghost use Rattle.session.specs.Replies.{Replies, IsReplied, IsLine, Feeds};
 ghost use Rattle.session.specs.Alone.{Alone, FedAlone, of_session};
+ghost use Rattle.session.specs.Shelf.{FitsLater};
 
 /// It doesn't matter in which pieces the input comes: what comes of two pieces, one after the other, is what comes of
 /// them joined.
@@ -57,4 +58,9 @@ pub fn replies_of_a_state()
     ensures { (old new : Session) (state after : State) (piece : List ℕ) (out out' : Option (List ℕ))
         → Feeds Alone old piece new state after out out'
         → FedAlone (of_session old state) piece (of_session new after) out out' }
+{}
+
+/// What is kept of a state's documents at older revisions stays right of it as it goes on.
+pub fn kept_documents_stay()
+    ensures { FitsLater }
 {}

@@ -46,9 +46,11 @@ mod reads;
 mod reply;
 mod request;
 mod session;
+mod shelf;
 mod state_desk;
 
 pub use desk::Desk;
 pub use reply::Reply;
 pub use session::{Session, SessionEnded};
+pub use shelf::Shelf;
 pub use state_desk::StateDesk;
