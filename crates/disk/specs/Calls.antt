@@ -1,5 +1,5 @@
 -- What every run of device calls keeps, whatever it reads or writes.
-use Rattle.std.specs.Prelude.{◌≡◌, ◌↔◌, length, Result, OnOk, OnErr, IsErrOf}
+use Rattle.std.specs.Prelude.{◌≡◌, ◌≢◌, ◌↔◌, length, Result, OnOk, OnErr, IfErr, IsErrOf}
 use Rattle.disk.specs.declared.device.Disk.{Ghosts}
 use Rattle.disk.specs.Device.{Rose}
 use Rattle.disk.specs.Crash.{history_of}
@@ -20,7 +20,9 @@ module _ {D : Type 0} (disk : Ghosts D) where
     pub good : OnOk result (disk.faults new ≡ disk.faults old)
     pub failed : OnErr result (Rose (disk.faults old) (disk.faults new))
 
-  -- The count of failed calls stays at Ok, and rises where the answer is this error, which tells the device's fault.
+  -- The count of failed calls rises where the answer is this error, which tells the device's fault, and stays at Ok and at each other
+  -- error: no failed call is told as another error.
   pub record CountsFaultsAs {A E : Type 0} (fault : E) (result : Result A E) (old new : D) : Type 0 where
     pub good : OnOk result (disk.faults new ≡ disk.faults old)
+    pub others : IfErr result (λ e. e ≢ fault → disk.faults new ≡ disk.faults old)
     pub failed : IsErrOf result fault → Rose (disk.faults old) (disk.faults new)

@@ -2,6 +2,8 @@
 use Rattle.std.specs.Prelude.{ℕ, zero, suc, ◌≡◌, ◌≤◌, ◌⊎◌, min, nat_lt, if◌then◌else◌, true, Option, Some, None, unwrap_or, List, [], ◌∷◌, slice_get}
 use Rattle.revision.specs.Past.{Content, content_at, sources_at}
 use Rattle.revision.specs.Sources.{Sources, count_of}
+pub use Rattle.history.specs.declared.pick.Pick.{Pick}
+pub use Rattle.history.specs.declared.pick.Pick.TheVariants.{Newer, Older}
 use Rattle.revision.specs.State.{Limits, DocumentRecord, last_of_all, weight_of, are_sources, record_at}
 
 -- a document at a revision, with its sources there
@@ -37,11 +39,7 @@ with_pair number pair [] = []
 with_pair zero pair (first ∷ others) = pair ∷ others
 with_pair (suc number) pair (first ∷ others) = first ∷ with_pair number pair others
 
--- Which one of two open cells is read: the one of the higher revision, or the other. Of two of one revision the first is the older.
-pub data Pick : Type 0 where
-  Newer : Pick
-  Older : Pick
-
+-- the one of two open cells that is read
 abbrev pub of_two : Pick → Cell → Cell → Cell
 of_two Newer first second = if nat_lt second.revision first.revision then first else second
 of_two Older first second = if nat_lt second.revision first.revision then second else first

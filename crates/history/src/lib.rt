@@ -1,4 +1,4 @@
-//! What the parts of a store stand for, as values: no device, no bytes and no code.
+//! What the parts of a store stand for, as values: no device and no bytes.
 //!
 //! A store keeps entries of commands in the order in which they were taken, and for each document two cells, each of which may hold
 //! the document at a revision with its sources. Entries of documents stand mixed in that order, so nothing is said of the whole list:
@@ -18,3 +18,6 @@
 #![tactic(auto)]
 
 pub mod laws;
+mod pick;
+
+pub use pick::Pick;

@@ -8,6 +8,7 @@ pub mod BatchWidths
 pub mod Worked
 pub mod Entries
 pub mod Numbers
+pub mod Fields
 pub mod Texts
 pub mod Batches
 pub mod ReadingOn

@@ -1,8 +1,10 @@
 //! Laws of the spelling of deltas and batches, for the layers above. Each is a function that does nothing: its contract is the law.
-ghost use Rattle.std.specs.Prelude.{◌≡◌, ℕ, ◌++◌, List, length};
+ghost use Rattle.std.specs.Prelude.{◌≡◌, ◌<◌, ◌^◌, ℕ, ◌++◌, List, length};
+ghost use Rattle.std.specs.Int.{w32, w64};
 ghost use Rattle.revision.specs.Command.{Taken, width_of};
 ghost use Rattle.journal.specs.Area.{HoldsBodies};
 ghost use Rattle.journal.specs.BatchSpelling as spelling;
+ghost use Rattle.journal.specs.Spelling as fields;
 ghost use Rattle.delta.specs.Operation.{Operation};
 ghost use Rattle.journal.specs.DeltaSpelling as deltas;
 ghost use Rattle.revision.specs.Spellable.{IsSpellable};
@@ -34,4 +36,15 @@ pub fn one_delta_spelling()
 /// A delta's spelling is as long as the delta is wide.
 pub fn delta_width()
     ensures { (operations : List Operation) → length (deltas.delta operations) ≡ wide.delta_width operations }
+{}
+
+/// Two texts of less than 2^16 bytes whose spellings begin one list of bytes are equal, and so is what is behind them.
+pub fn one_text_spelling()
+    ensures { (a b x y : List ℕ) → length a < 2 ^ 16 → length b < 2 ^ 16 → fields.text16 a ++ x ≡ fields.text16 b ++ y → (a ≡ b) × (x ≡ y) }
+{}
+
+/// And so are two numbers of four bytes, and two of eight.
+pub fn one_number_spelling()
+    ensures four { (m n : ℕ) (x y : List ℕ) → m < 2 ^ 32 → n < 2 ^ 32 → fields.number w32 m ++ x ≡ fields.number w32 n ++ y → (m ≡ n) × (x ≡ y) }
+    ensures eight { (m n : ℕ) (x y : List ℕ) → m < 2 ^ 64 → n < 2 ^ 64 → fields.number w64 m ++ x ≡ fields.number w64 n ++ y → (m ≡ n) × (x ≡ y) }
 {}

@@ -44,6 +44,9 @@ pub mod laws;
 mod scan;
 
 pub use area::{AppendError, Area};
-pub use batch::{batch_len, decode_batch, encode_batch, read_delta, write_delta};
+pub use batch::{
+    batch_len, decode_batch, encode_batch, read_delta, read_number32, read_number64, read_text16,
+    write_delta, write_number32, write_number64, write_text16,
+};
 pub use gate::{CLOSED, OPEN, write_gated};
 pub use scan::{Scan, ScanError};

@@ -1,4 +1,4 @@
 -- Laws of `laws`, as the proofs of other crates cite them.
 pub use Rattle.recovery.proofs.FoundOnce.{found_once}
-pub use Rattle.recovery.proofs.Runs.{found_open, found_as}
+pub use Rattle.recovery.proofs.Runs.{found_open, found_as, found_again}
 pub use Rattle.recovery.proofs.Fitting.{one_fits}

@@ -1,11 +1,14 @@
 -- What a content stands for after an append to the ring, or within one.
 use Rattle.std.proofs.Common.{◌≡◌, ◌⊎◌, inl, inr, ℕ, ◌*◌, true, Option, List, [], ◌∷◌, ◌++◌, length, refl, sym, ◌∙◌, ap, subst}
-use Rattle.std.proofs.lemmas.List.{length-set}
+use Rattle.std.proofs.lemmas.List.{length-set, map_push}
+use Rattle.std.proofs.lemmas.List.Elements.{All-append, All-cons, All-nil}
 use Rattle.disk.specs.declared.device.Disk.{Ghosts}
 use Rattle.disk.specs.Device.{SameOutside}
 use Rattle.revision.specs.Command.{Taken}
 use Rattle.revision.specs.State.{fold, all_grow}
 use Rattle.journal.specs.BatchSpelling.{IsBatch, batch}
+use Rattle.history.specs.Running.{Runs}
+use Rattle.history.proofs.CallerLemmas.{commits}
 use Rattle.segments.specs.declared.ring.Ring.{Ring}
 use Rattle.segments.specs.Slot.{Segment}
 use Rattle.segments.specs.Numbers.{NumbersDiffer}
@@ -16,11 +19,11 @@ use Rattle.segments.proofs.CallerLemmas.{opened_bodies, appended_bodies, opened_
 use Rattle.recovery.specs.declared.store.Store.{Store}
 use Rattle.recovery.specs.Shape.{slots_place}
 use Rattle.recovery.specs.Layout.{IsLaidOut}
-use Rattle.recovery.specs.Found.{StandFor, FoundAs}
+use Rattle.recovery.specs.Found.{FoundAs, HoldsParts, limits_of, commands_of}
 use Rattle.recovery.specs.Open.{IsOpen, IsWithOrWithout}
 use Rattle.recovery.specs.steps.Appending.{IsDone, IsGivenUp}
 use Rattle.recovery.proofs.Layouts.{laid_out_again, slots_held, as_many}
-use Rattle.recovery.proofs.Folds.{stand_more}
+use Rattle.recovery.proofs.Folds.{commands_of-push, fold-limits}
 use Rattle.recovery.proofs.Runs.{found_as, found_open}
 
 -- a table that stands for the same bodies
@@ -49,14 +52,15 @@ module _ {D : Type 0} {disk : Ghosts D} (store : Store D disk) (is_open : IsOpen
   found_before = found_as old store.state (found_open store is_open)
 
   -- the layout with another table
-  pub again : (content : List ℕ) (now : List (Option Segment)) → length now ≡ length is_open.table → HoldsInRing old store.ring now content → IsLaidOut content store.shape now
+  pub again : (content : List ℕ) (now : List (Option Segment)) → length now ≡ length is_open.table → HoldsInRing old store.ring now content → IsLaidOut content store.shape is_open.cells now
   again content now count held =
-      let many : length (known_numbers store.ring) ≡ store.shape.slots = as_many old store.ring is_open.table is_open.fits ∙ is_open.laid_out.slots.count in
+      let laid_out = is_open.holds.laid_out in
+      let many : length (known_numbers store.ring) ≡ store.shape.slots = as_many old store.ring is_open.table is_open.fits ∙ laid_out.slots.count in
       let size : ring_size store.ring ≡ store.shape.slots * store.shape.slot = ap (λ n. n * size_of store.ring) many ∙ ap (λ n. store.shape.slots * n) is_open.ring_size in
       let outside : SameOutside (slots_place store.shape) (store.shape.slots * store.shape.slot) old content =
       subst (λ n. SameOutside n (store.shape.slots * store.shape.slot) old content) is_open.ring_at (subst (λ n. SameOutside (at_of store.ring) n old content) size held.outside) in
-      laid_out_again old content store.shape is_open.table now is_open.laid_out outside
-      (slots_held content store.shape (at_of store.ring) (size_of store.ring) now is_open.ring_at is_open.ring_size (count ∙ is_open.laid_out.slots.count) held.holds)
+      laid_out_again old content store.shape is_open.cells is_open.table now laid_out outside
+      (slots_held content store.shape (at_of store.ring) (size_of store.ring) now is_open.ring_at is_open.ring_size (count ∙ laid_out.slots.count) held.holds)
 
   -- the table that a body is appended to stands for the same
   pub ready_same : (len : ℕ) (ready : List (Option Segment)) → IsReady store.ring len is_open.table ready → SameBodies is_open.table ready
@@ -72,55 +76,86 @@ module _ {D : Type 0} {disk : Ghosts D} (store : Store D disk) (is_open : IsOpen
   left_same len left (inl same) = subst (SameBodies is_open.table) (sym same) (record { bodies = refl; count = refl; differ = is_open.fits.holds.differ })
   left_same len left (inr is) = ready_same len left is
 
-  pub stand_same : (now : List (Option Segment)) → bodies_of now ≡ bodies_of is_open.table → StandFor store.shape (bodies_of now) is_open.batches store.state
-  stand_same now kept = subst (λ (b : List (List ℕ)). StandFor store.shape b is_open.batches store.state) (sym kept) is_open.stand
+  -- a content that holds such a table holds the parts before
+  pub parts_kept : (content : List ℕ) (now : List (Option Segment)) → SameBodies is_open.table now → HoldsInRing old store.ring now content
+      → HoldsParts content store.shape is_open.cells now is_open.batches
+  parts_kept content now same held = record {
+    laid_out = again content now same.count held;
+    spell = record { spelled = same.bodies ∙ is_open.holds.spell.spelled; each = is_open.holds.spell.each };
+  }
 
-  found_ready : (content : List ℕ) (len : ℕ) (ready : List (Option Segment)) → IsReady store.ring len is_open.table ready → HoldsInRing old store.ring ready content → FoundAs content store.state
-  found_ready content len ready is held =
-      let same = ready_same len ready is in
-      found_as content store.state (record { shape = store.shape; table = ready; batches = is_open.batches; laid_out = again content ready same.count held; stand = stand_same ready same.bodies })
+  found_kept : (content : List ℕ) (now : List (Option Segment)) → SameBodies is_open.table now → HoldsInRing old store.ring now content → FoundAs content store.state
+  found_kept content now same held = found_as content store.state (record {
+    shape = store.shape;
+    cells = is_open.cells;
+    table = now;
+    batches = is_open.batches;
+    order = is_open.order;
+    holds = parts_kept content now same held;
+    limits = is_open.limits;
+    runs = is_open.runs;
+  })
 
   found_held : (content : List ℕ) → HoldsInRing old store.ring is_open.table content → FoundAs content store.state
-  found_held content held =
-      found_as content store.state (record { shape = store.shape; table = is_open.table; batches = is_open.batches; laid_out = again content is_open.table refl held; stand = is_open.stand })
+  found_held content held = found_kept content is_open.table (left_same 0 is_open.table (inl refl)) held
 
   -- a crash before anything of a batch is written
   pub opened_for : (len : ℕ) (content : List ℕ) → IsLeftReady old store.ring len is_open.table content → FoundAs content store.state
   opened_for len content (inl held) = found_held content held
-  opened_for len content (inr (ready, is, held)) = found_ready content len ready is held
+  opened_for len content (inr (ready, is, held)) = found_kept content ready (ready_same len ready is) held
 
   -- an append that was given up
-  pub laid_out_kept : (new : List ℕ) (later : Ring) (len : ℕ) → SamePlaces store.ring later → (kept : IsGivenUp old store.ring len is_open.table new later) → IsLaidOut new store.shape kept.left
-  laid_out_kept new later len places kept = again new kept.left (left_same len kept.left kept.is_left).count (held_now old new store.ring later kept.left places kept.fits)
+  pub parts_left : (new : List ℕ) (later : Ring) (len : ℕ) → SamePlaces store.ring later → (kept : IsGivenUp old store.ring len is_open.table new later)
+      → HoldsParts new store.shape is_open.cells kept.left is_open.batches
+  parts_left new later len places kept = parts_kept new kept.left (left_same len kept.left kept.is_left) (held_now old new store.ring later kept.left places kept.fits)
 
   module _ (commands : List Taken) (is_batch : IsBatch commands) (grow : all_grow store.state commands ≡ true) where
-    -- the table with the batch
-    pub appended_count : (ready now : List (Option Segment)) (len : ℕ) → IsReady store.ring len is_open.table ready → IsAppended ready (batch commands) now → length now ≡ length is_open.table
-    appended_count ready now len is appended = ap (λ (l : List (Option Segment)). length l) appended.is ∙ length-set ready appended.slot _ ∙ (ready_same len ready is).count
+    abbrev batches_then : List (List Taken)
+    batches_then = is_open.batches ++ commands ∷ []
 
-    pub stand_appended : (ready now : List (Option Segment)) (len : ℕ) → IsReady store.ring len is_open.table ready → IsAppended ready (batch commands) now
-        → StandFor store.shape (bodies_of now) (is_open.batches ++ commands ∷ []) (fold store.state commands)
-    stand_appended ready now len is appended =
+    -- a content that holds the table with the batch
+    pub parts_with : (content : List ℕ) (ready now : List (Option Segment)) (len : ℕ) → IsReady store.ring len is_open.table ready → IsAppended ready (batch commands) now
+        → HoldsInRing old store.ring now content → HoldsParts content store.shape is_open.cells now batches_then
+    parts_with content ready now len is appended held =
         let same = ready_same len ready is in
+        let count : length now ≡ length is_open.table = ap (λ (l : List (Option Segment)). length l) appended.is ∙ length-set ready appended.slot _ ∙ same.count in
         let bodies : bodies_of now ≡ bodies_of is_open.table ++ batch commands ∷ [] =
         appended_bodies ready (batch commands) now same.differ appended ∙ ap (λ (b : List (List ℕ)). b ++ batch commands ∷ []) same.bodies in
-        subst (λ (b : List (List ℕ)). StandFor store.shape b (is_open.batches ++ commands ∷ []) (fold store.state commands)) (sym bodies)
-        (stand_more store.shape (bodies_of is_open.table) is_open.batches store.state commands is_open.stand is_batch grow)
+        record {
+          laid_out = again content now count held;
+          spell = record {
+            spelled = bodies ∙ ap (λ (b : List (List ℕ)). b ++ batch commands ∷ []) is_open.holds.spell.spelled ∙ sym (map_push batch is_open.batches commands);
+            each = All-append IsBatch is_open.batches (commands ∷ []) is_open.holds.spell.each (All-cons IsBatch commands [] is_batch (All-nil IsBatch));
+          };
+        }
+
+    -- the store runs on with it
+    pub runs_with : Runs (is_open.order ++ commands) is_open.cells (commands_of batches_then) (fold store.state commands)
+    runs_with =
+        subst (λ (entries : List Taken). Runs (is_open.order ++ commands) is_open.cells entries (fold store.state commands)) (sym (commands_of-push is_open.batches commands))
+        (commits is_open.order is_open.cells (commands_of is_open.batches) store.state commands is_open.runs grow)
+
+    pub limits_with : (fold store.state commands).limits ≡ limits_of store.shape
+    limits_with = fold-limits store.state commands ∙ is_open.limits
 
     -- a crash within the append
     pub with_or_without : (content : List ℕ) → IsLeftByAppend old store.ring is_open.table (batch commands) content → IsWithOrWithout store.state commands content
     with_or_without content (inl held) = inl (found_held content held)
-    with_or_without content (inr (ready, is, inl held)) = inl (found_ready content (length (batch commands)) ready is held)
+    with_or_without content (inr (ready, is, inl held)) = inl (found_kept content ready (ready_same (length (batch commands)) ready is) held)
     with_or_without content (inr (ready, is, inr (now, appended, held))) =
         inr (found_as content (fold store.state commands) (record {
           shape = store.shape;
+          cells = is_open.cells;
           table = now;
-          batches = is_open.batches ++ commands ∷ [];
-          laid_out = again content now (appended_count ready now (length (batch commands)) is appended) held;
-          stand = stand_appended ready now (length (batch commands)) is appended;
+          batches = batches_then;
+          order = is_open.order ++ commands;
+          holds = parts_with content ready now (length (batch commands)) is appended held;
+          limits = limits_with;
+          runs = runs_with;
         }))
 
-    -- the layout after an append that is done
-    pub laid_out_after : (new : List ℕ) (later : Ring) → SamePlaces store.ring later → (done : IsDone old store.ring is_open.table (batch commands) new later) → IsLaidOut new store.shape done.now
-    laid_out_after new later places done =
-        again new done.now (appended_count done.ready done.now (length (batch commands)) done.is_ready done.appended) (held_now old new store.ring later done.now places done.fits)
+    -- the parts after an append that is done
+    pub parts_after : (new : List ℕ) (later : Ring) → SamePlaces store.ring later → (done : IsDone old store.ring is_open.table (batch commands) new later)
+        → HoldsParts new store.shape is_open.cells done.now batches_then
+    parts_after new later places done =
+        parts_with new done.ready done.now (length (batch commands)) done.is_ready done.appended (held_now old new store.ring later done.now places done.fits)

@@ -11,16 +11,21 @@ use Rattle.disk.specs.Crash.{Leaves}
 use Rattle.disk.proofs.CallerLemmas.{same_at, drop_overwritten, overwritten_same_outside, byte_overwritten, begins, goes_on_write, goes_on_first_write, goes_on_sync, goes_on_run, leaves_map}
 use Rattle.journal.specs.Area.{open_gate}
 use Rattle.journal.specs.BatchSpelling.{IsBatch}
+use Rattle.revision.specs.Invariants.{IsLimits}
+use Rattle.history.specs.Cell.{Pair, no_cells, cells_at}
+use Rattle.history.proofs.CallerLemmas.{begins as begins_empty}
+use Rattle.milestone.specs.Cells.{HoldsPair}
 use Rattle.segments.specs.Slot.{Segment, HoldsSlot, number_of}
 use Rattle.segments.specs.Numbers.{number_at}
 use Rattle.segments.specs.Table.{slot_place, slot_bytes, slot_at, numbers_of}
 use Rattle.segments.specs.Order.{segments_of, bodies_of}
 use Rattle.recovery.specs.declared.shape.Shape.{Shape}
-use Rattle.recovery.specs.Shape.{is_in_range, layout_length, cell_place, slots_place, superblock}
-use Rattle.recovery.specs.Layout.{IsClosed, HoldsSlots, IsLaidOut}
-use Rattle.recovery.specs.Found.{Found, empty_state}
+use Rattle.recovery.specs.Shape.{is_in_range, layout_length, cell_place, cells_place, slots_place, superblock}
+use Rattle.recovery.specs.Layout.{IsClosed, HoldsCells, HoldsSlots, IsLaidOut}
+use Rattle.recovery.specs.Found.{RunsWith, limits_of, empty_state}
 use Rattle.recovery.specs.Formatting.{empty_table, IsUnformatted, IsEmptyStore, IsUnformattedOrEmpty, IsPrepared, IsOnlySynced, LeavesFromSync}
 use Rattle.recovery.proofs.Superblocks.{ranges_of}
+use Rattle.recovery.proofs.Runs.{found_as}
 
 -- the first byte of a part
 first_byte : (at size : ℕ) (content : List ℕ) → 0 < size → get_or (take size (drop at content)) 0 0 ≡ get_or content at 0
@@ -106,27 +111,67 @@ slots_empty shape content in_range closed = record {
   };
 }
 
+-- no document has a cell
+no_pair : (count number : ℕ) → cells_at (replicate count no_cells) number ≡ no_cells
+no_pair zero number = refl
+no_pair (suc count) zero = refl
+no_pair (suc count) (suc number) = no_pair count number
+
+-- the two cells of each document are closed where all their gates are
+cells_empty : (shape : Shape) (content : List ℕ) → is_in_range shape ≡ true → ((k : ℕ) → k < 2 * shape.docs → IsClosed content (cell_place shape k))
+    → HoldsCells content shape (replicate shape.docs no_cells)
+cells_empty shape content in_range closed = record {
+  count = length-replicate shape.docs no_cells;
+  each = λ number below.
+      let some : 0 < shape.cell = omega (arith, (ranges_of shape in_range).cell_low) in
+      let place = cells_place shape number in
+      let first : cell_place shape (2 * number) ≡ place = cc in
+      let second : cell_place shape (2 * number + 1) ≡ place + shape.cell = cc in
+      let closed_first : IsClosed content place = subst (IsClosed content) first (closed (2 * number) (omega (arith, below))) in
+      let closed_second : IsClosed content (place + shape.cell) = subst (IsClosed content) second (closed (2 * number + 1) (omega (arith, below))) in
+      subst (λ (p : Pair). HoldsPair place shape.cell number content p) (sym (no_pair shape.docs number))
+      (record {
+        first = λ gate. closed_first (sym (first_byte place shape.cell content some) ∙ gate);
+        second = λ gate. closed_second (sym (first_byte (place + shape.cell) shape.cell content some) ∙ gate);
+      });
+}
+
+-- the limits of a shape in range
+pub are_limits : (shape : Shape) → is_in_range shape ≡ true → IsLimits (limits_of shape)
+are_limits shape in_range =
+    let ranges = ranges_of shape in_range in
+    record {
+      some_document = ranges.docs_low;
+      docs = ranges.docs;
+      some_source = ranges.sources_low;
+      sources = ranges.sources;
+      weight = omega (arith, ranges.cell);
+      width = omega (arith, ranges.slot);
+      some_revision = ranges.keep_low;
+      keep = ranges.keep;
+    }
+
 -- with an open gate in front, what is prepared is an empty store
 pub empty_store : (shape : Shape) (content : List ℕ) → is_in_range shape ≡ true → IsPrepared shape content → get_or content 0 0 ≡ open_gate → IsEmptyStore shape content
-empty_store shape content in_range is gate = record { laid_out = laid_out; found = found }
+empty_store shape content in_range is gate = record { laid_out = laid_out; found = found_as content (empty_state shape) runs_with }
   where
-    laid_out : IsLaidOut content shape (empty_table shape)
+    laid_out : IsLaidOut content shape (replicate shape.docs no_cells) (empty_table shape)
     laid_out = record {
-      formatted = record { long = omega (arith, is.long); gate = gate };
-      named = is.named;
-      in_range = in_range;
-      long = is.long;
-      cells = is.cells;
+      names = record { formatted = record { long = omega (arith, is.long); gate = gate }; named = is.named; in_range = in_range; long = is.long };
+      cells = cells_empty shape content in_range is.cells;
       slots = slots_empty shape content in_range is.slots;
     }
 
-    found : Found content (empty_state shape)
-    found = record {
+    runs_with : RunsWith content (empty_state shape)
+    runs_with = record {
       shape = shape;
+      cells = replicate shape.docs no_cells;
       table = empty_table shape;
       batches = [];
-      laid_out = laid_out;
-      stand = record { spelled = no_bodies shape; each = All-nil IsBatch; grow = refl; is_fold = refl };
+      order = [];
+      holds = record { laid_out = laid_out; spell = record { spelled = no_bodies shape; each = All-nil IsBatch } };
+      limits = refl;
+      runs = begins_empty (limits_of shape) (are_limits shape in_range);
     }
 
 -- so whatever a crash leaves in that gate

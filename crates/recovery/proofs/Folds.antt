@@ -7,7 +7,7 @@ use Rattle.revision.specs.Command.{Taken}
 use Rattle.journal.specs.BatchSpelling.{IsBatch, batch}
 use Rattle.revision.specs.State.{State, grows, grown, fold, all_grow}
 use Rattle.recovery.specs.declared.shape.Shape.{Shape}
-use Rattle.recovery.specs.Found.{StandFor, commands_of, empty_state}
+use Rattle.recovery.specs.Found.{commands_of}
 
 pub fold-append : (state : State) (first second : List Taken) → fold state (first ++ second) ≡ fold (fold state first) second
 fold-append state [] second = refl
@@ -28,18 +28,3 @@ commands_of-push batches commands = flat_map-append (λ (c : List Taken). c) bat
 pub fold-limits : (state : State) (commands : List Taken) → (fold state commands).limits ≡ state.limits
 fold-limits state [] = refl
 fold-limits state (t ∷ commands) = fold-limits (grown state t) commands
-
--- a batch more, which continues the state
-pub stand_more : (shape : Shape) (bodies : List (List ℕ)) (batches : List (List Taken)) (state : State) (commands : List Taken) → StandFor shape bodies batches state → IsBatch commands → all_grow state commands ≡ true
-    → StandFor shape (bodies ++ batch commands ∷ []) (batches ++ commands ∷ []) (fold state commands)
-stand_more shape bodies batches state commands stand is_batch grow = record {
-  spelled = ap (λ (l : List (List ℕ)). l ++ batch commands ∷ []) stand.spelled ∙ sym (map_push batch batches commands);
-  each = All-append IsBatch batches (commands ∷ []) stand.each (All-cons IsBatch commands [] is_batch (All-nil IsBatch));
-  grow =
-      ap (all_grow (empty_state shape)) (commands_of-push batches commands) ∙ all_grow-append (empty_state shape) (commands_of batches) commands
-      ∙ ap (λ b. b && all_grow (fold (empty_state shape) (commands_of batches)) commands) stand.grow
-      ∙ ap (λ (s : State). all_grow s commands) (sym stand.is_fold) ∙ grow;
-  is_fold =
-      ap (λ (s : State). fold s commands) stand.is_fold ∙ sym (fold-append (empty_state shape) (commands_of batches) commands)
-      ∙ ap (fold (empty_state shape)) (sym (commands_of-push batches commands));
-}

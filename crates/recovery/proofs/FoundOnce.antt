@@ -1,64 +1,98 @@
--- A content is found as one state at most.
-use Rattle.std.proofs.Common.{◌≡◌, ℕ, Option, List, sym, ◌∙◌, subst}
+-- A content holds parts in one way at most, so by each pick it is found as one state at most.
+use Rattle.std.proofs.Common.{◌≡◌, ℕ, zero, suc, ◌<◌, Option, List, [], ◌∷◌, ◌++◌, length, map, refl, sym, ◌∙◌, ap, subst, arith}
+use Rattle.std.specs.List.{AllByRecursion}
+use Rattle.std.proofs.lemmas.List.Elements.{recursion_from_All}
 use Rattle.revision.specs.Command.{Taken}
-use Rattle.revision.specs.State.{State}
+use Rattle.revision.specs.State.{Limits, State}
+use Rattle.journal.specs.BatchSpelling.{IsBatch, batch}
+use Rattle.journal.proofs.CallerLemmas.{one_spelling}
+use Rattle.history.specs.Cell.{Pair, Pick, cells_at}
+use Rattle.history.specs.Found.{StandFor}
+use Rattle.history.specs.Running.{Runs}
+use Rattle.history.proofs.CallerLemmas.{at_most_one}
+use Rattle.milestone.proofs.CallerLemmas.{one_pair}
 use Rattle.segments.specs.Slot.{Segment}
 use Rattle.segments.specs.Order.{bodies_of}
 use Rattle.segments.proofs.CallerLemmas.{one_table}
 use Rattle.recovery.specs.declared.shape.Shape.{Shape}
-use Rattle.recovery.specs.Shape.{slots_place}
-use Rattle.recovery.specs.Layout.{HoldsSlots, IsLaidOut}
-use Rattle.recovery.specs.Found.{Found, StandFor, empty_state}
-use Rattle.recovery.specs.steps.Reading.{Names, CellsClosed}
+use Rattle.recovery.specs.Shape.{cells_place, slots_place}
+use Rattle.recovery.specs.Layout.{HoldsCells, HoldsSlots}
+use Rattle.recovery.specs.Found.{Found, RunsWith, HoldsParts, SpellBatches, limits_of, commands_of}
 use Rattle.recovery.proofs.Named.{named_same}
-use Rattle.recovery.proofs.Replays.{Leads, leads_same, leads_stand, stand_leads}
 
--- the slots of a shape hold one table at most
-slots_same : (content : List ℕ) (shape : Shape) (a b : List (Option Segment)) → HoldsSlots content shape a → HoldsSlots content shape b → a ≡ b
+-- lists of pairs of one length that have the same pair at each number
+pairs_same : (a b : List Pair) → length a ≡ length b → ((number : ℕ) → number < length a → cells_at a number ≡ cells_at b number) → a ≡ b
+pairs_same [] [] count each = refl
+pairs_same [] (y ∷ b) count each = absurd (omega (arith, count))
+pairs_same (x ∷ a) [] count each = absurd (omega (arith, count))
+pairs_same (x ∷ a) (y ∷ b) count each =
+    let first : x ≡ y = each zero (omega arith) in
+    let others : a ≡ b = pairs_same a b (omega (arith, count)) (λ number inside. each (suc number) (omega (arith, inside))) in
+    λ i. first i ∷ others i
+
+-- the cells of a shape hold one list of pairs at most, and its slots one table
+pub cells_same : (content : List ℕ) (shape : Shape) (a b : List Pair) → HoldsCells content shape a → HoldsCells content shape b → a ≡ b
+cells_same content shape a b is_a is_b =
+    pairs_same a b (is_a.count ∙ sym is_b.count)
+    (λ number inside.
+    let below : number < shape.docs = omega (arith, inside, is_a.count) in
+    one_pair (cells_place shape number) shape.cell number content (cells_at a number) (cells_at b number) (is_a.each number below) (is_b.each number below))
+
+pub slots_same : (content : List ℕ) (shape : Shape) (a b : List (Option Segment)) → HoldsSlots content shape a → HoldsSlots content shape b → a ≡ b
 slots_same content shape a b is_a is_b = one_table (slots_place shape) shape.slot content a b (is_a.count ∙ sym is_b.count) is_a.holds is_b.holds
 
-pub names_of : (content : List ℕ) (shape : Shape) (table : List (Option Segment)) → IsLaidOut content shape table → Names content shape
-names_of content shape table laid_out = record { formatted = laid_out.formatted; named = laid_out.named; in_range = laid_out.in_range; long = laid_out.long }
+-- a table's bodies spell one list of batches at most
+each_same : (a b : List (List Taken)) → AllByRecursion IsBatch a → AllByRecursion IsBatch b → map batch a ≡ map batch b → a ≡ b
+each_same [] [] is_a is_b same = refl
+each_same [] (y ∷ b) is_a is_b same = absurd cc
+each_same (x ∷ a) [] is_a is_b same = absurd cc
+each_same (x ∷ a) (y ∷ b) is_a is_b same =
+    let here : batch x ≡ batch y = cc in
+    let there : map batch a ≡ map batch b = cc in
+    let first = (one_spelling x y [] [] is_a.0 is_b.0 (ap (λ (l : List ℕ). l ++ []) here)).0 in
+    let others = each_same a b is_a.1 is_b.1 there in
+    λ i. first i ∷ others i
 
--- what is found of a content of this shape
-record FoundAt (content : List ℕ) (shape : Shape) (state : State) : Type 0 where
-  pub table : List (Option Segment)
-  pub laid_out : IsLaidOut content shape table
-  pub leads : Leads (empty_state shape) (bodies_of table) state
+pub batches_same : (table : List (Option Segment)) (a b : List (List Taken)) → SpellBatches table a → SpellBatches table b → a ≡ b
+batches_same table a b is_a is_b =
+    each_same a b (recursion_from_All IsBatch a is_a.each) (recursion_from_All IsBatch b is_b.each) (sym is_a.spelled ∙ is_b.spelled)
 
-found_at : (content : List ℕ) (shape : Shape) (state : State) → Names content shape → Found content state → FoundAt content shape state
-found_at content shape state names found =
-    let same : found.shape ≡ shape = named_same content found.shape shape (names_of content found.shape found.table found.laid_out) names in
-    subst (λ (s : Shape). FoundAt content s state) same (record { table = found.table; laid_out = found.laid_out; leads = stand_leads found.shape (bodies_of found.table) found.batches state found.stand })
+-- parts that a content holds are all the parts that it holds
+pub record SameParts (shape : Shape) (cells : List Pair) (batches : List (List Taken)) (other : Shape) (other_cells : List Pair) (other_batches : List (List Taken)) : Type 0 where
+  pub shapes : other ≡ shape
+  pub cells_are : other_cells ≡ cells
+  pub batches_are : other_batches ≡ batches
 
--- the bodies of a table that the slots hold lead to what is found
-found_leads : (content : List ℕ) (shape : Shape) (table : List (Option Segment)) (state : State) → Names content shape → HoldsSlots content shape table → Found content state → Leads (empty_state shape) (bodies_of table) state
-found_leads content shape table state names holds found =
-    let here = found_at content shape state names found in
-    subst (λ (t : List (Option Segment)). Leads (empty_state shape) (bodies_of t) state) (slots_same content shape here.table table here.laid_out.slots holds) here.leads
+pub parts_once : (content : List ℕ) (shape other : Shape) (cells other_cells : List Pair) (table other_table : List (Option Segment)) (batches other_batches : List (List Taken))
+    → HoldsParts content shape cells table batches → HoldsParts content other other_cells other_table other_batches → SameParts shape cells batches other other_cells other_batches
+parts_once content shape other cells other_cells table other_table batches other_batches holds others =
+    let shapes : other ≡ shape = named_same content other shape others.laid_out.names holds.laid_out.names in
+    let here : HoldsParts content shape other_cells other_table other_batches = subst (λ (s : Shape). HoldsParts content s other_cells other_table other_batches) shapes others in
+    let tables : other_table ≡ table = slots_same content shape other_table table here.laid_out.slots holds.laid_out.slots in
+    record {
+      shapes = shapes;
+      cells_are = cells_same content shape other_cells cells here.laid_out.cells holds.laid_out.cells;
+      batches_are = batches_same table other_batches batches (subst (λ (t : List (Option Segment)). SpellBatches t other_batches) tables here.spell) holds.spell;
+    }
 
-pub found_once : (content : List ℕ) (a b : State) → Found content a → Found content b → a ≡ b
-found_once content a b is_a is_b =
-    leads_same (empty_state is_a.shape) (bodies_of is_a.table) a b
-    (stand_leads is_a.shape (bodies_of is_a.table) is_a.batches a is_a.stand)
-    (found_leads content is_a.shape is_a.table b (names_of content is_a.shape is_a.table is_a.laid_out) is_a.laid_out.slots is_b)
+-- what is found of a content that holds these parts, they stand for; and a state that its store runs with, they run with
+module _ (content : List ℕ) (shape : Shape) (cells : List Pair) (table : List (Option Segment)) (batches : List (List Taken)) (holds : HoldsParts content shape cells table batches) where
+  pub stand_at : (pick : Pick) (state : State) → Found content pick state → StandFor (limits_of shape) cells (commands_of batches) pick state
+  stand_at pick state found =
+      let same = parts_once content shape found.shape cells found.cells table found.table batches found.batches holds found.holds in
+      subst (λ (s : Shape). StandFor (limits_of s) cells (commands_of batches) pick state) same.shapes
+      (subst (λ (c : List Pair). StandFor (limits_of found.shape) c (commands_of batches) pick state) same.cells_are
+      (subst (λ (b : List (List Taken)). StandFor (limits_of found.shape) found.cells (commands_of b) pick state) same.batches_are found.stand))
 
--- Nothing is found where the cells' gates, the slots, or their bodies don't allow it. The parts may have been read off a
--- content that is the same.
-module _ (content after : List ℕ) (same : after ≡ content) (shape : Shape) (names : Names content shape) (state : State) where
-  pub not_cells : ¬ CellsClosed after shape → ¬ Found content state
-  not_cells unlike found =
-      let here = found_at content shape state names found in
-      unlike (subst (λ (l : List ℕ). CellsClosed l shape) (sym same) here.laid_out.cells)
+  pub runs_at : (state : State) (with : RunsWith content state) → (state.limits ≡ limits_of shape) × Runs with.order cells (commands_of batches) state
+  runs_at state with =
+      let same = parts_once content shape with.shape cells with.cells table with.table batches with.batches holds with.holds in (
+        with.limits ∙ ap limits_of same.shapes,
+        subst (λ (c : List Pair). Runs with.order c (commands_of batches) state) same.cells_are
+        (subst (λ (b : List (List Taken)). Runs with.order with.cells (commands_of b) state) same.batches_are with.runs),
+      )
 
-  pub not_slots : ((table : List (Option Segment)) → ¬ HoldsSlots after shape table) → ¬ Found content state
-  not_slots unlike found =
-      let here = found_at content shape state names found in
-      unlike here.table (subst (λ (l : List ℕ). HoldsSlots l shape here.table) (sym same) here.laid_out.slots)
-
-  pub not_stand : (table : List (Option Segment)) (bodies : List (List ℕ)) → HoldsSlots after shape table → bodies ≡ bodies_of table
-      → ((batches : List (List Taken)) (final : State) → ¬ StandFor shape bodies batches final) → ¬ Found content state
-  not_stand table bodies holds is unlike found =
-      let leads = found_leads content shape table state names (subst (λ (l : List ℕ). HoldsSlots l shape table) same holds) found in
-      let stand = leads_stand shape bodies state (subst (λ (l : List (List ℕ)). Leads (empty_state shape) l state) (sym is) leads) in
-      unlike stand.0 state stand.1
+pub found_once : (content : List ℕ) (pick : Pick) (a b : State) → Found content pick a → Found content pick b → a ≡ b
+found_once content pick a b is_a is_b =
+    at_most_one (limits_of is_a.shape) is_a.cells (commands_of is_a.batches) pick a b is_a.stand
+    (stand_at content is_a.shape is_a.cells is_a.table is_a.batches is_a.holds pick b is_b)

@@ -4,18 +4,18 @@ use Rattle.std.proofs.lemmas.List.{take-take, drop-take, length-map}
 use Rattle.std.proofs.Math.Nat.{mul-le-mul_right}
 use Rattle.disk.specs.Device.{SameOutside}
 use Rattle.disk.proofs.CallerLemmas.{same_at}
-use Rattle.revision.specs.Command.{Taken}
 use Rattle.revision.specs.State.{Limits, State}
+use Rattle.history.specs.Cell.{Pair, cells_at}
+use Rattle.milestone.proofs.CallerLemmas.{pair_stays}
 use Rattle.segments.specs.Slot.{Segment, number_of}
 use Rattle.segments.specs.Table.{HoldsTable}
 use Rattle.segments.specs.declared.ring.Ring.{Ring}
 use Rattle.segments.specs.Ring.{Fits, at_of, size_of, known_numbers}
 use Rattle.recovery.specs.declared.shape.Shape.{Shape}
-use Rattle.recovery.specs.Shape.{is_in_range, cell_place, slots_place}
+use Rattle.recovery.specs.Shape.{is_in_range, cells_place, slots_place}
 use Rattle.recovery.specs.Layout.{HoldsSlots, IsLaidOut}
-use Rattle.recovery.specs.Found.{StandFor, empty_state, commands_of}
+use Rattle.recovery.specs.Found.{limits_of}
 use Rattle.recovery.specs.steps.Reading.{IsRingOf}
-use Rattle.recovery.proofs.Folds.{fold-limits}
 use Rattle.recovery.proofs.Superblocks.{ranges_of}
 
 -- a part of one size more lies before the end of all of them
@@ -41,28 +41,46 @@ slots_of content shape ring table place fits =
     slots_held content shape (at_of ring) (size_of ring) table place.at place.size (sym (as_many content ring table fits) ∙ place.count) fits.holds
 
 -- a slot has 19 bytes more than an entry may take
-pub slot_width : (shape : Shape) (bodies : List (List ℕ)) (batches : List (List Taken)) (state : State) → is_in_range shape ≡ true → StandFor shape bodies batches state → shape.slot ≡ state.limits.width + 19
-slot_width shape bodies batches state in_range stand =
-    let width : state.limits.width ≡ shape.slot - 19 = ap (λ (s : State). s.limits.width) stand.is_fold ∙ ap (λ (l : Limits). l.width) (fold-limits (empty_state shape) (commands_of batches)) in
+pub slot_width : (shape : Shape) (state : State) → is_in_range shape ≡ true → state.limits ≡ limits_of shape → shape.slot ≡ state.limits.width + 19
+slot_width shape state in_range limits =
+    let width : state.limits.width ≡ shape.slot - 19 = ap (λ (l : Limits). l.width) limits in
     omega (arith, width, (ranges_of shape in_range).slot_low)
 
-module _ (old content : List ℕ) (shape : Shape) (table now : List (Option Segment)) (laid_out : IsLaidOut old shape table)
-    (same : SameOutside (slots_place shape) (shape.slots * shape.slot) old content) (holds : HoldsSlots content shape now) where
-  ahead : (place : ℕ) → place < slots_place shape → get_or content place 0 ≡ get_or old place 0
-  ahead place before = same_at (slots_place shape) (shape.slots * shape.slot) old content same place (λ within. absurd (omega (arith, within.0)))
+-- bytes before what has changed
+pub part_same : (place count bound : ℕ) (old content : List ℕ) → place + count ≤ bound → take bound content ≡ take bound old → take count (drop place content) ≡ take count (drop place old)
+part_same place count bound old content within same =
+    let part : (l : List ℕ) → take count (drop place l) ≡ drop place (take (place + count) (take bound l)) =
+    λ l. sym (drop-take place count l) ∙ ap (λ (m : List ℕ). drop place m) (sym (take-take (place + count) bound l within)) in
+    part content ∙ ap (λ (m : List ℕ). drop place (take (place + count) m)) same ∙ sym (part old)
 
-  pub laid_out_again : IsLaidOut content shape now
+-- the cells of a document lie before the slots
+pub cells_before : (shape : Shape) (number : ℕ) → number < shape.docs → cells_place shape number + 2 * shape.cell ≤ slots_place shape
+cells_before shape number below =
+    let room = part_before number shape.docs (2 * shape.cell) below in
+    let all : shape.docs * (2 * shape.cell) ≡ 2 * shape.docs * shape.cell = cc in
+    omega (arith, room, all)
+
+module _ (old content : List ℕ) (shape : Shape) (cells : List Pair) (table now : List (Option Segment)) (laid_out : IsLaidOut old shape cells table)
+    (same : SameOutside (slots_place shape) (shape.slots * shape.slot) old content) (holds : HoldsSlots content shape now) where
+  pub laid_out_again : IsLaidOut content shape cells now
   laid_out_again =
-      let ranges = ranges_of shape laid_out.in_range in
-      let head : (l : List ℕ) → take 32 (drop 1 l) ≡ drop 1 (take 33 (take (slots_place shape) l)) =
-      λ l. sym (drop-take 1 32 l) ∙ ap (λ (m : List ℕ). drop 1 m) (sym (take-take 33 (slots_place shape) l (omega arith))) in
+      let ranges = ranges_of shape laid_out.names.in_range in
       record {
-        formatted = record { long = omega (arith, laid_out.formatted.long, same.same_length); gate = ahead 0 (omega arith) ∙ laid_out.formatted.gate };
-        named = head content ∙ ap (λ (l : List ℕ). drop 1 (take 33 l)) same.before ∙ sym (head old) ∙ laid_out.named;
-        in_range = laid_out.in_range;
-        long = omega (arith, laid_out.long, same.same_length);
-        cells = λ k below is.
-            let room = part_before k (2 * shape.docs) shape.cell below in
-            laid_out.cells k below (sym (ahead (cell_place shape k) (omega (arith, room, ranges.cell_low))) ∙ is);
+        names = record {
+          formatted = record {
+            long = omega (arith, laid_out.names.formatted.long, same.same_length);
+            gate = same_at (slots_place shape) (shape.slots * shape.slot) old content same 0 (λ within. absurd (omega (arith, within.0))) ∙ laid_out.names.formatted.gate;
+          };
+          named = part_same 1 32 (slots_place shape) old content (omega arith) same.before ∙ laid_out.names.named;
+          in_range = laid_out.names.in_range;
+          long = omega (arith, laid_out.names.long, same.same_length);
+        };
+        cells = record {
+          count = laid_out.cells.count;
+          each = λ number below.
+              pair_stays (cells_place shape number) shape.cell number old content (cells_at cells number) (omega (arith, ranges.cell_low))
+              (part_same (cells_place shape number) (2 * shape.cell) (slots_place shape) old content (cells_before shape number below) same.before)
+              (laid_out.cells.each number below);
+        };
         slots = holds;
       }

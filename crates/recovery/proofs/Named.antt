@@ -4,7 +4,7 @@ use Rattle.std.specs.Int.{w32, to_le_bytes, from_le_bytes}
 use Rattle.std.proofs.lemmas.Nat.{from_le_bytes-to_le_bytes_4}
 use Rattle.recovery.specs.declared.shape.Shape.{Shape}
 use Rattle.recovery.specs.Shape.{superblock}
-use Rattle.recovery.specs.steps.Reading.{Names}
+use Rattle.recovery.specs.Layout.{Names}
 use Rattle.recovery.proofs.Superblocks.{Ranges, ranges_of}
 
 -- shapes in range that have the same 32 bytes

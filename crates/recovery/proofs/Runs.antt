@@ -3,25 +3,67 @@ use Rattle.std.proofs.Common.{◌≡◌, inl, inr, ℕ, ◌+◌, ◌<◌, List, 
 use Rattle.std.proofs.lemmas.List.{take_more, take_all}
 use Rattle.disk.specs.declared.device.Disk.{Ghosts}
 use Rattle.revision.specs.Command.{Taken}
-use Rattle.revision.specs.State.{State, fold}
-use Rattle.revision.proofs.CallerLemmas.{agrees}
+use Rattle.revision.specs.State.{Limits, State, fold}
+use Rattle.revision.specs.Agree.{Agree}
+use Rattle.history.specs.Cell.{Pick}
+use Rattle.history.specs.Found.{StandFor}
+use Rattle.history.proofs.CallerLemmas.{at_most_one, recovers, reopens}
 use Rattle.recovery.specs.declared.run.StoreStep.{StoreStep}
 use Rattle.recovery.specs.declared.store.Store.{Store}
-use Rattle.recovery.specs.Found.{Found, FoundAs}
-use Rattle.recovery.specs.Open.{IsOpen, WasOpen, IsWithOrWithout}
+use Rattle.recovery.specs.Found.{Found, FoundBy, FoundAs, RunsWith, limits_of, commands_of}
+use Rattle.recovery.specs.Open.{IsOpen, IsWithOrWithout}
 use Rattle.recovery.specs.Run.{batch_of, state_after, IsAfterSome}
+use Rattle.recovery.proofs.FoundOnce.{stand_at}
 
--- the content under a store that is open stands for its state
-pub found_open : {D : Type 0} {disk : Ghosts D} (store : Store D disk) → IsOpen store → Found (disk.seen store.device) store.state
-found_open store is_open = record { shape = store.shape; table = is_open.table; batches = is_open.batches; laid_out = is_open.laid_out; stand = is_open.stand }
+-- the content under a store that is open is that of a store which runs with its state
+pub found_open : {D : Type 0} {disk : Ghosts D} (store : Store D disk) → IsOpen store → RunsWith (disk.seen store.device) store.state
+found_open store is_open = record {
+  shape = store.shape;
+  cells = is_open.cells;
+  table = is_open.table;
+  batches = is_open.batches;
+  order = is_open.order;
+  holds = is_open.holds;
+  limits = is_open.limits;
+  runs = is_open.runs;
+}
 
--- and so does the content of a device that it gave back
-pub found_again : {D : Type 0} (disk : Ghosts D) (device : D) (state : State) → WasOpen disk device state → Found (disk.seen device) state
-found_again disk device state was = subst (λ d. Found (disk.seen d) state) was.over (subst (Found (disk.seen was.store.device)) was.holds (found_open was.store was.is_open))
+-- such a content is found by either pick as a state that agrees
+pub found_as : (content : List ℕ) (state : State) → RunsWith content state → FoundAs content state
+found_as content state is = record { by_either = by_either; runs = is }
+  where
+    by_either : (pick : Pick) → FoundBy pick content state
+    by_either pick =
+        let recovered = recovers is.order is.cells (commands_of is.batches) state pick is.runs in
+        let stand : StandFor (limits_of is.shape) is.cells (commands_of is.batches) pick recovered.0 =
+        subst (λ (l : Limits). StandFor l is.cells (commands_of is.batches) pick recovered.0) is.limits recovered.1 in
+        record {
+          there = recovered.0;
+          found = record { shape = is.shape; cells = is.cells; table = is.table; batches = is.batches; holds = is.holds; stand = stand };
+          agrees = recovered.2;
+        }
 
--- a content that stands for a state stands for one that agrees with it
-pub found_as : (content : List ℕ) (state : State) → Found content state → FoundAs content state
-found_as content state found = record { there = state; found = found; agrees = agrees state }
+-- and with whichever state it is found as, its store runs on
+pub found_again : (content : List ℕ) (state : State) (pick : Pick) (found : State) → FoundAs content state → Found content pick found → Agree found state × RunsWith content found
+found_again content state pick found as is =
+    let with = as.runs in
+    let entries = commands_of with.batches in
+    let here : StandFor (limits_of with.shape) with.cells entries pick found = stand_at content with.shape with.cells with.table with.batches with.holds pick found is in
+    let stand : StandFor state.limits with.cells entries pick found = subst (λ (l : Limits). StandFor l with.cells entries pick found) (sym with.limits) here in
+    let recovered = recovers with.order with.cells entries state pick with.runs in
+    let same : recovered.0 ≡ found = at_most_one state.limits with.cells entries pick recovered.0 found recovered.1 stand in (
+      subst (λ (s : State). Agree s state) same recovered.2,
+      record {
+        shape = with.shape;
+        cells = with.cells;
+        table = with.table;
+        batches = with.batches;
+        order = with.order;
+        holds = with.holds;
+        limits = here.same_limits;
+        runs = reopens with.order with.cells entries state pick found with.runs stand;
+      },
+    )
 
 pub state_after-append : (state : State) (first second : List StoreStep) → state_after state (first ++ second) ≡ state_after (state_after state first) second
 state_after-append state [] second = refl

@@ -19,6 +19,7 @@ pub record Ranges (shape : Shape) : Type 0 where
   pub docs : shape.docs ≤ 65536
   pub cell_low : 256 ≤ shape.cell
   pub cell : shape.cell ≤ 16777216
+  pub sources_low : 1 ≤ shape.sources
   pub sources : shape.sources ≤ 4096
   pub keep_low : 1 ≤ shape.keep
   pub keep : shape.keep ≤ 65536
@@ -33,6 +34,7 @@ ranges_of shape is = record {
   docs = grind (arith, nat_tests);
   cell_low = grind (arith, nat_tests);
   cell = grind (arith, nat_tests);
+  sources_low = grind (arith, nat_tests);
   sources = grind (arith, nat_tests);
   keep_low = grind (arith, nat_tests);
   keep = grind (arith, nat_tests);

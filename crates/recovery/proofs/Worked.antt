@@ -1,7 +1,7 @@
 -- What contents stand for, computed in a small shape: zeros, a formatted device, the device after a first and a second
 -- creation, and one on which the second one lies in a slot of its own, before the first.
 use Rattle.std.proofs.Common.{◌≡◌, ◌<◌, true, ℕ, zero, suc, Option, Some, None, List, [], ◌∷◌, ◌++◌, refl, sym, ◌∙◌, ap, lit<, lit≤, arith}
-use Rattle.std.specs.Prelude.{replicate}
+use Rattle.std.specs.Prelude.{replicate, slice_get, map, All}
 use Rattle.std.proofs.lemmas.List.Elements.{All-cons, All-nil}
 use Rattle.std.specs.Char.{encode_utf8}
 use Rattle.std.specs.Str.{chars, is_utf8}
@@ -13,14 +13,19 @@ use Rattle.revision.specs.Command.{Taken, IsTaken}
 use Rattle.journal.specs.Spelling.{number, text16, text32}
 use Rattle.journal.specs.BatchSpelling.{IsBatch, created_name, entry, batch}
 use Rattle.journal.specs.DeltaSpelling.{value, pairs, operation, delta}
-use Rattle.revision.specs.State.{State, DocumentRecord, fold, all_grow}
+use Rattle.revision.specs.State.{State, DocumentRecord, all_continue}
+use Rattle.revision.specs.Invariants.{NamesDiffer}
+use Rattle.history.specs.Cell.{Pair, Pick, no_cells, cells_at, picked}
+use Rattle.history.specs.Entries.{of_document}
+use Rattle.history.specs.Found.{StandsFor, StandFor}
+use Rattle.milestone.specs.Cells.{HoldsPair}
 use Rattle.recovery.specs.declared.shape.Shape.{Shape}
 use Rattle.segments.specs.Slot.{Segment, HoldsSlot, HoldsSegment, number_of}
 use Rattle.segments.specs.Numbers.{NumbersDiffer}
 use Rattle.segments.specs.Table.{slot_bytes, slot_at}
-use Rattle.recovery.specs.Shape.{superblock, layout_length, cell_place}
-use Rattle.recovery.specs.Layout.{IsFormatted, IsClosed, HoldsSlots, IsLaidOut}
-use Rattle.recovery.specs.Found.{Found, StandFor, limits_of, empty_state}
+use Rattle.recovery.specs.Shape.{superblock, layout_length, cells_place}
+use Rattle.recovery.specs.Layout.{IsFormatted, HoldsCells, HoldsSlots, IsLaidOut}
+use Rattle.recovery.specs.Found.{Found, limits_of, empty_state, commands_of}
 
 -- 2 slots of 256 bytes, 2 documents with cells of 256: 1,600 bytes
 abbrev small : Shape
@@ -32,15 +37,7 @@ small_length = refl
 zero_is_closed : ◌≡◌ {A = ℕ} 0 165 → ⊥
 zero_is_closed e = absurd cc
 
--- what holds at each of four places
-four : (P : ℕ → Type 0) → P 0 → P 1 → P 2 → P 3 → (k : ℕ) → k < 4 → P k
-four P p0 p1 p2 p3 zero l = p0
-four P p0 p1 p2 p3 (suc zero) l = p1
-four P p0 p1 p2 p3 (suc (suc zero)) l = p2
-four P p0 p1 p2 p3 (suc (suc (suc zero))) l = p3
-four P p0 p1 p2 p3 (suc (suc (suc (suc k)))) l = absurd (omega arith)
-
--- and at each of two
+-- what holds at each of two places
 two : (P : ℕ → Type 0) → P 0 → P 1 → (k : ℕ) → k < 2 → P k
 two P p0 p1 zero l = p0
 two P p0 p1 (suc zero) l = p1
@@ -64,6 +61,26 @@ slots_hold content first second in_first in_second differ = record {
   holds = record { each = two (λ s. HoldsSlot (slot_bytes 1088 256 content s) (slot_at (first ∷ second ∷ []) s)) in_first in_second; differ = differ };
 }
 
+-- no document has a cell
+abbrev no_pairs : List Pair
+no_pairs = no_cells ∷ no_cells ∷ []
+
+-- no two of two documents have one name
+names_differ : (first second : DocumentRecord) → (first.name ≡ second.name → ⊥) → NamesDiffer (first ∷ second ∷ [])
+names_differ first second apart zero zero a b at_i at_j same = refl
+names_differ first second apart (suc zero) (suc zero) a b at_i at_j same = refl
+names_differ first second apart zero (suc zero) a b at_i at_j same =
+    let is_a : first ≡ a = cc in
+    let is_b : second ≡ b = cc in
+    absurd (apart (ap (λ (d : DocumentRecord). d.name) is_a ∙ same ∙ sym (ap (λ (d : DocumentRecord). d.name) is_b)))
+names_differ first second apart (suc zero) zero a b at_i at_j same =
+    let is_a : second ≡ a = cc in
+    let is_b : first ≡ b = cc in
+    absurd (apart (ap (λ (d : DocumentRecord). d.name) is_b ∙ sym same ∙ sym (ap (λ (d : DocumentRecord). d.name) is_a)))
+names_differ first second apart (suc (suc k)) j a b at_i at_j same = absurd cc
+names_differ first second apart zero (suc (suc k)) a b at_i at_j same = absurd cc
+names_differ first second apart (suc zero) (suc (suc k)) a b at_i at_j same = absurd cc
+
 -- zeros have no superblock, so they stand for nothing
 abbrev zeros : List ℕ
 zeros = replicate 1600 0
@@ -71,30 +88,40 @@ zeros = replicate 1600 0
 pub zeros_unformatted : IsFormatted zeros → ⊥
 zeros_unformatted is = zero_is_closed is.gate
 
-pub zeros_not_found : (state : State) → Found zeros state → ⊥
-zeros_not_found state found = zeros_unformatted found.laid_out.formatted
+pub zeros_not_found : (pick : Pick) (state : State) → Found zeros pick state → ⊥
+zeros_not_found pick state found = zeros_unformatted found.holds.laid_out.names.formatted
 
 -- a formatted device stands for no documents
 abbrev formatted : List ℕ
 formatted = 165 ∷ superblock small ++ replicate 1567 0
 
-pub formatted_laid_out : IsLaidOut formatted small (None ∷ None ∷ [])
+formatted_cells : HoldsCells formatted small no_pairs
+formatted_cells = record {
+  count = refl;
+  each = two (λ number. HoldsPair (cells_place small number) 256 number formatted no_cells)
+      (record { first = zero_is_closed; second = zero_is_closed }) (record { first = zero_is_closed; second = zero_is_closed });
+}
+
+pub formatted_laid_out : IsLaidOut formatted small no_pairs (None ∷ None ∷ [])
 formatted_laid_out = record {
-  formatted = record { long = lit≤ tt; gate = refl };
-  named = refl;
-  in_range = refl;
-  long = lit≤ tt;
-  cells = four (λ k. IsClosed formatted (cell_place small k)) zero_is_closed zero_is_closed zero_is_closed zero_is_closed;
+  names = record { formatted = record { long = lit≤ tt; gate = refl }; named = refl; in_range = refl; long = lit≤ tt };
+  cells = formatted_cells;
   slots = slots_hold formatted None None zero_is_closed zero_is_closed (two_differ None None (λ n is other. absurd cc));
 }
 
-pub formatted_found : Found formatted (empty_state small)
-formatted_found = record {
+none_stand : (pick : Pick) (number : ℕ) → StandsFor (limits_of small) (picked pick (cells_at no_pairs number)) [] (slice_get {A = DocumentRecord} [] number)
+none_stand pick zero = record { cell_keeps = tt; continue = refl; is = refl }
+none_stand pick (suc zero) = record { cell_keeps = tt; continue = refl; is = refl }
+none_stand pick (suc (suc number)) = record { cell_keeps = tt; continue = refl; is = refl }
+
+pub formatted_found : (pick : Pick) → Found formatted pick (empty_state small)
+formatted_found pick = record {
   shape = small;
+  cells = no_pairs;
   table = None ∷ None ∷ [];
   batches = [];
-  laid_out = formatted_laid_out;
-  stand = record { spelled = refl; each = All-nil IsBatch; grow = refl; is_fold = refl };
+  holds = record { laid_out = formatted_laid_out; spell = record { spelled = refl; each = All-nil IsBatch } };
+  stand = record { same_limits = refl; count = lit≤ tt; each = none_stand pick; names = λ i j a b at_i at_j same. absurd cc };
 }
 
 -- a creation of this document, in order of creation, with this text of one letter, by the source "a"
@@ -149,13 +176,17 @@ created_held = record {
   bodies = record { gate = 0; behind = replicate 196 0; split = refl; closed = zero_is_closed; each = (record { some = lit< tt; short = lit< tt }, tt) };
 }
 
-pub created_laid_out : IsLaidOut created small (Some first_segment ∷ None ∷ [])
+created_cells : HoldsCells created small no_pairs
+created_cells = record {
+  count = refl;
+  each = two (λ number. HoldsPair (cells_place small number) 256 number created no_cells)
+      (record { first = zero_is_closed; second = zero_is_closed }) (record { first = zero_is_closed; second = zero_is_closed });
+}
+
+pub created_laid_out : IsLaidOut created small no_pairs (Some first_segment ∷ None ∷ [])
 created_laid_out = record {
-  formatted = record { long = lit≤ tt; gate = refl };
-  named = refl;
-  in_range = refl;
-  long = lit≤ tt;
-  cells = four (λ k. IsClosed created (cell_place small k)) zero_is_closed zero_is_closed zero_is_closed zero_is_closed;
+  names = record { formatted = record { long = lit≤ tt; gate = refl }; named = refl; in_range = refl; long = lit≤ tt };
+  cells = created_cells;
   slots = slots_hold created (Some first_segment) None created_held zero_is_closed (two_differ (Some 1) None (λ n is other. absurd cc));
 }
 
@@ -192,25 +223,34 @@ spellable_first = record {
 taken_first : IsTaken (creation 0 100 122)
 taken_first = record { document = lit< tt; source = refl; kind = refl; delta = spellable_first }
 
-grown_first : fold (empty_state small) (creation 0 100 122 ∷ []) ≡ with_first
-grown_first = refl
-
-first_grows : all_grow (empty_state small) (creation 0 100 122 ∷ []) ≡ true
+first_continues : all_continue (limits_of small) None (creation 0 100 122 ∷ []) ≡ true
 unfolding utf16_chars encode_utf8 insert
-first_grows = refl
+first_continues = refl
 
-pub created_found : Found created with_first
-created_found = record {
+first_stands : (pick : Pick) (number : ℕ) → StandsFor (limits_of small) (picked pick (cells_at no_pairs number)) (of_document number (creation 0 100 122 ∷ [])) (slice_get with_first.documents number)
+first_stands pick zero = record { cell_keeps = tt; continue = first_continues; is = refl }
+first_stands pick (suc zero) = record { cell_keeps = tt; continue = refl; is = refl }
+first_stands pick (suc (suc number)) = record { cell_keeps = tt; continue = refl; is = refl }
+
+one_name : (found : DocumentRecord) → NamesDiffer (found ∷ [])
+one_name found zero zero a b at_i at_j same = refl
+one_name found (suc i) j a b at_i at_j same = absurd cc
+one_name found zero (suc j) a b at_i at_j same = absurd cc
+
+pub created_found : (pick : Pick) → Found created pick with_first
+created_found pick = record {
   shape = small;
+  cells = no_pairs;
   table = Some first_segment ∷ None ∷ [];
   batches = (creation 0 100 122 ∷ []) ∷ [];
-  laid_out = created_laid_out;
-  stand = record {
-    spelled = ap (λ (b : List ℕ). b ∷ []) (sym spelled_first);
-    each = All-cons IsBatch (creation 0 100 122 ∷ []) [] (is_batch 0 100 122 taken_first) (All-nil IsBatch);
-    grow = first_grows;
-    is_fold = sym grown_first;
+  holds = record {
+    laid_out = created_laid_out;
+    spell = record {
+      spelled = ap (λ (b : List ℕ). b ∷ []) (sym spelled_first);
+      each = All-cons IsBatch (creation 0 100 122 ∷ []) [] (is_batch 0 100 122 taken_first) (All-nil IsBatch);
+    };
   };
+  stand = record { same_limits = refl; count = lit≤ tt; each = first_stands pick; names = one_name (record_with 100 122) };
 }
 
 -- after the second, of "e" with "x", behind it
@@ -235,13 +275,17 @@ created_twice_held = record {
   };
 }
 
-pub created_twice_laid_out : IsLaidOut created_twice small (Some second_segment ∷ None ∷ [])
+created_twice_cells : HoldsCells created_twice small no_pairs
+created_twice_cells = record {
+  count = refl;
+  each = two (λ number. HoldsPair (cells_place small number) 256 number created_twice no_cells)
+      (record { first = zero_is_closed; second = zero_is_closed }) (record { first = zero_is_closed; second = zero_is_closed });
+}
+
+pub created_twice_laid_out : IsLaidOut created_twice small no_pairs (Some second_segment ∷ None ∷ [])
 created_twice_laid_out = record {
-  formatted = record { long = lit≤ tt; gate = refl };
-  named = refl;
-  in_range = refl;
-  long = lit≤ tt;
-  cells = four (λ k. IsClosed created_twice (cell_place small k)) zero_is_closed zero_is_closed zero_is_closed zero_is_closed;
+  names = record { formatted = record { long = lit≤ tt; gate = refl }; named = refl; in_range = refl; long = lit≤ tt };
+  cells = created_twice_cells;
   slots = slots_hold created_twice (Some second_segment) None created_twice_held zero_is_closed (two_differ (Some 1) None (λ n is other. absurd cc));
 }
 
@@ -266,31 +310,43 @@ taken_second = record { document = lit< tt; source = refl; kind = refl; delta = 
 abbrev both : List Taken
 both = creation 0 100 122 ∷ creation 1 101 120 ∷ []
 
-both_grow : all_grow (empty_state small) both ≡ true
+second_continues : all_continue (limits_of small) None (creation 1 101 120 ∷ []) ≡ true
 unfolding utf16_chars encode_utf8 insert
-both_grow = refl
+second_continues = refl
 
-grown_both : fold (empty_state small) both ≡ with_both
-grown_both = refl
+both_stands : (pick : Pick) (number : ℕ) → StandsFor (limits_of small) (picked pick (cells_at no_pairs number)) (of_document number both) (slice_get with_both.documents number)
+both_stands pick zero = record { cell_keeps = tt; continue = first_continues; is = refl }
+both_stands pick (suc zero) = record { cell_keeps = tt; continue = second_continues; is = refl }
+both_stands pick (suc (suc number)) = record { cell_keeps = tt; continue = refl; is = refl }
 
 -- the two batches, whichever slots they lie in
-both_stand : StandFor small (spelling 0 100 122 ∷ spelling 1 101 120 ∷ []) ((creation 0 100 122 ∷ []) ∷ (creation 1 101 120 ∷ []) ∷ []) with_both
-both_stand = record {
-  spelled = ap (λ (b : List ℕ). b ∷ spelling 1 101 120 ∷ []) (sym spelled_first) ∙ ap (λ (b : List ℕ). batch (creation 0 100 122 ∷ []) ∷ b ∷ []) (sym spelled_second);
-  each =
-      All-cons IsBatch (creation 0 100 122 ∷ []) ((creation 1 101 120 ∷ []) ∷ []) (is_batch 0 100 122 taken_first)
-      (All-cons IsBatch (creation 1 101 120 ∷ []) [] (is_batch 1 101 120 taken_second) (All-nil IsBatch));
-  grow = both_grow;
-  is_fold = sym grown_both;
+abbrev both_batches : List (List Taken)
+both_batches = (creation 0 100 122 ∷ []) ∷ (creation 1 101 120 ∷ []) ∷ []
+
+both_spelled : spelling 0 100 122 ∷ spelling 1 101 120 ∷ [] ≡ map batch both_batches
+both_spelled = ap (λ (b : List ℕ). b ∷ spelling 1 101 120 ∷ []) (sym spelled_first) ∙ ap (λ (b : List ℕ). batch (creation 0 100 122 ∷ []) ∷ b ∷ []) (sym spelled_second)
+
+both_are : All IsBatch both_batches
+both_are =
+    All-cons IsBatch (creation 0 100 122 ∷ []) ((creation 1 101 120 ∷ []) ∷ []) (is_batch 0 100 122 taken_first)
+    (All-cons IsBatch (creation 1 101 120 ∷ []) [] (is_batch 1 101 120 taken_second) (All-nil IsBatch))
+
+both_stand : (pick : Pick) → StandFor (limits_of small) no_pairs (commands_of both_batches) pick with_both
+both_stand pick = record {
+  same_limits = refl;
+  count = lit≤ tt;
+  each = both_stands pick;
+  names = names_differ (record_with 100 122) (record_with 101 120) (λ same. absurd cc);
 }
 
-pub created_twice_found : Found created_twice with_both
-created_twice_found = record {
+pub created_twice_found : (pick : Pick) → Found created_twice pick with_both
+created_twice_found pick = record {
   shape = small;
+  cells = no_pairs;
   table = Some second_segment ∷ None ∷ [];
-  batches = (creation 0 100 122 ∷ []) ∷ (creation 1 101 120 ∷ []) ∷ [];
-  laid_out = created_twice_laid_out;
-  stand = both_stand;
+  batches = both_batches;
+  holds = record { laid_out = created_twice_laid_out; spell = record { spelled = both_spelled; each = both_are } };
+  stand = both_stand pick;
 }
 
 -- the second one in the first slot, as segment 2, and the first one in the second slot, as segment 1
@@ -321,19 +377,27 @@ turned_older = record {
   bodies = record { gate = 0; behind = replicate 196 0; split = refl; closed = zero_is_closed; each = (record { some = lit< tt; short = lit< tt }, tt) };
 }
 
+turned_cells : HoldsCells turned small no_pairs
+turned_cells = record {
+  count = refl;
+  each = two (λ number. HoldsPair (cells_place small number) 256 number turned no_cells)
+      (record { first = zero_is_closed; second = zero_is_closed }) (record { first = zero_is_closed; second = zero_is_closed });
+}
+
 -- the batches count in order of the segments' numbers
-pub turned_found : Found turned with_both
-turned_found = record {
+pub turned_found : (pick : Pick) → Found turned pick with_both
+turned_found pick = record {
   shape = small;
+  cells = no_pairs;
   table = Some newer_segment ∷ Some first_segment ∷ [];
-  batches = (creation 0 100 122 ∷ []) ∷ (creation 1 101 120 ∷ []) ∷ [];
-  laid_out = record {
-    formatted = record { long = lit≤ tt; gate = refl };
-    named = refl;
-    in_range = refl;
-    long = lit≤ tt;
-    cells = four (λ k. IsClosed turned (cell_place small k)) zero_is_closed zero_is_closed zero_is_closed zero_is_closed;
-    slots = slots_hold turned (Some newer_segment) (Some first_segment) turned_newer turned_older (two_differ (Some 2) (Some 1) (λ n is other. absurd cc));
+  batches = both_batches;
+  holds = record {
+    laid_out = record {
+      names = record { formatted = record { long = lit≤ tt; gate = refl }; named = refl; in_range = refl; long = lit≤ tt };
+      cells = turned_cells;
+      slots = slots_hold turned (Some newer_segment) (Some first_segment) turned_newer turned_older (two_differ (Some 2) (Some 1) (λ n is other. absurd cc));
+    };
+    spell = record { spelled = both_spelled; each = both_are };
   };
-  stand = both_stand;
+  stand = both_stand pick;
 }

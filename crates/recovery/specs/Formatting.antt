@@ -2,12 +2,13 @@
 use Rattle.std.specs.Prelude.{◌≡◌, ◌⊎◌, ℕ, ◌*◌, ◌<◌, ◌≤◌, true, Option, None, List, [], length, replicate, take, drop}
 use Rattle.disk.specs.Device.{History, IsSync, IsAtMostOneStep}
 use Rattle.disk.specs.Crash.{Leaves}
+use Rattle.history.specs.Cell.{no_cells}
 use Rattle.segments.specs.Slot.{Segment}
 use Rattle.segments.specs.Table.{slot_place}
 use Rattle.recovery.specs.declared.shape.Shape.{Shape}
 use Rattle.recovery.specs.Shape.{is_in_range, layout_length, cell_place, slots_place, superblock}
 use Rattle.recovery.specs.Layout.{IsClosed, IsLaidOut}
-use Rattle.recovery.specs.Found.{Found, empty_state}
+use Rattle.recovery.specs.Found.{FoundAs, empty_state}
 
 -- a shape in range, and a device of so many bytes has room for its layout
 pub record Fits (shape : Shape) (size : ℕ) : Type 0 where
@@ -24,8 +25,8 @@ empty_table shape = replicate shape.slots None
 
 -- a store of this shape, in which no slot is open, and which stands for no documents
 pub record IsEmptyStore (shape : Shape) (content : List ℕ) : Type 0 where
-  pub laid_out : IsLaidOut content shape (empty_table shape)
-  pub found : Found content (empty_state shape)
+  pub laid_out : IsLaidOut content shape (replicate shape.docs no_cells) (empty_table shape)
+  pub found : FoundAs content (empty_state shape)
 
 -- what a crash may leave while a device is being formatted
 abbrev pub IsUnformattedOrEmpty : Shape → List ℕ → Type 0

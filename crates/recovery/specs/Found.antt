@@ -1,10 +1,13 @@
--- Which state the content of a device stands for.
-use Rattle.std.specs.Prelude.{◌≡◌, ℕ, ◌-◌, true, Option, List, [], map, All}
+-- Which parts the content of a device holds, and which state they stand for.
+use Rattle.std.specs.Prelude.{◌≡◌, ℕ, ◌-◌, Option, List, [], map, All}
 use Rattle.std.specs.List.{flat_map}
 use Rattle.revision.specs.Command.{Taken}
-use Rattle.journal.specs.BatchSpelling.{IsBatch, batch}
-use Rattle.revision.specs.State.{Limits, State, fold, all_grow}
+use Rattle.revision.specs.State.{Limits, State}
 use Rattle.revision.specs.Agree.{Agree}
+use Rattle.journal.specs.BatchSpelling.{IsBatch, batch}
+use Rattle.history.specs.Cell.{Pair, Pick}
+use Rattle.history.specs.Found.{StandFor}
+use Rattle.history.specs.Running.{Runs}
 use Rattle.segments.specs.Slot.{Segment}
 use Rattle.segments.specs.Order.{bodies_of}
 use Rattle.recovery.specs.declared.shape.Shape.{Shape}
@@ -22,24 +25,46 @@ empty_state shape = record { limits = limits_of shape; documents = [] }
 abbrev pub commands_of : List (List Taken) → List Taken
 commands_of batches = flat_map (λ commands. commands) batches
 
--- Bodies stand for a state: they are spelled batches, of which each command continues what those before it made.
-pub record StandFor (shape : Shape) (bodies : List (List ℕ)) (batches : List (List Taken)) (state : State) : Type 0 where
-  pub spelled : bodies ≡ map batch batches
+-- The slots spell batches: each body of theirs, the oldest segment's first, is the spelling of one.
+pub record SpellBatches (table : List (Option Segment)) (batches : List (List Taken)) : Type 0 where
+  pub spelled : bodies_of table ≡ map batch batches
   pub each : All IsBatch batches
-  pub grow : all_grow (empty_state shape) (commands_of batches) ≡ true
-  pub is_fold : state ≡ fold (empty_state shape) (commands_of batches)
 
--- The state that the whole content of a device stands for: that of the bodies of its slots, the oldest segment's first.
--- Where a rule fails there is none.
-pub record Found (content : List ℕ) (state : State) : Type 0 where
+-- What a content holds, by its bytes alone: a shape, two cells for each document number, and for each slot nothing or a segment,
+-- whose bodies spell batches.
+pub record HoldsParts (content : List ℕ) (shape : Shape) (cells : List Pair) (table : List (Option Segment)) (batches : List (List Taken)) : Type 0 where
+  pub laid_out : IsLaidOut content shape cells table
+  pub spell : SpellBatches table batches
+
+-- The state that the whole content of a device stands for, by a pick of the newer or the older cell of each document. Where a rule
+-- fails there is none.
+pub record Found (content : List ℕ) (pick : Pick) (state : State) : Type 0 where
   pub shape : Shape
+  pub cells : List Pair
   pub table : List (Option Segment)
   pub batches : List (List Taken)
-  pub laid_out : IsLaidOut content shape table
-  pub stand : StandFor shape (bodies_of table) batches state
+  pub holds : HoldsParts content shape cells table batches
+  pub stand : StandFor (limits_of shape) cells (commands_of batches) pick state
 
--- The content stands for a state that agrees with this one.
-pub record FoundAs (content : List ℕ) (state : State) : Type 0 where
+-- by a pick the content stands for a state that agrees with this one
+pub record FoundBy (pick : Pick) (content : List ℕ) (state : State) : Type 0 where
   pub there : State
-  pub found : Found content there
+  pub found : Found content pick there
   pub agrees : Agree there state
+
+-- The content is that of a store which runs with this state: its cells and its entries are of one order of commands, which began
+-- without any document, and which the state shows.
+pub record RunsWith (content : List ℕ) (state : State) : Type 0 where
+  pub shape : Shape
+  pub cells : List Pair
+  pub table : List (Option Segment)
+  pub batches : List (List Taken)
+  pub order : List Taken
+  pub holds : HoldsParts content shape cells table batches
+  pub limits : state.limits ≡ limits_of shape
+  pub runs : Runs order cells (commands_of batches) state
+
+-- The content stands, by either pick, for a state that agrees with this one, and a store that is opened on it goes on.
+pub record FoundAs (content : List ℕ) (state : State) : Type 0 where
+  pub by_either : (pick : Pick) → FoundBy pick content state
+  pub runs : RunsWith content state

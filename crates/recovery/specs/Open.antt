@@ -4,14 +4,15 @@ use Rattle.disk.specs.declared.device.Disk.{Ghosts}
 use Rattle.revision.specs.Command.{Taken}
 use Rattle.journal.specs.BatchSpelling.{batch_width}
 use Rattle.revision.specs.State.{State, fold}
+use Rattle.history.specs.Cell.{Pair}
+use Rattle.history.specs.Running.{Runs}
 use Rattle.segments.specs.Slot.{Segment}
-use Rattle.segments.specs.Order.{bodies_of}
+use Rattle.segments.specs.declared.ring.Ring.{Ring}
 use Rattle.segments.specs.Ring.{Fits, at_of, size_of, fits_newest}
 use Rattle.segments.specs.Room.{has_room_for}
 use Rattle.recovery.specs.declared.store.Store.{Store}
 use Rattle.recovery.specs.Shape.{slots_place}
-use Rattle.recovery.specs.Layout.{IsLaidOut}
-use Rattle.recovery.specs.Found.{StandFor, FoundAs}
+use Rattle.recovery.specs.Found.{limits_of, commands_of, HoldsParts, FoundAs}
 
 -- a content that stands for a state that agrees with the one before a batch, or with the one with it
 abbrev pub IsWithOrWithout : State → List Taken → List ℕ → Type 0
@@ -26,6 +27,10 @@ module _ {D : Type 0} {disk : Ghosts D} where
   -- the device under a store
   abbrev pub device_of : Store D disk → D
   device_of store = store.device
+
+  -- the ring of its slots
+  abbrev pub ring_of : Store D disk → Ring
+  ring_of store = store.ring
 
   -- the state that a store holds
   abbrev pub state_of : Store D disk → State
@@ -51,20 +56,17 @@ module _ {D : Type 0} {disk : Ghosts D} where
     pub state : new.state ≡ old.state
     pub failed : new.failed ≡ old.failed
 
-  -- The device is synced, its content stands for the state that the store holds, and the ring is that of its slots.
+  -- The device is synced, and a store runs on it with the state that is held: its content holds these parts, the ring is that of its
+  -- slots, and its cells and entries are of the order of commands that the state shows.
   pub record IsOpen (store : Store D disk) : Type 0 where
     pub synced : disk.unsynced store.device ≡ []
+    pub cells : List Pair
     pub table : List (Option Segment)
     pub batches : List (List Taken)
-    pub laid_out : IsLaidOut (disk.seen store.device) store.shape table
+    pub order : List Taken
+    pub holds : HoldsParts (disk.seen store.device) store.shape cells table batches
     pub fits : Fits (disk.seen store.device) store.ring table
     pub ring_at : at_of store.ring ≡ slots_place store.shape
     pub ring_size : size_of store.ring ≡ store.shape.slot
-    pub stand : StandFor store.shape (bodies_of table) batches store.state
-
--- A store was open over this device, and held this state, when the device was given back.
-pub record WasOpen {D : Type 0} (disk : Ghosts D) (device : D) (state : State) : Type 0 where
-  pub store : Store D disk
-  pub is_open : IsOpen store
-  pub over : device_of store ≡ device
-  pub holds : state_of store ≡ state
+    pub limits : store.state.limits ≡ limits_of store.shape
+    pub runs : Runs order cells (commands_of batches) store.state

@@ -17,6 +17,10 @@ is_in_range shape =
 abbrev pub cell_place : Shape → ℕ → ℕ
 cell_place shape k = 64 + k * shape.cell
 
+-- where the two cells of the document of a number begin, one behind the other
+abbrev pub cells_place : Shape → ℕ → ℕ
+cells_place shape number = 64 + number * (2 * shape.cell)
+
 -- where the slots begin, one behind another
 abbrev pub slots_place : Shape → ℕ
 slots_place shape = 64 + 2 * shape.docs * shape.cell

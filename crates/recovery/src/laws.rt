@@ -3,25 +3,33 @@
 ghost use Rattle.std.specs.Prelude.{◌≡◌, ℕ, true, List, [], ◌∷◌};
 ghost use Rattle.revision.specs.Command.{Taken};
 ghost use Rattle.revision.specs.State.{State, grows};
-ghost use Rattle.recovery.specs.Found.{Found, FoundAs};
+ghost use Rattle.revision.specs.Agree.{Agree};
+ghost use Rattle.history.specs.Cell.{Pick};
+ghost use Rattle.recovery.specs.Found.{Found, FoundAs, RunsWith};
 ghost use Rattle.recovery.specs.Open.{FitsSlot, IsOpen, device_of, state_of};
 ghost use Rattle.recovery.specs.declared.store.Store.{Store};
 
 use disk::Disk;
 
-/// A content is found as one state at most.
+/// By each pick a content is found as one state at most.
 pub fn found_once()
-    ensures { (content : List ℕ) (a b : State) → Found content a → Found content b → a ≡ b }
+    ensures { (content : List ℕ) (pick : Pick) (a b : State) → Found content pick a → Found content pick b → a ≡ b }
 {}
 
-/// The device under an open store is found as the state that the store holds.
+/// The device under an open store is that of a store which runs with the state that is held.
 pub fn found_open<D: Disk>()
-    ensures { (store : Store D ⟦<D as Disk>⟧) → IsOpen store → Found (D.seen (device_of store)) (state_of store) }
+    ensures { (store : Store D ⟦<D as Disk>⟧) → IsOpen store → RunsWith (D.seen (device_of store)) (state_of store) }
 {}
 
-/// What a content is found as, it is found as one that agrees with that.
+/// The content of a store that runs with a state is found, by either pick, as one that agrees with that.
 pub fn found_as()
-    ensures { (content : List ℕ) (state : State) → Found content state → FoundAs content state }
+    ensures { (content : List ℕ) (state : State) → RunsWith content state → FoundAs content state }
+{}
+
+/// Whichever state such a content is found as, it agrees with that one, and the store runs on with it.
+pub fn found_again()
+    ensures { (content : List ℕ) (state : State) (pick : Pick) (found : State) → FoundAs content state → Found content pick found
+        → Agree found state × RunsWith content found }
 {}
 
 /// A command that continues a state fits a slot alone.

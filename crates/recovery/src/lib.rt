@@ -1,8 +1,9 @@
 //! The store: how a device is formatted, opened and written.
 //!
-//! A device has a superblock that names the store's shape, cells (so far none is written) and the slots of the journal's
-//! ring. To the layer above the crate promises which state the content of a device stands for, and what a crash at any
-//! moment of a call leaves of it. It stands on `segments`, `journal` and `disk`.
+//! A device has a superblock that names the store's shape, two cells for each document, each of which may hold the document at
+//! a revision, and the slots of the journal's ring. To the layer above the crate promises which state the content of a device
+//! stands for, by the newer or the older cell of each document, and what a crash at any moment of a call leaves of it. It
+//! stands on `segments`, `milestone`, `journal` and `disk`; what the parts of a store stand for is a matter of values, `history`.
 //!
 //! A caller, with its contract, which is proved as it stands:
 //!
@@ -38,6 +39,7 @@ mod store;
 mod superblock;
 
 pub use formatting::format_device;
+pub use history::Pick;
 pub use run::{Stop, StoreStep};
 pub use shape::Shape;
 pub use store::{OpenFault, Store};

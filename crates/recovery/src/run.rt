@@ -56,6 +56,8 @@ impl<D: Disk> Store<D> {
         ensures stranger { IfErr result (λ stop. stop.refusal ≡ Stranger → all_grow (state_of self.new) (batch_at steps.now stop.at) ≡ false) }
         ensures fault { IfErr result (λ stop. stop.refusal ≡ Fault → has_failed self.old ≡ false
             → Rose (D.faults (device_of self.old)) (D.faults (device_of self.new))) }
+        ensures no_fault { IfErr result (λ stop. stop.refusal ≢ Fault → D.faults (device_of self.new) ≡ D.faults (device_of self.old)) }
+        ensures good { OnOk result (D.faults (device_of self.new) ≡ D.faults (device_of self.old)) }
         ensures only { IfErr result (λ stop. ((stop.refusal ≡ JournalFull) ⊎ (stop.refusal ≡ Stranger)) ⊎ ((stop.refusal ≡ NoMemory) ⊎ (stop.refusal ≡ Fault))) }
 
         ensures works { OnOk result (has_failed self.old ≡ false → has_failed self.new ≡ false) }

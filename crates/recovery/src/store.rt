@@ -4,13 +4,14 @@ ghost use Rattle.disk.specs.Calls.{HasOnlyWritten, CountsFaultsAs};
 ghost use Rattle.disk.specs.Crash.{LeavesOnly};
 ghost use Rattle.journal.specs.BatchSpelling.{IsBatch, batch as spelled, batch_width};
 ghost use Rattle.segments.specs.Slot.{Segment};
-ghost use Rattle.segments.specs.Ring.{Fits, SamePlaces, IsLeftReady, IsLeftByAppend, end_of, size_of, fits_newest};
+ghost use Rattle.segments.specs.Ring.{Fits, SamePlaces, IsSameOrOpened, IsLeftReady, IsLeftByAppend, end_of, size_of, fits_newest};
 ghost use Rattle.recovery.specs.steps.Appending.{IsDone, IsGivenUp};
 ghost use Rattle.segments.specs.Room.{has_room_for};
 
 use crate::reading::read_store;
 use crate::shape::Shape;
 use disk::Disk;
+use history::Pick;
 use journal::{batch_len, encode_batch};
 use refusal::Refusal;
 use revision::{State, Taken};
@@ -43,23 +44,25 @@ impl<D: Disk> Store<D> {
     ghost use Rattle.revision.specs.State.{State as StateValue};
     ghost use Rattle.recovery.specs.Layout.{IsFormatted};
     ghost use Rattle.recovery.specs.Found.{Found, FoundAs};
+    ghost use Rattle.revision.specs.Agree.{Agree};
     ghost use Rattle.revision.specs.State.{fold, all_grow};
-    ghost use Rattle.recovery.specs.Open.{FitsSlot, IsOpen, WasOpen, IsUnchanged, IsWithOrWithout, device_of, state_of, has_failed, has_room, fits_newest_segment};
+    ghost use Rattle.recovery.specs.Open.{FitsSlot, IsOpen, IsUnchanged, IsWithOrWithout, device_of, ring_of, state_of, has_failed, has_room, fits_newest_segment};
 
-    /// Opens a formatted device: syncs it, then reads, and writes nothing. `NotFormatted` comes just where the
-    /// superblock's gate is closed or the device has less than 64 bytes, `Damaged` just where a formatted device's
-    /// content stands for no state, `Fault` where a call of the device failed, and `NoMemory`. The device comes back
-    /// with the refusal, and its content is as it was on every path.
-    pub fn open(alloc: Global, disk: D) -> Result<Store<D>, OpenFault<D>>
-        // What is read stands for the state that the store holds, and for no other.
-        ensures open { IfOk result (λ store. D.honest (device_of store) → IsOpen store) }
-        ensures found { IfOk result (λ store. D.honest (device_of store) → Found (D.seen disk) (state_of store)) }
-        ensures only_state { IfOk result (λ store. D.honest (device_of store) → (state : StateValue) → Found (D.seen disk) state → state ≡ state_of store) }
+    /// Opens a formatted device, by the newer or the older cell of each document: syncs it, then reads, and writes nothing.
+    /// `NotFormatted` comes just where the superblock's gate is closed or the device has less than 64 bytes, `Damaged` just
+    /// where a formatted device's content stands for no state by that pick, `Fault` just where a call of the device failed,
+    /// and `NoMemory`. The device comes back with the refusal, and its content is as it was on every path.
+    pub fn open(alloc: Global, disk: D, pick: Pick) -> Result<Store<D>, OpenFault<D>>
+        // What is read stands, by this pick, for the state that the store holds, and for no other.
+        ensures found { IfOk result (λ store. D.honest (device_of store) → Found (D.seen disk) pick (state_of store)) }
+        ensures only_state { IfOk result (λ store. D.honest (device_of store) → (state : StateValue) → Found (D.seen disk) pick state → state ≡ state_of store) }
         ensures works { IfOk result (λ store. has_failed store ≡ false) }
 
-        // A device on which a store was open is opened again with the state that the store held.
-        ensures again { IfOk result (λ store. D.honest (device_of store) → (state : StateValue) → WasOpen ⟦<D as Disk>⟧ disk state → state_of store ≡ state) }
-        ensures again_or { IfErr result (λ fault. D.honest fault.disk → (state : StateValue) → WasOpen ⟦<D as Disk>⟧ disk state
+        // Where the content is that of a store which ran with some state, the store goes on, with a state that agrees with
+        // that one, and nothing but the device or want of memory can refuse it.
+        ensures open { IfOk result (λ store. D.honest (device_of store) → (state : StateValue) → FoundAs (D.seen disk) state
+            → IsOpen store × Agree (state_of store) state) }
+        ensures open_or { IfErr result (λ fault. D.honest fault.disk → (state : StateValue) → FoundAs (D.seen disk) state
             → (fault.refusal ≡ Refusal.NoMemory) ⊎ (fault.refusal ≡ Refusal.Fault)) }
 
         // From then on every crash leaves what was read.
@@ -67,8 +70,11 @@ impl<D: Disk> Store<D> {
 
         // When each refusal comes.
         ensures not_formatted { IfErr result (λ fault. fault.refusal ≡ Refusal.NotFormatted → D.honest fault.disk → ¬ IsFormatted (D.seen disk)) }
-        ensures damaged { IfErr result (λ fault. fault.refusal ≡ Refusal.Damaged → D.honest fault.disk → IsFormatted (D.seen disk) × ((state : StateValue) → ¬ Found (D.seen disk) state)) }
+        ensures damaged { IfErr result (λ fault. fault.refusal ≡ Refusal.Damaged → D.honest fault.disk → IsFormatted (D.seen disk)
+            × ((state : StateValue) → ¬ Found (D.seen disk) pick state)) }
         ensures fault { IfErr result (λ fault. fault.refusal ≡ Refusal.Fault → Rose (D.faults disk) (D.faults fault.disk)) }
+        ensures no_fault { IfErr result (λ fault. fault.refusal ≢ Refusal.Fault → D.faults fault.disk ≡ D.faults disk) }
+        ensures good { IfOk result (λ store. D.faults (device_of store) ≡ D.faults disk) }
         ensures only { IfErr result (λ fault. (fault.refusal ≡ Refusal.NotFormatted)
             ⊎ ((fault.refusal ≡ Refusal.Damaged) ⊎ ((fault.refusal ≡ Refusal.NoMemory) ⊎ (fault.refusal ≡ Refusal.Fault)))) }
 
@@ -80,7 +86,7 @@ impl<D: Disk> Store<D> {
         ensures honest { IfOk result (λ store. D.honest (device_of store) → D.honest disk) }
     {
         let mut device = disk;
-        match read_store(alloc, &mut device) {
+        match read_store(alloc, &mut device, pick) {
             Ok(recovered) => Ok(Store {
                 device,
                 shape: recovered.shape,
@@ -152,6 +158,7 @@ impl<D: Disk> Store<D> {
         ensures works { OnOk result (has_failed self.new ≡ false) }
         ensures untouched { (IsErrOf result Refusal.JournalFull) ⊎ (IsErrOf result Refusal.Stranger) → IsUnchanged self.old self.new }
         ensures good { OnOk result (D.faults (device_of self.new) ≡ D.faults (device_of self.old)) }
+        ensures no_fault { IfErr result (λ e. e ≢ Refusal.Fault → D.faults (device_of self.new) ≡ D.faults (device_of self.old)) }
 
         // A crash at any moment of the call leaves the state before it, or the one with the batch.
         ensures any_moment { has_failed self.old ≡ false → IsOpen self.old
@@ -162,6 +169,11 @@ impl<D: Disk> Store<D> {
         // Once it is Ok, the device is synced and stands for the state with the batch.
         ensures done { OnOk result (IsOpen self.old → IsOpen self.new) }
         ensures kept { IfErr result (λ e. e ≢ Refusal.Fault → IsOpen self.old → IsOpen self.new) }
+
+        // Where memory ran out a slot may have been opened for it, in four calls at most, and only where it doesn't fit the newest segment.
+        ensures given_up { IsErrOf result Refusal.NoMemory → IsSameOrOpened (ring_of self.old) (ring_of self.new) }
+        ensures calls_given_up { IsErrOf result Refusal.NoMemory → length (D.past (device_of self.new)) ≤ length (D.past (device_of self.old)) + 4 }
+        ensures given_up_where_it_fits { IsErrOf result Refusal.NoMemory → fits_newest_segment self.old batch.now ≡ true → IsUnchanged self.old self.new }
 
         // Eight calls of the device at most: four for the record, and four for a slot that is opened for it.
         ensures calls { length (D.past (device_of self.new)) ≤ length (D.past (device_of self.old)) + 8 }
@@ -241,6 +253,9 @@ fn append_batch<D: Disk>(
         → IsGivenUp (D.seen disk.old) ring.old (batch_width batch.now) table (D.seen disk.new) ring.new }
     ensures still_synced { IsErrOf result Refusal.NoMemory → D.unsynced disk.old ≡ [] → D.unsynced disk.new ≡ [] }
 
+    ensures same_or_opened { IsErrOf result Refusal.NoMemory → IsSameOrOpened ring.old ring.new }
+    ensures calls_given_up { IsErrOf result Refusal.NoMemory → length (D.past disk.new) ≤ length (D.past disk.old) + 4 }
+    ensures given_up_where_it_fits { IsErrOf result Refusal.NoMemory → fits_newest ring.old (batch_width batch.now) ≡ true → (disk.new ≡ disk.old) × (ring.new ≡ ring.old) }
     ensures calls { length (D.past disk.new) ≤ length (D.past disk.old) + 8 }
     ensures calls_where_it_fits { fits_newest ring.old (batch_width batch.now) ≡ true → length (D.past disk.new) ≤ length (D.past disk.old) + 4 }
     ensures only_written { HasOnlyWritten ⟦<D as Disk>⟧ disk.old disk.new }

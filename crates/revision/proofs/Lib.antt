@@ -6,6 +6,7 @@ mod Untouched
 mod Indexed
 mod OneMore
 mod Noted
+mod Named
 mod Following
 mod Light
 mod LettingGo
@@ -15,6 +16,7 @@ pub mod Taking
 pub mod Admitting
 pub mod Room
 pub mod Replays
+mod Replaying
 pub mod Kept
 pub mod Told
 pub mod Changing

@@ -6,7 +6,7 @@ use Rattle.delta.specs.Operation.{Operation, base_of, out_of}
 use Rattle.delta.specs.Gaps.{counted, apply}
 use Rattle.document.specs.Outcome.{IsAccepted}
 use Rattle.compose.specs.Many.{applied}
-use Rattle.revision.specs.declared.past.Taker.{Taker}
+use Rattle.revision.specs.declared.taker.Taker.{Taker}
 use Rattle.revision.specs.Past.{Past, Content, Change, Prepared, Parts, AreParts, newest, newest_units, deltas_of, deltas_in, content_at, deltas_above, from_floor, with_changes, changes_by, whole_past, seen, prepared_units, prepared_revision, without_last}
 use Rattle.revision.specs.Past.{way_back_late}
 use Rattle.revision.specs.Late.{HasRoom, all_inserted}

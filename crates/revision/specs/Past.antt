@@ -12,7 +12,7 @@ use Rattle.compose.specs.Inverse.{inverse}
 use Rattle.compose.specs.Many.{applied}
 use Rattle.revision.specs.Late.{late}
 use Rattle.revision.specs.Sources.{Sources, sources_code, with_last}
-use Rattle.revision.specs.declared.past.Taker.{Taker}
+use Rattle.revision.specs.declared.taker.Taker.{Taker}
 
 -- each delta stands on what those before it leave: the document there has all units that it speaks of, it parts no pair, and
 -- the document after it has at most 2^48 units

@@ -3,7 +3,8 @@ ghost use Rattle.std.specs.Prelude.{◌≡◌, ◌↔◌, ◌+◌, ◌≤◌, �
 ghost use Rattle.delta.specs.Operation.{base_of, out_of};
 ghost use Rattle.delta.specs.Gaps.{counted, apply};
 ghost use Rattle.revision.specs.Late.{late as late_edit, HasCommandRoom};
-ghost use Rattle.revision.specs.Past.{empty_past, newest, content_at, deltas_of, deltas_above, undo_of, with_changes, prepared_units, prepared_revision};
+ghost use Rattle.compose.specs.Many.{applied};
+ghost use Rattle.revision.specs.Past.{empty_past, StandInTurn, newest, content_at, sources_at, deltas_of, deltas_above, undo_of, with_changes, prepared_units, prepared_revision};
 ghost use Rattle.document.specs.Outcome.{IsAccepted};
 ghost use Rattle.revision.specs.Sources.{last_of, with_last};
 ghost use Rattle.revision.specs.State.{revision_of, units_of, sources_of, follows, change_of};
@@ -11,7 +12,7 @@ ghost use Rattle.revision.specs.Pending.{held, with_prepared, comes_next as spec
 
 use crate::limits::Limits;
 use crate::name::Name;
-use crate::past::Past;
+use crate::past::{Past, Replay};
 use crate::source_table::SourceTable;
 use crate::sources::{LastTaken, Sources};
 use crate::taken::Taken;
@@ -214,6 +215,19 @@ impl DocState {
         ensures only { IsOkUnless result Refusal.NoMemory }
     {
         self.past.document_at(alloc, revision)
+    }
+
+    /// What leads from the empty document to a revision that is held: deltas in turn, and the sources there. It copies, and applies
+    /// no delta. Refused for want of memory alone.
+    pub fn replay_to(&self, alloc: Global, revision: u64) -> Result<Replay, Refusal>
+        requires held { self.now.past.past.floor ≤ revision }
+        requires there { revision ≤ newest self.now.past.past }
+        ensures stand { IfOk result (λ replay. StandInTurn [] replay.deltas.items) }
+        ensures units { IfOk result (λ replay. applied [] replay.deltas.items ≡ (content_at self.now.past.past revision).units) }
+        ensures sources { IfOk result (λ replay. replay.sources ≡ sources_at self.now.past.past revision) }
+        ensures only { IsOkUnless result Refusal.NoMemory }
+    {
+        self.past.replay_to(alloc, revision)
     }
 
     /// An edit that was made on a revision that is held, late past what was taken since. Its lengths are those of a

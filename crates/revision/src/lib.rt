@@ -27,15 +27,17 @@ mod source_table;
 mod sources;
 mod state;
 mod taken;
+mod taker;
 mod widths;
 
 pub use command::{Action, Command};
 pub use doc_state::DocState;
 pub use limits::Limits;
 pub use name::Name;
-pub use past::{Past, Taker};
+pub use past::{Past, Replay};
 pub use planning::{Plan, Reply};
 pub use sources::{LastTaken, Sources};
 pub use state::{PreparedState, State, Unprepared};
 pub use taken::Taken;
+pub use taker::Taker;
 pub use widths::delta_width;

@@ -80,6 +80,20 @@ impl Name {
     }
 }
 
+impl PartialEq for Name {
+    ghost use Rattle.std.specs.Str.{bytes_eq};
+    ghost use Rattle.std.specs.Cmp.{decided, partial_equiv_from_equiv};
+    ghost use Rattle.std.specs.Cmp.Lexicographic.{bytes_decides};
+
+    ghost eq = { bytes_eq };
+
+    ghost laws = { partial_equiv_from_equiv (decided bytes_eq bytes_decides) };
+
+    fn eq(&self, other: &Self) -> bool {
+        self.text == other.text
+    }
+}
+
 fn is_name_of(text: &str, longest: usize) -> bool
     ensures { result ≡ is_name longest text.now }
 {

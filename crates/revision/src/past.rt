@@ -1,16 +1,18 @@
 //! A document's past, as far back as it is held.
-ghost use Rattle.std.specs.Prelude.{◌≡◌, ◌+◌, ◌≤◌, ◌<◌, ◌^◌, ◌∷◌, ◌++◌, [], length, take, drop, IfOk, OnOk, OnErr, IsOkUnless};
+ghost use Rattle.std.specs.Prelude.{◌≡◌, ◌+◌, ◌≤◌, ◌<◌, ◌^◌, ◌∷◌, ◌++◌, [], true, length, take, drop, IfOk, OnOk, OnErr, IsOkUnless};
 ghost use Rattle.delta.specs.Operation.{base_of, out_of};
 ghost use Rattle.delta.specs.Gaps.{counted, apply};
 ghost use Rattle.document.specs.Outcome.{IsAccepted};
 ghost use Rattle.compose.specs.Many.{applied};
 ghost use Rattle.revision.specs.Late.{late as late_edit, all_inserted, HasCommandRoom};
-ghost use Rattle.revision.specs.Past.{StandInTurn, newest, content_at, deltas_of, deltas_above, undo_of, way_back, way_back_late, with_changes, prepared_units, prepared_revision, without_last, sources_after, changes_by};
+ghost use Rattle.revision.specs.Past.{StandInTurn, newest, content_at, deltas_of, deltas_above, undo_of, way_back, way_back_late, with_changes, prepared_units, prepared_revision, without_last, sources_after, sources_at, changes_by};
+ghost use Rattle.revision.specs.Name.{is_source_name};
 ghost use Rattle.revision.specs.Sources.{with_last};
 
 use crate::late::{late, past_all};
 use crate::name::Name;
 use crate::sources::Sources;
+use crate::taker::Taker;
 use compose::invert;
 use delta::Delta;
 use document::Document;
@@ -20,13 +22,6 @@ use std::marker::Model;
 
 /// So many revisions lie below the floor at most before they are let go of.
 const MOST_BELOW: u64 = 512;
-
-/// The source of a change, with its number for it.
-#[derive(Drop)]
-pub struct Taker {
-    source: Name,
-    number: u64,
-}
 
 /// The lowest revision that is held, the floor, with the document and the sources there, and the changes of the revisions after
 /// it. The document that is kept may be older: what is seen is computed from it, so that the floor rises without a copy.
@@ -42,6 +37,14 @@ pub struct Past {
     takers: Vec<Taker>,
     deltas: Vec<Delta>,
     count: usize,
+}
+
+/// What leads from the empty document to a revision: deltas in turn, of which the first inserts what stood in an older revision,
+/// and the sources there.
+#[derive(Drop)]
+pub struct Replay {
+    pub deltas: Vec<Delta>,
+    pub sources: Sources,
 }
 
 impl Model for Past {
@@ -113,6 +116,24 @@ impl Past {
         document_after(alloc, &self.document, self.deltas.as_slice(), count)
     }
 
+    /// What leads from the empty document to a revision that is held. It copies the document that is kept, which may be older than the
+    /// floor, and each delta from there on, and applies none. Refused for want of memory alone.
+    pub fn replay_to(&self, alloc: Global, revision: u64) -> Result<Replay, Refusal>
+        requires held { self.now.past.floor ≤ revision }
+        requires there { revision ≤ newest self.now.past }
+        ensures stand { IfOk result (λ replay. StandInTurn [] replay.deltas.items) }
+        ensures units { IfOk result (λ replay. applied [] replay.deltas.items ≡ (content_at self.now.past revision).units) }
+        ensures sources { IfOk result (λ replay. replay.sources ≡ sources_at self.now.past revision) }
+        ensures only { IsOkUnless result Refusal.NoMemory }
+    {
+        let count = (revision - self.start) as usize;
+        let takers = &self.takers.as_slice()[..count];
+        let taken = &self.deltas.as_slice()[..count];
+        let sources = noted_all(alloc, &self.sources, self.start, takers, taken)?;
+        let deltas = deltas_from_empty(alloc, &self.document, taken)?;
+        Ok(Replay { deltas, sources })
+    }
+
     /// An edit that was made on a revision that is held, late past what was taken since. Its lengths are those of a
     /// command's delta, at most 2^44 each. Refused for want of memory alone.
     pub fn late(&self, alloc: Global, edit: &Delta, revision: u64) -> Result<Delta, Refusal>
@@ -150,9 +171,11 @@ impl Past {
         self.start + self.deltas.len() as u64
     }
 
-    /// Prepares the change of the revision after all that was prepared: the document takes it there, and stays short. What is
-    /// seen of the past stays as it is. Refused for want of memory alone, and then nothing more is prepared.
+    /// Prepares the change of the revision after all that was prepared: its source's name has 1 to 32 characters, the document takes
+    /// it there, and stays short. What is seen of the past stays as it is. Refused for want of memory alone, and then nothing more
+    /// is prepared.
     pub fn prepare(&mut self, source: Name, number: u64, delta: Delta) -> Result<(), Refusal>
+        requires named { is_source_name source ≡ true }
         requires accepted { IsAccepted (prepared_units self.old) (counted delta) }
         requires short { length (apply (prepared_units self.old) (counted delta)) ≤ 2 ^ 29 }
         requires revision { prepared_revision self.old + 1 < 2 ^ 53 }
@@ -369,4 +392,55 @@ fn take_on(
     let source = taker.source.copy(alloc)?;
     sources.set(source, taker.number, revision)?;
     apply_taken(alloc, document, taken)
+}
+
+// The sources after these changes. Refused for want of memory alone.
+fn noted_all(
+    alloc: Global,
+    sources: &Sources,
+    start: u64,
+    takers: &[Taker],
+    deltas: &[Delta],
+) -> Result<Sources, Refusal>
+    requires same { length takers.now ≡ length deltas.now }
+    requires revision { start + length deltas.now < 2 ^ 53 }
+    ensures sources { IfOk result (λ noted. noted ≡ sources_after start sources.now (changes_by takers.now deltas.now)) }
+    ensures only { IsOkUnless result Refusal.NoMemory }
+{
+    let mut noted = sources.copy(alloc)?;
+    for i in 0..takers.len() {
+        let taker = &takers[i];
+        let source = taker.source.copy(alloc)?;
+        noted.set(source, taker.number, start + i as u64 + 1)?;
+    }
+    Ok(noted)
+}
+
+// The delta that makes a document of the empty one, and behind it copies of these. Refused for want of memory alone.
+fn deltas_from_empty(
+    alloc: Global,
+    document: &Document,
+    deltas: &[Delta],
+) -> Result<Vec<Delta>, Refusal>
+    requires stand { StandInTurn document.now deltas.now }
+    requires short { length document.now ≤ 2 ^ 29 }
+    ensures stand { IfOk result (λ all. StandInTurn [] all.items) }
+    ensures units { IfOk result (λ all. applied [] all.items ≡ applied document.now deltas.now) }
+    ensures only { IsOkUnless result Refusal.NoMemory }
+{
+    let mut all = Vec::new(alloc);
+    all.push(document.as_delta(alloc)?)?;
+    push_copies(alloc, &mut all, deltas)?;
+    Ok(all)
+}
+
+// Adds copies of these. Refused for want of memory alone.
+fn push_copies(alloc: Global, all: &mut Vec<Delta>, deltas: &[Delta]) -> Result<(), Refusal>
+    ensures ok { OnOk result (all.new.items ≡ all.old.items ++ deltas.now) }
+    ensures only { IsOkUnless result Refusal.NoMemory }
+{
+    for delta in deltas {
+        all.push(delta.copy(alloc)?)?;
+    }
+    Ok(())
 }

@@ -1,6 +1,7 @@
 //! The sources of a document, with what is prepared of them.
-ghost use Rattle.std.specs.Prelude.{◌≡◌, ℕ, IfOk, OnOk, OnErr, IsOkUnless};
+ghost use Rattle.std.specs.Prelude.{◌≡◌, ℕ, true, IfOk, OnOk, OnErr, IsOkUnless};
 ghost use Rattle.attributes.specs.Map.{empty};
+ghost use Rattle.revision.specs.Name.{is_source_name};
 ghost use Rattle.revision.specs.Sources.{with_last, with_entry, EqualBut};
 ghost use Rattle.attributes.specs.Map.{get};
 
@@ -83,7 +84,8 @@ impl SourceTable {
         }
     }
 
-    /// Prepares a source's command. Refused for want of memory alone, and then nothing more is prepared.
+    /// Prepares a command of a source, whose name has 1 to 32 characters. Refused for want of memory alone, and then nothing more is
+    /// prepared.
     pub fn prepare(
         &mut self,
         alloc: Global,
@@ -91,6 +93,7 @@ impl SourceTable {
         number: u64,
         revision: u64,
     ) -> Result<(), Refusal>
+        requires { is_source_name source.now ≡ true }
         ensures ok { OnOk result (self.new ≡ record self.old { prepared = with_last source.now number revision self.old.prepared }) }
         ensures only { IsOkUnless result Refusal.NoMemory }
         ensures unchanged { OnErr result (self.new ≡ self.old) }

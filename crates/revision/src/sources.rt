@@ -1,9 +1,10 @@
 //! The sources of a document.
-ghost use Rattle.std.specs.Prelude.{◌≡◌, ◌-◌, ◌^◌, ℕ, T, min, MatchResult, IfOk, OnOk, OnErr, IsOkUnless, length};
+ghost use Rattle.std.specs.Prelude.{◌≡◌, ◌-◌, ◌^◌, ℕ, T, true, min, MatchResult, IfOk, OnOk, OnErr, OnSome, IsOkUnless, length};
 ghost use Rattle.std.specs.FinMap.Entries.{is_sorted};
 ghost use Rattle.attributes.specs.Map.{by_bytes, empty, get, remove};
 ghost use Rattle.attributes.specs.Place.{IsHere, IsFree};
-ghost use Rattle.revision.specs.Sources.{count_of, last_of, with_last};
+ghost use Rattle.revision.specs.Name.{is_source_name};
+ghost use Rattle.revision.specs.Sources.{are_named, count_of, last_of, with_last};
 ghost use lib.Dec.{T_prop};
 
 use crate::name::Name;
@@ -19,7 +20,7 @@ pub struct LastTaken {
     pub revision: u64,
 }
 
-/// The sources of a document with what each has, in the order of the bytes of their names.
+/// The sources of a document with what each has, in the order of the bytes of their names, which have 1 to 32 characters.
 #[derive(Drop)]
 pub struct Sources {
     list: Vec<(Name, LastTaken)>,
@@ -27,14 +28,17 @@ pub struct Sources {
 }
 
 impl Model for Sources {
+    ghost use Rattle.std.specs.Prelude.{◌≡◌, true};
     ghost use Rattle.revision.specs.Sources as spec;
-    ghost use Rattle.revision.specs.Sources.{sources_code};
+    ghost use Rattle.revision.specs.Sources.{sources_code, are_named};
 
     ghost Value = { spec.Sources };
 
     ghost coded = { sources_code };
 
     ghost view = { λ s. record { entries = s.list.items; ascending = s.ascending } };
+
+    ghost invariant = { λ s. are_named s.list.items ≡ true };
 }
 
 impl Sources {
@@ -49,7 +53,8 @@ impl Sources {
 
     /// The sources in order.
     pub fn entries(&self) -> &[(Name, LastTaken)]
-        ensures { result.now ≡ self.now.entries }
+        ensures entries { result.now ≡ self.now.entries }
+        ensures named { are_named self.now.entries ≡ true }
     {
         self.list.as_slice()
     }
@@ -93,7 +98,8 @@ impl Sources {
 
     /// What a source has, where it is there.
     pub fn find(&self, source: &Name) -> Option<LastTaken>
-        ensures { result ≡ get self.now source.now }
+        ensures last { result ≡ get self.now source.now }
+        ensures named { OnSome result (is_source_name source.now ≡ true) }
     {
         match self.place(source.as_str()) {
             Ok(i) => Some(self.list[i].1),
@@ -112,9 +118,10 @@ impl Sources {
         }
     }
 
-    /// Notes the last command of a source. Refused for want of memory alone, and then unchanged; where the source is there it
-    /// takes none.
+    /// Notes the last command of a source, whose name has 1 to 32 characters. Refused for want of memory alone, and then unchanged;
+    /// where the source is there it takes none.
     pub fn set(&mut self, source: Name, number: u64, revision: u64) -> Result<(), Refusal>
+        requires { is_source_name source ≡ true }
         ensures ok { OnOk result (self.new ≡ with_last source number revision self.old) }
         ensures unchanged { OnErr result (self.new ≡ self.old) }
         ensures only { IsOkUnless result Refusal.NoMemory }
@@ -149,6 +156,19 @@ impl Sources {
         Ok(Sources {
             list: copy_of(alloc, self.entries())?,
         })
+    }
+}
+
+impl PartialEq for Sources {
+    ghost use Rattle.std.specs.Cmp.{decided, partial_equiv_from_equiv};
+    ghost use Rattle.revision.specs.Sources.{same_sources, same_sources-Decides};
+
+    ghost eq = { same_sources };
+
+    ghost laws = { partial_equiv_from_equiv (decided same_sources same_sources-Decides) };
+
+    fn eq(&self, other: &Self) -> bool {
+        self.entries() == other.entries()
     }
 }
 

@@ -36,4 +36,5 @@ mod reading;
 mod ring;
 mod room;
 
+pub use reading::RecoveredSegment;
 pub use ring::{RecoveredRing, Ring};

@@ -20,6 +20,13 @@ pub struct ReadSegment {
     pub bodies: Vec<Vec<u8>>,
 }
 
+/// A segment that was read: its number, and the bodies of its records by their places.
+#[derive(Drop)]
+pub struct RecoveredSegment {
+    pub number: u64,
+    pub bodies: Vec<Vec<u8>>,
+}
+
 // What a slot holds: one read of its head, and where its gate is open one of its area. `Damaged` comes just where it holds
 // nothing that a slot may hold.
 fn read_slot<D: Disk>(

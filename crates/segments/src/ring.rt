@@ -4,9 +4,9 @@ ghost use Rattle.std.specs.Int.{w64, to_le_bytes};
 ghost use Rattle.std.specs.Option.{ForSome};
 ghost use Rattle.disk.specs.Calls.{HasOnlyRead, HasOnlyWritten, CountsFaults, CountsFaultsAs};
 
-use crate::numbers::{differ, next_slot, oldest_of_two};
-use crate::order::bodies_in_order;
-use crate::reading::{newest_area, numbers_of, read_slots};
+use crate::numbers::{differ, newest, next_slot, oldest_of_two};
+use crate::order::in_order;
+use crate::reading::{RecoveredSegment, newest_area, numbers_of, read_slots};
 use crate::room::has_free;
 use disk::Disk;
 use journal::{Area, CLOSED, write_gated};
@@ -36,15 +36,15 @@ pub struct Ring {
 pub struct RecoveredRing {
     /// The ring, whose next calls go on behind what was read.
     pub ring: Ring,
-    /// The bodies of all segments, the oldest segment's first, and in a segment by their places.
-    pub bodies: Vec<Vec<u8>>,
+    /// The segments in order of their numbers, the oldest one first.
+    pub segments: Vec<RecoveredSegment>,
 }
 
 impl Ring {
     ghost use Rattle.disk.specs.Crash.{LeavesOnly};
     ghost use Rattle.journal.specs.Area.{Place};
     ghost use Rattle.segments.specs.Slot.{Segment};
-    ghost use Rattle.segments.specs.Numbers.{IsFull, IsNext, IsOldest, open_count};
+    ghost use Rattle.segments.specs.Numbers.{IsFull, IsNext, IsNewest, IsOldest, number_at, open_count};
     ghost use Rattle.segments.specs.Table.{slot_place, HoldsTable, IsOpened, IsAppended, IsRetired};
     ghost use Rattle.segments.specs.Ring.{at_of, size_of, known_numbers, end_of, fits_newest, Fits, FitsNow, SamePlaces, IsSameOrOpened, IsReady, IsLeftByOpening, IsLeftReady, IsLeftByAppend, IsLeftByRetiring};
     ghost use Rattle.segments.specs.Recovered.{IsReadAs};
@@ -79,14 +79,14 @@ impl Ring {
             return Err(Refusal::Damaged);
         }
         let newest = newest_area(&numbers, &slots);
-        let bodies = bodies_in_order(alloc, slots)?;
+        let segments = in_order(alloc, slots)?;
         let ring = Ring {
             at,
             size,
             numbers,
             newest,
         };
-        Ok(RecoveredRing { ring, bodies })
+        Ok(RecoveredRing { ring, segments })
     }
 
     /// Opens the next slot: the lowest one whose gate is closed, under the number one above the newest segment's, 1 where
@@ -161,6 +161,8 @@ impl Ring {
         // Four calls of the device at most, and four more where a slot is opened.
         ensures calls { length (D.past disk.new) ≤ length (D.past disk.old) + 8 }
         ensures calls_where_it_fits { fits_newest self.old (length body.now) ≡ true → length (D.past disk.new) ≤ length (D.past disk.old) + 4 }
+        ensures calls_given_up { IsErrOf result Refusal.NoMemory → length (D.past disk.new) ≤ length (D.past disk.old) + 4 }
+        ensures given_up_where_it_fits { IsErrOf result Refusal.NoMemory → fits_newest self.old (length body.now) ≡ true → (disk.new ≡ disk.old) × (self.new ≡ self.old) }
         ensures only_written { HasOnlyWritten ⟦<D as Disk>⟧ disk.old disk.new }
         ensures faults { CountsFaultsAs ⟦<D as Disk>⟧ Refusal.Fault result disk.old disk.new }
     {
@@ -207,6 +209,30 @@ impl Ring {
         ensures { result ≡ has_room_for self.now len }
     {
         self.newest_with_room(len).is_some() || has_free(&self.numbers)
+    }
+
+    /// Whether a body of so many bytes fits into the newest segment. Where it doesn't, or no slot is open, `append` opens a slot.
+    pub fn fits_newest(&self, len: u64) -> bool
+        requires { len < 2 ^ 62 }
+        ensures { result ≡ fits_newest self.now len }
+    {
+        self.newest_with_room(len).is_some()
+    }
+
+    /// The number of the newest segment, None where no slot is open.
+    pub fn newest_number(&self) -> Option<u64>
+        ensures newest { IfSome result (λ number. (slot : ℕ) × IsNewest (known_numbers self.now) slot number) }
+        ensures none { result ≡ None → (slot : ℕ) → number_at (known_numbers self.now) slot ≡ None }
+    {
+        self.numbers[newest(&self.numbers)?]
+    }
+
+    /// The number of the segment that `retire_oldest` retires, None where fewer than two slots are open.
+    pub fn oldest_number(&self) -> Option<u64>
+        ensures oldest { IfSome result (λ number. (slot : ℕ) × IsOldest (known_numbers self.now) slot number) }
+        ensures few { result ≡ None ↔ (open_count (known_numbers self.now) < 2) }
+    {
+        self.numbers[oldest_of_two(&self.numbers)?]
     }
 
     // The newest segment's area, where a body of so many bytes fits into it.

@@ -41,3 +41,18 @@ pub fn with_flag<'a>(
         .help(help);
     command.arg(flag)
 }
+
+/// The command with an option that takes one of a few words.
+pub fn with_choice<'a>(
+    alloc: Global,
+    command: Command<'a>,
+    name: &'a str,
+    choices: &'a [&'a str],
+    help: &'a str,
+) -> Result<Command<'a>, AllocError> {
+    let choice = Arg::new(alloc, name)
+        .long(name)
+        .value_parser(choices)
+        .help(help);
+    command.arg(choice)
+}

@@ -16,8 +16,9 @@ pub enum Invocation<'a> {
     Format { path: &'a str, shape: ShapeOptions },
     /// To serve a session over the store in this file.
     Serve { path: &'a str },
-    /// To print the documents of the store in this file.
-    Dump { path: &'a str },
+    /// To print the documents of the store in this file. Where a document has two milestones, its reading begins with the newer
+    /// one, or with the older one where that is asked for.
+    Dump { path: &'a str, older: bool },
     /// To print what comes of two deltas.
     Delta(Task<'a>),
 }
@@ -46,8 +47,12 @@ impl<'a> Invocation<'a> {
             },
             Some((_, given)) => Invocation::Dump {
                 path: store::path_in(given),
+                older: store::is_older(given),
             },
-            None => Invocation::Dump { path: "" },
+            None => Invocation::Dump {
+                path: "",
+                older: false,
+            },
         })
     }
 }

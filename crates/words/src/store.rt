@@ -1,5 +1,5 @@
 //! The words of the commands on a store: `format`, `serve` and `dump`.
-use crate::arguments::{with_number, with_word};
+use crate::arguments::{with_choice, with_number, with_word};
 use clap::{ArgMatches, Command};
 use std::alloc::{AllocError, Global};
 
@@ -27,6 +27,9 @@ const NUMBERS: [(&str, &str); 6] = [
     ),
 ];
 
+/// The milestones of a document that `dump` can begin with.
+const PICKS: [&str; 2] = ["newer", "older"];
+
 /// Makes a store.
 pub fn format<'a>(alloc: Global) -> Result<Command<'a>, AllocError> {
     let format = Command::new(alloc, "format").about(
@@ -46,12 +49,19 @@ pub fn serve<'a>(alloc: Global) -> Result<Command<'a>, AllocError> {
 /// Prints a store.
 pub fn dump<'a>(alloc: Global) -> Result<Command<'a>, AllocError> {
     let dump = Command::new(alloc, "dump").about("Prints the documents, one a line");
-    with_path(alloc, dump)
+    let dump = with_path(alloc, dump)?;
+    let help = "Of two milestones of a document, the one to begin with [default: newer]";
+    with_choice(alloc, dump, "pick", &PICKS, help)
 }
 
 /// The file that was given.
 pub fn path_in<'a>(given: &ArgMatches<'a>) -> &'a str {
     given.get_str("PATH").unwrap_or("")
+}
+
+/// Whether the older milestones were asked for.
+pub fn is_older(given: &ArgMatches<'_>) -> bool {
+    given.get_str("pick") == Some("older")
 }
 
 /// The numbers that were given to `format`.

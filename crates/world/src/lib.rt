@@ -23,7 +23,13 @@
 //!   world, in some order, isn't promised here.
 #![tactic(auto)]
 
+mod board;
+mod entry;
 mod follower;
 pub mod laws;
+mod ticket;
 
+pub use board::Board;
+pub use entry::Entry;
 pub use follower::{Follower, Happening, Place, Waiting};
+pub use ticket::Ticket;

@@ -1,5 +1,5 @@
 //! Reading: each part of the spelling has one function, which answers what it read and the bytes behind it.
-ghost use Rattle.std.specs.Prelude.{◌≡◌, ◌<◌, ◌≤◌, ◌^◌, List, true, length, IfOk, IfSome, IfNone};
+ghost use Rattle.std.specs.Prelude.{◌≡◌, ◌<◌, ◌≤◌, ◌^◌, List, true, length, IfOk, IfErr, IfSome, IfNone};
 ghost use Rattle.std.specs.Int.{w16, w32, w64};
 ghost use Rattle.revision.specs.Name.{is_source_name, is_document_name};
 ghost use Rattle.revision.specs.Command as command;
@@ -150,8 +150,9 @@ fn document_name(alloc: Global, bytes: &[u8]) -> Result<(Name, &[u8]), Unread>
 }
 
 #[tactic(auto, unfolding(crate::specs::steps::Reading::text_at))]
-fn text16(bytes: &[u8]) -> Result<(&str, &[u8]), Unread>
-    ensures { Gives (λ x. (x.0.now, x.1.now)) result (text_at w16 bytes.now) }
+pub(super) fn text16(bytes: &[u8]) -> Result<(&str, &[u8]), Unread>
+    ensures read { Gives (λ x. (x.0.now, x.1.now)) result (text_at w16 bytes.now) }
+    ensures only { IfErr result (λ e. e ≡ Unread.Malformed) }
 {
     let (count, rest) = number16(bytes)?;
     let (text, rest) = part(count as usize, rest)?;
@@ -172,6 +173,7 @@ fn text32(bytes: &[u8]) -> Result<(&str, &[u8]), Unread>
 fn utf8(bytes: &[u8]) -> Result<&str, Unread>
     ensures read { Gives (λ text. text.now) result (utf8_at bytes.now) }
     ensures same { IfOk result (λ text. text.now ≡ bytes.now) }
+    ensures only { IfErr result (λ e. e ≡ Unread.Malformed) }
 {
     match str::from_utf8(bytes) {
         Ok(text) => Ok(text),
@@ -205,15 +207,17 @@ fn number_within(low: u64, bytes: &[u8]) -> Result<(u64, &[u8]), Unread>
 
 #[tactic(auto, unfolding(crate::specs::steps::Reading::number_at))]
 fn number16(bytes: &[u8]) -> Result<(u16, &[u8]), Unread>
-    ensures { Gives (λ x. (x.0, x.1.now)) result (number_at w16 bytes.now) }
+    ensures read { Gives (λ x. (x.0, x.1.now)) result (number_at w16 bytes.now) }
+    ensures only { IfErr result (λ e. e ≡ Unread.Malformed) }
 {
     let (front, rest) = part(2, bytes)?;
     Ok((u16::from_le_bytes([front[0], front[1]]), rest))
 }
 
 #[tactic(auto, unfolding(crate::specs::steps::Reading::number_at))]
-fn number32(bytes: &[u8]) -> Result<(u32, &[u8]), Unread>
-    ensures { Gives (λ x. (x.0, x.1.now)) result (number_at w32 bytes.now) }
+pub(super) fn number32(bytes: &[u8]) -> Result<(u32, &[u8]), Unread>
+    ensures read { Gives (λ x. (x.0, x.1.now)) result (number_at w32 bytes.now) }
+    ensures only { IfErr result (λ e. e ≡ Unread.Malformed) }
 {
     let (front, rest) = part(4, bytes)?;
     let number = u32::from_le_bytes([front[0], front[1], front[2], front[3]]);
@@ -221,8 +225,9 @@ fn number32(bytes: &[u8]) -> Result<(u32, &[u8]), Unread>
 }
 
 #[tactic(auto, unfolding(crate::specs::steps::Reading::number_at))]
-fn number64(bytes: &[u8]) -> Result<(u64, &[u8]), Unread>
-    ensures { Gives (λ x. (x.0, x.1.now)) result (number_at w64 bytes.now) }
+pub(super) fn number64(bytes: &[u8]) -> Result<(u64, &[u8]), Unread>
+    ensures read { Gives (λ x. (x.0, x.1.now)) result (number_at w64 bytes.now) }
+    ensures only { IfErr result (λ e. e ≡ Unread.Malformed) }
 {
     let (front, rest) = part(8, bytes)?;
     let number = u64::from_le_bytes([
@@ -245,6 +250,7 @@ fn byte(bytes: &[u8]) -> Result<(u8, &[u8]), Unread>
 fn part(count: usize, bytes: &[u8]) -> Result<(&[u8], &[u8]), Unread>
     ensures read { Gives (λ x. (x.0.now, x.1.now)) result (part_at count bytes.now) }
     ensures length { IfOk result (λ x. length x.0.now ≡ count) }
+    ensures only { IfErr result (λ e. e ≡ Unread.Malformed) }
 {
     if count > bytes.len() {
         return Err(Unread::Malformed);

@@ -10,6 +10,7 @@ mod pairs;
 mod values;
 
 pub use operations::write_delta;
+pub(super) use pairs::put_text16;
 use revision::{Name, Taken};
 use std::alloc::{AllocError, Global};
 
@@ -94,14 +95,14 @@ fn put_number16(out: &mut Vec<u8>, n: u16) -> Result<(), AllocError>
 }
 
 #[tactic(auto, unfolding(crate::specs::Spelling::number))]
-fn put_number32(out: &mut Vec<u8>, n: u32) -> Result<(), AllocError>
+pub(super) fn put_number32(out: &mut Vec<u8>, n: u32) -> Result<(), AllocError>
     ensures { OnOk result (out.new.items ≡ out.old.items ++ spelling.number w32 n) }
 {
     out.extend_from_slice(&n.to_le_bytes())
 }
 
 #[tactic(auto, unfolding(crate::specs::Spelling::number))]
-fn put_number64(out: &mut Vec<u8>, n: u64) -> Result<(), AllocError>
+pub(super) fn put_number64(out: &mut Vec<u8>, n: u64) -> Result<(), AllocError>
     ensures { OnOk result (out.new.items ≡ out.old.items ++ spelling.number w64 n) }
 {
     out.extend_from_slice(&n.to_le_bytes())

@@ -59,7 +59,7 @@ fn put_change_pair(out: &mut Vec<u8>, entry: &(Key, Option<Value>)) -> Result<()
 
 /// Writes a text of less than 2^16 bytes behind its length.
 #[tactic(auto, unfolding(crate::specs::Spelling::text16))]
-pub(super) fn put_text16(out: &mut Vec<u8>, text: &str) -> Result<(), AllocError>
+pub(in crate::batch) fn put_text16(out: &mut Vec<u8>, text: &str) -> Result<(), AllocError>
     requires { length text.now < 2 ^ 16 }
     ensures { OnOk result (out.new.items ≡ out.old.items ++ text16 text.now) }
 {

@@ -1,4 +1,4 @@
-use Rattle.std.proofs.Common.{◌<◌, ◌≤◌, ◌^◌, arith}
+use Rattle.std.proofs.Common.{arith}
 use Rattle.revision.proofs.Admitting.{refused_by, too_heavy, too_wide, admitted}
 use Rattle.revision.proofs.planning.admit.Goals as goal
 

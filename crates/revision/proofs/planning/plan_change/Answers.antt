@@ -1,7 +1,6 @@
-use Rattle.std.proofs.Common.{◌≡◌, ◌==◌, inr, false, ap, sym, ◌∙◌}
+use Rattle.std.proofs.Common.{◌≡◌, ◌==◌, inr, false, ap, ◌∙◌}
 use Rattle.std.proofs.lemmas.Bool.{ne_eqb}
 use Rattle.revision.specs.Acceptance.{Takes, Refuses, next_revision}
-use Rattle.revision.specs.Command.{Taken}
 use Rattle.revision.specs.Pending.{held}
 use Rattle.revision.specs.State.{revision_of, last_of_all}
 use Rattle.revision.proofs.Admitting.{change_answers, asked_next, same_next}

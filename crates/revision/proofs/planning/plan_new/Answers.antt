@@ -3,7 +3,6 @@ use Rattle.std.specs.Prelude.{nat_lt, nat_le}
 use Rattle.std.proofs.lemmas.Bool.{ltb-true, leb-true, false_from_ne_true}
 use Rattle.std.proofs.lemmas.List.{length-map}
 use Rattle.revision.specs.Acceptance.{Takes, Refuses, creation}
-use Rattle.revision.specs.Command.{Taken}
 use Rattle.revision.specs.State.{Limits}
 use Rattle.revision.specs.Pending.{held}
 use Rattle.revision.proofs.Admitting.{new_answers, asked_new, same_new}

@@ -1,6 +1,4 @@
-use Rattle.std.proofs.Common.{◌∙◌, ap, subst, ◌≤◌}
 use Rattle.revision.specs.Pending.{held}
-use Rattle.revision.specs.Past.{newest}
 use Rattle.revision.proofs.Admitting.{last_within}
 use Rattle.revision.proofs.planning.plan_undo.Goals as goal
 

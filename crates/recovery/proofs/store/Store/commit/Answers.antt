@@ -1,14 +1,14 @@
 use Rattle.std.proofs.Common.{◌≡◌, ◌∙◌, ◌+◌, ⊎_elim, true, false, [], ◌∷◌, ◌++◌, Err, ap, subst, sym, inl, rules}
 use Rattle.journal.specs.BatchSpelling.{batch}
 use Rattle.revision.specs.State.{Limits, State, fold, all_grow}
-use Rattle.segments.specs.Order.{bodies_of}
-use Rattle.recovery.specs.Found.{StandFor}
+use Rattle.history.specs.Running.{Runs}
+use Rattle.recovery.specs.Found.{commands_of, limits_of}
 use Rattle.recovery.specs.steps.Appending.{IsDone}
 use Rattle.refusal.specs.declared.Refusal.{Refusal}
 use Rattle.refusal.specs.declared.Refusal.TheVariants.{NoMemory}
 use Rattle.disk.specs.Crash.{history_of}
 use Rattle.disk.proofs.CallerLemmas.{begins, leaves_map}
-use Rattle.recovery.proofs.Commits.{found_before, opened_for, with_or_without, laid_out_after, laid_out_kept, stand_appended, stand_same, left_same}
+use Rattle.recovery.proofs.Commits.{found_before, opened_for, with_or_without, parts_after, parts_left, runs_with, limits_with}
 use Rattle.recovery.proofs.Folds.{fold-limits}
 use Rattle.recovery.proofs.store.Store.commit.Goals as goal
 
@@ -48,14 +48,17 @@ returns-in-Ok-append_batch-clause-done g c is_open =
     c.in-Ok-append_batch.ensures.done is_open.table is_open.fits in
     record {
       synced = c.in-Ok-append_batch.ensures.synced;
+      cells = is_open.cells;
       table = done.now;
       batches = is_open.batches ++ commands ∷ [];
-      laid_out = laid_out_after store is_open commands c.has_room.ensures.is_batch grow _ c.append_batch.new.ring places done;
+      order = is_open.order ++ commands;
+      holds = parts_after store is_open commands c.has_room.ensures.is_batch grow _ c.append_batch.new.ring places done;
       fits = done.fits.fits;
       ring_at = places.at ∙ is_open.ring_at;
       ring_size = places.size ∙ is_open.ring_size;
-      stand = subst (StandFor store.shape (bodies_of done.now) (is_open.batches ++ commands ∷ [])) (sym state)
-          (stand_appended store is_open commands c.has_room.ensures.is_batch grow done.ready done.now _ done.is_ready done.appended);
+      limits = subst (λ (s : State). s.limits ≡ limits_of store.shape) (sym state) (limits_with store is_open commands c.has_room.ensures.is_batch grow);
+      runs = subst (Runs (is_open.order ++ commands) is_open.cells (commands_of (is_open.batches ++ commands ∷ []))) (sym state)
+          (runs_with store is_open commands c.has_room.ensures.is_batch grow);
     }
 
 -- a slot has as many bytes as the limits say
@@ -80,13 +83,16 @@ returns-in-Err-append_batch-clause-kept g c not_fault is_open =
     let kept = c.in-Err-append_batch.ensures.given_up (ap (λ (r : Refusal). Err r) memory) is_open.table is_open.fits in
     record {
       synced = c.in-Err-append_batch.ensures.still_synced (ap (λ (r : Refusal). Err r) memory) is_open.synced;
+      cells = is_open.cells;
       table = kept.left;
       batches = is_open.batches;
-      laid_out = laid_out_kept store is_open _ c.append_batch.new.ring _ places kept;
+      order = is_open.order;
+      holds = parts_left store is_open _ c.append_batch.new.ring _ places kept;
       fits = kept.fits.fits;
       ring_at = places.at ∙ is_open.ring_at;
       ring_size = places.size ∙ is_open.ring_size;
-      stand = subst (StandFor store.shape (bodies_of kept.left) is_open.batches) (sym state) (stand_same store is_open kept.left (left_same store is_open _ kept.left kept.is_left).bodies);
+      limits = subst (λ (s : State). s.limits ≡ limits_of store.shape) (sym state) is_open.limits;
+      runs = subst (Runs is_open.order is_open.cells (commands_of is_open.batches)) (sym state) is_open.runs;
     }
 
 pub returns-in-Err-clause-unwritten : goal.returns-in-Err-clause-unwritten

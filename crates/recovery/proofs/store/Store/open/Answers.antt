@@ -1,14 +1,42 @@
-use Rattle.std.proofs.Common.{◌∙◌, ⊎_elim, sym}
+use Rattle.std.proofs.Common.{◌≡◌, ◌∙◌, ⊎_elim}
 use Rattle.disk.proofs.CallerLemmas.{synced_leaves}
-use Rattle.recovery.proofs.FoundOnce.{found_once}
+use Rattle.recovery.specs.Found.{Found}
+use Rattle.recovery.proofs.FoundOnce.{found_once, runs_at}
 use Rattle.recovery.proofs.Runs.{found_again}
 use Rattle.recovery.proofs.store.Store.open.Goals as goal
 
+pub returns-in-Ok-clause-found : goal.returns-in-Ok-clause-found
+returns-in-Ok-clause-found g c honest =
+    let read = c.in-Ok.ensures.read honest in
+    record { shape = c.in-Ok.recovered.shape; cells = read.cells; table = read.table; batches = read.batches; holds = read.holds; stand = read.stand }
+
 pub returns-in-Ok-clause-only_state : goal.returns-in-Ok-clause-only_state
 returns-in-Ok-clause-only_state g c honest state found =
+    found_once (g.D.Disk.seen c.args.disk) c.args.pick state c.in-Ok.recovered.state found (returns-in-Ok-clause-found g c honest)
+
+-- the store that ran on the content runs on with what was read
+pub returns-in-Ok-clause-open : goal.returns-in-Ok-clause-open
+returns-in-Ok-clause-open g c honest state as =
+    let content = g.D.Disk.seen c.args.disk in
+    let recovered = c.in-Ok.recovered in
     let read = c.in-Ok.ensures.read honest in
-    found_once (g.D.Disk.seen c.args.disk) state c.in-Ok.recovered.state found
-    (record { shape = c.in-Ok.recovered.shape; table = read.table; batches = read.batches; laid_out = read.laid_out; stand = read.stand })
+    let again = found_again content state c.args.pick recovered.state as (returns-in-Ok-clause-found g c honest) in
+    let runs = runs_at content recovered.shape read.cells read.table read.batches read.holds recovered.state again.1 in (
+      record {
+        synced = c.in-Ok.ensures.synced;
+        cells = read.cells;
+        table = read.table;
+        batches = read.batches;
+        order = again.1.order;
+        holds = subst (λ (l : List ℕ). HoldsParts l recovered.shape read.cells read.table read.batches) (sym c.read_store.ensures.seen) read.holds;
+        fits = subst (λ (l : List ℕ). Fits l recovered.ring read.table) (sym c.read_store.ensures.seen) read.fits;
+        ring_at = read.place.at;
+        ring_size = read.place.size;
+        limits = runs.0;
+        runs = runs.1;
+      },
+      again.0,
+    )
 
 pub returns-in-Ok-clause-kept : goal.returns-in-Ok-clause-kept
 returns-in-Ok-clause-kept g c content left = synced_leaves _ content c.in-Ok.ensures.synced left ∙ c.read_store.ensures.seen
@@ -16,14 +44,10 @@ returns-in-Ok-clause-kept g c content left = synced_leaves _ content c.in-Ok.ens
 pub returns-in-Err-clause-damaged : goal.returns-in-Err-clause-damaged
 returns-in-Err-clause-damaged g c is honest = (c.in-Err.ensures.formatted is honest, c.in-Err.ensures.damaged is honest)
 
--- the device stands for what the store held
-pub returns-in-Ok-clause-again : goal.returns-in-Ok-clause-again
-returns-in-Ok-clause-again g c honest state was =
-    sym (returns-in-Ok-clause-only_state g c honest state (found_again g.D.Disk c.args.disk state was))
-
-pub returns-in-Err-clause-again_or : goal.returns-in-Err-clause-again_or
-returns-in-Err-clause-again_or g c honest state was =
-    let found = found_again g.D.Disk c.args.disk state was in
-    ⊎_elim (λ unformatted. absurd (c.in-Err.ensures.not_formatted unformatted honest found.laid_out.formatted))
-    (λ more. ⊎_elim (λ damaged. absurd (c.in-Err.ensures.damaged damaged honest state found)) (λ others. others) more)
+-- such a content is formatted, and found as a state
+pub returns-in-Err-clause-open_or : goal.returns-in-Err-clause-open_or
+returns-in-Err-clause-open_or g c honest state as =
+    let by = as.by_either c.args.pick in
+    ⊎_elim (λ unformatted. absurd (c.in-Err.ensures.not_formatted unformatted honest by.found.holds.laid_out.names.formatted))
+    (λ more. ⊎_elim (λ damaged. absurd (c.in-Err.ensures.damaged damaged honest by.there by.found)) (λ others. others) more)
     c.in-Err.ensures.only

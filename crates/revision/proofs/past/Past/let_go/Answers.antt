@@ -3,7 +3,7 @@ use Rattle.std.proofs.lemmas.List.{take-take, length-take-le}
 use Rattle.delta.specs.Element.{Element}
 use Rattle.delta.specs.Operation.{Operation}
 use Rattle.compose.specs.Many.{applied}
-use Rattle.revision.specs.declared.past.Taker.{Taker}
+use Rattle.revision.specs.declared.taker.Taker.{Taker}
 use Rattle.revision.specs.Past.{Parts, AreParts, StandInTurn, seen, sources_after, changes_by}
 use Rattle.revision.specs.PastView.{parts_of}
 use Rattle.revision.proofs.Replays.{stand-take}

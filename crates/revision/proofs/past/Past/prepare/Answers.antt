@@ -2,7 +2,7 @@ use Rattle.std.proofs.Common.{◌≡◌, ◌+◌, ◌≤◌, ◌<◌, ◌^◌, L
 use Rattle.delta.specs.Operation.{Operation}
 use Rattle.delta.specs.Gaps.{counted, apply}
 use Rattle.document.specs.Outcome.{IsAccepted}
-use Rattle.revision.specs.declared.past.Taker.{Taker}
+use Rattle.revision.specs.declared.taker.Taker.{Taker}
 use Rattle.revision.specs.Past.{Parts, Prepared, Change, AreParts, seen, prepared_units, prepared_revision}
 use Rattle.revision.specs.PastView.{parts_of}
 use Rattle.revision.proofs.Parts.{prepare_is, prepare_are}
@@ -11,7 +11,7 @@ use Rattle.revision.proofs.past.Past.prepare.Goals as goal
 pub invariant_of-self-2 : goal.invariant_of-self-2
 invariant_of-self-2 c =
     let parts : Parts = parts_of c.self.inside in
-    let taker : Taker = record { source = c.args.source; number = c.args.number } in
+    let taker : Taker = record { source = c.args.source; number = c.args.number; named = c.push_both-arg-3-1.given.0 } in
     let same : c.args.self.now ≡ seen parts = sym c.self.view_is in
     subst AreParts
     (ap₂ (λ (t : List Taker) (d : List (List Operation)). record parts { takers = t; deltas = d }) (sym c.in_ok-push_both.ensures.takers) (sym c.in_ok-push_both.ensures.deltas))
@@ -22,7 +22,7 @@ invariant_of-self-2 c =
 pub returns-clause-ok : goal.returns-clause-ok
 returns-clause-ok c =
     let parts : Parts = parts_of c.self.inside in
-    let taker : Taker = record { source = c.args.source; number = c.args.number } in
+    let taker : Taker = record { source = c.args.source; number = c.args.number; named = c.push_both-arg-3-1.given.0 } in
     let one : List Change = record { source = c.args.source; number = c.args.number; delta = c.args.delta } ∷ [] in
     ap₂ (λ (t : List Taker) (d : List (List Operation)). seen (record parts { takers = t; deltas = d })) c.in_ok-push_both.ensures.takers c.in_ok-push_both.ensures.deltas
     ∙ (prepare_is parts c.self.invariant taker c.args.delta ∙ ap (λ (p : Prepared). record p { next = p.next ++ one }) c.self.view_is)

@@ -1,7 +1,8 @@
-use Rattle.std.proofs.Common.{cond, ap, ap₂, ◌∙◌}
+use Rattle.std.proofs.Common.{◌≡◌, true, cond, sym, ap, ap₂, subst, ◌∙◌}
 use Rattle.std.specs.Result.{is_ok}
 use Rattle.attributes.specs.Map.{entries_of, insert, same_entries_map}
-use Rattle.revision.specs.Sources.{LastTaken}
+use Rattle.revision.specs.Sources.{LastTaken, are_named}
+use Rattle.revision.proofs.Named.{named-insert, named_if}
 use Rattle.attributes.proofs.Outcomes.{OnOk-from, OnErr-from, chosen_true, chosen_false}
 use Rattle.attributes.proofs.Places.{written, inserted, ascending_as, ascending_if}
 use Rattle.revision.proofs.sources.Sources.set.Goals as goal
@@ -39,3 +40,20 @@ pub returns-in-Err-clause-unchanged : goal.returns-in-Err-clause-unchanged
 returns-in-Err-clause-unchanged c =
     OnErr-from c.map_err.result (is_ok c.insert.result) c.map_err.ensures.variant
     (λ done. same_entries_map _ _ (chosen_false _ _ _ c.insert.ensures.items done) ∙ c.self.view_is)
+
+pub invariant_of-self : goal.invariant_of-self
+invariant_of-self c =
+    let last : LastTaken = record { number = c.args.number; revision = c.args.revision } in
+    let before = subst (λ l. are_named l ≡ true) (ap entries_of c.self.view_is) c.self.invariant in
+    subst (λ l. are_named l ≡ true)
+    (sym (written c.args.self.now _ _ c.args.source c.in-Ok.i (ap entries_of c.self.view_is) c.as_str.ensures.text c.in-Ok.ensures _ last c.index_mut.ensures.value))
+    (named-insert c.args.source last c.args.self.now c.requires before)
+
+pub invariant_of-self-in-Err : goal.invariant_of-self-in-Err
+invariant_of-self-in-Err c =
+    let list = ap entries_of c.self.view_is in
+    let last : LastTaken = record { number = c.args.number; revision = c.args.revision } in
+    let before = subst (λ l. are_named l ≡ true) list c.self.invariant in
+    let more = inserted c.args.self.now _ _ c.args.source c.in-Err.i list c.as_str.ensures.text c.in-Err.ensures last in
+    named_if c.args.self.now.entries _ (is_ok c.insert.result) _ (c.insert.ensures.items ∙ ap₂ (cond (is_ok c.insert.result)) more list)
+    (named-insert c.args.source last c.args.self.now c.requires before) before

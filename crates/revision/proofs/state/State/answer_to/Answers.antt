@@ -1,4 +1,4 @@
-use Rattle.std.proofs.Common.{Some, ap, sym, ◌∙◌}
+use Rattle.std.proofs.Common.{sym}
 use Rattle.revision.specs.Pending.{held}
 use Rattle.revision.proofs.Admitting.{found_past}
 use Rattle.revision.proofs.state.State.answer_to.Goals as goal

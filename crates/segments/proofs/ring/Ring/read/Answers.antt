@@ -45,5 +45,5 @@ returns-clause-found g c honest =
       table = map segment_of slots;
       fits = ring_read c.args.at c.args.size c.args.count (g.D.Disk.seen c.args.disk.now) slots c.in_ok-slots.ensures.count (c.in_ok-slots.ensures.found honest) _ c.newest_area-newest.result
           refl refl refl numbers c.in_ok-slots.ensures.areas differ newest;
-      bodies = c.in_ok-bodies.ensures.bodies;
+      segments = c.in_ok-segments.ensures.order;
     }

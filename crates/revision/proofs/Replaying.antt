@@ -1,0 +1,71 @@
+-- What leads from the empty document to a revision that is held.
+use Rattle.std.proofs.Common.{◌≡◌, ℕ, zero, suc, ◌+◌, ◌-◌, ◌≤◌, ◌<◌, ◌^◌, List, [], ◌∷◌, length, take, drop, get_or, refl, sym, ap, subst, ◌∙◌, arith}
+use Rattle.std.proofs.lemmas.List.{take-take, length-take-le}
+use Rattle.delta.specs.Element.{Element}
+use Rattle.delta.specs.Operation.{Operation, base_of}
+use Rattle.delta.specs.Gaps.{counted, apply}
+use Rattle.delta.proofs.CallerLemmas.{units_below-counted}
+use Rattle.revision.specs.Sources.{Sources, with_last}
+use Rattle.revision.specs.declared.taker.Taker.{Taker}
+use Rattle.revision.specs.Past.{Past, Prepared, Parts, AreParts, StandInTurn, newest, sources_at, sources_after, changes_by, whole_past, seen}
+use Rattle.revision.proofs.Floors.{from-from}
+use Rattle.revision.proofs.Kept.{short-first}
+use Rattle.revision.proofs.LettingGo.{sources-here}
+use Rattle.revision.proofs.Parts.{changes-take, above_floor, below_newest}
+use Rattle.revision.proofs.Replays.{stand-take}
+
+at_itself : (i : ℕ) (deltas : List (List Operation)) → i < length deltas → get_or deltas i [] ≡ get_or deltas i (get_or deltas i [])
+at_itself i [] there = absurd (omega (arith, there))
+at_itself zero (delta ∷ deltas) there = refl
+at_itself (suc i) (delta ∷ deltas) there = at_itself i deltas (omega (arith, there))
+
+-- the sources after the change at a place, and after those that come after it
+pub noted-here : (start i : ℕ) (sources : Sources) (takers : List Taker) (deltas : List (List Operation)) (taker : Taker) → length takers ≡ length deltas
+    → i < length takers → taker ≡ get_or takers i taker
+    → sources_after (start + i + 1) (with_last taker.source taker.number (start + i + 1) sources) (drop (i + 1) (changes_by takers deltas))
+    ≡ sources_after (start + i) sources (drop i (changes_by takers deltas))
+noted-here start i sources takers deltas taker same there is =
+    let within : i < length deltas = omega (arith, same, there) in
+    sym (sources-here start i sources takers deltas taker (get_or deltas i []) same within is (at_itself i deltas within))
+
+-- a document's inserts, and then the deltas that stand on it
+pub stand_from_empty : (units : List Element) (first : List Operation) (deltas : List (List Operation)) → length units ≤ 2 ^ 29 → base_of first ≡ 0
+    → apply [] (counted first) ≡ units → StandInTurn units deltas → StandInTurn [] (first ∷ deltas)
+stand_from_empty units first deltas short inserts made stand = (
+  (omega (arith, inserts, units_below-counted first), λ cuts. cuts.1, omega (arith, short, ap length made)),
+  subst (λ d. StandInTurn d deltas) (sym made) stand,
+)
+
+-- as they are kept
+module _ (parts : Parts) (is : AreParts parts) (now : Prepared) (same : seen parts ≡ now) (revision : ℕ) (held : now.past.floor ≤ revision) (there : revision ≤ newest now.past) where
+  count : ℕ
+  count = revision - parts.start
+
+  within : count ≤ parts.count
+  unfolding count
+  within = omega (arith, below_newest parts is now same revision held there)
+
+  pub replay_stand : StandInTurn parts.units (take (revision - parts.start) parts.deltas)
+  replay_stand = stand-take (revision - parts.start) parts.units parts.deltas is.stand
+
+  pub replay_short : length parts.units ≤ 2 ^ 29
+  replay_short = short-first parts.units parts.deltas is.short
+
+  pub replay_same : length (take (revision - parts.start) parts.takers) ≡ length (take (revision - parts.start) parts.deltas)
+  unfolding count
+  replay_same =
+      length-take-le (revision - parts.start) parts.takers (omega (arith, within, is.count, is.same))
+      ∙ sym (length-take-le (revision - parts.start) parts.deltas (omega (arith, within, is.count)))
+
+  pub replay_bound : parts.start + length (take (revision - parts.start) parts.deltas) < 2 ^ 53
+  unfolding count
+  replay_bound = omega (arith, length-take-le (revision - parts.start) parts.deltas (omega (arith, within, is.count)), within, is.count, is.revision)
+
+  pub replay_sources : sources_after parts.start parts.sources (changes_by (take (revision - parts.start) parts.takers) (take (revision - parts.start) parts.deltas))
+      ≡ sources_at now.past revision
+  unfolding count
+  replay_sources =
+      ap (sources_after parts.start parts.sources)
+      (changes-take (revision - parts.start) parts.takers parts.deltas ∙ sym (take-take (revision - parts.start) parts.count (changes_by parts.takers parts.deltas) within))
+      ∙ (sym (ap (λ (p : Past). p.sources) (from-from (whole_past parts) parts.floor is.start revision (above_floor parts is now same revision held there)))
+      ∙ ap (λ (p : Prepared). sources_at p.past revision) same)

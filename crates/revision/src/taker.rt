@@ -1,0 +1,13 @@
+//! Who made a change.
+ghost use Rattle.std.specs.Prelude.{◌≡◌, true};
+ghost use Rattle.revision.specs.Name.{is_source_name};
+
+use crate::name::Name;
+
+/// The source of a change, whose name has 1 to 32 characters, with its number for it.
+#[derive(Drop)]
+pub struct Taker {
+    pub(crate) source: Name,
+    pub(crate) number: u64,
+    ghost named: { is_source_name source ≡ true },
+}

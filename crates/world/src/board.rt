@@ -1,0 +1,168 @@
+//! What stands behind the lock: the order of the commands that were taken, the state after them, and how far it is written.
+ghost use Rattle.std.specs.Prelude.{◌≡◌, ◌⊎◌, ◌+◌, ◌≤◌, [], Some, if◌then◌else◌, length, drop, IfOk, IfErr, OnOk, OnErr};
+ghost use Rattle.revision.specs.Acceptance.{answer, Refuses};
+ghost use Rattle.world.specs.Board.{begun_board, submitted, ticket_of, can_take, taken_more, can_settle, settled_more, taken_beyond, can_ack, reopened};
+ghost use Rattle.world.specs.World.{entry_of};
+
+use crate::entry::Entry;
+use crate::ticket::Ticket;
+use refusal::Refusal;
+use revision::{Command, Plan, Reply, State};
+use std::alloc::Global;
+use std::marker::Model;
+use std::snapshot::Snapshot;
+
+/// The order of the commands that were taken since a start state, the state after them, how many of them are taken off to be
+/// written, and how many of those are settled. The start state is there for contracts alone, and takes no memory.
+#[derive(Drop)]
+pub struct Board {
+    start: Snapshot<State>,
+    order: Vec<Entry>,
+    state: State,
+    taken: usize,
+    settled: usize,
+}
+
+impl Model for Board {
+    ghost use Rattle.std.specs.Prelude.{◌≤◌, length};
+    ghost use Rattle.world.specs.Board as spec;
+    ghost use Rattle.world.specs.World.{Entry as Kept};
+
+    ghost Value = { spec.Board Kept };
+
+    ghost view = { λ b. record { start = b.start.value; order = b.order.items; state = b.state; taken = b.taken; settled = b.settled } };
+
+    ghost invariant = { λ b. (b.settled ≤ b.taken) × (b.taken ≤ length b.order.items) };
+}
+
+impl Board {
+    /// The board of a state that a store was opened with: nothing was taken since. It takes no memory.
+    pub fn new(alloc: Global, state: State) -> Board
+        ensures { result ≡ begun_board state }
+    {
+        Board {
+            start: Snapshot::of(&state),
+            order: Vec::new(alloc),
+            state,
+            taken: 0,
+            settled: 0,
+        }
+    }
+
+    /// The state after the whole order.
+    pub fn state(&self) -> &State
+        ensures { result.now ≡ self.now.state }
+    {
+        &self.state
+    }
+
+    /// The commands that were taken since the start, in order.
+    pub fn order(&self) -> &[Entry]
+        ensures { result.now ≡ self.now.order }
+    {
+        self.order.as_slice()
+    }
+
+    /// How many commands of the order are taken off to be written.
+    pub fn taken(&self) -> usize
+        ensures taken { result ≡ self.now.taken }
+        ensures bound { result ≤ length self.now.order }
+    {
+        self.taken
+    }
+
+    /// How many commands of the order are settled.
+    pub fn settled(&self) -> usize
+        ensures settled { result ≡ self.now.settled }
+        ensures bound { result ≤ self.now.taken }
+    {
+        self.settled
+    }
+
+    /// Answers a command by the rule of acceptance. One that is taken is put behind the order, and any other leaves the board
+    /// alone. The ticket has the reply and the length of the order after it, which has to be settled before the reply may be
+    /// given, for a retry too. Refused as `State::plan` refuses it, and then nothing has changed.
+    pub fn submit(&mut self, alloc: Global, command: &Command) -> Result<Ticket, Refusal>
+        ensures ok { OnOk result (self.new ≡ submitted (entry_of command.now) self.old command.now) }
+        ensures ticket { IfOk result (λ ticket. Some ticket ≡ ticket_of self.old command.now) }
+        ensures refused { IfErr result (λ e. (e ≡ Refusal.NoMemory) ⊎ (answer self.old.state command.now ≡ Refuses e)) }
+        ensures unchanged { OnErr result (self.new ≡ self.old) }
+    {
+        let ahead = self.order.len();
+        let taken = match self.state.plan(alloc, command) {
+            Ok(Plan::Taken(taken)) => taken,
+            Ok(Plan::Again { rev }) => return Ok(Ticket::new(command, Reply::Again { rev }, ahead)),
+            Err(refusal) => return Err(refusal),
+        };
+        let rev = taken.revision();
+        self.order.reserve(1)?;
+        if let Err(refusal) = self.state.absorb(alloc, &taken) {
+            return Err(refusal);
+        }
+        self.order.push(Entry::new(command, taken))?;
+        Ok(Ticket::new(command, Reply::Taken { rev }, ahead + 1))
+    }
+
+    /// Marks so many of the next commands as taken off, and says whether it did: there has to be at least one, and no more than
+    /// the order has.
+    pub fn take(&mut self, count: usize) -> bool
+        ensures taken { result ≡ can_take self.old count }
+        ensures board { self.new ≡ (if can_take self.old count then taken_more self.old count else self.old) }
+    {
+        let can = 0 < count && count <= self.order.len() - self.taken;
+        if can {
+            self.taken += count;
+        }
+        can
+    }
+
+    /// The commands that are not taken off yet.
+    pub fn untaken(&self) -> &[Entry]
+        ensures { result.now ≡ drop self.now.taken self.now.order }
+    {
+        &self.order.as_slice()[self.taken..]
+    }
+
+    /// What is taken off beyond what is shown: the first `shown` commands, no more than are taken off.
+    pub fn unshown(&self, shown: usize) -> &[Entry]
+        requires { shown ≤ self.now.taken }
+        ensures { result.now ≡ taken_beyond self.now shown }
+    {
+        let taken = &self.order.as_slice()[..self.taken];
+        &taken[shown..]
+    }
+
+    /// Settles so many of the commands that are taken off, and says whether it did: there has to be at least one, no more may
+    /// be settled than are taken off, and `told`, the number of commands that were published, has to end with them.
+    pub fn settle(&mut self, count: usize, told: usize) -> bool
+        ensures settled { result ≡ can_settle self.old count told }
+        ensures board { self.new ≡ (if can_settle self.old count told then settled_more self.old count else self.old) }
+    {
+        let can = 0 < count
+            && count <= self.taken - self.settled
+            && told == self.settled + count;
+        if can {
+            self.settled += count;
+        }
+        can
+    }
+
+    /// Whether a ticket may be acknowledged: its length is settled.
+    pub fn acknowledges(&self, ticket: &Ticket) -> bool
+        ensures { result ≡ can_ack self.now ticket.now }
+    {
+        ticket.length() <= self.settled
+    }
+
+    /// Opens the board anew with so many commands of the order, or with all where there are fewer, and with the state that a
+    /// store gave: the order ends there, and all of it is taken off and settled. The start state stays.
+    pub fn reopen(&mut self, state: State, kept: usize)
+        requires { kept ≤ length self.old.order }
+        ensures { self.new ≡ reopened self.old state kept }
+    {
+        self.order.truncate(kept);
+        self.state = state;
+        self.taken = kept;
+        self.settled = kept;
+    }
+}
