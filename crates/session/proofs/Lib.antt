@@ -2,6 +2,9 @@ mod Whole
 mod Worked
 pub mod Plain
 mod Alone
+mod Newsworthy
+mod Kept
+mod Telling
 pub mod Writes
 pub mod Replying
 pub mod Feeding

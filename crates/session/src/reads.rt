@@ -1,5 +1,7 @@
 //! What is told of a document.
 ghost use Rattle.std.specs.Prelude.{◌≡◌, Some, IfOk};
+ghost use Rattle.revision.specs.Readings.{at_revision};
+ghost use Rattle.session.specs.Subscriptions.{may_follow};
 ghost use Rattle.std.specs.String.{string_bytes};
 ghost use Rattle.revision.specs.Pending.{held};
 ghost use Rattle.session.specs.declared.question.Question.TheVariants.{At, Since};
@@ -67,4 +69,26 @@ fn read_since(alloc: Global, name: &Name, found: &DocState, rev: u64) -> Result<
         return refusal_reply(alloc, Refusal::TooOld);
     }
     since_reply(alloc, name, found.since(rev), found.revision())
+}
+
+/// Whether the state holds a document at a revision: the first refusal that holds, or none. It takes no memory.
+pub fn check_held(state: &State, name: &Name, rev: u64) -> Result<(), Refusal>
+    ensures { result ≡ may_follow name.now rev state.now }
+{
+    match state.find(name) {
+        Some((_, found)) => check_rev(found, rev),
+        None => Err(Refusal::NoDocument),
+    }
+}
+
+fn check_rev(found: &DocState, rev: u64) -> Result<(), Refusal>
+    ensures { result ≡ at_revision rev (Some (0, held found.now)) (λ past. tt) }
+{
+    if rev > found.revision() {
+        return Err(Refusal::Future);
+    }
+    if rev < found.floor() {
+        return Err(Refusal::TooOld);
+    }
+    Ok(())
 }

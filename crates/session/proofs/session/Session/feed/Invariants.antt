@@ -5,7 +5,7 @@ use Rattle.session.proofs.session.Session.feed.Given as goal
 -- what comes of the bytes so far is written
 abbrev pub invariant-loop-byte : goal.invariant-loop-byte
 invariant-loop-byte g l =
-    let contents = g.W.Write.contents in
+    let contents = g.O.Output.contents in
     record {
       works : l.self.ended ≡ false;
       fed : Feeds g.D.Desk.does l.fn.self (take l.byte-index l.piece) l.self l.fn.desk l.desk (contents l.fn.out) (contents l.out);

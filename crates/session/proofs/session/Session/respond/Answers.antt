@@ -1,5 +1,5 @@
 use Rattle.std.specs.String.{string_bytes}
-use Rattle.session.proofs.Replying.{greeted, asked, was_read, refused_any}
+use Rattle.session.proofs.Replying.{greeted, asked, was_read, followed, left, refused_any}
 use Rattle.session.proofs.session.Session.respond.Goals as goal
 
 pub returns-in-Ok-Greet-clause-replied : goal.returns-in-Ok-Greet-clause-replied
@@ -26,3 +26,16 @@ returns-in-Ok-Read-clause-replied g c =
     let session = c.args.self.now in
     was_read g.D.Desk.does session.line session c.in-Ok-Read.name c.in-Ok-Read.question _ c.args.desk.now c.answer.new.desk
     c.in-Ok-Read.field-0 c.in-Ok-Read.field-0-is c.in-Ok-Read.ensures.due c.answer.ensures
+
+pub returns-in-Ok-Subscribe-clause-replied : goal.returns-in-Ok-Subscribe-clause-replied
+returns-in-Ok-Subscribe-clause-replied g c =
+    let session = c.args.self.now in
+    followed g.D.Desk.does (λ t. string_bytes t) session.line session c.subscribe.new.self c.in-Ok-Subscribe.name c.in-Ok-Subscribe.rev c.subscribe.result
+    c.args.desk.now c.subscribe.new.desk c.in-Ok-Subscribe.field-0 c.in-Ok-Subscribe.field-0-is c.in-Ok-Subscribe.ensures.due c.subscribe.ensures
+
+pub returns-in-Ok-Unsubscribe-clause-replied : goal.returns-in-Ok-Unsubscribe-clause-replied
+returns-in-Ok-Unsubscribe-clause-replied g c =
+    let session = c.args.self.now in
+    let done = c.unsubscribe.ensures in
+    left g.D.Desk.does (λ t. string_bytes t) session.line session c.unsubscribe.new.self c.in-Ok-Unsubscribe.name c.unsubscribe.result c.args.desk.now
+    c.in-Ok-Unsubscribe.field-0 c.in-Ok-Unsubscribe.field-0-is c.in-Ok-Unsubscribe.ensures.due done.told done.left done.unchanged
