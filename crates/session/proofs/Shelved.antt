@@ -1,7 +1,8 @@
 -- What the shelf keeps, as documents are found on it and put there.
-use Rattle.std.proofs.Common.{◌≡◌, ◌⊎◌, inl, inr, ℕ, Bool, true, false, cond, List, [], ◌∷◌, map, Option, Some, None, sym, ap, subst, ◌∙◌}
-use Rattle.std.specs.Prelude.{All, Contains, Result, Ok, Err, OnOk, OnErr, bytes_eq, nat_eq, nat_lt}
+use Rattle.std.proofs.Common.{◌≡◌, ◌⊎◌, inl, inr, ℕ, Bool, true, false, cond, List, [], ◌∷◌, map, Option, Some, None, refl, sym, ap, subst, ◌∙◌}
+use Rattle.std.specs.Prelude.{All, Contains, IfSome, option_map, Result, Ok, Err, OnOk, OnErr, bytes_eq, nat_eq, nat_lt}
 use Rattle.std.specs.Map.{lookup}
+use Rattle.std.specs.Option.{ForSome}
 use Rattle.std.specs.String.{string_bytes}
 use Rattle.std.proofs.lemmas.Bool.{and_parts, eqb-true}
 use Rattle.std.proofs.lemmas.List.Elements.{All-weaker, All-contains, All-contains_itself, All-map, All-from_recursion, recursion_from_All}
@@ -17,6 +18,7 @@ use Rattle.revision.specs.Readings.{document_at, past_at, at_revision}
 use Rattle.revision.specs.State.{State, DocumentRecord, find}
 use Rattle.session.specs.declared.shelf.Key.{Key}
 use Rattle.session.specs.contracts.shelf.KeyPartialEq.TheImpl as key
+use Rattle.session.specs.Exchange.{IsReadOf}
 use Rattle.session.specs.Shelf.{Kept, IsGiven, Fits, IsShown}
 
 -- whether two keys are equal
@@ -95,6 +97,21 @@ read_held {X} ask revision (Some found) past is = by_tests (nat_lt (newest found
   by_tests false true e = cc
   by_tests false false e = let same_past : found.1.past ≡ past = cc in ap (λ p. Ok (ask p)) same_past
 
+-- the document that a look has made is given where the look is
+pub made_given : (state : State) (k : Key) (made : Option (List Element)) (units : List Element) → made ≡ Some units
+    → IfSome (option_map (λ u. kept_of (k, u)) made) (IsGiven state) → IsGiven state (kept_of (k, units))
+made_given state k made units is given = subst (λ (m : Option (List Element)). IfSome (option_map (λ u. kept_of (k, u)) m) (IsGiven state)) is given
+
+-- a document that is given, put there or, for want of memory, not
+pub noted-fits : (state : State) (old new : LruCache Key (List Element)) {A B : Type 0} (result : Result A B) (k : Key) (units : List Element)
+    → Fits state (map kept_of old.entries) → IsGiven state (kept_of (k, units))
+    → OnOk result (new ≡ lru_cache (put_entries same old k units) old.cap) → OnErr result (new ≡ old)
+    → Fits state (map kept_of new.entries)
+noted-fits state old new (Ok a) k units fits given put same_cache =
+    subst (λ (cache : LruCache Key (List Element)). Fits state (map kept_of cache.entries)) (sym put) (put-fits state old k units fits given)
+noted-fits state old new (Err b) k units fits given put same_cache =
+    subst (λ (cache : LruCache Key (List Element)). Fits state (map kept_of cache.entries)) (sym same_cache) fits
+
 module _ (state : State) (name : List ℕ) (revision : ℕ) (past : Past) (held : past_at state name revision ≡ Ok past) where
   -- what stands in a document at a revision that the state holds
   pub held-due : document_at state name revision ≡ Ok (content_at past revision).units
@@ -111,20 +128,17 @@ module _ (state : State) (name : List ℕ) (revision : ℕ) (past : Past) (held 
         still_held (inl is) = is
         still_held (inr old) = let never : Ok (content_at past revision).units ≡ Err TooOld = sym held-due ∙ old in cc
 
-  -- so the document that is made of it may be put there
-  pub made-fits : (cache new : LruCache Key (List Element)) {A B : Type 0} (result : Result A B) (k : Key) (units : List Element) → Fits state (map kept_of cache.entries)
-      → string_bytes k.name ≡ name → k.revision ≡ revision → units ≡ (content_at past revision).units
-      → OnOk result (new ≡ lru_cache (put_entries same cache k units) cache.cap) → OnErr result (new ≡ cache)
-      → Fits state (map kept_of new.entries)
-  made-fits cache new (Ok a) k units fits name_is revision_is units_is put same_cache =
-      subst (λ (c : LruCache Key (List Element)). Fits state (map kept_of c.entries)) (sym put)
-      (put-fits state cache k units fits
-      (subst (λ (n : List ℕ). IsGiven state (record { name = n; revision = k.revision; units = units })) (sym name_is)
-      (subst (λ (r : ℕ). IsGiven state (record { name = name; revision = r; units = units })) (sym revision_is) (inl (held-due ∙ ap Ok (sym units_is))))))
-  made-fits cache new (Err b) k units fits name_is revision_is units_is put same_cache =
-      subst (λ (c : LruCache Key (List Element)). Fits state (map kept_of c.entries)) (sym same_cache) fits
-
 -- what is shown of a document is shown of what is due
 pub shown_due : {X : Type 0} (shows : List Element → X → Type 0) (due : Result (List Element) Refusal) (units : List Element) (answer : X)
     → due ≡ Ok units → shows units answer → IsShown shows due (Ok answer)
 shown_due shows due units answer is shown = subst (λ (d : Result (List Element) Refusal). IsShown shows d (Ok answer)) (sym is) shown
+
+-- what is read of the state that is shown, which is this one
+pub read_weaker : {X : Type 0} (reads told : State → X → Type 0) (shown : Option State) (result : Result X Refusal) (now : State)
+    → IsReadOf reads shown result → ForSome shown (λ state. state ≡ now) → ((answer : X) → reads now answer → told now answer)
+    → IsReadOf told shown result
+read_weaker reads told (Some state) (Ok answer) now read is weaker =
+    subst (λ (s : State). told s answer) (sym (is state refl)) (weaker answer (subst (λ (s : State). reads s answer) (is state refl) read))
+read_weaker reads told (Some state) (Err refusal) now read is weaker = read
+read_weaker reads told None (Ok answer) now read is weaker = read
+read_weaker reads told None (Err refusal) now read is weaker = read

@@ -1,11 +1,12 @@
 //! Documents at older revisions, kept for the next one who asks for them.
-ghost use Rattle.std.specs.Prelude.{◌≡◌, ◌≤◌, [], IfOk, IfErr};
+ghost use Rattle.std.specs.Prelude.{◌≡◌, ◌≤◌, [], length, IfOk, IfErr, IfSome};
 ghost use Rattle.std.specs.Fn.{FnOnceReturnsAt};
 ghost use Rattle.std.specs.String.{string_bytes};
 ghost use Rattle.revision.specs.Past.{newest};
 ghost use Rattle.revision.specs.Pending.{held};
 ghost use Rattle.revision.specs.Readings.{document_at, past_at, read_as};
-ghost use Rattle.session.specs.Shelf.{Fits, IsShown};
+ghost use Rattle.revision.specs.State as spec;
+ghost use Rattle.session.specs.Shelf.{Fits, IsGiven, IsGivenLook, IsShown};
 
 use document::Document;
 use lru::LruCache;
@@ -42,13 +43,32 @@ pub struct Shelf {
 }
 
 impl Model for Shelf {
-    ghost use Rattle.std.specs.Prelude.{List, map};
+    ghost use Rattle.std.specs.Prelude.{◌≡◌, List, map};
     ghost use Rattle.std.specs.String.{string_bytes};
     ghost use Rattle.session.specs.Shelf.{Kept};
 
     ghost Value = { List Kept };
 
     ghost view = { λ s. map (λ entry. record { name = string_bytes entry.0.name; revision = entry.0.revision; units = entry.1 }) s.documents.entries };
+
+    ghost invariant = { λ s. s.documents.cap ≡ 64 };
+}
+
+/// A look at the shelf, which is to be noted there: the document was on it or, as it is seen, it was made.
+#[derive(Drop)]
+pub struct Look {
+    key: Key,
+    made: Option<Document>,
+}
+
+impl Model for Look {
+    ghost use Rattle.std.specs.Prelude.{Option, option_map};
+    ghost use Rattle.std.specs.String.{string_bytes};
+    ghost use Rattle.session.specs.Shelf.{Kept};
+
+    ghost Value = { Option Kept };
+
+    ghost view = { λ l. option_map (λ units. record { name = string_bytes l.key.name; revision = l.key.revision; units = units }) l.made };
 }
 
 impl Shelf {
@@ -64,35 +84,58 @@ impl Shelf {
         }
     }
 
-    /// Shows what stood in a document at a revision, and keeps it for the next one who asks. Refused with `NoDocument`, `Future`
-    /// where the revision is above the newest one, `TooOld` where it is below the floor, and for want of memory where the
-    /// document can't be made; where it can't be kept it is shown all the same.
+    /// How many documents are kept, 64 at most.
+    #[allow(clippy::len_without_is_empty)]
+    pub fn len(&self) -> usize
+        ensures len { result ≡ length self.now }
+        ensures bound { length self.now ≤ 64 }
+    {
+        self.documents.len()
+    }
+
+    /// Shows what stood in a document at a revision, and gives the look to be noted. Refused with `NoDocument`, `Future` where the
+    /// revision is above the newest one, `TooOld` where it is below the floor, and for want of memory where the document can't be
+    /// made.
     pub fn show<R, F: Drop + FnOnce(&Document) -> R>(
-        &mut self,
+        &self,
         alloc: Global,
         state: &State,
         name: &Name,
         revision: u64,
         show: F,
-    ) -> Result<R, Refusal>
+    ) -> Result<(R, Option<Look>), Refusal>
         requires { F.IsAlwaysCallable show }
-        // It is what is shown without the shelf.
-        ensures shown { Fits state.now self.old → IsShown (λ units answer. FnOnceReturnsAt F.FnOnce show units answer)
+        // Over a shelf that fits the state it is what is shown without one.
+        ensures shown { Fits state.now self.now → IsShown (λ units answer. FnOnceReturnsAt F.FnOnce show units answer.0)
             (document_at state.now name.now revision) result }
-        ensures fits { Fits state.now self.old → Fits state.now self.new }
+        ensures given { IfOk result (λ shown. IsGivenLook state.now shown.1) }
     {
         let found = held_at(state, name, revision)?;
         let Ok(key) = Key::new(alloc, name, revision) else {
             let document = found.document_at(alloc, revision)?;
-            return Ok(show(&document));
+            return Ok((show(&document), None));
         };
-        if let Some(document) = self.documents.get(&key) {
-            return Ok(show(document));
+        if let Some(document) = self.documents.peek(&key) {
+            let shown = show(document);
+            return Ok((shown, Some(Look { key, made: None })));
         }
         let document = found.document_at(alloc, revision)?;
         let shown = show(&document);
-        let _ = self.documents.put(key, document);
-        Ok(shown)
+        Ok((shown, Some(Look { key, made: Some(document) })))
+    }
+
+    /// Notes a look. A document that was made is kept, if there is memory for it, and the one that nobody asked for longest gives
+    /// way to it.
+    pub fn note(&mut self, look: Look)
+        ensures { (state : spec.State) → Fits state self.old → IfSome look (IsGiven state) → Fits state self.new }
+    {
+        let Look { key, made } = look;
+        match made {
+            Some(document) => drop(self.documents.put(key, document)),
+            None => {
+                self.documents.promote(&key);
+            }
+        }
     }
 }
 
