@@ -10,6 +10,7 @@ use clap::error::ErrorKind;
 use disk::{Fault, FileDisk};
 use recovery::{OpenFault, Shape, Store};
 use refusal::Refusal;
+use session::Stream;
 use std::alloc::Global;
 use std::convert::AsStr;
 use std::fs::{self, File};
@@ -57,7 +58,7 @@ fn invoke<R: Files<File = File> + AllocGlobal, I: Read, O: Write>(
         }
         Invocation::Serve { path } => {
             let mut desk = StoreDesk::new(open(rt, path)?);
-            serve(rt.alloc(), &mut desk, input, output)
+            serve(rt.alloc(), &mut desk, input, &mut Stream::new(output))
         }
         Invocation::Dump { path } => dump(rt.alloc(), open(rt, path)?.state(), output),
         Invocation::Delta(task) => print_answer(rt.alloc(), task, output),

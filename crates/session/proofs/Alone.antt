@@ -8,7 +8,7 @@ use Rattle.session.specs.Reads.{shown_line}
 use Rattle.session.specs.Reply.{subscribed_line, refusal_line}
 use Rattle.session.specs.Subscriptions.{may_follow_shown, subscribed}
 use Rattle.session.specs.News.{news_shown, subscriptions_shown}
-use Rattle.session.specs.Calls.{Call, Fed, Told, Missed, ComesOf, OfPiece, OfNews, OfMissed, Calls, TellsNews, with_subscriptions}
+use Rattle.session.specs.Calls.{Call, ComesOf, OfPiece, OfNews, OfMissed, Calls, with_subscriptions}
 use Rattle.session.specs.Session.{Peer, Session}
 use Rattle.session.specs.Replies.{answer_line, IsLine, IsReplied, Greeted, Asked, WasRead, WasSubscribed, NotSubscribed, WasUnsubscribed, Refused, NotTaken, TakesByte, LineContinues, LineOverflows, LineEnds, Replies, Asks, Feeds}
 use Rattle.session.specs.Alone.{answered, Alone, Conversation, Answer, told, told_of, by_event, with_input_byte, replies, conversation_after, FindsMemory, FedAlone, text_of, after_call, transcript, after_calls, of_session}

@@ -1,6 +1,6 @@
 -- What a state gives of a document at a revision that it has reached, each later one gives too, or no longer holds it.
 use Rattle.std.proofs.Common.{◌≡◌, ◌⊎◌, inl, inr, ℕ, zero, suc, ◌+◌, ◌-◌, ◌≤◌, max, Bool, true, false, cond, List, [], ◌∷◌, Option, Some, None, refl, sym, ap, subst, ◌∙◌, arith}
-use Rattle.std.specs.Prelude.{bytes_eq, nat_lt, slice_get, slice_index_or, Result, Ok, Err}
+use Rattle.std.specs.Prelude.{◌&&◌, OnOk, OnErr, bytes_eq, nat_lt, slice_get, slice_index_or, Result, Ok, Err}
 use Rattle.std.proofs.lemmas.Bool.{ltb-false, le-ltb}
 use Rattle.std.proofs.lemmas.Option.{same_Some}
 use Rattle.refusal.specs.declared.Refusal.{Refusal}
@@ -10,9 +10,9 @@ use Rattle.revision.specs.Command.{Taken}
 use Rattle.revision.specs.Floors.{longer}
 use Rattle.revision.specs.Past.{Past, Change, Content, newest, content_at, with_change}
 use Rattle.revision.specs.Readings.{at_revision}
-use Rattle.revision.specs.State.{DocumentRecord, State, find, grown, fold, record_by_name, set_document, change_of}
+use Rattle.revision.specs.State.{DocumentRecord, State, find, grows, grown, fold, record_by_name, set_document, change_of}
 use Rattle.revision.proofs.CallerLemmas.{from_twice, from_longer, change_makes}
-use Rattle.session.specs.Shelf.{Kept, IsGiven, FitsLater}
+use Rattle.session.specs.Shelf.{Kept, IsGiven, IsLater, FitsLater}
 
 -- a change leaves what stood at each revision that is still held
 content-stays : (keep : ℕ) (past : Past) (change : Change) (revision : ℕ) → (with_change keep past change).floor ≤ revision → revision ≤ newest past
@@ -168,3 +168,9 @@ given-fold (first ∷ others) state kept given =
 pub fits_later : FitsLater
 fits_later old new shelf (commands, grow, is) fits =
     λ k d below. subst (λ (s : State). IsGiven s (slice_index_or shelf k d)) (sym is) (given-fold commands old _ (fits k d below))
+
+-- a state is later than another where a command was added to it, or where it is the same
+pub later_by : {A E : Type 0} (old new : State) (taken : Taken) (result : Result A E) → grows old taken ≡ true
+    → OnOk result (new ≡ grown old taken) → OnErr result (new ≡ old) → IsLater old new
+later_by old new taken (Ok a) grow added same = (taken ∷ [], ap (λ b. b && true) grow, added)
+later_by old new taken (Err e) grow added same = ([], refl, same)

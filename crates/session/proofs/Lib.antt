@@ -3,6 +3,7 @@ mod Worked
 pub mod Plain
 mod Alone
 mod Newsworthy
+pub mod Calling
 mod Kept
 mod Telling
 pub mod Writes

@@ -1,5 +1,5 @@
 -- News that are told, or missed.
-use Rattle.std.proofs.Common.{◌≡◌, true, List, ℕ, [], ◌∷◌, Option, Some, None, refl, sym, ap, subst, ◌∙◌, inl, inr}
+use Rattle.std.proofs.Common.{◌≡◌, true, List, ℕ, [], ◌∷◌, Option, refl, sym, ap, subst, ◌∙◌, inl, inr}
 use Rattle.std.specs.Io.KnownBytes.{Appends}
 use Rattle.revision.specs.State.{State}
 use Rattle.session.specs.Exchange.{Exchange, Shown}

@@ -1,5 +1,5 @@
 -- Writes to a stream whose bytes may be known.
-use Rattle.std.proofs.Common.{◌≡◌, ◌++◌, ◌+◌, ◌≤◌, List, ℕ, [], ◌∷◌, zero, suc, length, take, drop, false, refl, subst, arith, Option, Some, None, Result, Ok, Err, OnOk, OnErr, sym, ap, ◌∙◌, append_assoc, append-nil, true≢false}
+use Rattle.std.proofs.Common.{◌≡◌, ◌++◌, ◌+◌, ◌≤◌, List, ℕ, [], ◌∷◌, suc, length, take, drop, false, refl, subst, arith, Option, Some, None, Result, Ok, Err, OnOk, OnErr, sym, ap, ◌∙◌, append_assoc, append-nil, true≢false}
 use Rattle.std.specs.Result.{is_err}
 use Rattle.std.proofs.lemmas.List.{take_at, take-append-drop, length-append}
 use Rattle.std.specs.Io.KnownBytes.{Appends, Keeps}

@@ -19,7 +19,11 @@ pub struct News {
 
 impl News {
     /// The news of a state. Each revision that is told is printed from its delta as it is held; no document is looked at.
-    pub fn of(alloc: Global, subscriptions: &Subscriptions, state: &State) -> Result<News, AllocError>
+    pub fn of(
+        alloc: Global,
+        subscriptions: &Subscriptions,
+        state: &State,
+    ) -> Result<News, AllocError>
         ensures { IfOk result (λ news.
             spec.AreNews subscriptions.now (Some state.now) (string_bytes news.text) news.last.items) }
     {

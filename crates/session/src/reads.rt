@@ -54,7 +54,13 @@ fn read_at(alloc: Global, state: &State, shelf: &Shelf, name: &Name, rev: u64) -
     ensures reply { Fits state.now shelf.now → IfOk result.reply (λ text. string_bytes text ≡ read_line name.now (At rev) state.now) }
     ensures look { IsGivenLook state.now result.look }
 {
-    match shelf.show(alloc, state, name, rev, |document| document_reply(alloc, name, document, rev)) {
+    match shelf.show(
+        alloc,
+        state,
+        name,
+        rev,
+        |document| document_reply(alloc, name, document, rev),
+    ) {
         Ok((reply, look)) => Told { reply, look },
         Err(refusal) => Told {
             reply: reply_of_unshown(alloc, refusal),

@@ -25,7 +25,9 @@ use crate::news::News;
 use crate::output::Output;
 use crate::question::Question;
 use crate::reads::{Told, check_held, read};
-use crate::reply::{acknowledgement, greeting, refusal_reply, subscribed_reply, unsubscribed_reply};
+use crate::reply::{
+    acknowledgement, greeting, refusal_reply, subscribed_reply, unsubscribed_reply,
+};
 use crate::request::Request;
 use crate::shelf::Shelf;
 use crate::subscriptions::Subscriptions;
@@ -58,9 +60,9 @@ impl Model for Session {
     ghost Value = { spec.Session };
 
     ghost view = { λ s. record {
-        line = s.line;
-        peer = record { source = s.source; subscriptions = s.subscriptions };
-        ended = s.ended;
+      line = s.line;
+      peer = record { source = s.source; subscriptions = s.subscriptions };
+      ended = s.ended;
     } };
 
     ghost invariant = { λ s. ForSome s.source (λ name. is_source_name name ≡ true) };
@@ -136,6 +138,7 @@ impl Session {
         ensures ended { self.old.ended ≡ true → IsErr result }
         ensures silent { self.old.ended ≡ true → out.new ≡ out.old }
         ensures idle { self.old.ended ≡ true → desk.new ≡ desk.old }
+        ensures later { IsLater (D.reached desk.old) (D.reached desk.new) }
 
         // What is written is the news of the state that the desk shows.
         ensures told { OnOk result (TellsNews D.does self.old self.new desk.old desk.new
@@ -275,7 +278,7 @@ impl Session {
         ensures later { IsLater (D.reached desk.old) (D.reached desk.new) }
         ensures followed { (shown : Option state.State) × D.does desk.old (Shown shown) desk.new
             × OnOk result (self.new ≡ with_subscriptions self.old
-                (subscribed self.old.peer.subscriptions name rev (may_follow_shown name rev shown)))
+            (subscribed self.old.peer.subscriptions name rev (may_follow_shown name rev shown)))
             × IfOk result (λ text. string_bytes text ≡ subscribed_line name rev (may_follow_shown name rev shown))
             × OnErr result (self.new ≡ self.old) }
     {
@@ -383,12 +386,12 @@ fn view<D: Desk>(
         × IsReadOf (λ state answer. IfOk answer.reply (λ text. string_bytes text ≡ read_line name.now question state)) shown result }
     ensures look { IfOk result (λ told. IsGivenLook (D.reached desk.new) told.look) }
 {
-    desk.view(|state|
-        ensures reply { Fits state.now shelf.entry.now → IfOk result.reply (λ text. string_bytes text ≡ read_line name.entry.now question state.now) }
-        ensures look { IsGivenLook state.now result.look }
-    {
-        read(alloc, state, shelf, name, question)
-    })
+    desk.view(
+        |state|
+            ensures reply { Fits state.now shelf.entry.now → IfOk result.reply (λ text. string_bytes text ≡ read_line name.entry.now question state.now) }
+            ensures look { IsGivenLook state.now result.look }
+        { read(alloc, state, shelf, name, question) },
+    )
 }
 
 // Has the desk show its state once, and tells whether that holds a document at a revision.

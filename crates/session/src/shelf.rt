@@ -121,7 +121,13 @@ impl Shelf {
         }
         let document = found.document_at(alloc, revision)?;
         let shown = show(&document);
-        Ok((shown, Some(Look { key, made: Some(document) })))
+        Ok((
+            shown,
+            Some(Look {
+                key,
+                made: Some(document),
+            }),
+        ))
     }
 
     /// Notes a look. A document that was made is kept, if there is memory for it, and the one that nobody asked for longest gives

@@ -5,4 +5,4 @@ use Rattle.server.proofs.serve.serve_all.Given as goal
 abbrev pub invariant-pieces : goal.invariant-pieces
 invariant-pieces g l =
     Serves g.K.Desk.does l.fn.session l.session l.fn.desk l.desk (g.I.Read.remaining l.fn.input) (g.I.Read.remaining l.input)
-    (g.O.Write.contents l.fn.output) (g.O.Write.contents l.output)
+    (g.O.Output.contents l.fn.output) (g.O.Output.contents l.output)

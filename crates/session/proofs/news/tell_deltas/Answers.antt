@@ -1,4 +1,4 @@
-use Rattle.std.proofs.Common.{◌≡◌, ◌+◌, ◌<◌, ◌++◌, length, take, ap, ap₂, ◌∙◌, append_assoc, rules, arith}
+use Rattle.std.proofs.Common.{◌≡◌, ◌+◌, ◌++◌, take, ap, ap₂, ◌∙◌, append_assoc, rules, arith}
 use Rattle.std.specs.String.{string_bytes}
 use Rattle.session.specs.News as spec
 use Rattle.session.specs.Reply.{news_line}

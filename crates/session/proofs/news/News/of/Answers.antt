@@ -1,4 +1,4 @@
-use Rattle.std.proofs.Common.{◌≡◌, ◌+◌, ◌<◌, ◌++◌, ◌∷◌, [], length, map, take, ap, ap₂, ◌∙◌, append_assoc, rules, arith}
+use Rattle.std.proofs.Common.{◌≡◌, ◌++◌, ◌∷◌, [], length, map, take, ap, ap₂, ◌∙◌, rules, arith}
 use Rattle.std.specs.String.{string_bytes}
 use Rattle.attributes.proofs.Places.{read_at}
 use Rattle.std.proofs.lemmas.List.{take_all, length-map}
