@@ -1,12 +1,12 @@
 -- Pieces of the input, as they are read.
-use Rattle.std.proofs.Common.{◌++◌, ℕ, List, [], ◌∷◌, Option, Some, None, Bool, true, false, ◌≡◌, ◌≢◌, refl, sym, ap, subst, ◌∙◌, append_assoc}
+use Rattle.std.proofs.Common.{◌++◌, ℕ, List, [], ◌∷◌, Option, Some, None, Bool, true, false, ◌≡◌, ◌≢◌, refl, sym, ap, subst, ◌∙◌, append_assoc, append-nil}
 use Rattle.std.specs.Io.KnownBytes.{Appends, Consumes, Keeps}
 use Rattle.session.specs.Session.{Session}
 use Rattle.session.specs.Exchange.{Exchange, Shown}
 use Rattle.session.specs.Replies.{Feeds, Stops}
 use Rattle.session.specs.Calls.{Call, Fed, OfPiece, TellsNews, StopsNews}
 use Rattle.server.specs.Serving.{AreServedBy, no_bytes, within_line, line_end, ServesBytes, Serves, WasAsked}
-use Rattle.session.proofs.CallerLemmas.{feeds-nothing, asks-joined, appends-both, calls-joined, calls-one}
+use Rattle.session.proofs.CallerLemmas.{asks-joined, appends-both, calls-joined, calls-one}
 
 pub keeps-same : (a : Option (List ℕ)) → Keeps a a
 keeps-same None = tt
@@ -35,6 +35,10 @@ consumes-both (Some x) None c front back first second = absurd first
 consumes-both (Some x) (Some y) None front back first second = absurd second
 consumes-both (Some x) (Some y) (Some z) front back first second = first ∙ ap (λ l. front ++ l) second ∙ sym (append_assoc front back z)
 
+pub appends-nothing : (a : Option (List ℕ)) → Appends a a []
+appends-nothing None = tt
+appends-nothing (Some x) = sym (append-nil x)
+
 -- what is written is kept by a flush
 pub appends-kept : (a b c : Option (List ℕ)) (text : List ℕ) → Appends a b text → Keeps b c → Appends a c text
 appends-kept None b c text written kept = tt
@@ -59,7 +63,7 @@ module _ {D : Type 0} (does : D → Exchange → D → Type 0) where
     text = [];
     comes = (refl, refl, refl);
     asks = refl;
-    written = (feeds-nothing does s d o).written;
+    written = appends-nothing o;
   }
 
   pub bytes-joined : (front back : List ℕ) (old mid new : Session) (d e f : D) (o p q : Option (List ℕ))

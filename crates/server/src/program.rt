@@ -58,7 +58,8 @@ fn invoke<R: Files<File = File> + AllocGlobal, I: Read, O: Write>(
         }
         Invocation::Serve { path } => {
             let mut desk = StoreDesk::new(open(rt, path)?);
-            serve(rt.alloc(), &mut desk, input, &mut Stream::new(output))
+            let mut stream = Stream::new(output);
+            serve(rt.alloc(), &mut desk, input, &mut stream)
         }
         Invocation::Dump { path } => dump(rt.alloc(), open(rt, path)?.state(), output),
         Invocation::Delta(task) => print_answer(rt.alloc(), task, output),

@@ -2,20 +2,19 @@
 ghost use Rattle.std.specs.Prelude.{OnOk};
 ghost use Rattle.session.specs.Alone.{FedAlone, of_session};
 
-use session::{Session, SessionEnded, StateDesk};
+use session::{Output, Session, SessionEnded, StateDesk};
 use std::alloc::Global;
-use std::io::Write;
 
 /// Takes a piece of the input over a state in memory.
-pub fn reply<W: Write>(
+pub fn reply<O: Output>(
     alloc: Global,
     session: &mut Session,
     desk: &mut StateDesk,
     piece: &[u8],
-    out: &mut W,
+    out: &mut O,
 ) -> Result<(), SessionEnded>
     ensures { OnOk result (FedAlone (of_session session.old desk.old) piece.now (of_session session.new desk.new)
-        (W.contents out.old) (W.contents out.new)) }
+        (O.contents out.old) (O.contents out.new)) }
 {
     desk.feed(alloc, session, piece, out)
 }

@@ -1,5 +1,9 @@
-use Rattle.server.proofs.Streams.{serves-joined, asked-joined}
+use Rattle.server.proofs.Streams.{serves-nothing, serves-joined, asked-joined}
 use Rattle.server.proofs.serve.serve_all.Goals as goal
+
+pub pieces-init : goal.pieces-init
+pieces-init g c =
+    serves-nothing g.K.Desk.does c.args.session.now c.args.desk.now (g.I.Read.remaining c.args.input.now) (g.O.Output.contents c.args.output.now)
 
 pub returns-then-not-branch-clause-served : goal.returns-then-not-branch-clause-served
 returns-then-not-branch-clause-served g c =
