@@ -6,13 +6,14 @@ ghost use Rattle.server.specs.Asked.{KeepsAll};
 ghost use Rattle.server.specs.Desk.{PassesAtStore, store_of, has_failed};
 ghost use Rattle.session.specs.Exchange.{Exchange};
 ghost use Rattle.session.specs.Replies.{Asks};
+ghost use Rattle.session.specs.Shelf.{Fits};
 ghost use Rattle.server.specs.Serving.{Serves, ServesBytes, IsServed, WasAsked};
 
 use crate::desk::StoreDesk;
 use crate::failure::Failure;
 use disk::Disk;
 use refusal::Refusal;
-use session::{Desk, Output, Session};
+use session::{Desk, Output, Session, Shelf};
 use std::alloc::Global;
 use std::io::{ErrorKind, Read};
 
@@ -44,7 +45,8 @@ pub fn serve<D: Disk, I: Read, O: Output>(
         ⊎ ((e ≡ Failure.Refused Refusal.StoreFailed) ⊎ (e ≡ Failure.Refused Refusal.NoMemory))) }
 {
     let mut session = Session::new(alloc)?;
-    serve_all(alloc, &mut session, desk, input, output)?;
+    let mut shelf = Shelf::new(alloc)?;
+    serve_all(alloc, &mut session, desk, &mut shelf, input, output)?;
     if desk.has_failed() {
         return Err(Failure::Refused(Refusal::StoreFailed));
     }
@@ -56,9 +58,12 @@ fn serve_all<K: Desk, I: Read, O: Output>(
     alloc: Global,
     session: &mut Session,
     desk: &mut K,
+    shelf: &mut Shelf,
     input: &mut I,
     output: &mut O,
 ) -> Result<(), Failure>
+    requires fits { Fits (K.reached desk.old) shelf.old }
+    ensures fits { Fits (K.reached desk.new) shelf.new }
     ensures served { OnOk result (Serves K.does session.old session.new desk.old desk.new
         (I.remaining input.old) (I.remaining input.new) (O.contents output.old) (O.contents output.new)) }
     ensures at_end { OnOk result (IsAtEnd (I.remaining input.new)) }
@@ -66,7 +71,7 @@ fn serve_all<K: Desk, I: Read, O: Output>(
     ensures only { IfErr result (λ e. e ≡ Failure.Stream) }
 {
     'pieces: for _ in 0..u64::MAX {
-        if !serve_piece(alloc, session, desk, input, output)? {
+        if !serve_piece(alloc, session, desk, shelf, input, output)? {
             return Ok(());
         }
     }
@@ -78,9 +83,12 @@ fn serve_piece<K: Desk, I: Read, O: Output>(
     alloc: Global,
     session: &mut Session,
     desk: &mut K,
+    shelf: &mut Shelf,
     input: &mut I,
     output: &mut O,
 ) -> Result<bool, Failure>
+    requires fits { Fits (K.reached desk.old) shelf.old }
+    ensures fits { Fits (K.reached desk.new) shelf.new }
     ensures served { OnOk result (Serves K.does session.old session.new desk.old desk.new
         (I.remaining input.old) (I.remaining input.new) (O.contents output.old) (O.contents output.new)) }
     ensures at_end { IfOk result (λ went_on. went_on ≡ false → IsAtEnd (I.remaining input.new)) }
@@ -89,7 +97,7 @@ fn serve_piece<K: Desk, I: Read, O: Output>(
 {
     let mut piece = [0; PIECE];
     let count = read_some(input, &mut piece)?;
-    feed_all(alloc, session, desk, &piece[..count], output)?;
+    feed_all(alloc, session, desk, shelf, &piece[..count], output)?;
     flush(output)?;
     Ok(count > 0)
 }
@@ -117,16 +125,19 @@ fn feed_all<K: Desk, O: Output>(
     alloc: Global,
     session: &mut Session,
     desk: &mut K,
+    shelf: &mut Shelf,
     piece: &[u8],
     output: &mut O,
 ) -> Result<(), Failure>
+    requires fits { Fits (K.reached desk.old) shelf.old }
+    ensures fits { Fits (K.reached desk.new) shelf.new }
     ensures served { OnOk result (ServesBytes K.does session.old piece.now session.new desk.old desk.new
         (O.contents output.old) (O.contents output.new)) }
     ensures asked { WasAsked K.does desk.old desk.new }
     ensures only { IfErr result (λ e. e ≡ Failure.Stream) }
 {
     for byte in piece {
-        feed_byte(alloc, session, desk, *byte, output)?;
+        feed_byte(alloc, session, desk, shelf, *byte, output)?;
     }
     Ok(())
 }
@@ -135,15 +146,18 @@ fn feed_byte<K: Desk, O: Output>(
     alloc: Global,
     session: &mut Session,
     desk: &mut K,
+    shelf: &mut Shelf,
     byte: u8,
     output: &mut O,
 ) -> Result<(), Failure>
+    requires fits { Fits (K.reached desk.old) shelf.old }
+    ensures fits { Fits (K.reached desk.new) shelf.new }
     ensures served { OnOk result (ServesBytes K.does session.old (byte ∷ []) session.new desk.old desk.new
         (O.contents output.old) (O.contents output.new)) }
     ensures asked { WasAsked K.does desk.old desk.new }
     ensures only { IfErr result (λ e. e ≡ Failure.Stream) }
 {
-    let Ok(()) = session.feed(alloc, &[byte], output, desk) else {
+    let Ok(()) = session.feed(alloc, &[byte], output, desk, shelf) else {
         return Err(Failure::Stream);
     };
     if byte != b'\n' {

@@ -10,3 +10,5 @@ pub mod Writes
 pub mod Replying
 pub mod Feeding
 pub mod CallerLemmas
+mod Later
+mod Shelved

@@ -13,3 +13,4 @@ pub mod Session
 pub mod Replies
 pub mod Calls
 pub mod Alone
+pub mod Shelf

@@ -16,6 +16,7 @@ ghost use Rattle.session.specs.Subscriptions.{Subscriptions};
 ghost use Rattle.session.specs.Calls.{Call, Calls, TellsNews};
 ghost use Rattle.revision.specs.Past.{Past, newest, deltas_above};
 ghost use Rattle.session.specs.Alone.{Alone, FedAlone, HearsAlone, FindsMemory, transcript, after_calls, of_session};
+ghost use Rattle.session.specs.Shelf.{FitsLater};
 
 /// It doesn't matter in which pieces the input comes: what comes of two pieces, one after the other, is what comes of
 /// them joined.
@@ -92,4 +93,9 @@ pub fn told_once()
         → past.floor ≤ last → last ≤ newest past → later.floor ≤ last → newest past ≤ newest later
         → take (newest past - last) (deltas_above later last) ≡ deltas_above past last
         → lines_after doc last past ++ lines_after doc (newest past) later ≡ lines_after doc last later }
+{}
+
+/// What is kept of a state's documents at older revisions stays right of it as it goes on.
+pub fn kept_documents_stay()
+    ensures { FitsLater }
 {}

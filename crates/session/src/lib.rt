@@ -51,6 +51,7 @@ mod reads;
 mod reply;
 mod request;
 mod session;
+mod shelf;
 mod state_desk;
 mod subscriptions;
 
@@ -58,4 +59,5 @@ pub use desk::Desk;
 pub use output::{Output, Stream, WriteFailed};
 pub use reply::Reply;
 pub use session::{Session, SessionEnded};
+pub use shelf::Shelf;
 pub use state_desk::StateDesk;

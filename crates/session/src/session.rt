@@ -10,8 +10,9 @@ ghost use Rattle.session.specs.Line.{with_byte};
 ghost use Rattle.session.specs.Request.{request_of, GreetsSource};
 ghost use Rattle.revision.specs.State as state;
 ghost use Rattle.session.specs.Reply.{greeting as spec_greeting, subscribed_line, unsubscribed_reply as spec_unsubscribed, line_of, refusal_line};
-ghost use Rattle.session.specs.Reads.{shown_line};
-ghost use Rattle.session.specs.Exchange.{Exchange, Answered, Shown};
+ghost use Rattle.session.specs.Reads.{read_line, shown_line};
+ghost use Rattle.session.specs.Shelf.{Fits, IsLater, IsGivenLook};
+ghost use Rattle.session.specs.Exchange.{Exchange, Answered, Shown, IsReadOf};
 ghost use Rattle.session.specs.Output.{AppendsFront};
 ghost use Rattle.session.specs.Subscriptions.{may_follow_shown, subscribed, without_subscription};
 ghost use Rattle.session.specs.News.{AreNews, going_on};
@@ -23,11 +24,12 @@ use crate::line::{Event, Line};
 use crate::news::News;
 use crate::output::Output;
 use crate::question::Question;
-use crate::reads::{check_held, read};
+use crate::reads::{Told, check_held, read};
 use crate::reply::{
     acknowledgement, greeting, refusal_reply, subscribed_reply, unsubscribed_reply,
 };
 use crate::request::Request;
+use crate::shelf::Shelf;
 use crate::subscriptions::Subscriptions;
 use refusal::Refusal;
 use revision::{Command, Name};
@@ -94,7 +96,11 @@ impl Session {
         piece: &[u8],
         out: &mut O,
         desk: &mut D,
+        shelf: &mut Shelf,
     ) -> Result<(), SessionEnded>
+        requires fits { Fits (D.reached desk.old) shelf.old }
+        // The documents on the shelf stay right of the desk's state.
+        ensures fits { Fits (D.reached desk.new) shelf.new }
         // Once a write has failed, nothing is written or asked.
         ensures ended { self.old.ended ≡ true → IsErr result }
         ensures silent { self.old.ended ≡ true → out.new ≡ out.old }
@@ -115,7 +121,7 @@ impl Session {
             return Err(SessionEnded);
         }
         for byte in piece {
-            self.take(alloc, *byte, out, desk)?;
+            self.take(alloc, *byte, out, desk, shelf)?;
         }
         Ok(())
     }
@@ -132,6 +138,7 @@ impl Session {
         ensures ended { self.old.ended ≡ true → IsErr result }
         ensures silent { self.old.ended ≡ true → out.new ≡ out.old }
         ensures idle { self.old.ended ≡ true → desk.new ≡ desk.old }
+        ensures later { IsLater (D.reached desk.old) (D.reached desk.new) }
 
         // What is written is the news of the state that the desk shows.
         ensures told { OnOk result (TellsNews D.does self.old self.new desk.old desk.new
@@ -177,8 +184,11 @@ impl Session {
         byte: u8,
         out: &mut O,
         desk: &mut D,
+        shelf: &mut Shelf,
     ) -> Result<(), SessionEnded>
-        requires { self.old.ended ≡ false }
+        requires works { self.old.ended ≡ false }
+        requires fits { Fits (D.reached desk.old) shelf.old }
+        ensures fits { Fits (D.reached desk.new) shelf.new }
         ensures fed { OnOk result (Feeds D.does self.old (byte ∷ []) self.new desk.old desk.new
             (O.contents out.old) (O.contents out.new)) }
         ensures stopped { OnErr result (Stops D.does self.old (byte ∷ []) self.new desk.old desk.new
@@ -191,7 +201,7 @@ impl Session {
             Event::More => {}
             Event::TooLong => self.send(out, &refusal_reply(alloc, Refusal::LineTooLong))?,
             Event::Complete => {
-                let reply = self.respond(alloc, desk);
+                let reply = self.respond(alloc, desk, shelf);
                 self.next_line();
                 self.send(out, &reply)?;
             }
@@ -214,7 +224,14 @@ impl Session {
     }
 
     // The reply to the line, which is complete.
-    fn respond<D: Desk>(&mut self, alloc: Global, desk: &mut D) -> Result<String, AllocError>
+    fn respond<D: Desk>(
+        &mut self,
+        alloc: Global,
+        desk: &mut D,
+        shelf: &mut Shelf,
+    ) -> Result<String, AllocError>
+        requires fits { Fits (D.reached desk.old) shelf.old }
+        ensures fits { Fits (D.reached desk.new) shelf.new }
         ensures others { self.new ≡ record self.old { peer = self.new.peer } }
         ensures replied { IfSome self.old.line (λ line. (asked : List Exchange)
             × IsReplied self.old.peer line asked self.new.peer (text_told (λ t. string_bytes t) result)
@@ -223,7 +240,7 @@ impl Session {
         match self.request(alloc) {
             Ok(Request::Greet(source)) => self.greet(alloc, source),
             Ok(Request::Ask(command)) => ask(alloc, desk, &command),
-            Ok(Request::Read(name, question)) => answer(alloc, desk, &name, question),
+            Ok(Request::Read(name, question)) => answer(alloc, desk, shelf, &name, question),
             Ok(Request::Subscribe(name, rev)) => self.subscribe(alloc, desk, name, rev),
             Ok(Request::Unsubscribe(name)) => self.unsubscribe(alloc, &name),
             Err(refusal) => refusal_reply(alloc, refusal),
@@ -258,7 +275,8 @@ impl Session {
         name: Name,
         rev: u64,
     ) -> Result<String, AllocError>
-        ensures { (shown : Option state.State) × D.does desk.old (Shown shown) desk.new
+        ensures later { IsLater (D.reached desk.old) (D.reached desk.new) }
+        ensures followed { (shown : Option state.State) × D.does desk.old (Shown shown) desk.new
             × OnOk result (self.new ≡ with_subscriptions self.old
             (subscribed self.old.peer.subscriptions name rev (may_follow_shown name rev shown)))
             × IfOk result (λ text. string_bytes text ≡ subscribed_line name rev (may_follow_shown name rev shown))
@@ -320,7 +338,8 @@ impl Session {
 
 // Asks the desk once, and tells what it answers.
 fn ask<D: Desk>(alloc: Global, desk: &mut D, command: &Command) -> Result<String, AllocError>
-    ensures { (answer : Result reply.Reply refusal.Refusal) × D.does desk.old (Answered command.now answer) desk.new
+    ensures later { IsLater (D.reached desk.old) (D.reached desk.new) }
+    ensures told { (answer : Result reply.Reply refusal.Refusal) × D.does desk.old (Answered command.now answer) desk.new
         × IsLine (answer_line command.now answer) (text_told (λ t. string_bytes t) result) }
 {
     match desk.ask(alloc, command) {
@@ -333,21 +352,52 @@ fn ask<D: Desk>(alloc: Global, desk: &mut D, command: &Command) -> Result<String
 fn answer<D: Desk>(
     alloc: Global,
     desk: &mut D,
+    shelf: &mut Shelf,
     name: &Name,
     question: Question,
 ) -> Result<String, AllocError>
-    ensures { (shown : Option state.State) × D.does desk.old (Shown shown) desk.new
+    requires fits { Fits (D.reached desk.old) shelf.old }
+    ensures fits { Fits (D.reached desk.new) shelf.new }
+    ensures told { (shown : Option state.State) × D.does desk.old (Shown shown) desk.new
         × IsLine (shown_line name.now question shown) (text_told (λ t. string_bytes t) result) }
 {
-    match desk.view(|state| read(alloc, state, name, question)) {
-        Ok(reply) => reply,
+    match view(alloc, desk, shelf, name, question) {
+        Ok(Told { reply, look }) => {
+            if let Some(look) = look {
+                shelf.note(look);
+            }
+            reply
+        }
         Err(refusal) => refusal_reply(alloc, refusal),
     }
 }
 
+// Has the desk show its state once, and reads what is asked of the document of this name.
+fn view<D: Desk>(
+    alloc: Global,
+    desk: &mut D,
+    shelf: &Shelf,
+    name: &Name,
+    question: Question,
+) -> Result<Told, Refusal>
+    requires fits { Fits (D.reached desk.old) shelf.now }
+    ensures fits { Fits (D.reached desk.new) shelf.now }
+    ensures told { (shown : Option state.State) × D.does desk.old (Shown shown) desk.new
+        × IsReadOf (λ state answer. IfOk answer.reply (λ text. string_bytes text ≡ read_line name.now question state)) shown result }
+    ensures look { IfOk result (λ told. IsGivenLook (D.reached desk.new) told.look) }
+{
+    desk.view(
+        |state|
+            ensures reply { Fits state.now shelf.entry.now → IfOk result.reply (λ text. string_bytes text ≡ read_line name.entry.now question state.now) }
+            ensures look { IsGivenLook state.now result.look }
+        { read(alloc, state, shelf, name, question) },
+    )
+}
+
 // Has the desk show its state once, and tells whether that holds a document at a revision.
 fn show_held<D: Desk>(desk: &mut D, name: &Name, rev: u64) -> Result<(), Refusal>
-    ensures { (shown : Option state.State) × D.does desk.old (Shown shown) desk.new
+    ensures later { IsLater (D.reached desk.old) (D.reached desk.new) }
+    ensures told { (shown : Option state.State) × D.does desk.old (Shown shown) desk.new
         × (result ≡ may_follow_shown name.now rev shown) }
 {
     match desk.view(|state| check_held(state, name, rev)) {
@@ -363,7 +413,8 @@ fn show_news<D: Desk>(
     desk: &mut D,
     subscriptions: &Subscriptions,
 ) -> Result<News, AllocError>
-    ensures { (shown : Option state.State) × D.does desk.old (Shown shown) desk.new
+    ensures later { IsLater (D.reached desk.old) (D.reached desk.new) }
+    ensures told { (shown : Option state.State) × D.does desk.old (Shown shown) desk.new
         × IfOk result (λ news. AreNews subscriptions.now shown (string_bytes news.text) news.last.items) }
 {
     match desk.view(|state| News::of(alloc, subscriptions, state)) {

@@ -3,12 +3,14 @@ ghost use Rattle.std.specs.Prelude.{◌≡◌, ◌⊎◌, true, [], ◌∷◌, I
 ghost use Rattle.revision.specs.State.{State, grows, grown};
 ghost use Rattle.session.specs.declared.reply.Reply.TheVariants as reply;
 ghost use Rattle.session.specs.Alone.{FedAlone, HearsAlone, of_session};
+ghost use Rattle.session.specs.Shelf.{Fits};
 
 use crate::desk::Desk;
 use crate::laws::{news_of_a_state, replies_of_a_state};
 use crate::output::Output;
 use crate::reply::Reply;
 use crate::session::{Session, SessionEnded};
+use crate::shelf::Shelf;
 use refusal::Refusal;
 use revision::{Command, Plan, State, Taken, laws};
 use std::alloc::Global;
@@ -53,12 +55,15 @@ impl StateDesk {
         session: &mut Session,
         piece: &[u8],
         out: &mut O,
+        shelf: &mut Shelf,
     ) -> Result<(), SessionEnded>
-        ensures { OnOk result (FedAlone (of_session session.old self.old) piece.now (of_session session.new self.new)
+        requires fits { Fits self.old shelf.old }
+        ensures fits { Fits self.new shelf.new }
+        ensures fed { OnOk result (FedAlone (of_session session.old self.old) piece.now (of_session session.new self.new)
             (O.contents out.old) (O.contents out.new)) }
     {
         replies_of_a_state();
-        session.feed(alloc, piece, out, self)
+        session.feed(alloc, piece, out, self, shelf)
     }
 
     /// Tells the news of a session over this desk: the news of the state are written, or for want of memory nothing, and then the
@@ -94,6 +99,8 @@ impl Desk for StateDesk {
     ghost use Rattle.session.specs.Alone.{Alone};
 
     ghost does = { λ old exchange new. Alone old exchange new };
+
+    ghost reached = { λ desk. desk };
 
     fn ask(&mut self, alloc: Global, command: &Command) -> Result<Reply, Refusal> {
         laws::taken_grows();

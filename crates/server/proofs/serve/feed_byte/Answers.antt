@@ -1,4 +1,5 @@
 use Rattle.std.proofs.Common.{◌≡◌, ◌≢◌, [], ◌∷◌, rules}
+use Rattle.session.proofs.CallerLemmas.{fits_later}
 use Rattle.server.proofs.Streams.{byte-within, byte-ending, asked-joined, asked-fed, asked-told, asked-news-stopped}
 use Rattle.server.proofs.serve.feed_byte.Goals as goal
 
@@ -33,3 +34,15 @@ returns-clause-asked g c =
     asked-joined g.K.Desk.does c.args.desk.now c.feed.new.desk c.on_news.new.desk
     (asked-fed g.K.Desk.does c.args.session.now (c.args.byte ∷ []) c.feed.new.self c.args.desk.now c.feed.new.desk _ _ c.in-Ok.ensures.fed)
     (asked-told g.K.Desk.does c.feed.new.self c.on_news.new.self c.feed.new.desk c.on_news.new.desk _ _ c.in-Ok-on_news.ensures.told)
+
+pub returns-in_default-on_news-clause-fits : goal.returns-in_default-on_news-clause-fits
+returns-in_default-on_news-clause-fits g c =
+    fits_later (g.K.Desk.reached c.feed.new.desk) (g.K.Desk.reached c.on_news.new.desk) c.feed.new.shelf c.on_news.ensures.later c.feed.ensures.fits
+
+pub returns-in_err-flush-clause-fits : goal.returns-in_err-flush-clause-fits
+returns-in_err-flush-clause-fits g c =
+    fits_later (g.K.Desk.reached c.feed.new.desk) (g.K.Desk.reached c.on_news.new.desk) c.feed.new.shelf c.on_news.ensures.later c.feed.ensures.fits
+
+pub returns-clause-fits : goal.returns-clause-fits
+returns-clause-fits g c =
+    fits_later (g.K.Desk.reached c.feed.new.desk) (g.K.Desk.reached c.on_news.new.desk) c.feed.new.shelf c.on_news.ensures.later c.feed.ensures.fits

@@ -13,6 +13,7 @@ loop-byte-preserved g c =
     let within : index < length piece = search rules in
     record {
       works = c.in_ok-take.ensures.ok;
+      fits = c.take.ensures.fits;
       fed = subst (λ (l : List ℕ). Feeds g.D.Desk.does c.args.self.now l c.take.new.self c.args.desk.now c.take.new.desk (g.O.Output.contents c.args.out.now) (g.O.Output.contents c.take.new.out))
           (sym (take_more piece index 0 within))
           (feeds-joined g.D.Desk.does (take index piece) (get_or piece index 0 ∷ []) _ c.loop-byte.self _ _ c.loop-byte.desk _ _ (g.O.Output.contents c.loop-byte.out) _ so_far.fed c.in_ok-take.ensures.fed);

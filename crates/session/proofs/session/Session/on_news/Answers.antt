@@ -6,12 +6,12 @@ use Rattle.session.proofs.session.Session.on_news.Goals as goal
 
 pub returns-in_default-clause-told : goal.returns-in_default-clause-told
 returns-in_default-clause-told g c =
-    let shown = c.show_news.ensures in
+    let shown = c.show_news.ensures.told in
     missed g.D.Desk.does c.args.self.now c.args.desk.now c.show_news.new.desk (g.O.Output.contents c.args.out.now) (shown.0, shown.1)
 
 pub returns-clause-told : goal.returns-clause-told
 returns-clause-told g c =
-    let shown = c.in-Ok.ensures in
+    let shown = c.in-Ok.ensures.told in
     let same : c.self.inside.subscriptions ≡ c.args.self.now.peer.subscriptions = ap (λ (s : Session). s.peer.subscriptions) c.self.view_is in
     let done = c.in_ok-tell.ensures in
     told g.D.Desk.does c.args.self.now c.tell.new.self c.args.desk.now c.show_news.new.desk (g.O.Output.contents c.args.out.now) (g.O.Output.contents c.tell.new.out)
