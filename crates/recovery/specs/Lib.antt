@@ -2,7 +2,6 @@ pub mod Shape
 pub mod Layout
 pub mod Cells
 pub mod Found
-pub mod Cells
 pub mod Marks
 pub mod Marked
 pub mod Open

@@ -14,11 +14,11 @@ ghost use Rattle.recovery.specs.Cells.{AreCellsOf};
 ghost use Rattle.recovery.specs.Found.{Found, limits_of};
 ghost use Rattle.recovery.specs.steps.Reading.{IsRingOf, IsReadAs};
 
-mod document;
 mod documents;
 mod entries;
 mod gates;
 mod marking;
+mod one_document;
 
 use crate::marks::Marks;
 use crate::shape::Shape;
@@ -79,11 +79,7 @@ pub fn read_store<D: Disk>(
 }
 
 // Reads what stands on the device. No call of it moves the device on.
-fn read_content<D: Disk>(
-    alloc: Global,
-    disk: &mut D,
-    pick: Pick,
-) -> Result<RecoveredStore, Refusal>
+fn read_content<D: Disk>(alloc: Global, disk: &mut D, pick: Pick) -> Result<RecoveredStore, Refusal>
     ensures read { IfOk result (λ recovered. D.honest disk.new → IsReadAs (D.seen disk.old) pick recovered) }
     ensures cells { IfOk result (λ recovered. AreCellsOf recovered.shape recovered.cells.items) }
     ensures limits { IfOk result (λ recovered. recovered.state.limits ≡ limits_of recovered.shape) }

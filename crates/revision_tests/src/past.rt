@@ -1,7 +1,8 @@
 //! The past that is held: from the floor on.
 use crate::asking::Answer::{Not, Now};
-use crate::asking::{Row, What, after, asked, doc, holds, made, roomy, taken_as};
+use crate::asking::{Row, What, after, asked, doc, holds, is_made, made, roomy, taken_as};
 use crate::steps::{Step, inserted};
+use document::Document;
 use refusal::Refusal;
 use revision::State;
 use std::process::Abort;
@@ -55,12 +56,32 @@ fn a_past_begins_at_its_floor(rt: HostRuntime) {
     taken_as(&rt, &state, 4, &[Step::Keep(4), Step::Plain("x")]);
     for (revision, steps) in &TEXTS {
         made(&rt, &state, *revision, steps);
+        replayed(&rt, &state, *revision, steps);
     }
     for (name, revision, wanted) in &SINCE {
         read(&rt, &state, name, *revision, *wanted);
     }
     let state = after(&rt, state, &UNDONE);
     taken_as(&rt, &state, 5, &[Step::Drop(1)]);
+}
+
+// a replay leads from the empty document to what these steps make, and its sources are those of that revision
+fn replayed(rt: &(impl Abort + AllocGlobal), state: &State, revision: u64, steps: &[Step]) {
+    let (_, found) = state.find(&doc(rt, "d")).expect(rt, "d");
+    assert!(rt; found.floor() <= revision && revision <= found.revision());
+    let replay = found.replay_to(rt.alloc(), revision).expect(rt, "memory");
+    let mut document = Document::empty(rt.alloc());
+    for delta in &replay.deltas {
+        assert!(rt; document.apply(rt.alloc(), delta).is_ok());
+    }
+    is_made(rt, &document, steps);
+    let mut noted = 0;
+    for (_, last) in replay.sources.entries() {
+        if last.revision > noted {
+            noted = last.revision;
+        }
+    }
+    assert_eq!(rt; noted, revision);
 }
 
 // so many deltas were taken since a revision, and the document there is held; or both are refused

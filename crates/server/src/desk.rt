@@ -92,9 +92,12 @@ impl<D: Disk> StoreDesk<D> {
 }
 
 impl<D: Disk> Desk for StoreDesk<D> {
-    ghost use Rattle.server.specs.Desk.{PassesAtStore};
+    ghost use Rattle.recovery.specs.Open.{state_of};
+    ghost use Rattle.server.specs.Desk.{PassesAtStore, store_of};
 
     ghost does = { PassesAtStore };
+
+    ghost reached = { λ desk. state_of (store_of desk) };
 
     fn ask(&mut self, alloc: Global, command: &Command) -> Result<Reply, Refusal> {
         if self.failed {

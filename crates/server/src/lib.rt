@@ -1,7 +1,7 @@
 //! The program `richd`, as a call over its words and its standard streams.
 //!
 //! `run` reads the words and makes, serves or prints the store of a file. A served session writes what comes of the
-//! lines of its input, with the answers of its desk (`specs/Serving.antt`); the desk answers from its store, and
+//! lines of its input, with the answers of its desk, and the news after each line (`specs/Serving.antt`); the desk answers from its store, and
 //! acknowledges a command when it is on the device (`specs/Desk.antt`); `dump` writes each document's line
 //! (`specs/Dump.antt`), and a command on deltas the line of what it comes to. What holds of all that is asked of a desk
 //! over a store is in `laws`.
@@ -22,11 +22,12 @@
 //! use server::Failure;
 //! use server::desk::StoreDesk;
 //! use server::serve::serve;
+//! use session::Output;
 //! use std::alloc::Global;
-//! use std::io::{Read, Write};
+//! use std::io::Read;
 //!
 //! /// Serves one session over an opened store. The store then holds what it held, with all that was answered as taken.
-//! pub fn serve_store<D: Disk + Drop, I: Read, O: Write>(
+//! pub fn serve_store<D: Disk + Drop, I: Read, O: Output>(
 //!     alloc: Global,
 //!     store: Store<D>,
 //!     input: &mut I,

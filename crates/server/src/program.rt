@@ -10,6 +10,7 @@ use clap::error::ErrorKind;
 use disk::{Fault, FileDisk};
 use recovery::{OpenFault, Pick, Shape, Store};
 use refusal::Refusal;
+use session::Stream;
 use std::alloc::Global;
 use std::convert::AsStr;
 use std::fs::{self, File};
@@ -57,7 +58,8 @@ fn invoke<R: Files<File = File> + AllocGlobal, I: Read, O: Write>(
         }
         Invocation::Serve { path } => {
             let mut desk = StoreDesk::new(open(rt, path, Pick::Newer)?);
-            serve(rt.alloc(), &mut desk, input, output)
+            let mut stream = Stream::new(output);
+            serve(rt.alloc(), &mut desk, input, &mut stream)
         }
         Invocation::Dump { path, older } => {
             let store = open(rt, path, pick_of(older))?;

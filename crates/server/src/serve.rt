@@ -1,33 +1,34 @@
 //! One session over a pair of streams.
-ghost use Rattle.std.specs.Prelude.{◌≡◌, ◌⊎◌, ◌≤◌, ◌<◌, ◌++◌, List, ℕ, [], None, Some, true, false, take, length, IfOk, IfErr, IsErrOf, OnOk, OnErr};
-ghost use Rattle.std.specs.Io.KnownBytes.{Consumes, IsAtEnd};
+ghost use Rattle.std.specs.Prelude.{◌≡◌, ◌⊎◌, ◌≤◌, ◌<◌, ◌∷◌, List, ℕ, [], None, Some, true, false, take, length, IfOk, IfErr, IsErrOf, OnOk, OnErr};
+ghost use Rattle.std.specs.Io.KnownBytes.{Consumes, IsAtEnd, Keeps};
 ghost use Rattle.recovery.specs.Open.{IsOpen, has_failed as store_has_failed};
 ghost use Rattle.server.specs.Asked.{KeepsAll};
 ghost use Rattle.server.specs.Desk.{PassesAtStore, store_of, has_failed};
 ghost use Rattle.session.specs.Exchange.{Exchange};
-ghost use Rattle.session.specs.Replies.{Asks, Feeds};
-ghost use Rattle.server.specs.Serving.{Serves, IsServed, WasAsked};
+ghost use Rattle.session.specs.Replies.{Asks};
+ghost use Rattle.session.specs.Shelf.{Fits};
+ghost use Rattle.server.specs.Serving.{Serves, ServesBytes, IsServed, WasAsked};
 
 use crate::desk::StoreDesk;
 use crate::failure::Failure;
 use disk::Disk;
 use refusal::Refusal;
-use session::{Desk, Session};
+use session::{Desk, Output, Session, Shelf};
 use std::alloc::Global;
-use std::io::{ErrorKind, Read, Write};
+use std::io::{ErrorKind, Read};
 
 /// How many bytes are read at once.
 const PIECE: usize = 8192;
 
-/// Serves one session to the end of the input, and ends with `StoreFailed` where the store has failed by then. A
-/// stream that fails ends it at once (`Stream`), and so does `NoMemory` at its beginning.
-pub fn serve<D: Disk, I: Read, O: Write>(
+/// Serves one session to the end of the input, with the news after each line, and ends with `StoreFailed` where the store has
+/// failed by then. A stream that fails ends it at once (`Stream`), and so does `NoMemory` at its beginning.
+pub fn serve<D: Disk, I: Read, O: Output>(
     alloc: Global,
     desk: &mut StoreDesk<D>,
     input: &mut I,
     output: &mut O,
 ) -> Result<(), Failure>
-    // What is written is what comes of all the input, with the answers of the desk.
+    // What is written is what comes of all the input, with the answers of the desk, and the news after each line.
     ensures served { OnOk result (IsServed PassesAtStore desk.old desk.new
         (I.remaining input.old) (I.remaining input.new) (O.contents output.old) (O.contents output.new)) }
     // Whatever ends it: the desk was asked commands one after another, and a crash at any moment, or afterwards, leaves
@@ -44,7 +45,8 @@ pub fn serve<D: Disk, I: Read, O: Write>(
         ⊎ ((e ≡ Failure.Refused Refusal.StoreFailed) ⊎ (e ≡ Failure.Refused Refusal.NoMemory))) }
 {
     let mut session = Session::new(alloc)?;
-    serve_all(alloc, &mut session, desk, input, output)?;
+    let mut shelf = Shelf::new(alloc)?;
+    serve_all(alloc, &mut session, desk, &mut shelf, input, output)?;
     if desk.has_failed() {
         return Err(Failure::Refused(Refusal::StoreFailed));
     }
@@ -52,13 +54,16 @@ pub fn serve<D: Disk, I: Read, O: Write>(
 }
 
 // Serves pieces of the input up to its end.
-fn serve_all<K: Desk, I: Read, O: Write>(
+fn serve_all<K: Desk, I: Read, O: Output>(
     alloc: Global,
     session: &mut Session,
     desk: &mut K,
+    shelf: &mut Shelf,
     input: &mut I,
     output: &mut O,
 ) -> Result<(), Failure>
+    requires fits { Fits (K.reached desk.old) shelf.old }
+    ensures fits { Fits (K.reached desk.new) shelf.new }
     ensures served { OnOk result (Serves K.does session.old session.new desk.old desk.new
         (I.remaining input.old) (I.remaining input.new) (O.contents output.old) (O.contents output.new)) }
     ensures at_end { OnOk result (IsAtEnd (I.remaining input.new)) }
@@ -66,7 +71,7 @@ fn serve_all<K: Desk, I: Read, O: Write>(
     ensures only { IfErr result (λ e. e ≡ Failure.Stream) }
 {
     'pieces: for _ in 0..u64::MAX {
-        if !serve_piece(alloc, session, desk, input, output)? {
+        if !serve_piece(alloc, session, desk, shelf, input, output)? {
             return Ok(());
         }
     }
@@ -74,13 +79,16 @@ fn serve_all<K: Desk, I: Read, O: Write>(
 }
 
 // Reads a piece of the input and answers its lines. The answer is whether there was one.
-fn serve_piece<K: Desk, I: Read, O: Write>(
+fn serve_piece<K: Desk, I: Read, O: Output>(
     alloc: Global,
     session: &mut Session,
     desk: &mut K,
+    shelf: &mut Shelf,
     input: &mut I,
     output: &mut O,
 ) -> Result<bool, Failure>
+    requires fits { Fits (K.reached desk.old) shelf.old }
+    ensures fits { Fits (K.reached desk.new) shelf.new }
     ensures served { OnOk result (Serves K.does session.old session.new desk.old desk.new
         (I.remaining input.old) (I.remaining input.new) (O.contents output.old) (O.contents output.new)) }
     ensures at_end { IfOk result (λ went_on. went_on ≡ false → IsAtEnd (I.remaining input.new)) }
@@ -89,7 +97,8 @@ fn serve_piece<K: Desk, I: Read, O: Write>(
 {
     let mut piece = [0; PIECE];
     let count = read_some(input, &mut piece)?;
-    feed_lines(alloc, session, desk, &piece[..count], output)?;
+    feed_all(alloc, session, desk, shelf, &piece[..count], output)?;
+    flush(output)?;
     Ok(count > 0)
 }
 
@@ -111,58 +120,62 @@ fn read_some<I: Read>(input: &mut I, piece: &mut [u8]) -> Result<usize, Failure>
     Err(Failure::Stream)
 }
 
-// Feeds a piece line by line, so that each reply is out before the next line is taken.
-fn feed_lines<K: Desk, O: Write>(
+// Feeds a piece byte by byte, so that the replies to a line and the news after it are out before the next one is taken.
+fn feed_all<K: Desk, O: Output>(
     alloc: Global,
     session: &mut Session,
     desk: &mut K,
+    shelf: &mut Shelf,
     piece: &[u8],
     output: &mut O,
 ) -> Result<(), Failure>
-    ensures fed { OnOk result (Feeds K.does session.old piece.now session.new desk.old desk.new
+    requires fits { Fits (K.reached desk.old) shelf.old }
+    ensures fits { Fits (K.reached desk.new) shelf.new }
+    ensures served { OnOk result (ServesBytes K.does session.old piece.now session.new desk.old desk.new
         (O.contents output.old) (O.contents output.new)) }
     ensures asked { WasAsked K.does desk.old desk.new }
     ensures only { IfErr result (λ e. e ≡ Failure.Stream) }
 {
-    let mut rest = piece;
-    while !rest.is_empty() {
-        let (line, behind) = line_and_rest(rest);
-        feed_line(alloc, session, desk, line, output)?;
-        rest = behind;
+    for byte in piece {
+        feed_byte(alloc, session, desk, shelf, *byte, output)?;
     }
     Ok(())
 }
 
-fn feed_line<K: Desk, O: Write>(
+fn feed_byte<K: Desk, O: Output>(
     alloc: Global,
     session: &mut Session,
     desk: &mut K,
-    line: &[u8],
+    shelf: &mut Shelf,
+    byte: u8,
     output: &mut O,
 ) -> Result<(), Failure>
-    ensures fed { OnOk result (Feeds K.does session.old line.now session.new desk.old desk.new
+    requires fits { Fits (K.reached desk.old) shelf.old }
+    ensures fits { Fits (K.reached desk.new) shelf.new }
+    ensures served { OnOk result (ServesBytes K.does session.old (byte ∷ []) session.new desk.old desk.new
         (O.contents output.old) (O.contents output.new)) }
     ensures asked { WasAsked K.does desk.old desk.new }
     ensures only { IfErr result (λ e. e ≡ Failure.Stream) }
 {
-    let Ok(()) = session.feed(alloc, line, output, desk) else {
+    let Ok(()) = session.feed(alloc, &[byte], output, desk, shelf) else {
         return Err(Failure::Stream);
     };
+    if byte != b'\n' {
+        return Ok(());
+    }
+    let Ok(()) = session.on_news(alloc, output, desk) else {
+        return Err(Failure::Stream);
+    };
+    flush(output)?;
+    Ok(())
+}
+
+fn flush<O: Output>(output: &mut O) -> Result<(), Failure>
+    ensures kept { Keeps (O.contents output.old) (O.contents output.new) }
+    ensures only { IfErr result (λ e. e ≡ Failure.Stream) }
+{
     let Ok(()) = output.flush() else {
         return Err(Failure::Stream);
     };
     Ok(())
-}
-
-// The bytes up to the first line end, with it, and those behind it.
-fn line_and_rest(bytes: &[u8]) -> (&[u8], &[u8])
-    requires { 0 < length bytes.now }
-    ensures whole { result.0.now ++ result.1.now ≡ bytes.now }
-    ensures shorter { length result.1.now < length bytes.now }
-{
-    let end = match bytes.iter().position(|byte| *byte == b'\n') {
-        Some(at) => at + 1,
-        None => bytes.len(),
-    };
-    bytes.split_at(end)
 }

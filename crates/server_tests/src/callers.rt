@@ -11,8 +11,9 @@ use refusal::Refusal;
 use server::Failure;
 use server::desk::StoreDesk;
 use server::serve::serve;
+use session::Output;
 use std::alloc::Global;
-use std::io::{Read, Write};
+use std::io::Read;
 use words::Invocation;
 
 /// The text with a line end, refused where it is too long for a line.
@@ -40,7 +41,7 @@ pub fn file_in<'a>(alloc: Global, words: &'a [&'a str]) -> Result<Option<&'a str
 }
 
 /// Serves one session over an opened store. The store then holds what it held, with all that was answered as taken.
-pub fn serve_store<D: Disk + Drop, I: Read, O: Write>(
+pub fn serve_store<D: Disk + Drop, I: Read, O: Output>(
     alloc: Global,
     store: Store<D>,
     input: &mut I,

@@ -2,6 +2,7 @@ mod deltas;
 mod edits;
 mod files;
 mod lines;
+mod news;
 mod refusals;
 mod stops;
 mod streams;

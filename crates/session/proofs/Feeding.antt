@@ -4,7 +4,7 @@ use Rattle.std.proofs.Common.{zero, suc, get_or, ◌<◌, add-zero, ◌≡◌, �
 use Rattle.session.specs.Session.{Session}
 use Rattle.session.specs.Exchange.{Exchange}
 use Rattle.session.specs.Replies.{Replies, Asks, Feeds, Stops}
-use Rattle.session.proofs.Writes.{appends-nothing, appends-both}
+use Rattle.session.proofs.Writes.{appends-nothing, appends-both, front-behind}
 
 -- what comes of two pieces comes of them joined
 pub replies-joined : (front back : List ℕ) (old mid new : Session) (a b : List Exchange) (t u : List ℕ)
@@ -46,10 +46,10 @@ module _ {D : Type 0} (does : D → Exchange → D → Type 0) where
   }
 
   -- a piece, and one behind it in which a write fails
-  pub stops-behind : (front back : List ℕ) (old mid new : Session) (d e f : D) (o p : Option (List ℕ))
-      → Feeds does old front mid d e o p → Stops does mid back new e f → (whole : List ℕ) → (n : ℕ) → ((k : ℕ) → k ≤ length back → take (n + k) whole ≡ front ++ take k back)
-      → n + length back ≤ length whole → Stops does old whole new d f
-  stops-behind front back old mid new d e f o p first second whole n at within = record {
+  pub stops-behind : (front back : List ℕ) (old mid new : Session) (d e f : D) (o p q : Option (List ℕ))
+      → Feeds does old front mid d e o p → Stops does mid back new e f p q → (whole : List ℕ) → (n : ℕ) → ((k : ℕ) → k ≤ length back → take (n + k) whole ≡ front ++ take k back)
+      → n + length back ≤ length whole → Stops does old whole new d f o q
+  stops-behind front back old mid new d e f o p q first second whole n at within = record {
     count = n + second.count;
     within = let w = second.within in omega arith;
     asked = first.asked ++ second.asked;
@@ -59,6 +59,7 @@ module _ {D : Type 0} (does : D → Exchange → D → Type 0) where
         (replies-joined front (take second.count back) old mid second.next _ _ _ _ first.replies second.replies);
     ended = second.ended;
     asks = asks-joined first.asked second.asked d e f first.asks second.asks;
+    written = front-behind o p q first.text second.text first.written second.written;
   }
 
 -- no byte more, or one

@@ -2,7 +2,13 @@ mod Whole
 mod Worked
 pub mod Plain
 mod Alone
+mod Newsworthy
+pub mod Calling
+mod Kept
+mod Telling
 pub mod Writes
 pub mod Replying
 pub mod Feeding
 pub mod CallerLemmas
+mod Later
+mod Shelved

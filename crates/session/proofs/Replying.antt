@@ -11,15 +11,18 @@ use Rattle.session.specs.declared.reply.Reply.{Reply}
 use Rattle.session.specs.declared.line.Event.{Event}
 use Rattle.session.specs.declared.line.Event.TheVariants.{More, TooLong, Complete}
 use Rattle.session.specs.declared.request.Request.{Request}
-use Rattle.session.specs.declared.request.Request.TheVariants.{Greet, Ask, Read}
+use Rattle.session.specs.declared.request.Request.TheVariants.{Greet, Ask, Read, Subscribe, Unsubscribe}
 use Rattle.optext.specs.Answer.{IsAnswer}
 use Rattle.session.specs.Line.{Partial, with_byte}
 use Rattle.session.specs.Request.{request_of}
-use Rattle.session.specs.Reply.{greeting, line_of, refusal_line}
+use Rattle.session.specs.Reply.{greeting, unsubscribed_reply, subscribed_line, line_of, refusal_line}
+use Rattle.session.specs.Subscriptions.{may_follow_shown, subscribed, without_subscription}
+use Rattle.session.specs.Calls.{with_subscriptions}
+use Rattle.session.specs.Output.{AppendsFront}
 use Rattle.session.specs.Reads.{shown_line}
-use Rattle.session.specs.Session.{Session}
+use Rattle.session.specs.Session.{Peer, Session}
 use Rattle.session.specs.Exchange.{Exchange, Answered, Shown}
-use Rattle.session.specs.Replies.{answer_line, IsLine, text_told, IsReplied, Greeted, Asked, WasRead, Refused, NotTaken, TakesByte, LineContinues, LineOverflows, LineEnds, Replies, Asks, Feeds, Stops}
+use Rattle.session.specs.Replies.{answer_line, IsLine, text_told, IsReplied, Greeted, Asked, WasRead, WasSubscribed, NotSubscribed, WasUnsubscribed, Refused, NotTaken, TakesByte, LineContinues, LineOverflows, LineEnds, Replies, Asks, Feeds, Stops}
 use Rattle.session.proofs.Writes.{appends-nothing}
 
 -- an answer that is no refusal is the one that is due
@@ -41,11 +44,11 @@ line_due (Some line) source known bytes r is same due = rw (is, same) at due
 module _ {D : Type 0} (does : D → Exchange → D → Type 0) where
   -- what respond owes of a line
   abbrev pub Responds : Session → Session → D → D → List ℕ → List ℕ → Type 0
-  Responds old new desk desk' text line = (asked : List Exchange) × IsReplied old.source line asked new.source text × Asks does desk asked desk'
+  Responds old new desk desk' text line = (asked : List Exchange) × IsReplied old.peer line asked new.peer text × Asks does desk asked desk'
 
   pub greeted : {T E : Type 0} (bytes : T → List ℕ) (o : Partial) (old new : Session) (name : List ℕ) (result : Result T E) (desk : D) (request : Request)
-      → request ≡ Greet name → IfSome o (λ line. IsAnswer (request_of old.source line) (Ok request))
-      → IfOk result (λ t. bytes t ≡ line_of greeting) → OnOk result (new ≡ record old { source = Some name }) → OnErr result (new ≡ old)
+      → request ≡ Greet name → IfSome o (λ line. IsAnswer (request_of old.peer.source line) (Ok request))
+      → IfOk result (λ t. bytes t ≡ line_of greeting) → OnOk result (new ≡ record old { peer = record old.peer { source = Some name } }) → OnErr result (new ≡ old)
       → IfSome o (Responds old new desk desk (text_told bytes result))
   greeted bytes None old new name result desk request is due text presented unchanged = tt
   greeted bytes (Some line) old new name (Ok t) desk request is due text presented unchanged =
@@ -53,7 +56,7 @@ module _ {D : Type 0} (does : D → Exchange → D → Type 0) where
   greeted bytes (Some line) old new name (Err e) desk request is due text presented unchanged = ([], rw unchanged NotTaken, refl)
 
   pub asked : (o : Partial) (old : Session) (command : Command) (text : List ℕ) (desk desk' : D) (request : Request)
-      → request ≡ Ask command → IfSome o (λ line. IsAnswer (request_of old.source line) (Ok request))
+      → request ≡ Ask command → IfSome o (λ line. IsAnswer (request_of old.peer.source line) (Ok request))
       → ((answer : Result Reply Refusal) × does desk (Answered command answer) desk' × IsLine (answer_line command answer) text)
       → IfSome o (Responds old old desk desk' text)
   asked None old command text desk desk' request is due told = tt
@@ -61,7 +64,7 @@ module _ {D : Type 0} (does : D → Exchange → D → Type 0) where
       (Answered command told.0 ∷ [], Asked command told.0 text (due_ok _ _ due ∙ ap (λ (r : Request). Ok r) is) told.2, (desk', told.1, refl))
 
   pub was_read : (o : Partial) (old : Session) (doc : List ℕ) (question : Question) (text : List ℕ) (desk desk' : D) (request : Request)
-      → request ≡ Read doc question → IfSome o (λ line. IsAnswer (request_of old.source line) (Ok request))
+      → request ≡ Read doc question → IfSome o (λ line. IsAnswer (request_of old.peer.source line) (Ok request))
       → ((shown : Option State) × does desk (Shown shown) desk' × IsLine (shown_line doc question shown) text)
       → IfSome o (Responds old old desk desk' text)
   was_read None old doc question text desk desk' request is due told = tt
@@ -69,8 +72,8 @@ module _ {D : Type 0} (does : D → Exchange → D → Type 0) where
       (Shown told.0 ∷ [], WasRead doc question told.0 text (due_ok _ _ due ∙ ap (λ (r : Request). Ok r) is) told.2, (desk', told.1, refl))
 
   refused_line : {T E : Type 0} (bytes : T → List ℕ) (old : Session) (line : List ℕ) (refusal : Refusal) (result : Result T E)
-      → IsAnswer (request_of old.source line) (Err refusal) → IfOk result (λ t. bytes t ≡ refusal_line refusal)
-      → IsReplied old.source line [] old.source (text_told bytes result)
+      → IsAnswer (request_of old.peer.source line) (Err refusal) → IfOk result (λ t. bytes t ≡ refusal_line refusal)
+      → IsReplied old.peer line [] old.peer (text_told bytes result)
   refused_line bytes old line refusal (Ok t) (inl due) text = rw text (Refused refusal (sym due))
   refused_line bytes old line refusal (Ok t) (inr memory) text =
       let is : refusal ≡ NoMemory = cc in
@@ -78,10 +81,35 @@ module _ {D : Type 0} (does : D → Exchange → D → Type 0) where
   refused_line bytes old line refusal (Err e) due text = NotTaken
 
   pub refused_any : {T E : Type 0} (bytes : T → List ℕ) (o : Partial) (old : Session) (refusal : Refusal) (result : Result T E) (desk : D)
-      → IfSome o (λ line. IsAnswer (request_of old.source line) (Err refusal)) → IfOk result (λ t. bytes t ≡ refusal_line refusal)
+      → IfSome o (λ line. IsAnswer (request_of old.peer.source line) (Err refusal)) → IfOk result (λ t. bytes t ≡ refusal_line refusal)
       → IfSome o (Responds old old desk desk (text_told bytes result))
   refused_any bytes None old refusal result desk due text = tt
   refused_any bytes (Some line) old refusal result desk due text = ([], refused_line bytes old line refusal result due text, refl)
+
+  -- a document is followed, or it is refused, or memory is wanted
+  pub followed : {T E : Type 0} (bytes : T → List ℕ) (o : Partial) (old new : Session) (doc : List ℕ) (revision : ℕ) (result : Result T E) (desk desk' : D) (request : Request)
+      → request ≡ Subscribe doc revision → IfSome o (λ line. IsAnswer (request_of old.peer.source line) (Ok request))
+      → ((shown : Option State) × does desk (Shown shown) desk'
+      × OnOk result (new ≡ with_subscriptions old (subscribed old.peer.subscriptions doc revision (may_follow_shown doc revision shown)))
+      × IfOk result (λ t. bytes t ≡ subscribed_line doc revision (may_follow_shown doc revision shown))
+      × OnErr result (new ≡ old))
+      → IfSome o (Responds old new desk desk' (text_told bytes result))
+  followed bytes None old new doc revision result desk desk' request is due told = tt
+  followed bytes (Some line) old new doc revision (Ok t) desk desk' request is due (shown, shows, noted, text, same) =
+      (Shown shown ∷ [], rw (noted, text) (WasSubscribed doc revision shown (due_ok _ _ due ∙ ap (λ (r : Request). Ok r) is)), (desk', shows, refl))
+  followed bytes (Some line) old new doc revision (Err e) desk desk' request is due (shown, shows, noted, text, same) =
+      (Shown shown ∷ [], rw same (NotSubscribed doc revision shown (due_ok _ _ due ∙ ap (λ (r : Request). Ok r) is)), (desk', shows, refl))
+
+  -- a document is followed no longer, or memory is wanted
+  pub left : {T E : Type 0} (bytes : T → List ℕ) (o : Partial) (old new : Session) (doc : List ℕ) (result : Result T E) (desk : D) (request : Request)
+      → request ≡ Unsubscribe doc → IfSome o (λ line. IsAnswer (request_of old.peer.source line) (Ok request))
+      → IfOk result (λ t. bytes t ≡ line_of (unsubscribed_reply doc))
+      → OnOk result (new ≡ with_subscriptions old (without_subscription old.peer.subscriptions doc)) → OnErr result (new ≡ old)
+      → IfSome o (Responds old new desk desk (text_told bytes result))
+  left bytes None old new doc result desk request is due text noted same = tt
+  left bytes (Some line) old new doc (Ok t) desk request is due text noted same =
+      ([], rw (noted, text) (WasUnsubscribed doc (due_ok _ _ due ∙ ap (λ (r : Request). Ok r) is)), refl)
+  left bytes (Some line) old new doc (Err e) desk request is due text noted same = ([], rw same NotTaken, refl)
 
 -- a complete line is not one that is dropped
 some_line : (line : Partial) (byte : ℕ) → with_byte line byte ≡ (Complete, None) → ⊥
@@ -124,9 +152,9 @@ module _ {D : Type 0} (does : D → Exchange → D → Type 0) where
       let replies : Replies old (byte ∷ []) [] sent text = subst (λ n. Replies old (byte ∷ []) [] n text) (sym is) (overflows old new byte text event others line) in
       record { asked = []; text = text; replies = replies; asks = refl; written = written }
 
-  pub overflow_stopped : (old new ended : Session) (byte : ℕ) (text : List ℕ) (desk : D) → with_byte old.line byte ≡ (TooLong, new.line)
-      → new ≡ record old { line = new.line } → IsLine (refusal_line LineTooLong) text → ended ≡ record new { ended = true } → Stops does old (byte ∷ []) ended desk desk
-  overflow_stopped old new ended byte text desk event others line is = record {
+  pub overflow_stopped : (old new ended : Session) (byte : ℕ) (text : List ℕ) (desk : D) (out out' : Option (List ℕ)) → with_byte old.line byte ≡ (TooLong, new.line)
+      → new ≡ record old { line = new.line } → IsLine (refusal_line LineTooLong) text → ended ≡ record new { ended = true } → AppendsFront out out' text → Stops does old (byte ∷ []) ended desk desk out out'
+  overflow_stopped old new ended byte text desk out out' event others line is written = record {
     count = 1;
     within = omega arith;
     asked = [];
@@ -135,27 +163,28 @@ module _ {D : Type 0} (does : D → Exchange → D → Type 0) where
     replies = overflows old new byte text event others line;
     ended = is;
     asks = refl;
+    written = written;
   }
 
   -- the line ends
   module _ (old read answered new : Session) (byte : ℕ) (text : List ℕ) (desk desk' : D) (event : with_byte old.line byte ≡ (Complete, read.line))
-      (others : read ≡ record old { line = read.line }) (source : answered ≡ record read { source = answered.source })
+      (others : read ≡ record old { line = read.line }) (peer : answered ≡ record read { peer = answered.peer })
       (next : new ≡ record answered { line = Some [] }) where
-    new_session : new ≡ record old { line = Some []; source = answered.source }
+    new_session : new ≡ record old { line = Some []; peer = answered.peer }
     new_session =
-        next ∙ ap (λ (b : Bool). record { line = Some []; source = answered.source; ended = b })
-        (ap (λ (s : Session). s.ended) source ∙ ap (λ (s : Session). s.ended) others)
+        next ∙ ap (λ (b : Bool). record { line = Some []; peer = answered.peer; ended = b })
+        (ap (λ (s : Session). s.ended) peer ∙ ap (λ (s : Session). s.ended) others)
 
     ends_at : (line : Partial) → read.line ≡ line → IfSome line (Responds does read answered desk desk' text)
         → (asked : List Exchange) × Replies old (byte ∷ []) asked new text × Asks does desk asked desk'
     ends_at None none responds = absurd (some_line old.line byte (event ∙ ap (λ (l : Partial). pair l) none))
     ends_at (Some line) is responds =
-        let reply : IsReplied old.source line responds.0 answered.source text =
-        subst (λ (s : Option (List ℕ)). IsReplied s line responds.0 answered.source text) (ap (λ (s : Session). s.source) others) responds.1 in (
+        let reply : IsReplied old.peer line responds.0 answered.peer text =
+        subst (λ (s : Peer). IsReplied s line responds.0 answered.peer text) (ap (λ (s : Session). s.peer) others) responds.1 in (
           responds.0,
           one_byte old new byte responds.0 text
               (subst (λ n. TakesByte old byte responds.0 n text) (sym new_session)
-              (LineEnds line responds.0 answered.source text (event ∙ ap (λ (l : Partial). pair l) is) reply)),
+              (LineEnds line responds.0 answered.peer text (event ∙ ap (λ (l : Partial). pair l) is) reply)),
           responds.2,
         )
 
@@ -165,8 +194,8 @@ module _ {D : Type 0} (does : D → Exchange → D → Type 0) where
         let e = ends_at read.line refl responds in
         record { asked = e.0; text = text; replies = subst (λ n. Replies old (byte ∷ []) e.0 n text) (sym is) e.1; asks = e.2; written = written }
 
-    pub end_stopped : (ended : Session) → IfSome read.line (Responds does read answered desk desk' text) → ended ≡ record new { ended = true }
-        → Stops does old (byte ∷ []) ended desk desk'
-    end_stopped ended responds is =
+    pub end_stopped : (ended : Session) (out out' : Option (List ℕ)) → IfSome read.line (Responds does read answered desk desk' text) → ended ≡ record new { ended = true }
+        → AppendsFront out out' text → Stops does old (byte ∷ []) ended desk desk' out out'
+    end_stopped ended out out' responds is written =
         let e = ends_at read.line refl responds in
-        record { count = 1; within = omega arith; asked = e.0; text = text; next = new; replies = e.1; ended = is; asks = e.2 }
+        record { count = 1; within = omega arith; asked = e.0; text = text; next = new; replies = e.1; ended = is; asks = e.2; written = written }

@@ -40,7 +40,7 @@ takes-more old next byte line asked text event (LineContinues found is) =
     (refl, ap (λ (l : Partial). record old { line = l }) (ap (λ (p : Event × Partial). p.1) (sym is ∙ event)), refl)
 takes-more old next byte line asked text event (LineOverflows found t is reply) =
     let e : TooLong ≡ More = ap (λ (p : Event × Partial). p.0) (sym is ∙ event) in cc
-takes-more old next byte line asked text event (LineEnds found a source t is reply) =
+takes-more old next byte line asked text event (LineEnds found a peer t is reply) =
     let e : Complete ≡ More = ap (λ (p : Event × Partial). p.0) (sym is ∙ event) in cc
 
 takes-full : (old next : Session) (byte : ℕ) (asked : List Exchange) (text : List ℕ) → with_byte old.line byte ≡ (TooLong, None)
@@ -49,29 +49,29 @@ takes-full old next byte asked text event (LineContinues found is) =
     let e : More ≡ TooLong = ap (λ (p : Event × Partial). p.0) (sym is ∙ event) in cc
 takes-full old next byte asked text event (LineOverflows found t is reply) =
     (refl, ap (λ (l : Partial). record old { line = l }) (ap (λ (p : Event × Partial). p.1) (sym is ∙ event)), reply)
-takes-full old next byte asked text event (LineEnds found a source t is reply) =
+takes-full old next byte asked text event (LineEnds found a peer t is reply) =
     let e : Complete ≡ TooLong = ap (λ (p : Event × Partial). p.0) (sym is ∙ event) in cc
 
 takes-end : (old next : Session) (byte : ℕ) (line : List ℕ) (asked : List Exchange) (text : List ℕ) → with_byte old.line byte ≡ (Complete, Some line)
-    → TakesByte old byte asked next text → (next ≡ record old { line = Some []; source = next.source }) × IsReplied old.source line asked next.source text
+    → TakesByte old byte asked next text → (next ≡ record old { line = Some []; peer = next.peer }) × IsReplied old.peer line asked next.peer text
 takes-end old next byte line asked text event (LineContinues found is) =
     let e : More ≡ Complete = ap (λ (p : Event × Partial). p.0) (sym is ∙ event) in cc
 takes-end old next byte line asked text event (LineOverflows found t is reply) =
     let e : TooLong ≡ Complete = ap (λ (p : Event × Partial). p.0) (sym is ∙ event) in cc
-takes-end old next byte line asked text event (LineEnds found a source t is reply) =
+takes-end old next byte line asked text event (LineEnds found a peer t is reply) =
     let e : Some found ≡ Some line = ap (λ (p : Event × Partial). p.1) (sym is ∙ event) in
     let same : found ≡ line = cc in
-    (refl, subst (λ (l : List ℕ). IsReplied old.source l a source t) same reply)
+    (refl, subst (λ (l : List ℕ). IsReplied old.peer l a peer t) same reply)
 
 -- the rest of a line, up to its end
 whole_from : (line front : List ℕ) (old new : Session) (asked : List Exchange) (text : List ℕ) → old.line ≡ Some front → HasNoEnd line
     → length front + length line ≤ 65536 → Replies old (line ++ 10 ∷ []) asked new text
-    → (new ≡ record old { line = Some []; source = new.source }) × IsReplied old.source (front ++ line) asked new.source text
+    → (new ≡ record old { line = Some []; peer = new.peer }) × IsReplied old.peer (front ++ line) asked new.peer text
 whole_from [] front old new asked text at ends short (next, first, others, f, b, takes, (no_more, is, nothing), all, whole) =
     let t = takes-end old next 10 front first f (ap (λ (l : Partial). with_byte l 10) at) takes in
     let asked_is : asked ≡ first = all ∙ ap (λ (l : List Exchange). first ++ l) no_more ∙ append-nil first in
     let text_is : text ≡ f = whole ∙ ap (λ (l : List ℕ). f ++ l) nothing ∙ append-nil f in (
-      is ∙ t.0 ∙ ap (λ (s : Session). record old { line = Some []; source = s.source }) (sym is),
+      is ∙ t.0 ∙ ap (λ (s : Session). record old { line = Some []; peer = s.peer }) (sym is),
       rw (asked_is, text_is, is, append-nil front) t.1,
     )
 whole_from (byte ∷ bytes) front old new asked text at ends short (next, first, others, f, b, takes, rest, all, whole) =
@@ -82,15 +82,15 @@ whole_from (byte ∷ bytes) front old new asked text at ends short (next, first,
     let asked_is : asked ≡ others = all ∙ ap (λ (l : List Exchange). l ++ others) t.0 in
     let text_is : text ≡ b = whole ∙ ap (λ (l : List ℕ). l ++ b) t.2 in
     let line_is : (front ++ byte ∷ []) ++ bytes ≡ front ++ byte ∷ bytes = append_assoc front (byte ∷ []) bytes in (
-      r.0 ∙ ap (λ (s : Session). record s { line = Some []; source = new.source }) t.1,
+      r.0 ∙ ap (λ (s : Session). record s { line = Some []; peer = new.peer }) t.1,
       rw (asked_is, text_is)
-          (subst (λ (l : List ℕ). IsReplied old.source l others new.source b) line_is
-          (subst (λ (s : Session). IsReplied s.source ((front ++ byte ∷ []) ++ bytes) others new.source b) t.1 r.1)),
+          (subst (λ (l : List ℕ). IsReplied old.peer l others new.peer b) line_is
+          (subst (λ (s : Session). IsReplied s.peer ((front ++ byte ∷ []) ++ bytes) others new.peer b) t.1 r.1)),
     )
 
 pub whole_line : (line : List ℕ) (old new : Session) (asked : List Exchange) (text : List ℕ) → old.line ≡ Some [] → HasNoEnd line
     → length line ≤ 65536 → Replies old (line ++ 10 ∷ []) asked new text
-    → (new ≡ record old { line = Some []; source = new.source }) × IsReplied old.source line asked new.source text
+    → (new ≡ record old { line = Some []; peer = new.peer }) × IsReplied old.peer line asked new.peer text
 whole_line line old new asked text at ends short replies = whole_from line [] old new asked text at ends (omega arith) replies
 
 -- the rest of a line that is dropped

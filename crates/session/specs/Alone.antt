@@ -11,14 +11,17 @@ use Rattle.session.specs.declared.line.Event.TheVariants.{TooLong, Complete}
 use Rattle.session.specs.declared.reply.Reply.{Reply}
 use Rattle.session.specs.declared.reply.Reply.TheVariants.{Taken, Again}
 use Rattle.session.specs.declared.request.Request.{Request}
-use Rattle.session.specs.declared.request.Request.TheVariants.{Greet, Ask, Read}
+use Rattle.session.specs.declared.request.Request.TheVariants.{Greet, Ask, Read, Subscribe, Unsubscribe}
 use Rattle.session.specs.Exchange.{Exchange, Answered, Shown}
 use Rattle.session.specs.Reads.{read_line}
 use Rattle.session.specs.Line.{Partial, with_byte}
-use Rattle.session.specs.Reply.{greeting, line_of, refusal_line}
+use Rattle.session.specs.Reply.{greeting, unsubscribed_reply, subscribed_line, line_of, refusal_line}
 use Rattle.session.specs.Replies.{answer_line}
 use Rattle.session.specs.Request.{request_of}
-use Rattle.session.specs.Session.{Session}
+use Rattle.session.specs.Subscriptions.{may_follow, subscribed, without_subscription}
+use Rattle.session.specs.News.{news, subscriptions_after}
+use Rattle.session.specs.Calls.{Call, Fed, Told, Missed}
+use Rattle.session.specs.Session.{Peer, Session}
 
 -- the answer that a reply of the rule of acceptance is
 abbrev pub answered : acceptance.Reply → Result Reply Refusal
@@ -32,39 +35,49 @@ Alone old (Answered command result) new =
     ((result ≡ answered (decide old command).0) × (new ≡ (decide old command).1)) ⊎ ((result ≡ Err NoMemory) × (new ≡ old))
 Alone old (Shown shown) new = (shown ≡ Some old) × (new ≡ old)
 
--- a conversation: the line so far, the source that has presented itself, and the state
+-- a conversation: the line so far, what is known of the peer, and the state
 pub record Conversation : Type 0 where
   pub line : Partial
-  pub source : Option (List ℕ)
+  pub peer : Peer
   pub state : State
 
 -- a session over a state
 abbrev pub of_session : Session → State → Conversation
-of_session session state = record { line = session.line; source = session.source; state = state }
+of_session session state = record { line = session.line; peer = session.peer; state = state }
 
--- What is replied, with the source and the state after it.
-pub record Told : Type 0 where
+-- What is replied, with the peer and the state after it.
+pub record Answer : Type 0 where
   pub text : List ℕ
-  pub source : Option (List ℕ)
+  pub peer : Peer
   pub state : State
 
 -- what a request is replied
-abbrev pub told : Option (List ℕ) → State → Result Request Refusal → Told
-told source state (Ok (Greet name)) = record { text = line_of greeting; source = Some name; state = state }
-told source state (Ok (Ask command)) =
-    record { text = answer_line command (answered (decide state command).0); source = source; state = (decide state command).1 }
-told source state (Ok (Read doc question)) = record { text = read_line doc question state; source = source; state = state }
-told source state (Err refusal) = record { text = refusal_line refusal; source = source; state = state }
+abbrev pub told : Peer → State → Result Request Refusal → Answer
+told peer state (Ok (Greet name)) = record { text = line_of greeting; peer = record peer { source = Some name }; state = state }
+told peer state (Ok (Ask command)) =
+    record { text = answer_line command (answered (decide state command).0); peer = peer; state = (decide state command).1 }
+told peer state (Ok (Read doc question)) = record { text = read_line doc question state; peer = peer; state = state }
+told peer state (Ok (Subscribe doc revision)) = record {
+  text = subscribed_line doc revision (may_follow doc revision state);
+  peer = record peer { subscriptions = subscribed peer.subscriptions doc revision (may_follow doc revision state) };
+  state = state;
+}
+told peer state (Ok (Unsubscribe doc)) = record {
+  text = line_of (unsubscribed_reply doc);
+  peer = record peer { subscriptions = without_subscription peer.subscriptions doc };
+  state = state;
+}
+told peer state (Err refusal) = record { text = refusal_line refusal; peer = peer; state = state }
 
 -- what a line is replied
-abbrev pub told_of : Option (List ℕ) → State → List ℕ → Told
-told_of source state line = told source state (request_of source line)
+abbrev pub told_of : Peer → State → List ℕ → Answer
+told_of peer state line = told peer state (request_of peer.source line)
 
 -- what comes of a byte: nothing as long as the line goes on, at its end the reply, and once LineTooLong where it gets too long
 abbrev pub by_event : Conversation → Event × Partial → List ℕ × Conversation
 by_event c (Complete, Some bytes) =
-    let t = told_of c.source c.state bytes in
-    (t.text, record { line = Some []; source = t.source; state = t.state })
+    let t = told_of c.peer c.state bytes in
+    (t.text, record { line = Some []; peer = t.peer; state = t.state })
 by_event c (TooLong, line) = (refusal_line LineTooLong, record c { line = line })
 by_event c (event, line) = ([], record c { line = line })
 
@@ -91,3 +104,35 @@ pub record FedAlone (old : Conversation) (piece : List ℕ) (new : Conversation)
   pub written : Appends out out' text
   pub replied : FindsMemory text → text ≡ replies old piece
   pub goes_on : FindsMemory text → new ≡ conversation_after old piece
+
+-- What is told of a conversation's state, and the conversation after it.
+abbrev pub news_of : Conversation → List ℕ
+news_of c = news c.peer.subscriptions c.state
+
+abbrev pub after_news : Conversation → Conversation
+after_news c = record c { peer = record c.peer { subscriptions = subscriptions_after c.peer.subscriptions c.state } }
+
+-- The news were told, or missed for want of memory: then nothing was written, and the conversation is as it was.
+pub record HearsAlone (old new : Conversation) (out out' : Option (List ℕ)) : Type 0 where
+  pub text : List ℕ
+  pub written : Appends out out' text
+  pub told : ((text ≡ news_of old) × (new ≡ after_news old)) ⊎ ((text ≡ []) × (new ≡ old))
+
+-- What comes of one call, and of calls one after another: the replies to the pieces, and the news where they were told.
+abbrev pub text_of : Conversation → Call → List ℕ
+text_of c (Fed piece) = replies c piece
+text_of c Told = news_of c
+text_of c Missed = []
+
+abbrev pub after_call : Conversation → Call → Conversation
+after_call c (Fed piece) = conversation_after c piece
+after_call c Told = after_news c
+after_call c Missed = c
+
+abbrev pub transcript : Conversation → List Call → List ℕ
+transcript c [] = []
+transcript c (call ∷ calls) = text_of c call ++ transcript (after_call c call) calls
+
+abbrev pub after_calls : Conversation → List Call → Conversation
+after_calls c [] = c
+after_calls c (call ∷ calls) = after_calls (after_call c call) calls

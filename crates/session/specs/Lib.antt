@@ -5,6 +5,12 @@ pub mod Request
 pub mod Reply
 pub mod Reads
 pub mod Exchange
+pub mod Output
+pub mod OutputView
+pub mod Subscriptions
+pub mod News
 pub mod Session
 pub mod Replies
+pub mod Calls
 pub mod Alone
+pub mod Shelf

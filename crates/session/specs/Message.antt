@@ -17,6 +17,10 @@ pub data Message : Type 0 where
   Undo : (doc : List ℕ) (number : ℕ) → Message
   -- something is asked of a document
   Read : (doc : List ℕ) (question : Question) → Message
+  -- a document is to be followed from a revision on
+  Subscribe : (doc : List ℕ) (revision : ℕ) → Message
+  -- and not to be followed any longer
+  Unsubscribe : (doc : List ℕ) → Message
 
 -- the member of this name, where it is a text
 abbrev pub text_at : List ℕ → Data → Option (List ℕ)
@@ -75,10 +79,13 @@ undo_of value =
 abbrev pub fetch_newest_of : Data → Option Message
 fetch_newest_of value = option_map (λ doc. Read doc Newest) (text_at (codes "doc") value)
 
--- a question of a document at a revision, its member `rev`
+-- what is asked of a document at a revision, its member `rev`
+abbrev pub at_rev : (List ℕ → ℕ → Message) → Data → Option Message
+at_rev message value = option_and_then (λ doc. option_map (message doc) (revision_at (codes "rev") value)) (text_at (codes "doc") value)
+
+-- a question of a document at a revision
 abbrev pub read_at : (ℕ → Question) → Data → Option Message
-read_at question value =
-    option_and_then (λ doc. option_map (λ rev. Read doc (question rev)) (revision_at (codes "rev") value)) (text_at (codes "doc") value)
+read_at question value = at_rev (λ doc rev. Read doc (question rev)) value
 
 -- the same, or `{"do":"fetch","doc":..,"rev":..}`
 abbrev pub fetch_of : Data → Option Message
@@ -91,6 +98,14 @@ fetch_of value =
 abbrev pub since_of : Data → Option Message
 since_of value = if member_count value == 3 then read_at Since value else None
 
+-- `{"do":"subscribe","doc":..,"rev":..}`
+abbrev pub subscribe_of : Data → Option Message
+subscribe_of value = if member_count value == 3 then at_rev Subscribe value else None
+
+-- `{"do":"unsubscribe","doc":..}`
+abbrev pub unsubscribe_of : Data → Option Message
+unsubscribe_of value = if member_count value == 2 then option_map Unsubscribe (text_at (codes "doc") value) else None
+
 abbrev pub message_called : List ℕ → Data → Option Message
 message_called kind value =
     if bytes_eq kind (codes "hello") then hello_of value
@@ -99,6 +114,8 @@ message_called kind value =
     else if bytes_eq kind (codes "undo") then undo_of value
     else if bytes_eq kind (codes "fetch") then fetch_of value
     else if bytes_eq kind (codes "since") then since_of value
+    else if bytes_eq kind (codes "subscribe") then subscribe_of value
+    else if bytes_eq kind (codes "unsubscribe") then unsubscribe_of value
     else None
 
 -- the message that a value is: its member `do` says of which kind, and it has just the members of that kind
@@ -112,3 +129,5 @@ IsNumbered (Create doc n operations) = (1 ≤ n) × (n < 2 ^ 53)
 IsNumbered (Edit doc n base operations) = (1 ≤ n) × (n < 2 ^ 53) × (base < 2 ^ 53)
 IsNumbered (Undo doc n) = (1 ≤ n) × (n < 2 ^ 53)
 IsNumbered (Read doc question) = Unit {0}
+IsNumbered (Subscribe doc revision) = Unit {0}
+IsNumbered (Unsubscribe doc) = Unit {0}

@@ -8,13 +8,15 @@ use Rattle.revision.specs.State.{State}
 use Rattle.session.specs.declared.question.Question.{Question}
 use Rattle.session.specs.declared.reply.Reply.{Reply}
 use Rattle.session.specs.declared.line.Event.TheVariants.{More, TooLong, Complete}
-use Rattle.session.specs.declared.request.Request.TheVariants.{Greet, Ask, Read}
+use Rattle.session.specs.declared.request.Request.TheVariants.{Greet, Ask, Read, Subscribe, Unsubscribe}
 use Rattle.session.specs.Line.{Partial, with_byte}
 use Rattle.session.specs.Request.{request_of}
-use Rattle.session.specs.Reply.{greeting, acknowledgement, line_of, refusal_line}
+use Rattle.session.specs.Reply.{greeting, acknowledgement, unsubscribed_reply, subscribed_line, line_of, refusal_line}
 use Rattle.session.specs.Reads.{shown_line}
 use Rattle.session.specs.Exchange.{Exchange, Answered, Shown}
-use Rattle.session.specs.Session.{Session}
+use Rattle.session.specs.Subscriptions.{may_follow_shown, subscribed, without_subscription}
+use Rattle.session.specs.Output.{AppendsFront}
+use Rattle.session.specs.Session.{Peer, Session}
 
 -- the line of what the desk answered to a command
 abbrev pub answer_line : Command → Result Reply Refusal → List ℕ
@@ -30,21 +32,33 @@ abbrev pub text_told : {T E : Type 0} → (T → List ℕ) → Result T E → Li
 text_told bytes (Ok text) = bytes text
 text_told bytes (Err error) = refusal_line NoMemory
 
--- What comes of a line, in a session whose source has presented itself or not: what is asked of the desk, the source
--- after it, and the reply.
-pub data IsReplied (source : Option (List ℕ)) (line : List ℕ) : List Exchange → Option (List ℕ) → List ℕ → Type 0 where
+-- What comes of a line, in a session of this peer: what is asked of the desk, what is known of the peer after it, and the
+-- reply.
+pub data IsReplied (peer : Peer) (line : List ℕ) : List Exchange → Peer → List ℕ → Type 0 where
   -- hello presents the source, and is greeted
-  Greeted : (name : List ℕ) → request_of source line ≡ Ok (Greet name) → IsReplied source line [] (Some name) (line_of greeting)
+  Greeted : (name : List ℕ) → request_of peer.source line ≡ Ok (Greet name)
+      → IsReplied peer line [] (record peer { source = Some name }) (line_of greeting)
   -- the desk is asked once, for the command that the line is, and the reply tells its answer
-  Asked : (command : Command) (answer : Result Reply Refusal) (text : List ℕ) → request_of source line ≡ Ok (Ask command)
-      → IsLine (answer_line command answer) text → IsReplied source line (Answered command answer ∷ []) source text
+  Asked : (command : Command) (answer : Result Reply Refusal) (text : List ℕ) → request_of peer.source line ≡ Ok (Ask command)
+      → IsLine (answer_line command answer) text → IsReplied peer line (Answered command answer ∷ []) peer text
   -- the desk shows its state once, and the reply tells of it what is asked for
-  WasRead : (doc : List ℕ) (question : Question) (shown : Option State) (text : List ℕ) → request_of source line ≡ Ok (Read doc question)
-      → IsLine (shown_line doc question shown) text → IsReplied source line (Shown shown ∷ []) source text
+  WasRead : (doc : List ℕ) (question : Question) (shown : Option State) (text : List ℕ) → request_of peer.source line ≡ Ok (Read doc question)
+      → IsLine (shown_line doc question shown) text → IsReplied peer line (Shown shown ∷ []) peer text
+  -- the desk shows its state once, and the document is followed from then on, where its state holds the revision
+  WasSubscribed : (doc : List ℕ) (revision : ℕ) (shown : Option State) → request_of peer.source line ≡ Ok (Subscribe doc revision)
+      → IsReplied peer line (Shown shown ∷ [])
+      (record peer { subscriptions = subscribed peer.subscriptions doc revision (may_follow_shown doc revision shown) })
+      (subscribed_line doc revision (may_follow_shown doc revision shown))
+  -- or for want of memory it isn't
+  NotSubscribed : (doc : List ℕ) (revision : ℕ) (shown : Option State) → request_of peer.source line ≡ Ok (Subscribe doc revision)
+      → IsReplied peer line (Shown shown ∷ []) peer (refusal_line NoMemory)
+  -- the document is followed no longer, whether it was or not
+  WasUnsubscribed : (doc : List ℕ) → request_of peer.source line ≡ Ok (Unsubscribe doc)
+      → IsReplied peer line [] (record peer { subscriptions = without_subscription peer.subscriptions doc }) (line_of (unsubscribed_reply doc))
   -- the first refusal that holds
-  Refused : (refusal : Refusal) → request_of source line ≡ Err refusal → IsReplied source line [] source (refusal_line refusal)
+  Refused : (refusal : Refusal) → request_of peer.source line ≡ Err refusal → IsReplied peer line [] peer (refusal_line refusal)
   -- for want of memory the line is not taken
-  NotTaken : IsReplied source line [] source (refusal_line NoMemory)
+  NotTaken : IsReplied peer line [] peer (refusal_line NoMemory)
 
 -- What comes of one byte of the input.
 pub data TakesByte (old : Session) (byte : ℕ) : List Exchange → Session → List ℕ → Type 0 where
@@ -54,8 +68,8 @@ pub data TakesByte (old : Session) (byte : ℕ) : List Exchange → Session → 
   LineOverflows : (line : Partial) (text : List ℕ) → with_byte old.line byte ≡ (TooLong, line) → IsLine (refusal_line LineTooLong) text
       → TakesByte old byte [] (record old { line = line }) text
   -- the line ends, is replied, and the next one begins
-  LineEnds : (line : List ℕ) (asked : List Exchange) (source : Option (List ℕ)) (text : List ℕ) → with_byte old.line byte ≡ (Complete, Some line)
-      → IsReplied old.source line asked source text → TakesByte old byte asked (record old { line = Some []; source = source }) text
+  LineEnds : (line : List ℕ) (asked : List Exchange) (peer : Peer) (text : List ℕ) → with_byte old.line byte ≡ (Complete, Some line)
+      → IsReplied old.peer line asked peer text → TakesByte old byte asked (record old { line = Some []; peer = peer }) text
 
 -- what comes of a piece of the input, byte by byte
 abbrev pub Replies : Session → List ℕ → List Exchange → Session → List ℕ → Type 0
@@ -79,8 +93,9 @@ module _ {D : Type 0} (does : D → Exchange → D → Type 0) where
     pub asks : Asks desk asked desk'
     pub written : Appends out out' text
 
-  -- A write failed within a piece: the desk was asked just for the front of the piece that was taken by then.
-  pub record Stops (old : Session) (piece : List ℕ) (new : Session) (desk desk' : D) : Type 0 where
+  -- A write failed within a piece. The desk was asked just for the front of the piece that was taken by then, and what was
+  -- written is a beginning of what comes of it.
+  pub record Stops (old : Session) (piece : List ℕ) (new : Session) (desk desk' : D) (out out' : Option (List ℕ)) : Type 0 where
     pub count : ℕ
     pub within : count ≤ length piece
     pub asked : List Exchange
@@ -89,3 +104,4 @@ module _ {D : Type 0} (does : D → Exchange → D → Type 0) where
     pub replies : Replies old (take count piece) asked next text
     pub ended : new ≡ record next { ended = true }
     pub asks : Asks desk asked desk'
+    pub written : AppendsFront out out' text

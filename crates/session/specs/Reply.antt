@@ -1,5 +1,5 @@
 -- What a line is replied: a JSON object with its members in ascending order and no blanks, and a line end.
-use Rattle.std.specs.Prelude.{ℕ, List, [], ◌∷◌, ◌++◌, map, codes}
+use Rattle.std.specs.Prelude.{ℕ, List, [], ◌∷◌, ◌++◌, map, codes, Result, Ok, Err}
 use Rattle.serde_json.specs.Data.{Data, Items, object, array, member, no_members, number, unsigned, string}
 use Rattle.serde_json.specs.Written.{compact_text}
 use Rattle.serde_json.specs.View.{items_of}
@@ -9,6 +9,7 @@ use Rattle.delta.specs.Gaps.{End}
 use Rattle.delta.specs.Normal.{nf}
 use Rattle.optext.specs.Printed.{printed}
 use Rattle.refusal.specs.declared.Refusal.{Refusal}
+use Rattle.refusal.specs.declared.Refusal.TheVariants.{TooOld}
 use Rattle.refusal.specs.Refusal.{number_of, name_of}
 use Rattle.session.specs.declared.reply.Reply.{Reply}
 use Rattle.session.specs.declared.reply.Reply.TheVariants.{Taken, Again}
@@ -63,6 +64,27 @@ since_with doc deltas rev =
 abbrev pub since_reply : List ℕ → List (List Operation) → ℕ → Data
 since_reply doc deltas rev = since_with doc (array (printed_deltas deltas)) rev
 
+-- `{"doc":"d","ok":"subscribed","rev":1}`, with the revision that was asked for
+abbrev pub subscribed_reply : List ℕ → ℕ → Data
+subscribed_reply doc rev =
+    object (member (codes "doc") (string doc) (member (codes "ok") (string (codes "subscribed"))
+    (member (codes "rev") (number (unsigned rev)) no_members)))
+
+-- `{"doc":"d","ok":"unsubscribed"}`
+abbrev pub unsubscribed_reply : List ℕ → Data
+unsubscribed_reply doc =
+    object (member (codes "doc") (string doc) (member (codes "ok") (string (codes "unsubscribed")) no_members))
+
+-- `{"doc":"d","news":1,"ops":[{"insert":"z"}]}`, with the operations printed
+abbrev pub news_with : List ℕ → ℕ → Data → Data
+news_with doc revision operations =
+    object (member (codes "doc") (string doc) (member (codes "news") (number (unsigned revision)) (member (codes "ops") operations no_members)))
+
+-- `{"doc":"d","ended":13}`: the number is that of the refusal
+abbrev pub ended_with : List ℕ → ℕ → Data
+ended_with doc refusal =
+    object (member (codes "doc") (string doc) (member (codes "ended") (number (unsigned refusal)) no_members))
+
 -- `{"code":7,"error":"Exists"}`
 abbrev pub refusal_reply : Refusal → Data
 refusal_reply refusal =
@@ -75,3 +97,16 @@ line_of value = compact_text value ++ 10 ∷ []
 -- the line of a refusal
 abbrev pub refusal_line : Refusal → List ℕ
 refusal_line refusal = line_of (refusal_reply refusal)
+
+-- the line of a revision that is told, with its delta
+abbrev pub news_line : List ℕ → ℕ → List Operation → List ℕ
+news_line doc revision delta = line_of (news_with doc revision (printed_delta delta))
+
+-- the line of a subscription that ends
+abbrev pub ended_line : List ℕ → List ℕ
+ended_line doc = line_of (ended_with doc (number_of TooOld))
+
+-- the line of what was asked to follow a document: the reply, or the refusal
+abbrev pub subscribed_line : List ℕ → ℕ → Result (Unit {0}) Refusal → List ℕ
+subscribed_line doc revision (Ok held) = line_of (subscribed_reply doc revision)
+subscribed_line doc revision (Err refusal) = refusal_line refusal

@@ -10,7 +10,7 @@ use Rattle.revision.specs.Command as command
 use Rattle.optext.specs.Described.{delta_of}
 use Rattle.session.specs.Message as message
 use Rattle.session.specs.declared.request.Request.{Request}
-use Rattle.session.specs.declared.request.Request.TheVariants.{Greet, Ask, Read}
+use Rattle.session.specs.declared.request.Request.TheVariants.{Greet, Ask, Read, Subscribe, Unsubscribe}
 
 -- a command with a delta, which stands on at most 2^44 code units, and whose output has at most 2^44
 abbrev pub with_delta : List ℕ → List ℕ → ℕ → (List Operation → command.Action) → Result (List Operation) Refusal → Result Request Refusal
@@ -30,6 +30,8 @@ before_hello (message.Create doc number operations) = Err NoHello
 before_hello (message.Edit doc number base operations) = Err NoHello
 before_hello (message.Undo doc number) = Err NoHello
 before_hello (message.Read doc question) = Err NoHello
+before_hello (message.Subscribe doc revision) = Err NoHello
+before_hello (message.Unsubscribe doc) = Err NoHello
 
 -- and after this one has
 abbrev pub after_hello : List ℕ → message.Message → Result Request Refusal
@@ -41,6 +43,8 @@ after_hello source (message.Edit doc number base operations) =
 after_hello source (message.Undo doc number) =
     of_document doc (Ok (Ask (record { name = doc; source = source; number = number; action = command.Undo })))
 after_hello source (message.Read doc question) = of_document doc (Ok (Read doc question))
+after_hello source (message.Subscribe doc revision) = of_document doc (Ok (Subscribe doc revision))
+after_hello source (message.Unsubscribe doc) = of_document doc (Ok (Unsubscribe doc))
 
 -- the request that a message is, in a session whose source has or has not presented itself
 abbrev pub request_in : Option (List ℕ) → message.Message → Result Request Refusal
@@ -64,3 +68,5 @@ abbrev pub GreetsSource : Request → Type 0
 GreetsSource (Greet source) = is_source_name source ≡ true
 GreetsSource (Ask asked) = Unit {0}
 GreetsSource (Read doc question) = Unit {0}
+GreetsSource (Subscribe doc revision) = Unit {0}
+GreetsSource (Unsubscribe doc) = Unit {0}

@@ -8,20 +8,28 @@ use std::alloc::Global;
 pub trait Desk {
     ghost use Rattle.std.specs.Prelude.{◌≡◌, Option};
     ghost use Rattle.std.specs.Fn.{FnOnceReturnsAt};
+    ghost use Rattle.std.specs.Option.{ForSome};
     ghost use Rattle.revision.specs.State as state;
     ghost use Rattle.session.specs.Exchange.{Exchange, Answered, Shown, IsReadOf};
+    ghost use Rattle.session.specs.Shelf.{IsLater};
 
     /// At the first of two states of the desk this passes between it and the session, and it goes on to the second.
     ghost does: { Self → Exchange → Self → Type 0 };
 
+    /// The state that the desk has reached. It goes on by commands that continue it, whatever passes.
+    ghost reached: { Self → state.State };
+
     /// The answer to a command.
     fn ask(&mut self, alloc: Global, command: &Command) -> Result<Reply, Refusal>
-        ensures { does self.old (Answered command.now result) self.new };
+        ensures answered { does self.old (Answered command.now result) self.new }
+        ensures later { IsLater (reached self.old) (reached self.new) };
 
-    /// What is read of the state that the desk shows. Refused with `StoreFailed` where it can show none, and then nothing is
-    /// read.
+    /// What is read of the state that the desk shows, which is the one that it has reached then. Refused with `StoreFailed` where it
+    /// can show none, and then nothing is read.
     fn view<R, F: Drop + FnOnce(&State) -> R>(&mut self, read: F) -> Result<R, Refusal>
         requires { F.IsAlwaysCallable read }
-        ensures { (shown : Option state.State) × does self.old (Shown shown) self.new
-            × IsReadOf (λ state answer. FnOnceReturnsAt F.FnOnce read state answer) shown result };
+        ensures shown { (shown : Option state.State) × does self.old (Shown shown) self.new
+            × IsReadOf (λ state answer. FnOnceReturnsAt F.FnOnce read state answer) shown result
+            × ForSome shown (λ state. state ≡ reached self.new) }
+        ensures later { IsLater (reached self.old) (reached self.new) };
 }

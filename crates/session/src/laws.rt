@@ -1,8 +1,8 @@
 //! Laws of what comes of a session's input. Each is a function that does nothing: its contract is the law.
-ghost use Rattle.std.specs.Prelude.{◌≡◌, ◌≤◌, ◌<◌, ◌++◌, ◌∷◌, ℕ, List, [], Option, Some, true, length, codes};
+ghost use Rattle.std.specs.Prelude.{◌≡◌, ◌≤◌, ◌<◌, ◌-◌, ◌++◌, ◌∷◌, ℕ, List, [], Option, Some, true, length, take, codes};
 ghost use Rattle.refusal.specs.declared.Refusal.TheVariants.{LineTooLong, Exists};
 ghost use Rattle.session.specs.declared.reply.Reply.TheVariants.{Taken, Again};
-ghost use Rattle.session.specs.Reply.{greeting, acknowledgement, printed_delta, document_with, since_reply, line_of, refusal_line};
+ghost use Rattle.session.specs.Reply.{greeting, acknowledgement, printed_delta, document_with, since_reply, subscribed_reply, unsubscribed_reply, news_line, ended_line, line_of, refusal_line};
 ghost use Rattle.attributes.specs.Map.{empty, insert};
 ghost use Rattle.attributes.specs.Scalar.{flag_scalar};
 ghost use Rattle.delta.specs.Operation.{insert_text, retain};
@@ -10,8 +10,13 @@ ghost use Rattle.session.specs.Line.{HasNoEnd};
 ghost use Rattle.session.specs.Session.{Session};
 ghost use Rattle.session.specs.Exchange.{Exchange};
 ghost use Rattle.revision.specs.State.{State};
-ghost use Rattle.session.specs.Replies.{Replies, IsReplied, IsLine, Feeds};
-ghost use Rattle.session.specs.Alone.{Alone, FedAlone, of_session};
+ghost use Rattle.session.specs.Replies.{Replies, IsReplied, IsLine, Asks, Feeds};
+ghost use Rattle.session.specs.News.{news, subscriptions_after, lines_after};
+ghost use Rattle.session.specs.Subscriptions.{Subscriptions};
+ghost use Rattle.session.specs.Calls.{Call, Calls, TellsNews};
+ghost use Rattle.revision.specs.Past.{Past, newest, deltas_above};
+ghost use Rattle.session.specs.Alone.{Alone, FedAlone, HearsAlone, FindsMemory, transcript, after_calls, of_session};
+ghost use Rattle.session.specs.Shelf.{FitsLater};
 
 /// It doesn't matter in which pieces the input comes: what comes of two pieces, one after the other, is what comes of
 /// them joined.
@@ -28,7 +33,7 @@ pub fn pieces_joined()
 pub fn whole_line()
     ensures { (line : List ℕ) (old new : Session) (asked : List Exchange) (text : List ℕ)
         → old.line ≡ Some [] → HasNoEnd line → length line ≤ 65536 → Replies old (line ++ 10 ∷ []) asked new text
-        → (new ≡ record old { line = Some []; source = new.source }) × IsReplied old.source line asked new.source text }
+        → (new ≡ record old { line = Some []; peer = new.peer }) × IsReplied old.peer line asked new.peer text }
 {}
 
 /// A longer line gets the one reply `LineTooLong`. Nothing is asked, and the session is as it was before the line.
@@ -38,7 +43,7 @@ pub fn long_line()
         → (asked ≡ []) × (new ≡ old) × IsLine (refusal_line LineTooLong) text }
 {}
 
-/// Lines as they are written: the replies to hello and to a creation, a document, deltas, and a refusal.
+/// Lines as they are written: the replies to hello and to a creation, a document, deltas, subscriptions, news, and a refusal.
 pub fn worked_lines()
     ensures hello { line_of greeting ≡ codes "{\"ok\":\"hello\"}\n" }
     ensures taken { line_of (acknowledgement (codes "d") 1 (Taken 1)) ≡ codes "{\"doc\":\"d\",\"n\":1,\"ok\":\"taken\",\"rev\":1}\n" }
@@ -48,6 +53,10 @@ pub fn worked_lines()
         ≡ codes "{\"doc\":\"d\",\"ok\":\"doc\",\"ops\":[{\"insert\":\"Hi\"},{\"attributes\":{\"bold\":true},\"insert\":\"!\"}],\"rev\":2}\n" }
     ensures since { line_of (since_reply (codes "d") ((retain 1 empty ∷ insert_text (codes "x") empty ∷ []) ∷ []) 2)
         ≡ codes "{\"deltas\":[[{\"retain\":1},{\"insert\":\"x\"}]],\"doc\":\"d\",\"ok\":\"since\",\"rev\":2}\n" }
+    ensures subscribed { line_of (subscribed_reply (codes "d") 0) ≡ codes "{\"doc\":\"d\",\"ok\":\"subscribed\",\"rev\":0}\n" }
+    ensures unsubscribed { line_of (unsubscribed_reply (codes "d")) ≡ codes "{\"doc\":\"d\",\"ok\":\"unsubscribed\"}\n" }
+    ensures told { news_line (codes "d") 1 (insert_text (codes "Hi") empty ∷ []) ≡ codes "{\"doc\":\"d\",\"news\":1,\"ops\":[{\"insert\":\"Hi\"}]}\n" }
+    ensures ended { ended_line (codes "d") ≡ codes "{\"doc\":\"d\",\"ended\":13}\n" }
     ensures exists { refusal_line Exists ≡ codes "{\"code\":7,\"error\":\"Exists\"}\n" }
 {}
 
@@ -57,4 +66,36 @@ pub fn replies_of_a_state()
     ensures { (old new : Session) (state after : State) (piece : List ℕ) (out out' : Option (List ℕ))
         → Feeds Alone old piece new state after out out'
         → FedAlone (of_session old state) piece (of_session new after) out out' }
+{}
+
+/// The news of a session over a state alone: they are written, or for want of memory nothing is.
+pub fn news_of_a_state()
+    ensures { (old new : Session) (state after : State) (out out' : Option (List ℕ))
+        → TellsNews Alone old new state after out out'
+        → HearsAlone (of_session old state) (of_session new after) out out' }
+{}
+
+/// Whatever a session over a state alone is called for, one call after another: where memory is found for its replies, what is
+/// written is the replies to the input so far, and the news where they were told.
+pub fn calls_of_a_state()
+    ensures { (old new : Session) (state after : State) (calls : List Call) (asked : List Exchange) (text : List ℕ)
+        → Calls old calls asked new text → Asks Alone state asked after → FindsMemory text
+        → (text ≡ transcript (of_session old state) calls) × (of_session new after ≡ after_calls (of_session old state) calls) }
+{}
+
+/// Each revision is told once, in order. Of the state that was told there is nothing more to tell. And what is told of a document at
+/// one moment and then at a later one, whose past holds the same deltas and more, is what would have been told at once.
+pub fn told_once()
+    ensures nothing_more { (subscriptions : Subscriptions) (state : State)
+        → (news (subscriptions_after subscriptions state) state ≡ [])
+        × (subscriptions_after (subscriptions_after subscriptions state) state ≡ subscriptions_after subscriptions state) }
+    ensures one_after_another { (doc : List ℕ) (last : ℕ) (past later : Past)
+        → past.floor ≤ last → last ≤ newest past → later.floor ≤ last → newest past ≤ newest later
+        → take (newest past - last) (deltas_above later last) ≡ deltas_above past last
+        → lines_after doc last past ++ lines_after doc (newest past) later ≡ lines_after doc last later }
+{}
+
+/// What is kept of a state's documents at older revisions stays right of it as it goes on.
+pub fn kept_documents_stay()
+    ensures { FitsLater }
 {}

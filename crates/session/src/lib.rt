@@ -3,10 +3,14 @@
 //! A session takes its input in pieces of any size, cuts it into lines (`specs/Line.antt`), and writes one line of reply for
 //! each. A line is a JSON text with a message (`specs/Message.antt`); what it asks for, or the first refusal that holds,
 //! stands in `specs/Request.antt`. A command is asked of the session's desk, once, and the reply tells what the desk
-//! answered; of a document it tells what the state says that the desk shows (`specs/Reads.antt`). How a reply is printed is in
-//! `specs/Reply.antt`. What is written of the input over any desk stands in `specs/Replies.antt`, and over a state alone, as
-//! one function of the input, in `specs/Alone.antt`. What a line's text and its end are, and that pieces don't matter, is in
-//! `laws`.
+//! answered; of a document it tells what the state says that the desk shows (`specs/Reads.antt`). Between lines it tells the
+//! news of the documents that it follows (`specs/Subscriptions.antt`, `specs/News.antt`). How a line is printed is in
+//! `specs/Reply.antt`. What is written of the input over any desk stands in `specs/Replies.antt`, what comes of any pieces and
+//! news in `specs/Calls.antt`, and both over a state alone, as functions of the input, in `specs/Alone.antt`. What a line's text
+//! and its end are, that pieces don't matter, and that each revision is told once, is in `laws`.
+//!
+//! It writes to an `Output`, which takes nothing more once a write has failed (`Stream` makes one of a writer). A write that
+//! fails ends the session, and nothing else does; what was written then is a beginning of what was due.
 //!
 //! It stands on `optext` for the operations of a message, and on `revision` for commands and states. A desk over a store
 //! stays with the program.
@@ -17,20 +21,19 @@
 //! ghost use Rattle.std.specs.Prelude.{OnOk};
 //! ghost use Rattle.session.specs.Alone.{FedAlone, of_session};
 //!
-//! use session::{Session, SessionEnded, StateDesk};
+//! use session::{Output, Session, SessionEnded, StateDesk};
 //! use std::alloc::Global;
-//! use std::io::Write;
 //!
 //! /// Takes a piece of the input over a state in memory.
-//! pub fn reply<W: Write>(
+//! pub fn reply<O: Output>(
 //!     alloc: Global,
 //!     session: &mut Session,
 //!     desk: &mut StateDesk,
 //!     piece: &[u8],
-//!     out: &mut W,
+//!     out: &mut O,
 //! ) -> Result<(), SessionEnded>
 //!     ensures { OnOk result (FedAlone (of_session session.old desk.old) piece.now (of_session session.new desk.new)
-//!         (W.contents out.old) (W.contents out.new)) }
+//!         (O.contents out.old) (O.contents out.new)) }
 //! {
 //!     desk.feed(alloc, session, piece, out)
 //! }
@@ -41,14 +44,20 @@ mod desk;
 pub mod laws;
 mod line;
 mod message;
+mod news;
+mod output;
 mod question;
 mod reads;
 mod reply;
 mod request;
 mod session;
+mod shelf;
 mod state_desk;
+mod subscriptions;
 
 pub use desk::Desk;
+pub use output::{Output, Stream, WriteFailed};
 pub use reply::Reply;
 pub use session::{Session, SessionEnded};
+pub use shelf::Shelf;
 pub use state_desk::StateDesk;

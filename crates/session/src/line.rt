@@ -2,6 +2,7 @@
 ghost use Rattle.std.specs.Prelude.{◌≡◌, IfOk, IfSome, Some, []};
 ghost use Rattle.session.specs.Line.{with_byte};
 
+use bytes::BytesMut;
 use std::alloc::{AllocError, Global};
 use std::marker::Model;
 
@@ -22,19 +23,19 @@ pub enum Event {
 /// The bytes of a line so far, at most 65,536.
 #[derive(Drop)]
 pub struct Line {
-    bytes: Vec<u8>,
+    bytes: BytesMut,
     is_dropped: bool,
 }
 
 impl Model for Line {
-    ghost use Rattle.std.specs.Prelude.{◌≤◌, if◌then◌else◌, Some, None, length, vec_capacity};
+    ghost use Rattle.std.specs.Prelude.{◌≤◌, ◌+◌, if◌then◌else◌, Some, None, length};
     ghost use Rattle.session.specs.Line.{Partial};
 
     ghost Value = { Partial };
 
     ghost view = { λ l. if l.is_dropped then None else Some l.bytes.items };
 
-    ghost invariant = { λ l. (length l.bytes.items ≤ 65536) × (65536 ≤ vec_capacity l.bytes) };
+    ghost invariant = { λ l. (length l.bytes.items ≤ 65536) × (65536 ≤ length l.bytes.items + l.bytes.spare) };
 }
 
 impl Line {
@@ -43,7 +44,7 @@ impl Line {
         ensures { IfOk result (λ line. line ≡ Some []) }
     {
         Ok(Line {
-            bytes: Vec::with_capacity(alloc, MAX_LINE)?,
+            bytes: BytesMut::with_capacity(alloc, MAX_LINE)?,
             is_dropped: false,
         })
     }
@@ -62,7 +63,7 @@ impl Line {
             self.is_dropped = true;
             return Event::TooLong;
         }
-        self.bytes.push(byte).unwrap();
+        self.bytes.extend_from_slice(&[byte]).unwrap();
         Event::More
     }
 
@@ -80,7 +81,7 @@ impl Line {
     pub fn bytes(&self) -> &[u8]
         ensures { IfSome self.now (λ bytes. result.now ≡ bytes) }
     {
-        &self.bytes
+        self.bytes.as_slice()
     }
 
     /// Begins the next line.

@@ -1,7 +1,7 @@
 //! Messages: what a line's JSON value asks for.
 ghost use Rattle.std.specs.Prelude.{◌≡◌, ◌≤◌, ◌<◌, ◌^◌, IfSome, option_map};
 ghost use Rattle.serde_json.specs.View.{view, items_view};
-ghost use Rattle.session.specs.Message.{message_of, hello_of, create_of, edit_of, undo_of, fetch_newest_of, read_at, fetch_of, since_of, text_at, number_at, revision_at, array_at, IsNumbered};
+ghost use Rattle.session.specs.Message.{message_of, hello_of, create_of, edit_of, undo_of, fetch_newest_of, read_at, fetch_of, since_of, subscribe_of, unsubscribe_of, text_at, number_at, revision_at, array_at, IsNumbered};
 ghost use Rattle.session.specs.MessageView.{message_view};
 ghost use Rattle.session.specs.declared.question.Question.TheVariants.{At};
 
@@ -43,6 +43,15 @@ pub enum Message<'a> {
         doc: &'a str,
         question: Question,
     },
+    /// A document is to be followed from a revision on.
+    Subscribe {
+        doc: &'a str,
+        rev: u64,
+    },
+    /// A document is not to be followed any longer.
+    Unsubscribe {
+        doc: &'a str,
+    },
 }
 
 impl<'a> Message<'a> {
@@ -58,6 +67,8 @@ impl<'a> Message<'a> {
             "undo" => Message::read_undo(value),
             "fetch" => Message::read_fetch(value),
             "since" => Message::read_since(value),
+            "subscribe" => Message::read_subscribe(value),
+            "unsubscribe" => Message::read_unsubscribe(value),
             _ => None,
         }
     }
@@ -162,6 +173,29 @@ impl<'a> Message<'a> {
         let rev = revision_in(value, "rev")?;
         let question = Question::Since { rev };
         Some(Message::Read { doc, question })
+    }
+
+    fn read_subscribe(value: &'a Value) -> Option<Message<'a>>
+        ensures message { option_map message_view result ≡ subscribe_of (view value.now) }
+        ensures numbered { IfSome result (λ message. IsNumbered (message_view message)) }
+    {
+        if member_count(value) != 3 {
+            return None;
+        }
+        let doc = text_in(value, "doc")?;
+        let rev = revision_in(value, "rev")?;
+        Some(Message::Subscribe { doc, rev })
+    }
+
+    fn read_unsubscribe(value: &'a Value) -> Option<Message<'a>>
+        ensures message { option_map message_view result ≡ unsubscribe_of (view value.now) }
+        ensures numbered { IfSome result (λ message. IsNumbered (message_view message)) }
+    {
+        if member_count(value) != 2 {
+            return None;
+        }
+        let doc = text_in(value, "doc")?;
+        Some(Message::Unsubscribe { doc })
     }
 }
 

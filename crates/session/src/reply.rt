@@ -151,6 +151,73 @@ fn array_of(alloc: Global, delta: &Delta) -> Result<Value, AllocError>
     }
 }
 
+/// The reply to subscribe: the revision that was asked for.
+pub fn subscribed_reply(alloc: Global, name: &Name, rev: u64) -> Result<String, AllocError>
+    ensures { IfOk result (λ text. string_bytes text ≡ spec.line_of (spec.subscribed_reply name.now rev)) }
+{
+    let value = subscribed_of(alloc, name.as_str(), rev)?;
+    line_of(alloc, &value)
+}
+
+fn subscribed_of(alloc: Global, doc: &str, rev: u64) -> Result<Value, AllocError>
+    ensures { IfOk result (λ value. view value ≡ spec.subscribed_reply doc.now rev) }
+{
+    json!(in alloc; {"doc": doc, "ok": "subscribed", "rev": rev})
+}
+
+/// The reply to unsubscribe.
+pub fn unsubscribed_reply(alloc: Global, name: &Name) -> Result<String, AllocError>
+    ensures { IfOk result (λ text. string_bytes text ≡ spec.line_of (spec.unsubscribed_reply name.now)) }
+{
+    let value = unsubscribed_of(alloc, name.as_str())?;
+    line_of(alloc, &value)
+}
+
+fn unsubscribed_of(alloc: Global, doc: &str) -> Result<Value, AllocError>
+    ensures { IfOk result (λ value. view value ≡ spec.unsubscribed_reply doc.now) }
+{
+    json!(in alloc; {"doc": doc, "ok": "unsubscribed"})
+}
+
+/// What is told of a revision: its delta.
+pub fn news_line(
+    alloc: Global,
+    name: &Name,
+    revision: u64,
+    delta: &Delta,
+) -> Result<String, AllocError>
+    ensures { IfOk result (λ text. string_bytes text ≡ spec.news_line name.now revision delta.now) }
+{
+    let operations = array_of(alloc, delta)?;
+    let value = news_with(alloc, name.as_str(), revision, operations)?;
+    line_of(alloc, &value)
+}
+
+fn news_with(
+    alloc: Global,
+    doc: &str,
+    revision: u64,
+    operations: Value,
+) -> Result<Value, AllocError>
+    ensures { IfOk result (λ value. view value ≡ spec.news_with doc.now revision (view operations)) }
+{
+    json!(in alloc; {"doc": doc, "news": revision, "ops": operations})
+}
+
+/// What is told where a subscription ends, since the next revision isn't held any longer.
+pub fn ended_line(alloc: Global, name: &Name) -> Result<String, AllocError>
+    ensures { IfOk result (λ text. string_bytes text ≡ spec.ended_line name.now) }
+{
+    let value = ended_with(alloc, name.as_str(), Refusal::TooOld.number())?;
+    line_of(alloc, &value)
+}
+
+fn ended_with(alloc: Global, doc: &str, refusal: u8) -> Result<Value, AllocError>
+    ensures { IfOk result (λ value. view value ≡ spec.ended_with doc.now refusal) }
+{
+    json!(in alloc; {"doc": doc, "ended": refusal})
+}
+
 /// The reply to a line that is refused.
 pub fn refusal_reply(alloc: Global, refusal: Refusal) -> Result<String, AllocError>
     ensures { IfOk result (λ text. string_bytes text ≡ spec.refusal_line refusal) }

@@ -25,6 +25,10 @@ pub enum Request {
     Ask(Command),
     /// To tell what is asked of the document of this name.
     Read(Name, Question),
+    /// To follow the document of this name from this revision on.
+    Subscribe(Name, u64),
+    /// To follow the document of this name no longer.
+    Unsubscribe(Name),
 }
 
 impl Request {
@@ -85,6 +89,8 @@ impl Request {
             } => edit(alloc, source, doc, number, base, operations),
             Message::Undo { doc, number } => undo(alloc, source, doc, number),
             Message::Read { doc, question } => Ok(Request::Read(Name::doc(alloc, doc)?, question)),
+            Message::Subscribe { doc, rev } => Ok(Request::Subscribe(Name::doc(alloc, doc)?, rev)),
+            Message::Unsubscribe { doc } => Ok(Request::Unsubscribe(Name::doc(alloc, doc)?)),
         }
     }
 }

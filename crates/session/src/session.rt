@@ -1,5 +1,5 @@
 //! A session: lines of messages to lines of replies.
-ghost use Rattle.std.specs.Prelude.{◌≡◌, Option, Some, None, List, [], ◌∷◌, true, false, Result, IfOk, IfErr, IfSome, IsErr, OnOk, OnErr};
+ghost use Rattle.std.specs.Prelude.{◌≡◌, length, Option, Some, None, List, [], ◌∷◌, true, false, Result, IfOk, IfErr, IfSome, IsErr, OnOk, OnErr};
 ghost use Rattle.std.specs.String.{string_bytes};
 ghost use Rattle.std.specs.Io.KnownBytes.{Appends};
 ghost use Rattle.refusal.specs.declared.Refusal as refusal;
@@ -9,21 +9,31 @@ ghost use Rattle.optext.specs.Answer.{IsAnswer};
 ghost use Rattle.session.specs.Line.{with_byte};
 ghost use Rattle.session.specs.Request.{request_of, GreetsSource};
 ghost use Rattle.revision.specs.State as state;
-ghost use Rattle.session.specs.Reply.{greeting as spec_greeting, line_of, refusal_line};
-ghost use Rattle.session.specs.Reads.{shown_line};
-ghost use Rattle.session.specs.Exchange.{Exchange, Answered, Shown};
+ghost use Rattle.session.specs.Reply.{greeting as spec_greeting, subscribed_line, unsubscribed_reply as spec_unsubscribed, line_of, refusal_line};
+ghost use Rattle.session.specs.Reads.{read_line, shown_line};
+ghost use Rattle.session.specs.Shelf.{Fits, IsLater, IsGivenLook};
+ghost use Rattle.session.specs.Exchange.{Exchange, Answered, Shown, IsReadOf};
+ghost use Rattle.session.specs.Output.{AppendsFront};
+ghost use Rattle.session.specs.Subscriptions.{may_follow_shown, subscribed, without_subscription};
+ghost use Rattle.session.specs.News.{AreNews, going_on};
+ghost use Rattle.session.specs.Calls.{TellsNews, StopsNews, with_subscriptions};
 ghost use Rattle.session.specs.Replies.{IsLine, IsReplied, Asks, Feeds, Stops, answer_line, text_told};
 
 use crate::desk::Desk;
 use crate::line::{Event, Line};
+use crate::news::News;
+use crate::output::Output;
 use crate::question::Question;
-use crate::reads::read;
-use crate::reply::{acknowledgement, greeting, refusal_reply};
+use crate::reads::{Told, check_held, read};
+use crate::reply::{
+    acknowledgement, greeting, refusal_reply, subscribed_reply, unsubscribed_reply,
+};
 use crate::request::Request;
+use crate::shelf::Shelf;
+use crate::subscriptions::Subscriptions;
 use refusal::Refusal;
 use revision::{Command, Name};
 use std::alloc::{AllocError, Global};
-use std::io::Write;
 use std::marker::Model;
 use thiserror::Error;
 
@@ -37,6 +47,7 @@ pub struct SessionEnded;
 pub struct Session {
     line: Line,
     source: Option<Name>,
+    subscriptions: Subscriptions,
     ended: bool,
 }
 
@@ -48,7 +59,11 @@ impl Model for Session {
 
     ghost Value = { spec.Session };
 
-    ghost view = { λ s. record { line = s.line; source = s.source; ended = s.ended } };
+    ghost view = { λ s. record {
+      line = s.line;
+      peer = record { source = s.source; subscriptions = s.subscriptions };
+      ended = s.ended;
+    } };
 
     ghost invariant = { λ s. ForSome s.source (λ name. is_source_name name ≡ true) };
 }
@@ -59,13 +74,15 @@ const NO_MEMORY: &[u8] = b"{\"code\":22,\"error\":\"NoMemory\"}\n";
 impl Session {
     /// A session at its beginning. Refused with `NoMemory`.
     pub fn new(alloc: Global) -> Result<Session, Refusal>
-        ensures ok { IfOk result (λ session. session ≡ record { line = Some []; source = None; ended = false }) }
+        ensures ok { IfOk result (λ session. session
+            ≡ record { line = Some []; peer = record { source = None; subscriptions = [] }; ended = false }) }
         ensures only { IfErr result (λ e. e ≡ Refusal.NoMemory) }
     {
         match Line::new(alloc) {
             Ok(line) => Ok(Session {
                 line,
                 source: None,
+                subscriptions: Subscriptions::new(alloc),
                 ended: false,
             }),
             Err(_) => Err(Refusal::NoMemory),
@@ -73,13 +90,17 @@ impl Session {
     }
 
     /// Takes a piece of the input, and writes the replies to the lines that end in it.
-    pub fn feed<W: Write, D: Desk>(
+    pub fn feed<O: Output, D: Desk>(
         &mut self,
         alloc: Global,
         piece: &[u8],
-        out: &mut W,
+        out: &mut O,
         desk: &mut D,
+        shelf: &mut Shelf,
     ) -> Result<(), SessionEnded>
+        requires fits { Fits (D.reached desk.old) shelf.old }
+        // The documents on the shelf stay right of the desk's state.
+        ensures fits { Fits (D.reached desk.new) shelf.new }
         // Once a write has failed, nothing is written or asked.
         ensures ended { self.old.ended ≡ true → IsErr result }
         ensures silent { self.old.ended ≡ true → out.new ≡ out.old }
@@ -87,10 +108,12 @@ impl Session {
 
         // What is written is what comes of the piece, with the answers of the desk.
         ensures fed { OnOk result (Feeds D.does self.old piece.now self.new desk.old desk.new
-            (W.contents out.old) (W.contents out.new)) }
-        // A write that fails ends the session. The desk was asked for the front of the piece, each command once.
+            (O.contents out.old) (O.contents out.new)) }
+        // A write that fails ends the session, and nothing else does. The desk was asked for the front of the piece, each command
+        // once, and a beginning of the replies to it was written.
         ensures stopped { OnErr result (self.old.ended ≡ false
-            → Stops D.does self.old piece.now self.new desk.old desk.new) }
+            → Stops D.does self.old piece.now self.new desk.old desk.new (O.contents out.old) (O.contents out.new)) }
+        ensures cause { OnErr result (self.old.ended ≡ false → O.has_failed out.new ≡ true) }
         ensures ok { OnOk result (self.new.ended ≡ false) }
         ensures err { OnErr result (self.new.ended ≡ true) }
     {
@@ -98,23 +121,79 @@ impl Session {
             return Err(SessionEnded);
         }
         for byte in piece {
-            self.take(alloc, *byte, out, desk)?;
+            self.take(alloc, *byte, out, desk, shelf)?;
         }
         Ok(())
     }
 
+    /// Tells the news of each document that is followed, in the order of their names. Where memory for them is wanted, none is
+    /// told, and the next call tells all of them.
+    pub fn on_news<O: Output, D: Desk>(
+        &mut self,
+        alloc: Global,
+        out: &mut O,
+        desk: &mut D,
+    ) -> Result<(), SessionEnded>
+        // Once a write has failed, nothing is written or asked.
+        ensures ended { self.old.ended ≡ true → IsErr result }
+        ensures silent { self.old.ended ≡ true → out.new ≡ out.old }
+        ensures idle { self.old.ended ≡ true → desk.new ≡ desk.old }
+        ensures later { IsLater (D.reached desk.old) (D.reached desk.new) }
+
+        // What is written is the news of the state that the desk shows.
+        ensures told { OnOk result (TellsNews D.does self.old self.new desk.old desk.new
+            (O.contents out.old) (O.contents out.new)) }
+        // A write that fails ends the session, and nothing else does. A beginning of the news was written.
+        ensures stopped { OnErr result (self.old.ended ≡ false
+            → StopsNews D.does self.old self.new desk.old desk.new (O.contents out.old) (O.contents out.new)) }
+        ensures cause { OnErr result (self.old.ended ≡ false → O.has_failed out.new ≡ true) }
+        ensures ok { OnOk result (self.new.ended ≡ false) }
+        ensures err { OnErr result (self.new.ended ≡ true) }
+    {
+        if self.ended {
+            return Err(SessionEnded);
+        }
+        let Ok(news) = show_news(alloc, desk, &self.subscriptions) else {
+            return Ok(());
+        };
+        self.tell(out, &news)?;
+        Ok(())
+    }
+
+    // Writes what is told, and notes it.
+    fn tell<O: Output>(&mut self, out: &mut O, news: &News) -> Result<(), SessionEnded>
+        requires works { self.old.ended ≡ false }
+        requires length { length news.now.last.items ≡ length self.old.peer.subscriptions }
+        ensures written { OnOk result (Appends (O.contents out.old) (O.contents out.new) (string_bytes news.now.text)) }
+        ensures noted { OnOk result (self.new ≡ with_subscriptions self.old (going_on self.old.peer.subscriptions news.now.last.items)) }
+        ensures front { OnErr result (AppendsFront (O.contents out.old) (O.contents out.new) (string_bytes news.now.text)) }
+        ensures failed { OnErr result (O.has_failed out.new ≡ true) }
+        ensures err { OnErr result (self.new ≡ record self.old { ended = true }) }
+    {
+        if !news.text.is_empty() {
+            self.put(out, news.text.as_bytes())?;
+        }
+        self.subscriptions.go_on(news.last.as_slice());
+        Ok(())
+    }
+
     // Takes the next byte of the input.
-    fn take<W: Write, D: Desk>(
+    fn take<O: Output, D: Desk>(
         &mut self,
         alloc: Global,
         byte: u8,
-        out: &mut W,
+        out: &mut O,
         desk: &mut D,
+        shelf: &mut Shelf,
     ) -> Result<(), SessionEnded>
-        requires { self.old.ended ≡ false }
+        requires works { self.old.ended ≡ false }
+        requires fits { Fits (D.reached desk.old) shelf.old }
+        ensures fits { Fits (D.reached desk.new) shelf.new }
         ensures fed { OnOk result (Feeds D.does self.old (byte ∷ []) self.new desk.old desk.new
-            (W.contents out.old) (W.contents out.new)) }
-        ensures stopped { OnErr result (Stops D.does self.old (byte ∷ []) self.new desk.old desk.new) }
+            (O.contents out.old) (O.contents out.new)) }
+        ensures stopped { OnErr result (Stops D.does self.old (byte ∷ []) self.new desk.old desk.new
+            (O.contents out.old) (O.contents out.new)) }
+        ensures cause { OnErr result (O.has_failed out.new ≡ true) }
         ensures ok { OnOk result (self.new.ended ≡ false) }
         ensures err { OnErr result (self.new.ended ≡ true) }
     {
@@ -122,7 +201,7 @@ impl Session {
             Event::More => {}
             Event::TooLong => self.send(out, &refusal_reply(alloc, Refusal::LineTooLong))?,
             Event::Complete => {
-                let reply = self.respond(alloc, desk);
+                let reply = self.respond(alloc, desk, shelf);
                 self.next_line();
                 self.send(out, &reply)?;
             }
@@ -145,23 +224,32 @@ impl Session {
     }
 
     // The reply to the line, which is complete.
-    fn respond<D: Desk>(&mut self, alloc: Global, desk: &mut D) -> Result<String, AllocError>
-        ensures others { self.new ≡ record self.old { source = self.new.source } }
+    fn respond<D: Desk>(
+        &mut self,
+        alloc: Global,
+        desk: &mut D,
+        shelf: &mut Shelf,
+    ) -> Result<String, AllocError>
+        requires fits { Fits (D.reached desk.old) shelf.old }
+        ensures fits { Fits (D.reached desk.new) shelf.new }
+        ensures others { self.new ≡ record self.old { peer = self.new.peer } }
         ensures replied { IfSome self.old.line (λ line. (asked : List Exchange)
-            × IsReplied self.old.source line asked self.new.source (text_told (λ t. string_bytes t) result)
+            × IsReplied self.old.peer line asked self.new.peer (text_told (λ t. string_bytes t) result)
             × Asks D.does desk.old asked desk.new) }
     {
         match self.request(alloc) {
             Ok(Request::Greet(source)) => self.greet(alloc, source),
             Ok(Request::Ask(command)) => ask(alloc, desk, &command),
-            Ok(Request::Read(name, question)) => answer(alloc, desk, &name, question),
+            Ok(Request::Read(name, question)) => answer(alloc, desk, shelf, &name, question),
+            Ok(Request::Subscribe(name, rev)) => self.subscribe(alloc, desk, name, rev),
+            Ok(Request::Unsubscribe(name)) => self.unsubscribe(alloc, &name),
             Err(refusal) => refusal_reply(alloc, refusal),
         }
     }
 
     // What the line asks for, which is complete.
     fn request(&self, alloc: Global) -> Result<Request, Refusal>
-        ensures due { IfSome self.now.line (λ line. IsAnswer (request_of self.now.source line) result) }
+        ensures due { IfSome self.now.line (λ line. IsAnswer (request_of self.now.peer.source line) result) }
         ensures greets { IfOk result GreetsSource }
     {
         Request::read(alloc, self.source.as_ref(), self.line.bytes())
@@ -171,7 +259,7 @@ impl Session {
     fn greet(&mut self, alloc: Global, source: Name) -> Result<String, AllocError>
         requires { is_source_name source ≡ true }
         ensures greeted { IfOk result (λ text. string_bytes text ≡ line_of spec_greeting) }
-        ensures presented { OnOk result (self.new ≡ record self.old { source = Some source }) }
+        ensures presented { OnOk result (self.new ≡ record self.old { peer = record self.old.peer { source = Some source } }) }
         ensures unchanged { OnErr result (self.new ≡ self.old) }
     {
         let reply = greeting(alloc)?;
@@ -179,19 +267,68 @@ impl Session {
         Ok(reply)
     }
 
-    // Writes a reply.
-    fn send<W: Write>(
+    // Follows a document from a revision on that the desk's state holds, and tells so.
+    fn subscribe<D: Desk>(
         &mut self,
-        out: &mut W,
+        alloc: Global,
+        desk: &mut D,
+        name: Name,
+        rev: u64,
+    ) -> Result<String, AllocError>
+        ensures later { IsLater (D.reached desk.old) (D.reached desk.new) }
+        ensures followed { (shown : Option state.State) × D.does desk.old (Shown shown) desk.new
+            × OnOk result (self.new ≡ with_subscriptions self.old
+            (subscribed self.old.peer.subscriptions name rev (may_follow_shown name rev shown)))
+            × IfOk result (λ text. string_bytes text ≡ subscribed_line name rev (may_follow_shown name rev shown))
+            × OnErr result (self.new ≡ self.old) }
+    {
+        if let Err(refusal) = show_held(desk, &name, rev) {
+            return refusal_reply(alloc, refusal);
+        }
+        let reply = subscribed_reply(alloc, &name, rev)?;
+        self.subscriptions.set(name, rev)?;
+        Ok(reply)
+    }
+
+    // Follows a document no longer, and tells so.
+    fn unsubscribe(&mut self, alloc: Global, name: &Name) -> Result<String, AllocError>
+        ensures told { IfOk result (λ text. string_bytes text ≡ line_of (spec_unsubscribed name.now)) }
+        ensures left { OnOk result (self.new ≡ with_subscriptions self.old (without_subscription self.old.peer.subscriptions name.now)) }
+        ensures unchanged { OnErr result (self.new ≡ self.old) }
+    {
+        let reply = unsubscribed_reply(alloc, name)?;
+        self.subscriptions.remove(name);
+        Ok(reply)
+    }
+
+    // Writes a reply.
+    fn send<O: Output>(
+        &mut self,
+        out: &mut O,
         reply: &Result<String, AllocError>,
     ) -> Result<(), SessionEnded>
         requires { self.old.ended ≡ false }
-        ensures written { OnOk result (Appends (W.contents out.old) (W.contents out.new)
+        ensures written { OnOk result (Appends (O.contents out.old) (O.contents out.new)
             (text_told (λ t. string_bytes t) reply.now)) }
+        ensures front { OnErr result (AppendsFront (O.contents out.old) (O.contents out.new)
+            (text_told (λ t. string_bytes t) reply.now)) }
+        ensures failed { OnErr result (O.has_failed out.new ≡ true) }
         ensures ok { OnOk result (self.new ≡ self.old) }
         ensures err { OnErr result (self.new ≡ record self.old { ended = true }) }
     {
-        if out.write_all(bytes_of(reply)).is_err() {
+        self.put(out, bytes_of(reply))?;
+        Ok(())
+    }
+
+    // Writes bytes, or ends the session.
+    fn put<O: Output>(&mut self, out: &mut O, bytes: &[u8]) -> Result<(), SessionEnded>
+        ensures written { OnOk result (Appends (O.contents out.old) (O.contents out.new) bytes.now) }
+        ensures front { OnErr result (AppendsFront (O.contents out.old) (O.contents out.new) bytes.now) }
+        ensures failed { OnErr result (O.has_failed out.new ≡ true) }
+        ensures ok { OnOk result (self.new ≡ self.old) }
+        ensures err { OnErr result (self.new ≡ record self.old { ended = true }) }
+    {
+        if out.put(bytes).is_err() {
             self.ended = true;
             return Err(SessionEnded);
         }
@@ -201,7 +338,8 @@ impl Session {
 
 // Asks the desk once, and tells what it answers.
 fn ask<D: Desk>(alloc: Global, desk: &mut D, command: &Command) -> Result<String, AllocError>
-    ensures { (answer : Result reply.Reply refusal.Refusal) × D.does desk.old (Answered command.now answer) desk.new
+    ensures later { IsLater (D.reached desk.old) (D.reached desk.new) }
+    ensures told { (answer : Result reply.Reply refusal.Refusal) × D.does desk.old (Answered command.now answer) desk.new
         × IsLine (answer_line command.now answer) (text_told (λ t. string_bytes t) result) }
 {
     match desk.ask(alloc, command) {
@@ -214,15 +352,74 @@ fn ask<D: Desk>(alloc: Global, desk: &mut D, command: &Command) -> Result<String
 fn answer<D: Desk>(
     alloc: Global,
     desk: &mut D,
+    shelf: &mut Shelf,
     name: &Name,
     question: Question,
 ) -> Result<String, AllocError>
-    ensures { (shown : Option state.State) × D.does desk.old (Shown shown) desk.new
+    requires fits { Fits (D.reached desk.old) shelf.old }
+    ensures fits { Fits (D.reached desk.new) shelf.new }
+    ensures told { (shown : Option state.State) × D.does desk.old (Shown shown) desk.new
         × IsLine (shown_line name.now question shown) (text_told (λ t. string_bytes t) result) }
 {
-    match desk.view(|state| read(alloc, state, name, question)) {
-        Ok(reply) => reply,
+    match view(alloc, desk, shelf, name, question) {
+        Ok(Told { reply, look }) => {
+            if let Some(look) = look {
+                shelf.note(look);
+            }
+            reply
+        }
         Err(refusal) => refusal_reply(alloc, refusal),
+    }
+}
+
+// Has the desk show its state once, and reads what is asked of the document of this name.
+fn view<D: Desk>(
+    alloc: Global,
+    desk: &mut D,
+    shelf: &Shelf,
+    name: &Name,
+    question: Question,
+) -> Result<Told, Refusal>
+    requires fits { Fits (D.reached desk.old) shelf.now }
+    ensures fits { Fits (D.reached desk.new) shelf.now }
+    ensures told { (shown : Option state.State) × D.does desk.old (Shown shown) desk.new
+        × IsReadOf (λ state answer. IfOk answer.reply (λ text. string_bytes text ≡ read_line name.now question state)) shown result }
+    ensures look { IfOk result (λ told. IsGivenLook (D.reached desk.new) told.look) }
+{
+    desk.view(
+        |state|
+            ensures reply { Fits state.now shelf.entry.now → IfOk result.reply (λ text. string_bytes text ≡ read_line name.entry.now question state.now) }
+            ensures look { IsGivenLook state.now result.look }
+        { read(alloc, state, shelf, name, question) },
+    )
+}
+
+// Has the desk show its state once, and tells whether that holds a document at a revision.
+fn show_held<D: Desk>(desk: &mut D, name: &Name, rev: u64) -> Result<(), Refusal>
+    ensures later { IsLater (D.reached desk.old) (D.reached desk.new) }
+    ensures told { (shown : Option state.State) × D.does desk.old (Shown shown) desk.new
+        × (result ≡ may_follow_shown name.now rev shown) }
+{
+    match desk.view(|state| check_held(state, name, rev)) {
+        Ok(held) => held,
+        Err(refusal) => Err(refusal),
+    }
+}
+
+// Has the desk show its state once, and gives its news. There are none where the desk can show no state, or where memory
+// for them is wanted.
+fn show_news<D: Desk>(
+    alloc: Global,
+    desk: &mut D,
+    subscriptions: &Subscriptions,
+) -> Result<News, AllocError>
+    ensures later { IsLater (D.reached desk.old) (D.reached desk.new) }
+    ensures told { (shown : Option state.State) × D.does desk.old (Shown shown) desk.new
+        × IfOk result (λ news. AreNews subscriptions.now shown (string_bytes news.text) news.last.items) }
+{
+    match desk.view(|state| News::of(alloc, subscriptions, state)) {
+        Ok(news) => news,
+        Err(_) => Err(AllocError),
     }
 }
 

@@ -2,16 +2,18 @@
 ghost use Rattle.std.specs.Prelude.{◌≡◌, ◌⊎◌, true, [], ◌∷◌, IfErr, IfOk, OnErr, OnOk};
 ghost use Rattle.revision.specs.State.{State, grows, grown};
 ghost use Rattle.session.specs.declared.reply.Reply.TheVariants as reply;
-ghost use Rattle.session.specs.Alone.{FedAlone, of_session};
+ghost use Rattle.session.specs.Alone.{FedAlone, HearsAlone, of_session};
+ghost use Rattle.session.specs.Shelf.{Fits, IsLater};
 
 use crate::desk::Desk;
-use crate::laws::replies_of_a_state;
+use crate::laws::{news_of_a_state, replies_of_a_state};
+use crate::output::Output;
 use crate::reply::Reply;
 use crate::session::{Session, SessionEnded};
+use crate::shelf::Shelf;
 use refusal::Refusal;
 use revision::{Command, Plan, State, Taken, laws};
 use std::alloc::Global;
-use std::io::Write;
 use std::marker::Model;
 
 /// Answers each command by the rule of acceptance, and shows the state that comes of all of them. It keeps nothing on a
@@ -47,18 +49,37 @@ impl StateDesk {
 
     /// Feeds a piece of the input to a session over this desk: where memory is found, the replies to its lines are written, each
     /// over what the lines before it did, and nothing else. A write that fails ends the session.
-    pub fn feed<W: Write>(
+    pub fn feed<O: Output>(
         &mut self,
         alloc: Global,
         session: &mut Session,
         piece: &[u8],
-        out: &mut W,
+        out: &mut O,
+        shelf: &mut Shelf,
     ) -> Result<(), SessionEnded>
-        ensures { OnOk result (FedAlone (of_session session.old self.old) piece.now (of_session session.new self.new)
-            (W.contents out.old) (W.contents out.new)) }
+        requires fits { Fits self.old shelf.old }
+        ensures fits { Fits self.new shelf.new }
+        ensures fed { OnOk result (FedAlone (of_session session.old self.old) piece.now (of_session session.new self.new)
+            (O.contents out.old) (O.contents out.new)) }
     {
         replies_of_a_state();
-        session.feed(alloc, piece, out, self)
+        session.feed(alloc, piece, out, self, shelf)
+    }
+
+    /// Tells the news of a session over this desk: the news of the state are written, or for want of memory nothing, and then the
+    /// next call tells all of them.
+    pub fn on_news<O: Output>(
+        &mut self,
+        alloc: Global,
+        session: &mut Session,
+        out: &mut O,
+    ) -> Result<(), SessionEnded>
+        ensures later { IsLater self.old self.new }
+        ensures heard { OnOk result (HearsAlone (of_session session.old self.old) (of_session session.new self.new)
+            (O.contents out.old) (O.contents out.new)) }
+    {
+        news_of_a_state();
+        session.on_news(alloc, out, self)
     }
 
     // Adds what is taken of a command, which continues the state. Refused for want of memory alone.
@@ -79,6 +100,8 @@ impl Desk for StateDesk {
     ghost use Rattle.session.specs.Alone.{Alone};
 
     ghost does = { λ old exchange new. Alone old exchange new };
+
+    ghost reached = { λ desk. desk };
 
     fn ask(&mut self, alloc: Global, command: &Command) -> Result<Reply, Refusal> {
         laws::taken_grows();

@@ -6,6 +6,8 @@
 mod batches;
 pub mod callers;
 #[cfg(test)]
+mod cells;
+#[cfg(test)]
 mod creating;
 #[cfg(test)]
 mod damage;
@@ -15,6 +17,8 @@ mod deltas;
 mod devices;
 #[cfg(test)]
 mod opening;
+#[cfg(test)]
+mod picks;
 #[cfg(test)]
 mod plans;
 #[cfg(test)]

@@ -181,6 +181,20 @@ fn creation(rt: &(impl Abort + AllocGlobal), source: &str, doc: &str, text: &str
     Command::create(doc, source, 1, insert_of(rt, text)).expect(rt, "a creation")
 }
 
+/// An edit of a source, made on a revision, that inserts a text at the beginning.
+pub fn edit(
+    rt: &(impl Abort + AllocGlobal),
+    source: &str,
+    doc: &str,
+    number: u64,
+    base: u64,
+    text: &str,
+) -> Command {
+    let source = Name::source(rt.alloc(), source).expect(rt, "a source");
+    let doc = Name::doc(rt.alloc(), doc).expect(rt, "a document");
+    Command::edit(doc, source, number, base, insert_of(rt, text)).expect(rt, "an edit")
+}
+
 // How a command is answered, and which revision it has made. It is committed where it is taken.
 fn answer<D: Disk>(
     rt: &(impl Abort + AllocGlobal),
@@ -199,8 +213,8 @@ fn answer<D: Disk>(
     }
 }
 
-// A command's answer in words.
-fn answer_text<D: Disk>(
+/// A command's answer in words.
+pub fn answer_text<D: Disk>(
     rt: &(impl Abort + AllocGlobal),
     store: &mut Store<D>,
     command: &Command,

@@ -135,7 +135,7 @@ fold_longer-append : (all : List DocumentRecord) (first others : List Taken) →
 fold_longer-append all [] others = refl
 fold_longer-append all (taken ∷ more) others = fold_longer-append (grown_longer all taken) more others
 
-limits-fold : (state : State) (commands : List Taken) → (fold state commands).limits ≡ state.limits
+pub limits-fold : (state : State) (commands : List Taken) → (fold state commands).limits ≡ state.limits
 limits-fold state [] = refl
 limits-fold state (first ∷ others) = limits-fold (grown state first) others
 

@@ -3,6 +3,7 @@ pub mod Event
 pub mod World
 pub mod Boards
 pub mod Step
+pub mod Stepping
 pub mod Shown
 pub mod Law
 pub mod Followed

@@ -123,6 +123,13 @@ impl Board {
         &self.order.as_slice()[self.taken..]
     }
 
+    /// The commands that are not settled yet.
+    pub fn unsettled(&self) -> &[Entry]
+        ensures { result.now ≡ drop self.now.settled self.now.order }
+    {
+        &self.order.as_slice()[self.settled..]
+    }
+
     /// What is taken off beyond what is shown: the first `shown` commands, no more than are taken off.
     pub fn unshown(&self, shown: usize) -> &[Entry]
         requires { shown ≤ self.now.taken }
@@ -138,9 +145,7 @@ impl Board {
         ensures settled { result ≡ can_settle self.old count told }
         ensures board { self.new ≡ (if can_settle self.old count told then settled_more self.old count else self.old) }
     {
-        let can = 0 < count
-            && count <= self.taken - self.settled
-            && told == self.settled + count;
+        let can = 0 < count && count <= self.taken - self.settled && told == self.settled + count;
         if can {
             self.settled += count;
         }

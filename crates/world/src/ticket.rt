@@ -51,3 +51,50 @@ impl Ticket {
         self.length
     }
 }
+
+/// An acknowledgement: the reply of a ticket whose length was settled. The ticket itself is there for contracts alone.
+#[derive(Drop)]
+pub struct Ack {
+    ticket: Snapshot<Ticket>,
+    reply: Reply,
+    length: usize,
+}
+
+impl Model for Ack {
+    ghost use Rattle.std.specs.Prelude.{◌≡◌, Ok};
+    ghost use Rattle.revision.specs.Planned.{reply_of};
+    ghost use Rattle.world.specs.Board as spec;
+
+    ghost Value = { spec.Ticket };
+
+    ghost view = { λ a. a.ticket.value };
+
+    ghost invariant = { λ a. (reply_of (Ok a.reply) ≡ a.ticket.value.reply) × (a.length ≡ a.ticket.value.length) };
+}
+
+impl Ack {
+    // The acknowledgement of a ticket. It takes no memory.
+    pub(crate) fn of(ticket: &Ticket) -> Ack
+        ensures { result ≡ ticket.now }
+    {
+        Ack {
+            ticket: Snapshot::of(ticket),
+            reply: ticket.reply(),
+            length: ticket.length(),
+        }
+    }
+
+    /// The reply.
+    pub fn reply(&self) -> Reply
+        ensures { reply_of (Ok result) ≡ self.now.reply }
+    {
+        self.reply
+    }
+
+    /// The length of the order that was settled before the reply was given.
+    pub fn length(&self) -> usize
+        ensures { result ≡ self.now.length }
+    {
+        self.length
+    }
+}

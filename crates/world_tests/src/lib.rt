@@ -1,8 +1,11 @@
-//! Tests of `world`, by its public calls alone: schedules that a `Follower` runs. What the rule of acceptance says of a command that
-//! is no retry is told to it: here it takes a source's next number, as the next revision.
+//! Tests of `world`, by its public calls alone: schedules of whole commands that a `World` runs (steps), and schedules that a
+//! `Follower` runs. What the rule of acceptance says of a command that is no retry is told to the latter: here it takes a source's
+//! next number, as the next revision.
 #![tactic(auto)]
 
 #[cfg(test)]
 mod lists;
 #[cfg(test)]
 mod rows;
+#[cfg(test)]
+mod steps;

@@ -14,7 +14,7 @@ ghost use Rattle.recovery.specs.Cells.{IsCellsOf, AreCellsOf};
 ghost use Rattle.recovery.specs.Found.{limits_of};
 ghost use Rattle.recovery.specs.steps.Reading.{lists_of, AreByDocument, IsDocumentRead, IsNext, AreDocumentsRead};
 
-use crate::reading::document::{pick_one, read_document};
+use crate::reading::one_document::{pick_one, read_document};
 use crate::shape::Shape;
 use crate::superblock::SUPERBLOCK_LEN;
 use disk::Disk;

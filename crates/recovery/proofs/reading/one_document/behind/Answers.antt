@@ -1,9 +1,9 @@
-use Rattle.std.proofs.Common.{◌≡◌, ◌∙◌, rules}
+use Rattle.std.proofs.Common.{◌∙◌, rules}
 use Rattle.std.specs.Prelude.{nat_lt}
 use Rattle.std.proofs.lemmas.Fn.{filter_same}
 use Rattle.revision.specs.Command.{Taken}
 use Rattle.recovery.proofs.Gathering.{above-filter}
-use Rattle.recovery.proofs.reading.document.behind.Goals as goal
+use Rattle.recovery.proofs.reading.one_document.behind.Goals as goal
 
 pub returns : goal.returns
 returns c =

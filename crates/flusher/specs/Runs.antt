@@ -1,0 +1,23 @@
+-- Which commands of the order make a batch.
+use Rattle.std.specs.Prelude.{◌≡◌, ◌⊎◌, ◌<◌, ◌≤◌, ◌+◌, ℕ, true, List, drop, length, take}
+use Rattle.revision.specs.Command.{Taken}
+use Rattle.journal.specs.BatchSpelling.{batch_width}
+use Rattle.world.specs.Board.{Board, can_settle}
+use Rattle.world.specs.World.{Entry, takens}
+
+-- The longest run of the first commands that the journal spells in so many bytes as one batch: it is none, or fits, and one command
+-- more wouldn't fit.
+pub record IsLongest (cap : ℕ) (commands : List Taken) (count : ℕ) : Type 0 where
+  pub within : count ≤ length commands
+  pub fits : (count ≡ 0) ⊎ (batch_width (take count commands) ≤ cap)
+  pub longest : count < length commands → cap < batch_width (take (count + 1) commands)
+
+-- the commands that are not taken off yet
+abbrev pub untaken : Board Entry → List Taken
+untaken board = takens (drop board.taken board.order)
+
+-- A batch may be settled: it is the next part of the order after what is settled, all of it is taken off, and what was told to be
+-- published ends with it.
+pub record MaySettle (board : Board Entry) (batch : List Taken) (told : ℕ) : Type 0 where
+  pub next : batch ≡ takens (take (length batch) (drop board.settled board.order))
+  pub count : can_settle board (length batch) told ≡ true

@@ -1,0 +1,161 @@
+-- News of documents, one after another and from one call to the next.
+use Rattle.std.proofs.Common.{◌≡◌, ◌+◌, ◌-◌, ◌≤◌, ◌<◌, ◌++◌, ℕ, max, List, [], ◌∷◌, length, map, take, drop, get_or, Bool, true, false, cond, Option, Some, None, refl, sym, ap, ap₂, ◌∙◌, append_assoc, append-nil, arith}
+use Rattle.std.specs.Prelude.{nat_lt}
+use Rattle.std.proofs.lemmas.Bool.Decides.{nat_tests}
+use Rattle.std.proofs.lemmas.List.{drop_all, drop-drop, take-append-drop, length-drop, length-map, length-take-le, take_more, map_more}
+use Rattle.delta.specs.Operation.{Operation}
+use Rattle.revision.specs.Past.{Past, newest, deltas_of, deltas_above}
+use Rattle.revision.specs.State.{DocumentRecord, State, find}
+use Rattle.session.specs.Reply.{news_line}
+use Rattle.session.specs.Subscriptions.{Subscriptions}
+use Rattle.session.specs.News.{lines_of, lines_after, last_after, lines_found, last_found, lines_in, last_in, subscription, going_on, news, subscriptions_after}
+
+-- the lines of one list of deltas behind another
+pub lines-append : (doc : List ℕ) (revision : ℕ) (front back : List (List Operation))
+    → lines_of doc revision (front ++ back) ≡ lines_of doc revision front ++ lines_of doc (revision + length front) back
+lines-append doc revision [] back = ap (λ n. lines_of doc n back) (omega arith)
+lines-append doc revision (delta ∷ others) back =
+    ap (λ (l : List ℕ). news_line doc (revision + 1) delta ++ l)
+    (lines-append doc (revision + 1) others back
+    ∙ ap (λ n. lines_of doc (revision + 1) others ++ lines_of doc n back) (omega arith))
+    ∙ sym (append_assoc (news_line doc (revision + 1) delta) (lines_of doc (revision + 1) others) (lines_of doc (revision + length (delta ∷ others)) back))
+
+-- and of one more
+pub lines-more : (doc : List ℕ) (revision : ℕ) (front : List (List Operation)) (delta : List Operation)
+    → lines_of doc revision (front ++ delta ∷ []) ≡ lines_of doc revision front ++ news_line doc (revision + length front + 1) delta
+lines-more doc revision front delta =
+    lines-append doc revision front (delta ∷ [])
+    ∙ ap (λ (l : List ℕ). lines_of doc revision front ++ l) (append-nil (news_line doc (revision + length front + 1) delta))
+
+-- the news of one list of subscriptions behind another
+pub news-more : (front : Subscriptions) (one : List ℕ × ℕ) (state : State) → news (front ++ one ∷ []) state ≡ news front state ++ lines_in state one.0 one.1
+news-more [] one state = append-nil (lines_in state one.0 one.1)
+news-more (first ∷ others) one state =
+    ap (λ (l : List ℕ). lines_in state first.0 first.1 ++ l) (news-more others one state)
+    ∙ sym (append_assoc (lines_in state first.0 first.1) (news others state) (lines_in state one.0 one.1))
+
+-- what goes on after the news of a state
+pub goes_on : (subscriptions : Subscriptions) (state : State)
+    → going_on subscriptions (map (λ one. last_in state one.0 one.1) subscriptions) ≡ subscriptions_after subscriptions state
+goes_on [] state = refl
+goes_on (first ∷ others) state = ap (λ (l : Subscriptions). subscription first.0 (last_in state first.0 first.1) ++ l) (goes_on others state)
+
+-- how many deltas stand above a revision
+length-deltas : (past : Past) → length (deltas_of past) ≡ length past.changes
+length-deltas past = length-map past.changes _
+
+pub length-above : (past : Past) (revision : ℕ) → past.floor ≤ revision → revision ≤ newest past → revision + length (deltas_above past revision) ≡ newest past
+length-above past revision held there =
+    let len = length-drop (revision - past.floor) (deltas_of past) in
+    let all = length-deltas past in
+    omega arith
+
+-- nothing is above the newest
+pub none-above : (past : Past) (revision : ℕ) → newest past ≤ revision → deltas_above past revision ≡ []
+none-above past revision above = let all = length-deltas past in drop_all (revision - past.floor) (deltas_of past) (omega arith)
+
+-- where a revision is held
+held_lines : (doc : List ℕ) (last : ℕ) (past : Past) → past.floor ≤ last → lines_after doc last past ≡ lines_of doc last (deltas_above past last)
+held_lines doc last past held = let low : nat_lt last past.floor ≡ false = grind (arith, nat_tests) in rw low refl
+
+held_last : (last : ℕ) (past : Past) → past.floor ≤ last → last_after last past ≡ Some (max last (newest past))
+held_last last past held = let low : nat_lt last past.floor ≡ false = grind (arith, nat_tests) in rw low refl
+
+-- where the newest is told nothing is left to tell
+none_lines : (doc : List ℕ) (last : ℕ) (past : Past) → lines_after doc (max last (newest past)) past ≡ []
+none_lines doc last past =
+    held_lines doc (max last (newest past)) past (omega arith)
+    ∙ ap (lines_of doc (max last (newest past))) (none-above past (max last (newest past)) (omega arith))
+
+same_last : (last : ℕ) (past : Past) → last_after (max last (newest past)) past ≡ Some (max last (newest past))
+same_last last past = held_last (max last (newest past)) past (omega arith) ∙ ap (λ n. Some n) (omega arith)
+
+-- a subscription that was told, and what is told of it again
+module _ (doc : List ℕ) (state : State) where
+  abbrev again : Option ℕ → Type 0
+  again last = (news (subscription doc last) state ≡ []) × (subscriptions_after (subscription doc last) state ≡ subscription doc last)
+
+  found_again : (last : ℕ) (found : Option (ℕ × DocumentRecord)) → find doc 0 state.documents ≡ found → again (last_found last found)
+  found_again last None is = (
+    append-nil (lines_in state doc last) ∙ ap (lines_found doc last) is,
+    append-nil (subscription doc (last_in state doc last)) ∙ ap (λ f. subscription doc (last_found last f)) is,
+  )
+  found_again last (Some found) is = by_floor (nat_lt last found.1.past.floor) refl where
+    past : Past
+    past = found.1.past
+
+    by_floor : (b : Bool) → nat_lt last past.floor ≡ b → again (cond b None (Some (max last (newest past))))
+    by_floor true low = (refl, refl)
+    by_floor false high =
+        let next = max last (newest past) in (
+          append-nil (lines_in state doc next) ∙ ap (lines_found doc next) is ∙ none_lines doc last past,
+          append-nil (subscription doc (last_in state doc next)) ∙ ap (λ f. subscription doc (last_found next f)) is
+              ∙ ap (subscription doc) (same_last last past),
+        )
+
+news-append : (front back : Subscriptions) (state : State) → news (front ++ back) state ≡ news front state ++ news back state
+news-append [] back state = refl
+news-append (first ∷ others) back state =
+    ap (λ (l : List ℕ). lines_in state first.0 first.1 ++ l) (news-append others back state)
+    ∙ sym (append_assoc (lines_in state first.0 first.1) (news others state) (news back state))
+
+after-append : (front back : Subscriptions) (state : State) → subscriptions_after (front ++ back) state ≡ subscriptions_after front state ++ subscriptions_after back state
+after-append [] back state = refl
+after-append (first ∷ others) back state =
+    ap (λ (l : Subscriptions). subscription first.0 (last_in state first.0 first.1) ++ l) (after-append others back state)
+    ∙ sym (append_assoc (subscription first.0 (last_in state first.0 first.1)) (subscriptions_after others state) (subscriptions_after back state))
+
+pub told_again : (subscriptions : Subscriptions) (state : State)
+    → (news (subscriptions_after subscriptions state) state ≡ [])
+    × (subscriptions_after (subscriptions_after subscriptions state) state ≡ subscriptions_after subscriptions state)
+told_again [] state = (refl, refl)
+told_again (first ∷ others) state =
+    let here = found_again first.0 state first.1 (find first.0 0 state.documents) refl in
+    let rest = told_again others state in
+    let front = subscription first.0 (last_in state first.0 first.1) in
+    let back = subscriptions_after others state in (
+      news-append front back state ∙ ap₂ ◌++◌ here.0 rest.0,
+      after-append front back state ∙ ap₂ ◌++◌ here.1 rest.1,
+    )
+
+-- what is told at one moment and at a later one
+pub told_on : (doc : List ℕ) (last : ℕ) (past later : Past)
+    → past.floor ≤ last → last ≤ newest past → later.floor ≤ last → newest past ≤ newest later
+    → take (newest past - last) (deltas_above later last) ≡ deltas_above past last
+    → lines_after doc last past ++ lines_after doc (newest past) later ≡ lines_after doc last later
+told_on doc last past later held there later_held grown same =
+    let count = newest past - last in
+    let all = deltas_above later last in
+    let first : lines_after doc last past ≡ lines_of doc last (take count all) = held_lines doc last past held ∙ ap (lines_of doc last) (sym same) in
+    let len : last + length (take count all) ≡ newest past = ap (λ l. last + length l) same ∙ length-above past last held there in
+    let rest : deltas_above later (newest past) ≡ drop count all =
+    sym (drop-drop count (last - later.floor) (deltas_of later) ∙ ap (λ n. drop n (deltas_of later)) (omega arith)) in
+    let second : lines_after doc (newest past) later ≡ lines_of doc (last + length (take count all)) (drop count all) =
+    held_lines doc (newest past) later (omega arith) ∙ ap (lines_of doc (newest past)) rest ∙ ap (λ n. lines_of doc n (drop count all)) (sym len) in
+    ap₂ ◌++◌ first second ∙ sym (lines-append doc last (take count all) (drop count all)) ∙ ap (lines_of doc last) (take-append-drop count all)
+    ∙ sym (held_lines doc last later later_held)
+
+-- the lines of one delta more
+pub lines-next : (doc : List ℕ) (last : ℕ) (deltas : List (List Operation)) (i : ℕ) (delta : List Operation) (revision : ℕ)
+    → i < length deltas → delta ≡ get_or deltas i delta → revision ≡ last + i + 1
+    → lines_of doc last (take i deltas) ++ news_line doc revision delta ≡ lines_of doc last (take (i + 1) deltas)
+lines-next doc last deltas i delta revision inside is at =
+    let len : length (take i deltas) ≡ i = length-take-le i deltas (omega arith) in
+    ap (λ n. lines_of doc last (take i deltas) ++ news_line doc n delta) (omega (arith, at, len))
+    ∙ sym (lines-more doc last (take i deltas) delta)
+    ∙ ap (lines_of doc last) (ap (λ (d : List Operation). take i deltas ++ d ∷ []) is ∙ sym (take_more deltas i delta inside))
+
+-- the news of one subscription more
+pub news-next : (subscriptions : Subscriptions) (i : ℕ) (one : List ℕ × ℕ) (state : State) → i < length subscriptions → one ≡ get_or subscriptions i one
+    → news (take i subscriptions) state ++ lines_in state one.0 one.1 ≡ news (take (i + 1) subscriptions) state
+news-next subscriptions i one state inside is =
+    sym (news-more (take i subscriptions) one state)
+    ∙ ap (λ (l : Subscriptions). news l state)
+    (ap (λ (o : List ℕ × ℕ). take i subscriptions ++ o ∷ []) is ∙ sym (take_more subscriptions i one inside))
+
+pub last-next : (subscriptions : Subscriptions) (i : ℕ) (one : List ℕ × ℕ) (state : State) → i < length subscriptions → one ≡ get_or subscriptions i one
+    → map (λ o. last_in state o.0 o.1) (take i subscriptions) ++ last_in state one.0 one.1 ∷ []
+    ≡ map (λ o. last_in state o.0 o.1) (take (i + 1) subscriptions)
+last-next subscriptions i one state inside is =
+    ap (λ (o : List ℕ × ℕ). map (λ o. last_in state o.0 o.1) (take i subscriptions) ++ last_in state o.0 o.1 ∷ []) is
+    ∙ sym (map_more (λ (o : List ℕ × ℕ). last_in state o.0 o.1) subscriptions i one inside)

@@ -1,0 +1,7 @@
+use Rattle.std.proofs.Common.{take}
+use Rattle.attributes.proofs.Places.{AllBefore}
+use Rattle.session.proofs.subscriptions.Subscriptions.place.Given as goal
+
+-- the names so far stand before the name
+abbrev pub invariant-loop-i : goal.invariant-loop-i
+invariant-loop-i l = AllBefore l.name (take l.i l.self)

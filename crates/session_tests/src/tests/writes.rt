@@ -1,0 +1,49 @@
+use super::Conversation;
+use session::Stream;
+use std::io::{self, ErrorKind, Write};
+use std::test::Fail;
+
+/// A writer that takes so many bytes, and then fails.
+#[derive(Drop)]
+struct Short {
+    bytes: Vec<u8>,
+    room: usize,
+}
+
+impl Write for Short {
+    fn write(&mut self, buf: &[u8]) -> io::Result<usize> {
+        if self.room == 0 {
+            return Err(io::Error::from(ErrorKind::BrokenPipe));
+        }
+        let count = buf.len().min(self.room);
+        self.bytes.extend_from_slice(&buf[..count])?;
+        self.room -= count;
+        Ok(count)
+    }
+
+    fn flush(&mut self) -> io::Result<()> {
+        Ok(())
+    }
+}
+
+const INPUT: &[u8] = b"{\"do\":\"hello\",\"source\":\"ann\"}\n{\"do\":\"fetch\",\"doc\":\"d\"}\n";
+
+#[test]
+fn a_failed_write_ends_the_session(rt: HostRuntime) -> Result<(), Fail> {
+    let alloc = rt.alloc();
+    let mut talk = Conversation::new(alloc, 2)?;
+    let mut out = Stream::new(Short {
+        bytes: Vec::new(alloc),
+        room: 20,
+    });
+    assert!(rt; talk.feed(alloc, INPUT, &mut out).is_err());
+    assert_eq!(rt;
+        out.into_writer().bytes.as_slice(),
+        b"{\"ok\":\"hello\"}\n{\"cod".as_slice()
+    );
+    let mut other = Stream::new(Vec::new(alloc));
+    assert!(rt; talk.feed(alloc, INPUT, &mut other).is_err());
+    assert!(rt; talk.on_news(alloc, &mut other).is_err());
+    assert!(rt; other.into_writer().is_empty());
+    Ok(())
+}

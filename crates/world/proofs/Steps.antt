@@ -1,0 +1,200 @@
+-- What the program that steps a world keeps, event by event.
+use Rattle.std.proofs.Common.{◌≡◌, ℕ, zero, suc, ◌≤◌, ◌<◌, ◌^◌, Bool, true, false, cond, List, [], ◌∷◌, ◌++◌, length, take, drop, Some, refl, sym, ap, ◌∙◌, subst, arith, inl, inr}
+use Rattle.std.specs.Prelude.{◌==◌, ◌&&◌, nat_lt, nat_le, if◌then◌else◌, slice_get, option_to_list}
+use Rattle.std.proofs.lemmas.Bool.{and_parts, and_from, or_cases, eqb-true, lt-ltb, le-leb, eq-eqb}
+use Rattle.std.proofs.lemmas.List.{append-nil, take-map, take-append-drop, take-append-le, take-take, length-append, length-take-le, length-map, map-append}
+use Rattle.revision.specs.Command.{Taken, Command}
+use Rattle.revision.specs.State.{Limits, State, grows, grown, all_grow, fold, last_of_all}
+use Rattle.revision.specs.Acceptance.{Answer, Takes, Repeats, Refuses, answer}
+use Rattle.revision.specs.Agree.{Agree}
+use Rattle.revision.proofs.CallerLemmas.{taken_grows, agrees, agreeing_grow}
+use Rattle.world.specs.Board.{Board, Ticket, submitted, submitted_by, ticket_of, ticket_by, reopened}
+use Rattle.world.specs.Event.{Submit, Publish, Compose}
+use Rattle.world.specs.World.{Entry, entry_of, takens, World}
+use Rattle.world.specs.Step.{revision_at, is_numbered, with_command, may_leave, may_pick, whole, opened, can_open, running_step}
+use Rattle.world.specs.Stepping.{empty_store, AreStepped, floors_left}
+use Rattle.world.proofs.Uncomposed.{uncomposed_picks, uncomposed_state}
+
+-- what is left of an order continues the start
+all_grow-take : (n : ℕ) (state : State) (commands : List Taken) → all_grow state commands ≡ true → all_grow state (take n commands) ≡ true
+all_grow-take zero state commands grow = refl
+all_grow-take (suc n) state [] grow = refl
+all_grow-take (suc n) state (first ∷ others) grow =
+    let parts = and_parts (grows state first) (all_grow (grown state first) others) grow in
+    and_from (grows state first) (all_grow (grown state first) (take n others)) parts.0 (all_grow-take n (grown state first) others parts.1)
+
+pub left_grow : (limits : Limits) (n : ℕ) (entries : List Entry) → all_grow (empty_store limits) (takens entries) ≡ true
+    → all_grow (empty_store limits) (takens (take n entries)) ≡ true
+left_grow limits n entries grow =
+    ap (all_grow (empty_store limits)) (sym (take-map (λ (e : Entry). e.taken) n entries)) ∙ all_grow-take n (empty_store limits) (takens entries) grow
+
+all_grow-append : (state : State) (first others : List Taken) → all_grow state first ≡ true → all_grow (fold state first) others ≡ true
+    → all_grow state (first ++ others) ≡ true
+all_grow-append state [] others grow rest = rest
+all_grow-append state (taken ∷ more) others grow rest =
+    let parts = and_parts (grows state taken) (all_grow (grown state taken) more) grow in
+    and_from (grows state taken) (all_grow (grown state taken) (more ++ others)) parts.0 (all_grow-append (grown state taken) more others parts.1 rest)
+
+fold-append : (state : State) (first others : List Taken) → fold state (first ++ others) ≡ fold (fold state first) others
+fold-append state [] others = refl
+fold-append state (taken ∷ more) others = fold-append (grown state taken) more others
+
+-- one command more
+module _ (limits : Limits) (board : Board Entry) (shown without with_batch : ℕ) (stepped : AreStepped limits board shown without with_batch)
+    (command : Command) (some : 1 ≤ command.number) (below : command.number < 2 ^ 53) where
+  answered : (due : Answer) → answer board.state command ≡ due → AreStepped limits (submitted_by (entry_of command) board due) shown without with_batch
+  answered (Refuses refusal) is = stepped
+  answered (Repeats revision) is = stepped
+  answered (Takes taken) is = record {
+    start = stepped.start;
+    shown_taken = stepped.shown_taken;
+    without_taken = stepped.without_taken;
+    with_taken = stepped.with_taken;
+    taken_long = omega (arith, stepped.taken_long, length-append board.order (entry_of command taken ∷ []));
+    grow = ap (all_grow (empty_store limits)) more ∙ all_grow-append (empty_store limits) (takens board.order) (taken ∷ []) stepped.grow (sym next.0 ∙ here);
+    agree = subst (Agree (grown board.state taken)) (sym (ap (fold (empty_store limits)) more ∙ fold-append (empty_store limits) (takens board.order) (taken ∷ []))) next.1;
+  }
+    where
+      more : takens (board.order ++ entry_of command taken ∷ []) ≡ takens board.order ++ taken ∷ []
+      more = map-append (λ (e : Entry). e.taken) board.order (entry_of command taken ∷ [])
+
+      here : all_grow board.state (taken ∷ []) ≡ true
+      here = and_from (grows board.state taken) true (taken_grows board.state command taken some below is) refl
+
+      next : (all_grow board.state (taken ∷ []) ≡ all_grow (fold (empty_store limits) (takens board.order)) (taken ∷ []))
+          × Agree (fold board.state (taken ∷ [])) (fold (fold (empty_store limits) (takens board.order)) (taken ∷ []))
+      next = agreeing_grow board.state (fold (empty_store limits) (takens board.order)) (taken ∷ []) stepped.agree
+
+  pub stepped-submitted : AreStepped limits (submitted (entry_of command) board command) shown without with_batch
+  stepped-submitted = answered (answer board.state command) refl
+
+-- an opening with nothing composed
+pub stepped-opened : (limits : Limits) (board : Board Entry) (shown without with_batch : ℕ) (state : State) (kept : ℕ)
+    → AreStepped limits board shown without with_batch → kept ≤ board.taken → state ≡ fold (empty_store limits) (takens (take kept board.order))
+    → AreStepped limits (reopened board state kept) kept kept kept
+stepped-opened limits board shown without with_batch state kept stepped within is = record {
+  start = stepped.start;
+  shown_taken = omega arith;
+  without_taken = omega arith;
+  with_taken = omega arith;
+  taken_long = omega (arith, within, stepped.taken_long, length-take-le kept board.order (omega (arith, within, stepped.taken_long)));
+  grow = left_grow limits kept board.order stepped.grow;
+  agree = subst (λ s. Agree s (fold (empty_store limits) (takens (take kept board.order)))) (sym is) (agrees (fold (empty_store limits) (takens (take kept board.order))));
+}
+
+module _ (world : World) (command : Command) (some : 1 ≤ command.number) (below : command.number < 2 ^ 53) where
+  numbered : is_numbered command ≡ true
+  numbered = and_from (nat_le 1 command.number) (nat_le command.number last_of_all) (le-leb 1 command.number some) (le-leb command.number last_of_all (omega (arith, below)))
+
+  comes : running_step world (Submit command) ≡ with_command world command
+  comes = ap (λ b. cond b (with_command world command) world) numbered
+
+  -- what is shown stays what it is
+  shown-stays : (n : ℕ) → n ≤ length world.board.order → (due : Answer)
+      → takens (take n (submitted_by (entry_of command) world.board due).order) ≡ takens (take n world.board.order)
+  shown-stays n within (Takes taken) = ap takens (take-append-le n world.board.order (entry_of command taken ∷ []) within)
+  shown-stays n within (Repeats revision) = refl
+  shown-stays n within (Refuses refusal) = refl
+
+  -- a command that gets a ticket
+  pub submit-steps : (n : ℕ) (ticket : Ticket) → n ≤ length world.board.order → world.published ≡ takens (take n world.board.order)
+      → Some ticket ≡ ticket_of world.board command
+      → record world {
+        board = submitted (entry_of command) world.board command;
+        published = takens (take n (submitted (entry_of command) world.board command).order);
+        tickets = world.tickets ++ ticket ∷ [];
+        sent = world.sent ++ command ∷ [];
+      } ≡ running_step world (Submit command)
+  submit-steps n ticket within shown is =
+      (λ i. record world {
+        board = submitted (entry_of command) world.board command;
+        published = (shown-stays n within (answer world.board.state command) ∙ sym shown) i;
+        tickets = world.tickets ++ option_to_list (is i);
+        sent = world.sent ++ command ∷ [];
+      }) ∙ sym comes
+
+  -- one that is refused
+  pub refuse-steps : (due : Answer) → answer world.board.state command ≡ due → (refusal : _) → due ≡ Refuses refusal
+      → record world { sent = world.sent ++ command ∷ [] } ≡ running_step world (Submit command)
+  refuse-steps due is refusal refused = sym (comes ∙ ap (λ (a : Answer). record world {
+    board = submitted_by (entry_of command) world.board a;
+    tickets = world.tickets ++ option_to_list (ticket_by world.board command a);
+    sent = world.sent ++ command ∷ [];
+  }) (is ∙ refused) ∙ (λ i. record world { tickets = append-nil world.tickets i; sent = world.sent ++ command ∷ [] }))
+
+-- a batch that is done is shown
+pub publish-steps : (world : World) (n end : ℕ) → end ≡ world.board.taken → world.published ≡ takens (take n world.board.order) → n < world.board.taken
+    → world.board.taken ≤ length world.board.order → world.without ≡ world.board.taken
+    → record world { published = takens (take end world.board.order) } ≡ running_step world Publish
+publish-steps world n end is shown below long done =
+    ap (λ k. record world { published = takens (take k world.board.order) }) is ∙ (λ i. record world { published = sym all i })
+    ∙ sym (ap (λ b. cond b (record world { published = world.published ++ takens (drop (length world.published) (take world.board.taken world.board.order)) }) world) can)
+  where
+    count : length world.published ≡ n
+    count = ap length shown ∙ (length-map (take n world.board.order) (λ (e : Entry). e.taken) ∙ length-take-le n world.board.order (omega (arith, below, long)))
+
+    can : (nat_lt (length world.published) world.board.taken && (world.without == world.board.taken)) ≡ true
+    can = and_from (nat_lt (length world.published) world.board.taken) (world.without == world.board.taken)
+        (lt-ltb (length world.published) world.board.taken (omega (arith, below, count))) (eq-eqb world.without world.board.taken done)
+
+    all : world.published ++ takens (drop (length world.published) (take world.board.taken world.board.order)) ≡ takens (take world.board.taken world.board.order)
+    all =
+        ap (λ l. l ++ takens (drop (length world.published) (take world.board.taken world.board.order)))
+        (shown ∙ (ap (λ k. takens (take k world.board.order)) (sym count)
+        ∙ ap takens (sym (take-take (length world.published) world.board.taken world.board.order (omega (arith, below, count))))))
+        ∙ (sym (map-append (λ (e : Entry). e.taken) (take (length world.published) (take world.board.taken world.board.order)) (drop (length world.published) (take world.board.taken world.board.order)))
+        ∙ ap takens (take-append-drop (length world.published) (take world.board.taken world.board.order)))
+
+-- an opening with nothing composed
+pub open-steps : (world : World) (limits : Limits) (kept : ℕ) (state : State) → world.board.start ≡ empty_store limits → limits.keep ≤ last_of_all
+    → may_leave world kept ≡ true → state ≡ fold (empty_store limits) (takens (take kept world.board.order))
+    → record world {
+      board = reopened world.board state kept;
+      published = takens (take kept (take kept world.board.order));
+      without = kept;
+      with_batch = kept;
+      tickets = [];
+      failed = false;
+      crashed = false;
+    } ≡ (if can_open world kept (floors_left world kept) then opened world kept (floors_left world kept) else world)
+open-steps world limits kept state start few may is =
+    (λ i. record world {
+      board = record world.board { order = take kept world.board.order; state = made i; taken = kept; settled = kept };
+      published = ap takens (take-take kept kept world.board.order (omega arith)) i;
+      without = kept;
+      with_batch = kept;
+      tickets = [];
+      failed = false;
+      crashed = false;
+    }) ∙ sym (ap (λ b. cond b (opened world kept (floors_left world kept)) world) can)
+  where
+    none : world.board.start.documents ≡ []
+    none = ap (λ (s : State). s.documents) start
+
+    some : world.board.start.limits.keep ≤ last_of_all
+    some = subst (λ (s : State). s.limits.keep ≤ last_of_all) (sym start) few
+
+    can : can_open world kept (floors_left world kept) ≡ true
+    can = and_from (may_leave world kept) (may_pick world.board.start.limits.keep world.composed 0 (whole world.board.start (takens (take kept world.board.order))).documents (floors_left world kept))
+        may (uncomposed_picks world.board.start none some world.composed (takens (take kept world.board.order)))
+
+    made : state ≡ (opened world kept (floors_left world kept)).board.state
+    made = is ∙ (ap (λ s. fold s (takens (take kept world.board.order))) (sym start) ∙ sym (uncomposed_state world.board.start none some (takens (take kept world.board.order))))
+
+-- what may be left is within what is taken off
+pub left-taken : (limits : Limits) (world : World) (shown kept : ℕ) → AreStepped limits world.board shown world.without world.with_batch
+    → may_leave world kept ≡ true → kept ≤ world.board.taken
+left-taken limits world shown kept stepped may = elim (or_cases (kept == world.without) (kept == world.with_batch) may) [
+  | inl e ↦ let is : kept ≡ world.without = eqb-true kept world.without e in omega (arith, is, stepped.without_taken)
+  | inr e ↦ let is : kept ≡ world.with_batch = eqb-true kept world.with_batch e in omega (arith, is, stepped.with_taken)
+]
+
+-- a revision is composed, or isn't
+pub compose-steps : (world : World) (limits : Limits) (document revision : ℕ) (state : State) (made : Bool) → world.board.start ≡ empty_store limits
+    → state ≡ fold (empty_store limits) (takens (take world.without world.board.order))
+    → (nat_le 1 revision && nat_le revision (revision_at (slice_get state.documents document))) ≡ made
+    → cond made (record world { composed = world.composed ++ (document, revision) ∷ [] }) world ≡ running_step world (Compose document revision)
+compose-steps world limits document revision state made start is test =
+    ap (λ b. cond b (record world { composed = world.composed ++ (document, revision) ∷ [] }) world)
+    (sym test ∙ ap (λ (s : State). nat_le 1 revision && nat_le revision (revision_at (slice_get s.documents document)))
+    (is ∙ ap (λ s. fold s (takens (take world.without world.board.order))) (sym start)))

@@ -1,0 +1,70 @@
+-- What the program that steps a world keeps of one, and which events its events are.
+use Rattle.std.specs.Prelude.{◌≡◌, ◌≤◌, ℕ, true, List, [], length, map, take}
+use Rattle.revision.specs.State.{Limits, DocumentRecord, State, all_grow, fold}
+use Rattle.revision.specs.Agree.{Agree}
+use Rattle.world.specs.declared.stepping.World.TheInside.{Inside}
+use Rattle.world.specs.declared.stepping.Outcome as outcome
+use Rattle.world.specs.declared.stepping.Outcome.TheVariants as outcomes
+use Rattle.world.specs.declared.stepping.Event as program
+use Rattle.world.specs.declared.stepping.Event.TheVariants as events
+use Rattle.world.specs.Event.{Outcome, Done, Failed, Stopped, Event, Submit, Take, Device, Publish, Settle, Ack, Compose, Crash, Open, Resend}
+use Rattle.world.specs.Board.{Board}
+use Rattle.world.specs.World.{Entry, takens, World}
+
+-- a store without documents
+abbrev pub empty_store : Limits → State
+empty_store limits = record { limits = limits; documents = [] }
+
+-- what is shown is kept as the length of the order's beginning
+abbrev pub world_of : Inside → World
+world_of w = record {
+  board = w.board;
+  published = takens (take w.published w.board.order);
+  without = w.without;
+  with_batch = w.with_batch;
+  tickets = w.tickets.items;
+  acks = w.acks.items;
+  sent = w.sent.items;
+  composed = w.composed.items;
+  failed = w.failed;
+  crashed = w.crashed;
+}
+
+-- It began with a store without documents; all lengths are within what is taken off; and each command of the order continues what
+-- those before it make, with which the state agrees.
+pub record AreStepped (limits : Limits) (board : Board Entry) (shown without with_batch : ℕ) : Type 0 where
+  pub start : board.start ≡ empty_store limits
+  pub shown_taken : shown ≤ board.taken
+  pub without_taken : without ≤ board.taken
+  pub with_taken : with_batch ≤ board.taken
+  pub taken_long : board.taken ≤ length board.order
+  pub grow : all_grow (empty_store limits) (takens board.order) ≡ true
+  pub agree : Agree board.state (fold (empty_store limits) (takens board.order))
+
+abbrev pub IsStepped : Inside → Type 0
+IsStepped w = AreStepped w.limits w.board w.published w.without w.with_batch
+
+abbrev pub outcome_of : outcome.Outcome → Outcome
+outcome_of outcomes.Done = Done
+outcome_of outcomes.Failed = Failed
+outcome_of outcomes.Stopped = Stopped
+
+-- the floors of the documents that the order makes of the start without anything composed
+abbrev pub floors_of : List DocumentRecord → List ℕ
+floors_of documents = map (λ (d : DocumentRecord). d.past.floor) documents
+
+abbrev pub floors_left : World → ℕ → List ℕ
+floors_left world kept = floors_of (fold world.board.start (takens (take kept world.board.order))).documents
+
+-- the event of a world that an event of the program is
+abbrev pub event_of : World → program.Event → Event
+event_of world (events.Submit command) = Submit command.now
+event_of world (events.Take count) = Take count
+event_of world (events.Device outcome) = Device (outcome_of outcome)
+event_of world events.Publish = Publish
+event_of world events.Settle = Settle
+event_of world (events.Ack place) = Ack place
+event_of world (events.Compose document revision) = Compose document revision
+event_of world (events.Crash kept) = Crash kept
+event_of world (events.Open kept) = Open kept (floors_left world kept)
+event_of world (events.Resend command) = Resend command.now
