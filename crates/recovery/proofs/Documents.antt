@@ -1,5 +1,5 @@
 -- Documents that are read one after the other, in order of their numbers.
-use Rattle.std.proofs.Common.{◌≡◌, ℕ, zero, suc, ◌+◌, ◌-◌, ◌≤◌, ◌<◌, Bool, true, false, List, [], ◌∷◌, ◌++◌, length, map, get_or, Option, Some, None, length-append, refl, sym, ap, subst, ◌∙◌, ⊎_elim, inl, inr, arith}
+use Rattle.std.proofs.Common.{◌≡◌, ℕ, zero, suc, ◌+◌, ◌≤◌, ◌<◌, Bool, true, false, List, [], ◌∷◌, ◌++◌, length, map, get_or, Option, Some, None, length-append, refl, sym, ap, subst, ◌∙◌, ⊎_elim, inl, inr, arith}
 use Rattle.std.specs.Prelude.{unwrap_or, slice_get}
 use Rattle.std.proofs.lemmas.Bool.{cases_lt}
 use Rattle.std.proofs.lemmas.List.{get_or_past}
@@ -15,12 +15,12 @@ use Rattle.history.specs.Reading.{HasRead, entered, enters, is_there, ReadsNext,
 use Rattle.history.proofs.CallerLemmas.{reading_begins, reading_goes_on, reading_ends, reading_finds}
 use Rattle.milestone.specs.declared.cells.Cells.{Cells}
 use Rattle.milestone.specs.OneCell.{HoldsPair}
-use Rattle.milestone.specs.Cells.{Fits, place_of, size_of, number_of}
+use Rattle.milestone.specs.Cells.{Fits, place_of, size_of}
 use Rattle.milestone.proofs.CallerLemmas.{one_pair}
 use Rattle.recovery.specs.declared.shape.Shape.{Shape}
 use Rattle.recovery.specs.Shape.{is_in_range, cells_place}
 use Rattle.recovery.specs.Layout.{HoldsCells}
-use Rattle.recovery.specs.Cells.{IsCellsOf, AreCellsOf, FitEach}
+use Rattle.recovery.specs.Cells.{IsCellsOf, FitEach}
 use Rattle.recovery.specs.Found.{limits_of, empty_state}
 use Rattle.recovery.specs.steps.Reading.{AreByDocument, IsNextRead, IsDocumentRead, IsNext, AreDocumentsRead}
 use Rattle.recovery.proofs.Folds.{fold-limits}

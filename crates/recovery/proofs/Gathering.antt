@@ -1,8 +1,7 @@
 -- Commands that are put into the lists of their documents.
-use Rattle.std.proofs.Common.{◌≡◌, ◌≢◌, ℕ, zero, suc, ◌+◌, ◌≤◌, ◌<◌, Bool, true, false, cond, List, [], ◌∷◌, ◌++◌, length, get_or, set, take, map, Vec, refl, sym, ap, subst, ◌∙◌, ⊎_elim, arith, append_assoc, length-set}
+use Rattle.std.proofs.Common.{◌≡◌, ℕ, zero, suc, ◌+◌, ◌≤◌, ◌<◌, Bool, true, false, cond, List, [], ◌∷◌, ◌++◌, length, get_or, set, take, map, refl, sym, ap, subst, ◌∙◌, ⊎_elim, arith, append_assoc, length-set}
 use Rattle.std.specs.Prelude.{◌&&◌, ◌==◌, nat_lt, All}
 use Rattle.std.specs.List.{flat_map, filter}
-use Rattle.std.specs.declared.alloc.Global.{Global}
 use Rattle.std.proofs.lemmas.Bool.{and_left, and_right, and_from, le-ltb, lt-ltb, cases_eq, eq-eqb, ne_eqb}
 use Rattle.std.proofs.lemmas.List.{length-map, get_or-set_same, get_or-set_other, get_or-map, map_push, take_more, append-nil}
 use Rattle.std.proofs.lemmas.List.Concat.{flat_map-append}

@@ -1,12 +1,11 @@
 -- The cells that are known in memory, where the content changes behind them.
-use Rattle.std.proofs.Common.{◌≡◌, ℕ, zero, suc, ◌*◌, ◌<◌, true, Option, Some, None, List, [], ◌∷◌, length, take, refl, sym, ◌∙◌, ap, subst, arith}
-use Rattle.std.specs.Prelude.{slice_get}
+use Rattle.std.proofs.Common.{◌≡◌, ℕ, zero, suc, ◌*◌, ◌<◌, true, Some, None, List, [], ◌∷◌, length, take, refl, sym, ◌∙◌, ap, subst, arith}
 use Rattle.std.proofs.lemmas.Option.{slice_get_within}
-use Rattle.history.specs.Cell.{Cell, Pair, cells_at, lowest}
+use Rattle.history.specs.Cell.{Pair, cells_at, lowest}
 use Rattle.milestone.specs.declared.cells.Cells.{Cells}
 use Rattle.milestone.specs.OneCell.{HoldsPair}
 use Rattle.milestone.specs.Revisions.{revisions_in, lowest_of}
-use Rattle.milestone.specs.Cells.{Fits, place_of, size_of, number_of, revisions_of}
+use Rattle.milestone.specs.Cells.{size_of, number_of}
 use Rattle.milestone.proofs.CallerLemmas.{agree_within}
 use Rattle.recovery.specs.declared.shape.Shape.{Shape}
 use Rattle.recovery.specs.Shape.{is_in_range, cells_place, slots_place}

@@ -1,9 +1,9 @@
 -- Marks that are made of what was read.
 use Rattle.std.proofs.Common.{◌≡◌, ◌≢◌, inl, inr, ℕ, zero, suc, ◌+◌, ◌≤◌, ◌<◌, max, true, false, Option, Some, None, List, [], ◌∷◌, ◌++◌, length, map, take, drop, get_or, refl, sym, ◌∙◌, ap, subst, arith}
-use Rattle.std.specs.Prelude.{All, nat_lt}
+use Rattle.std.specs.Prelude.{nat_lt}
 use Rattle.std.proofs.lemmas.Bool.Decides.{nat_tests}
 use Rattle.std.specs.List.{AllByRecursion}
-use Rattle.std.proofs.lemmas.Bool.{cases_eq, cases_lt}
+use Rattle.std.proofs.lemmas.Bool.{cases_lt}
 use Rattle.std.proofs.lemmas.List.Elements.{recursion_from_All}
 use Rattle.std.proofs.lemmas.List.{append-nil}
 use Rattle.std.proofs.lemmas.List.Concat.{flat_map-append}
@@ -11,17 +11,17 @@ use Rattle.recovery.proofs.Splitting.{split}
 use Rattle.revision.specs.Command.{Taken}
 use Rattle.journal.specs.BatchSpelling.{IsBatch, batch}
 use Rattle.history.specs.Entries.{greatest}
-use Rattle.segments.specs.Slot.{Segment, number_of}
-use Rattle.segments.specs.Numbers.{number_at, NumbersDiffer}
+use Rattle.segments.specs.Slot.{Segment}
+use Rattle.segments.specs.Numbers.{NumbersDiffer}
 use Rattle.segments.specs.Table.{slot_at, numbers_of}
 use Rattle.segments.specs.Order.{inserted, segments_of}
 use Rattle.segments.specs.Recovered.{segment_in}
 use Rattle.segments.specs.declared.reading.RecoveredSegment.{RecoveredSegment}
 use Rattle.recovery.specs.declared.marks.Mark.{Mark}
 use Rattle.recovery.specs.Marks.{greatest_marked, IsNoted}
-use Rattle.recovery.specs.Marked.{SpellSegment, IsMarked, AreMarked, AreBodiesMarked}
+use Rattle.recovery.specs.Marked.{IsMarked, AreMarked, AreBodiesMarked}
 use Rattle.recovery.specs.Found.{commands_of}
-use Rattle.recovery.proofs.Marked.{greatest_both, last_spelled, number_held, number_there}
+use Rattle.recovery.proofs.Marked.{greatest_both, last_spelled, number_there}
 
 -- no bodies
 pub no_bodies : (number : ℕ) (marks : List Mark) → AreBodiesMarked number [] marks marks

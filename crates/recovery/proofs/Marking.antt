@@ -1,12 +1,12 @@
 -- What a mark that is set or raised makes of all.
-use Rattle.std.proofs.Common.{◌≡◌, ◌≢◌, ◌⊎◌, inl, inr, ⊎_elim, ℕ, zero, suc, ◌+◌, ◌<◌, ◌≤◌, max, Bool, true, false, List, [], ◌∷◌, ◌++◌, length, set, get_or, refl, sym, ◌∙◌, ap, arith}
-use Rattle.std.specs.Prelude.{◌==◌, ◌&&◌, if◌then◌else◌}
+use Rattle.std.proofs.Common.{◌≡◌, ◌≢◌, ◌⊎◌, inl, inr, ℕ, zero, suc, ◌<◌, ◌≤◌, max, true, false, List, [], ◌∷◌, ◌++◌, length, set, get_or, refl, sym, ◌∙◌, ap, arith}
+use Rattle.std.specs.Prelude.{◌==◌}
 use Rattle.std.proofs.lemmas.Bool.{cases_eq}
 use Rattle.std.proofs.lemmas.Bool.Decides.{nat_tests}
 use Rattle.revision.specs.Command.{Taken}
 use Rattle.history.specs.Entries.{greatest}
 use Rattle.recovery.specs.declared.marks.Mark.{Mark}
-use Rattle.recovery.specs.Marks.{is_of, revision_for, greatest_marked, Raised, IsNoted}
+use Rattle.recovery.specs.Marks.{revision_for, greatest_marked, Raised, IsNoted}
 
 -- a mark more
 pub marked_push : (segment document : ℕ) (marks : List Mark) (mark : Mark) → greatest_marked segment document (marks ++ mark ∷ []) ≡ max (revision_for segment document mark) (greatest_marked segment document marks)

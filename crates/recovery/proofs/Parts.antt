@@ -1,8 +1,8 @@
 -- The parts of a content that were read, and what is found of it.
-use Rattle.std.proofs.Common.{◌≡◌, ℕ, zero, suc, ◌+◌, ◌≤◌, ◌<◌, Bool, true, false, cond, List, [], ◌∷◌, ◌++◌, length, map, Option, refl, sym, ap, subst, ◌∙◌, ⊎_elim, arith, append_assoc}
-use Rattle.std.specs.Prelude.{◌&&◌, ◌==◌, nat_lt, All, slice_get}
+use Rattle.std.proofs.Common.{◌≡◌, ℕ, ◌≤◌, ◌<◌, Bool, true, false, cond, List, [], ◌∷◌, ◌++◌, map, Option, refl, sym, ap, subst, ◌∙◌, ⊎_elim, arith}
+use Rattle.std.specs.Prelude.{◌==◌, nat_lt, All, slice_get}
 use Rattle.std.specs.List.{flat_map, AllByRecursion}
-use Rattle.std.proofs.lemmas.Bool.{and_from, lt-ltb, cases_lt, cond_both, eq-eqb, both_ways}
+use Rattle.std.proofs.lemmas.Bool.{and_from, lt-ltb, cases_lt, eq-eqb}
 use Rattle.std.proofs.lemmas.List.{map-append}
 use Rattle.std.proofs.lemmas.List.Concat.{flat_map-append}
 use Rattle.std.proofs.lemmas.List.Elements.{All-append, All-nil, All-cons, All-head, All-tail, recursion_from_All, All-from_recursion}
@@ -14,14 +14,14 @@ use Rattle.history.specs.declared.pick.Pick.{Pick}
 use Rattle.history.specs.Entries.{of_document}
 use Rattle.history.specs.Cell.{Pair, cells_at, picked}
 use Rattle.history.specs.Found.{StandsFor, StandFor}
-use Rattle.history.specs.Reading.{HasRead, NothingLeft}
+use Rattle.history.specs.Reading.{HasRead}
 use Rattle.history.proofs.CallerLemmas.{stand_is_state, reading_finds}
 use Rattle.segments.specs.Slot.{Segment}
-use Rattle.segments.specs.Order.{segments_of, bodies_of}
+use Rattle.segments.specs.Order.{segments_of}
 use Rattle.recovery.specs.declared.shape.Shape.{Shape}
 use Rattle.recovery.specs.Layout.{Names, HoldsCells, HoldsSlots}
 use Rattle.recovery.specs.Found.{Found, HoldsParts, SpellBatches, limits_of, commands_of}
-use Rattle.recovery.specs.steps.Reading.{are_below, AreByDocument, SpellEach, SpellGroups, commands_in}
+use Rattle.recovery.specs.steps.Reading.{are_below, AreByDocument, SpellGroups, commands_in}
 use Rattle.recovery.proofs.Documents.{limits_in_range}
 use Rattle.recovery.proofs.FoundOnce.{slots_same, batches_same}
 use Rattle.recovery.proofs.Named.{named_same}

@@ -1,20 +1,18 @@
 -- A store whose oldest segment is retired.
-use Rattle.std.proofs.Common.{◌≡◌, ◌⊎◌, inl, inr, ℕ, ◌+◌, ◌≤◌, ◌<◌, Option, Some, None, List, [], ◌∷◌, ◌++◌, length, map, set, take, refl, sym, ◌∙◌, ap, subst, arith}
+use Rattle.std.proofs.Common.{◌≡◌, inl, inr, ℕ, ◌≤◌, ◌<◌, Option, Some, None, List, ◌++◌, length, set, refl, sym, ◌∙◌, ap, subst, arith}
 use Rattle.std.specs.Prelude.{All}
-use Rattle.std.specs.List.{AllByRecursion}
 use Rattle.std.proofs.lemmas.List.{length-set}
 use Rattle.std.proofs.lemmas.List.Concat.{flat_map-append}
-use Rattle.std.proofs.lemmas.List.Elements.{recursion_from_All, All-cons, All-nil}
+use Rattle.std.proofs.lemmas.List.Elements.{recursion_from_All}
 use Rattle.disk.specs.declared.device.Disk.{Ghosts}
 use Rattle.revision.specs.Command.{Taken}
-use Rattle.journal.specs.BatchSpelling.{IsBatch, batch}
-use Rattle.history.specs.Entries.{greatest}
-use Rattle.history.specs.Cell.{Pair, cells_at, lowest}
+use Rattle.journal.specs.BatchSpelling.{IsBatch}
+use Rattle.history.specs.Cell.{cells_at, lowest}
 use Rattle.history.specs.Law.{IsCovered}
 use Rattle.history.specs.Running.{Runs}
 use Rattle.history.proofs.CallerLemmas.{retires, covered_by_greatest}
 use Rattle.segments.specs.Slot.{Segment, number_of}
-use Rattle.segments.specs.Numbers.{number_at, open_count, IsOldest}
+use Rattle.segments.specs.Numbers.{open_count, IsOldest}
 use Rattle.segments.specs.Table.{slot_at, numbers_of, IsRetired}
 use Rattle.segments.specs.Order.{bodies_of}
 use Rattle.segments.specs.Ring.{HoldsInRing, IsLeftByRetiring, known_numbers}
@@ -27,7 +25,7 @@ use Rattle.recovery.specs.Marks.{marks_of, greatest_marked}
 use Rattle.recovery.specs.Marked.{SpellSegment, MayRetire}
 use Rattle.recovery.proofs.Commits.{again, left_same, parts_kept}
 use Rattle.recovery.proofs.KnownCells.{lowest_same}
-use Rattle.recovery.proofs.Marked.{number_held, number_there, one_oldest, covered_by_marks}
+use Rattle.recovery.proofs.Marked.{number_held, one_oldest, covered_by_marks}
 use Rattle.recovery.proofs.Runs.{found_as}
 use Rattle.recovery.proofs.Splitting.{Split, split}
 

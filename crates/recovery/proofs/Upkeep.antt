@@ -1,5 +1,5 @@
 -- What is known of the cells and of the marks after an append to the ring.
-use Rattle.std.proofs.Common.{◌≡◌, ◌⊎◌, inl, inr, ℕ, Option, Some, List, length, take, refl, sym, ◌∙◌, ap, subst}
+use Rattle.std.proofs.Common.{◌≡◌, ◌⊎◌, inl, inr, ℕ, Option, List, length, take, sym, ◌∙◌, subst}
 use Rattle.disk.specs.declared.device.Disk.{Ghosts}
 use Rattle.disk.specs.Device.{SameOutside}
 use Rattle.revision.specs.Command.{Taken}
@@ -11,7 +11,6 @@ use Rattle.segments.specs.Table.{numbers_of}
 use Rattle.segments.specs.Ring.{IsReady, at_of, ring_size, known_numbers}
 use Rattle.recovery.specs.declared.store.Store.{Store}
 use Rattle.recovery.specs.declared.marks.Mark.{Mark}
-use Rattle.recovery.specs.Shape.{slots_place}
 use Rattle.recovery.specs.Open.{IsOpen}
 use Rattle.recovery.specs.Cells.{FitEach}
 use Rattle.recovery.specs.Marks.{marks_of, IsNoted}

@@ -3,7 +3,7 @@ ghost use Rattle.std.specs.Prelude.{◌≡◌, ◌⊎◌, true, [], ◌∷◌, I
 ghost use Rattle.revision.specs.State.{State, grows, grown};
 ghost use Rattle.session.specs.declared.reply.Reply.TheVariants as reply;
 ghost use Rattle.session.specs.Alone.{FedAlone, HearsAlone, of_session};
-ghost use Rattle.session.specs.Shelf.{Fits};
+ghost use Rattle.session.specs.Shelf.{Fits, IsLater};
 
 use crate::desk::Desk;
 use crate::laws::{news_of_a_state, replies_of_a_state};
@@ -74,7 +74,8 @@ impl StateDesk {
         session: &mut Session,
         out: &mut O,
     ) -> Result<(), SessionEnded>
-        ensures { OnOk result (HearsAlone (of_session session.old self.old) (of_session session.new self.new)
+        ensures later { IsLater self.old self.new }
+        ensures heard { OnOk result (HearsAlone (of_session session.old self.old) (of_session session.new self.new)
             (O.contents out.old) (O.contents out.new)) }
     {
         news_of_a_state();

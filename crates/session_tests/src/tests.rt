@@ -1,9 +1,15 @@
 mod reads;
+mod shelf;
 mod subscriptions;
 mod writes;
 
+ghost use Rattle.std.specs.Prelude.{◌≤◌};
+ghost use Rattle.session.specs.Shelf.{Fits};
+
+use refusal::Refusal;
 use revision::{Limits, State};
-use session::{Session, StateDesk, Stream};
+use session::laws::kept_documents_stay;
+use session::{Output, Session, SessionEnded, Shelf, StateDesk, Stream};
 use std::alloc::Global;
 use std::process::Abort;
 use std::test::Fail;
@@ -11,26 +17,61 @@ use std::test::Fail;
 /// A line, and its reply.
 type Said = (&'static str, &'static str);
 
-/// A desk over a state without documents, which keeps two revisions.
-fn empty_desk(alloc: Global) -> StateDesk {
-    StateDesk::new(State::new(alloc, Limits::new(4, 4, 65536, 65536, 2)))
+/// A session over a state in memory, with the shelf that fits it.
+#[derive(Drop)]
+struct Conversation {
+    session: Session,
+    desk: StateDesk,
+    shelf: Shelf,
+    ghost fits: { Fits desk shelf },
+}
+
+impl Conversation {
+    /// A session over a state without documents, which keeps so many revisions.
+    fn new(alloc: Global, keep: u32) -> Result<Conversation, Refusal>
+        requires first { 1 ≤ keep }
+        requires last { keep ≤ 65536 }
+    {
+        Ok(Conversation {
+            session: Session::new(alloc)?,
+            desk: StateDesk::new(State::new(alloc, Limits::new(4, 4, 65536, 65536, keep))),
+            shelf: Shelf::new(alloc)?,
+        })
+    }
+
+    fn feed<O: Output>(
+        &mut self,
+        alloc: Global,
+        piece: &[u8],
+        out: &mut O,
+    ) -> Result<(), SessionEnded> {
+        self.desk
+            .feed(alloc, &mut self.session, piece, out, &mut self.shelf)
+    }
+
+    fn on_news<O: Output>(&mut self, alloc: Global, out: &mut O) -> Result<(), SessionEnded> {
+        kept_documents_stay();
+        self.desk.on_news(alloc, &mut self.session, out)
+    }
 }
 
 /// A session over a state without documents, which keeps two revisions, is fed each line whole, or byte by byte, and writes
 /// each reply.
 fn talk<R: AllocGlobal + Abort>(rt: &R, rows: &[Said], by_bytes: bool) -> Result<(), Fail> {
     let alloc = rt.alloc();
-    let mut session = Session::new(alloc)?;
-    let mut desk = empty_desk(alloc);
+    let mut talk = Conversation::new(alloc, 2)?;
     for (line, reply) in rows {
         let mut out = Stream::new(Vec::new(alloc));
         let input = format!(in alloc; "{line}\n")?;
         let wanted = format!(in alloc; "{reply}\n")?;
         let size = if by_bytes { 1 } else { 65_536 };
         for piece in input.as_bytes().chunks(size) {
-            desk.feed(alloc, &mut session, piece, &mut out)?;
+            talk.feed(alloc, piece, &mut out)?;
         }
-        assert_eq!(rt; String::from_utf8(out.into_writer())?.as_str(), wanted.as_str());
+        assert_eq!(rt;
+            String::from_utf8(out.into_writer())?.as_str(),
+            wanted.as_str()
+        );
     }
     Ok(())
 }

@@ -9,18 +9,20 @@
 //!
 //! `laws::every_schedule` promises of every list of events: no acknowledged edit is missing, none is taken twice, none changes its
 //! revision, and what was shown and acknowledged at any moment is a beginning of what is shown and acknowledged at any later one
-//! (specs/Law.antt). A `Follower` is a plain program that goes through a schedule of one source's commands to one document, step by
-//! step, with what the rule of acceptance says told to it; `laws::follower_follows` ties it to worlds. The crate stands on the rule
-//! of acceptance, `revision`.
+//! (specs/Law.antt). The crate stands on the rule of acceptance, `revision`.
+//!
+//! A `Board` is what stands behind the server's lock. Each of its calls is promised by the definition of the same step: what it does
+//! to the order, the state and the counts, and which ticket it gives. A `World` is a plain program over a board that steps a whole
+//! world, event by event (specs/Stepping.antt). A `Follower` is a plainer one, which goes through a schedule of one source's commands
+//! to one document, with what the rule of acceptance says told to it; `laws::follower_follows` ties it to worlds.
 //!
 //! # What the law doesn't cover
 //!
 //! - A refusal has no ticket, so it waits for nothing: that a number is old, or that a document exists, may rest on an edit that
 //!   isn't settled yet and that a crash loses.
-//! - A `Follower` doesn't know the rule of acceptance. It is told what the rule says of each command, and whether floors may be
-//!   picked at an opening.
-//! - The law is one of definitions. No code of the server runs `step`, nor a `Follower`: that the server's calls are the events of a
-//!   world, in some order, isn't promised here.
+//! - A `World` begins without documents, and opens a store with the floors that its documents have where nothing is composed. A
+//!   `Follower` is told whether floors may be picked.
+//! - The law is one of definitions. That what the server does is the events of a world, in some order, isn't promised here.
 #![tactic(auto)]
 
 mod board;

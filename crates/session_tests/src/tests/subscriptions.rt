@@ -1,5 +1,5 @@
-use super::empty_desk;
-use session::{Session, StateDesk, Stream};
+use super::Conversation;
+use session::Stream;
 use std::alloc::Global;
 use std::process::Abort;
 use std::test::Fail;
@@ -132,8 +132,7 @@ const SEVERAL: [Row; 12] = [
 /// What is written upon a step, whole or byte by byte.
 fn written(
     alloc: Global,
-    session: &mut Session,
-    desk: &mut StateDesk,
+    talk: &mut Conversation,
     step: Step,
     by_bytes: bool,
 ) -> Result<String, Fail> {
@@ -143,18 +142,17 @@ fn written(
             let input = format!(in alloc; "{line}\n")?;
             let size = if by_bytes { 1 } else { 65_536 };
             for piece in input.as_bytes().chunks(size) {
-                desk.feed(alloc, session, piece, &mut out)?;
+                talk.feed(alloc, piece, &mut out)?;
             }
         }
-        Step::News => desk.on_news(alloc, session, &mut out)?,
+        Step::News => talk.on_news(alloc, &mut out)?,
     }
     Ok(String::from_utf8(out.into_writer())?)
 }
 
 fn go<R: AllocGlobal + Abort>(
     rt: &R,
-    session: &mut Session,
-    desk: &mut StateDesk,
+    talk: &mut Conversation,
     rows: &[Row],
     by_bytes: bool,
 ) -> Result<(), Fail> {
@@ -165,7 +163,7 @@ fn go<R: AllocGlobal + Abort>(
             wanted.push_str(line)?;
             wanted.push('\n')?;
         }
-        let text = written(alloc, session, desk, *step, by_bytes)?;
+        let text = written(alloc, talk, *step, by_bytes)?;
         assert_eq!(rt; text.as_str(), wanted.as_str());
     }
     Ok(())
@@ -173,10 +171,9 @@ fn go<R: AllocGlobal + Abort>(
 
 fn go_on_from_the_beginning<R: AllocGlobal + Abort>(rt: &R, rows: &[Row]) -> Result<(), Fail> {
     for by_bytes in [false, true] {
-        let mut session = Session::new(rt.alloc())?;
-        let mut desk = empty_desk(rt.alloc());
-        go(rt, &mut session, &mut desk, &BEGINNING, by_bytes)?;
-        go(rt, &mut session, &mut desk, rows, by_bytes)?;
+        let mut talk = Conversation::new(rt.alloc(), 2)?;
+        go(rt, &mut talk, &BEGINNING, by_bytes)?;
+        go(rt, &mut talk, rows, by_bytes)?;
     }
     Ok(())
 }

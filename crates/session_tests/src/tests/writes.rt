@@ -1,5 +1,5 @@
-use super::empty_desk;
-use session::{Session, Stream};
+use super::Conversation;
+use session::Stream;
 use std::io::{self, ErrorKind, Write};
 use std::test::Fail;
 
@@ -31,17 +31,19 @@ const INPUT: &[u8] = b"{\"do\":\"hello\",\"source\":\"ann\"}\n{\"do\":\"fetch\",
 #[test]
 fn a_failed_write_ends_the_session(rt: HostRuntime) -> Result<(), Fail> {
     let alloc = rt.alloc();
-    let mut session = Session::new(alloc)?;
-    let mut desk = empty_desk(alloc);
+    let mut talk = Conversation::new(alloc, 2)?;
     let mut out = Stream::new(Short {
         bytes: Vec::new(alloc),
         room: 20,
     });
-    assert!(rt; desk.feed(alloc, &mut session, INPUT, &mut out).is_err());
-    assert_eq!(rt; out.into_writer().bytes.as_slice(), b"{\"ok\":\"hello\"}\n{\"cod".as_slice());
+    assert!(rt; talk.feed(alloc, INPUT, &mut out).is_err());
+    assert_eq!(rt;
+        out.into_writer().bytes.as_slice(),
+        b"{\"ok\":\"hello\"}\n{\"cod".as_slice()
+    );
     let mut other = Stream::new(Vec::new(alloc));
-    assert!(rt; desk.feed(alloc, &mut session, INPUT, &mut other).is_err());
-    assert!(rt; desk.on_news(alloc, &mut session, &mut other).is_err());
+    assert!(rt; talk.feed(alloc, INPUT, &mut other).is_err());
+    assert!(rt; talk.on_news(alloc, &mut other).is_err());
     assert!(rt; other.into_writer().is_empty());
     Ok(())
 }

@@ -1,10 +1,9 @@
-use Rattle.std.proofs.Common.{◌≡◌, ◌∙◌, List, ℕ, map, false, ap, sym, subst}
+use Rattle.std.proofs.Common.{◌≡◌, ◌∙◌, List, ℕ, map, ap, sym, subst}
 use Rattle.std.proofs.lemmas.Result.{err_from_is_err_and}
 use Rattle.std.proofs.lemmas.Bool.{both_ways}
 use Rattle.disk.specs.Device.{History}
 use Rattle.revision.specs.Command.{Taken}
 use Rattle.history.specs.Found.{StandFor}
-use Rattle.milestone.specs.declared.cells.Cells.{Cells}
 use Rattle.segments.specs.Slot.{Segment}
 use Rattle.segments.specs.Order.{segments_of}
 use Rattle.segments.specs.Recovered.{segment_in}

@@ -1,5 +1,5 @@
-use Rattle.std.proofs.Common.{◌≡◌, ◌≢◌, ◌⊎◌, ◌+◌, ◌≤◌, ◌<◌, ◌∷◌, [], ◌++◌, ◌∙◌, ℕ, List, inl, inr, take, get_or, refl, ap, sym, subst, arith}
-use Rattle.std.proofs.lemmas.List.{take_more, get_or_read}
+use Rattle.std.proofs.Common.{◌≢◌, ◌⊎◌, ◌≤◌, List, inl, inr, take, get_or, sym, subst, arith}
+use Rattle.std.proofs.lemmas.List.{take_more}
 use Rattle.recovery.specs.declared.marks.Mark.{Mark}
 use Rattle.recovery.specs.Marks.{greatest_marked}
 use Rattle.recovery.specs.Cells.{lowest_known}

@@ -1,4 +1,4 @@
-use Rattle.std.proofs.Common.{◌≡◌, Some, None, ℕ, ◌∙◌, sym, subst, rules}
+use Rattle.std.proofs.Common.{subst}
 use Rattle.segments.specs.Ring.{known_numbers}
 use Rattle.recovery.specs.Marks.{marks_of, IsNoted}
 use Rattle.recovery.proofs.Marked.{one_newest}

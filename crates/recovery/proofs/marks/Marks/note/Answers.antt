@@ -1,4 +1,4 @@
-use Rattle.std.proofs.Common.{◌≡◌, ◌+◌, ◌∷◌, [], ◌++◌, ◌∙◌, ap, take, get_or, List, sym, subst, arith}
+use Rattle.std.proofs.Common.{◌≡◌, ◌+◌, ◌∷◌, [], ◌++◌, ◌∙◌, ap, take, List, sym, subst, arith}
 use Rattle.std.proofs.lemmas.List.{take_more}
 use Rattle.revision.specs.Command.{Taken}
 use Rattle.recovery.specs.Marks.{IsNoted, Raised, marks_of}

@@ -1,4 +1,4 @@
-use Rattle.std.proofs.Common.{◌≡◌, ◌+◌, ◌*◌, ℕ, subst}
+use Rattle.std.proofs.Common.{◌≡◌, ◌+◌, ◌*◌, subst}
 use Rattle.std.specs.Prelude.{IfErr}
 use Rattle.refusal.specs.declared.Refusal.TheVariants.{Damaged}
 use Rattle.history.specs.Cell.{Pair}

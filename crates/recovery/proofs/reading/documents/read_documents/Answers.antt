@@ -1,17 +1,16 @@
 use Rattle.std.proofs.Common.{◌≡◌, ◌∙◌, ◌+◌, ◌<◌, ℕ, Vec, List, [], ◌∷◌, ◌++◌, length, get_or, refl, ap, sym, subst, arith, rules, append_assoc, append-nil, length-append}
 use Rattle.std.specs.declared.alloc.Global.{Global}
-use Rattle.std.specs.Vec.Iter.{into_iter_items, into_iter_len}
+use Rattle.std.specs.Vec.Iter.{into_iter_items}
 use Rattle.std.proofs.lemmas.List.{nil_from_length, length-map}
 use Rattle.std.proofs.lemmas.Result.{err_from_is_err_and}
 use Rattle.disk.specs.Device.{History}
 use Rattle.revision.specs.Command.{Taken}
 use Rattle.revision.specs.State.{Limits, State}
-use Rattle.history.specs.Cell.{Pair, picked}
 use Rattle.milestone.specs.OneCell.{HoldsPair}
 use Rattle.milestone.specs.declared.cells.Cells.{Cells}
 use Rattle.recovery.specs.Shape.{cells_place}
-use Rattle.recovery.specs.Found.{limits_of, empty_state}
-use Rattle.recovery.specs.steps.Reading.{lists_of, IsNext, IsDocumentRead}
+use Rattle.recovery.specs.Found.{empty_state}
+use Rattle.recovery.specs.steps.Reading.{lists_of, IsNext}
 use Rattle.recovery.proofs.Documents.{SoFar, begins, one_more, none_stand, all_read, own-at, length-behind}
 use Rattle.recovery.proofs.reading.documents.read_documents.Goals as goal
 

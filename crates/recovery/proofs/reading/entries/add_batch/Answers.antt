@@ -1,6 +1,6 @@
-use Rattle.std.proofs.Common.{◌≡◌, ◌∙◌, ℕ, Vec, List, [], ◌∷◌, ◌++◌, false, length, sym, ap, subst, arith, append_assoc}
+use Rattle.std.proofs.Common.{◌≡◌, ◌∙◌, Vec, List, [], ◌∷◌, ◌++◌, false, length, sym, ap, subst, arith, append_assoc}
 use Rattle.std.specs.declared.alloc.Global.{Global}
-use Rattle.std.specs.Vec.Iter.{into_iter_items, into_iter_len}
+use Rattle.std.specs.Vec.Iter.{into_iter_items}
 use Rattle.std.proofs.lemmas.List.{length-map}
 use Rattle.std.proofs.lemmas.Result.{err_from_is_err_and}
 use Rattle.revision.specs.Command.{Taken}

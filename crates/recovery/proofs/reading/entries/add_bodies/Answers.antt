@@ -1,9 +1,8 @@
-use Rattle.std.proofs.Common.{◌≡◌, ◌∙◌, ◌<◌, ◌+◌, ℕ, Vec, List, [], ◌∷◌, ◌++◌, false, length, get_or, take, sym, ap, subst, arith}
+use Rattle.std.proofs.Common.{◌≡◌, ◌∙◌, ◌<◌, ◌+◌, ℕ, Vec, List, [], ◌∷◌, ◌++◌, false, length, get_or, take, sym, ap, subst}
 use Rattle.std.specs.declared.alloc.Global.{Global}
 use Rattle.std.proofs.lemmas.List.{length-map}
 use Rattle.std.proofs.lemmas.Result.{err_from_is_err_and}
 use Rattle.revision.specs.Command.{Taken}
-use Rattle.journal.specs.BatchSpelling.{batch}
 use Rattle.journal.specs.Scan.{items_of}
 use Rattle.recovery.specs.steps.Reading.{lists_of, are_below, SpellEach}
 use Rattle.recovery.proofs.Gathering.{AddedBy, SpelledAt, map-at, map-within, map-take-more, batch-same, by-count, by-more, spelled-at}

@@ -1,7 +1,6 @@
-use Rattle.std.proofs.Common.{◌≡◌, ◌∙◌, ℕ, Option, length, ap, sym, subst, rules}
+use Rattle.std.proofs.Common.{◌≡◌, ◌∙◌, Option, length, ap, sym, subst, rules}
 use Rattle.std.proofs.lemmas.Result.{err_from_is_err_and}
-use Rattle.revision.specs.State.{State}
-use Rattle.history.specs.Cell.{Cell, Pair, picked}
+use Rattle.history.specs.Cell.{Cell, picked}
 use Rattle.milestone.specs.OneCell.{HoldsPair}
 use Rattle.milestone.specs.ReadCells.{pair_of}
 use Rattle.milestone.proofs.CallerLemmas.{one_pair}

@@ -1,0 +1,5 @@
+//! Tests of `flusher`, by its public calls alone.
+#![tactic(auto)]
+
+#[cfg(test)]
+mod board;
