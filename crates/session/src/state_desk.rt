@@ -1,8 +1,10 @@
 //! A desk of a state alone.
-ghost use Rattle.std.specs.Prelude.{◌≡◌, ◌⊎◌, true, [], ◌∷◌, IfErr, IfOk, OnErr, OnOk};
+ghost use Rattle.std.specs.Prelude.{◌≡◌, ◌⊎◌, true, [], ◌∷◌, false, IfErr, IfOk, IsErr, OnErr, OnOk};
 ghost use Rattle.revision.specs.State.{State, grows, grown};
 ghost use Rattle.session.specs.declared.reply.Reply.TheVariants as reply;
-ghost use Rattle.session.specs.Alone.{FedAlone, HearsAlone, of_session};
+ghost use Rattle.session.specs.Alone.{Alone, FedAlone, HearsAlone, of_session};
+ghost use Rattle.session.specs.Calls.{StopsNews};
+ghost use Rattle.session.specs.Replies.{Feeds, Stops};
 ghost use Rattle.session.specs.Shelf.{Fits, IsLater};
 
 use crate::desk::Desk;
@@ -59,8 +61,21 @@ impl StateDesk {
     ) -> Result<(), SessionEnded>
         requires fits { Fits self.old shelf.old }
         ensures fits { Fits self.new shelf.new }
+        // Once a write has failed, nothing is written or asked.
+        ensures ended { session.old.ended ≡ true → IsErr result }
+        ensures silent { session.old.ended ≡ true → out.new ≡ out.old }
+        ensures idle { session.old.ended ≡ true → self.new ≡ self.old }
         ensures fed { OnOk result (FedAlone (of_session session.old self.old) piece.now (of_session session.new self.new)
             (O.contents out.old) (O.contents out.new)) }
+        // The same of each line, where some find no memory.
+        ensures feeds { OnOk result (Feeds Alone session.old piece.now session.new self.old self.new
+            (O.contents out.old) (O.contents out.new)) }
+        // A write that fails ends the session, and nothing else does. A beginning of the replies was written.
+        ensures stopped { OnErr result (session.old.ended ≡ false
+            → Stops Alone session.old piece.now session.new self.old self.new (O.contents out.old) (O.contents out.new)) }
+        ensures cause { OnErr result (session.old.ended ≡ false → O.has_failed out.new ≡ true) }
+        ensures ok { OnOk result (session.new.ended ≡ false) }
+        ensures err { OnErr result (session.new.ended ≡ true) }
     {
         replies_of_a_state();
         session.feed(alloc, piece, out, self, shelf)
@@ -75,8 +90,18 @@ impl StateDesk {
         out: &mut O,
     ) -> Result<(), SessionEnded>
         ensures later { IsLater self.old self.new }
+        // Once a write has failed, nothing is written or asked.
+        ensures ended { session.old.ended ≡ true → IsErr result }
+        ensures silent { session.old.ended ≡ true → out.new ≡ out.old }
+        ensures idle { session.old.ended ≡ true → self.new ≡ self.old }
         ensures heard { OnOk result (HearsAlone (of_session session.old self.old) (of_session session.new self.new)
             (O.contents out.old) (O.contents out.new)) }
+        // A write that fails ends the session, and nothing else does. A beginning of the news was written.
+        ensures stopped { OnErr result (session.old.ended ≡ false
+            → StopsNews Alone session.old session.new self.old self.new (O.contents out.old) (O.contents out.new)) }
+        ensures cause { OnErr result (session.old.ended ≡ false → O.has_failed out.new ≡ true) }
+        ensures ok { OnOk result (session.new.ended ≡ false) }
+        ensures err { OnErr result (session.new.ended ≡ true) }
     {
         news_of_a_state();
         session.on_news(alloc, out, self)
