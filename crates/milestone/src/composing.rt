@@ -11,7 +11,7 @@ use refusal::Refusal;
 use std::alloc::Global;
 use std::marker::Model;
 
-/// A job that is done, with the milestone that came of it, seen as the job.
+/// A finished job and its milestone. Its value in contracts is the job, since the milestone follows from it.
 #[derive(Drop)]
 pub struct Composed {
     job: Job,
@@ -31,10 +31,11 @@ impl Model for Composed {
     ghost invariant = { λ c. c.milestone ≡ spec.cell_of_job c.job };
 }
 
-/// A job that wasn't done for want of memory, as it was.
+/// A job that wasn't done, as it was, and why.
 #[derive(Drop)]
 pub struct Uncomposed {
     pub job: Job,
+    pub refusal: Refusal,
 }
 
 impl Composed {
@@ -58,10 +59,11 @@ impl Composed {
 pub fn compose_job(alloc: Global, job: Job) -> Result<Composed, Uncomposed>
     ensures done { IfOk result (λ composed. composed ≡ job) }
     ensures back { IfErr result (λ back. back.job ≡ job) }
+    ensures only { IfErr result (λ back. back.refusal ≡ Refusal.NoMemory) }
 {
     match milestone_of(alloc, &job) {
         Ok(milestone) => Ok(Composed { job, milestone }),
-        Err(_) => Err(Uncomposed { job }),
+        Err(refusal) => Err(Uncomposed { job, refusal }),
     }
 }
 
