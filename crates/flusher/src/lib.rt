@@ -1,8 +1,8 @@
 //! The board that many sessions order their edits on, and from which one flusher takes batches.
 //!
 //! A `Board` is the value behind a lock. Its order is a legal history from the state that the store was opened with, and its state is
-//! the fold of that order: this holds whenever the lock is free, by its type. Each call is promised by the definitions of `world`, so
-//! that what `world::laws::every_schedule` says of worlds is said of a board. The crate stands on `world`, on `revision`, and on
+//! the fold of that order: this holds whenever the lock is free, by its type. Each call moves the board as the
+//! definition of that step in `world` says. That a run of calls is a schedule of a world is not shown yet. The crate stands on `world`, on `revision`, and on
 //! `journal` for the width of a batch.
 //!
 //! # What isn't here yet

@@ -55,7 +55,7 @@ impl Cells {
     ghost use Rattle.milestone.specs.Cells.{place_of, size_of, number_of, revisions_of, with_cell, HasClosed, Fits, FitsNow, SameCells, IsLeftByFreeing, IsLeftByPut};
     ghost use Rattle.milestone.specs.ReadCells.{pair_of, IsReadAs};
 
-    /// Reads the two cells of `size` bytes, 256 to 16,777,216, of the document of this number, the first of which begins at
+    /// Reads the two cells of the document of this number. Each has `size` bytes, 256 to 16,777,216, and the first begins at
     /// `place`. Of a closed cell the gate alone counts. `Damaged` comes just where they hold no pair: an open cell's body isn't
     /// spelled as a milestone of this document, or passes the cell's end. The device stays as it is.
     pub fn read_both<D: Disk>(

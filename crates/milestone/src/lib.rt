@@ -1,11 +1,10 @@
 //! Milestones: a document at a revision with its sources there, how they are made, and the two cells of a device that hold them.
 //!
 //! A `Milestone` is what a cell holds, a document of a name and a revision that can be (specs/Milestone.antt). It is made of a `Job`,
-//! which stands apart from the store: deltas that lead in turn from the empty document to a content, which the maker gives as the document's at that revision
-//! (specs/Job.antt). The layer
-//! above makes a job. `compose_job` needs nothing of the store, so any thread may call it. Its answer holds the job, and `Job::is_same`
-//! tells whether it is the one that was given. The crate promises that the milestone is what the job's deltas make, and that nothing
-//! but want of memory refuses it.
+//! which stands apart from the store: deltas that lead in turn from the empty document to a content, which the maker gives as the
+//! document's at that revision (specs/Job.antt). The layer above makes a job. `compose_job` needs nothing of the store, so any thread
+//! may call it. Its answer holds the job, and `Job::is_same` tells whether it is the one that was given. The crate promises that the
+//! milestone is what the job's deltas make, and that nothing but want of memory refuses it.
 //!
 //! `Cells` are the two cells of a document as they are known in memory: they are read together, the older one is closed, and a
 //! milestone is put where one is closed. How a cell spells a milestone stands in specs/CellSpelling.antt, what two cells hold in

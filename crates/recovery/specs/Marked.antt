@@ -29,7 +29,7 @@ pub record AreBodiesMarked (number : ℕ) (bodies : List (List ℕ)) (before aft
       → (document : ℕ) → greatest_marked number document after ≡ max (greatest document (commands_of batches)) (greatest_marked number document before)
   pub segments : (other document : ℕ) → other ≢ number → greatest_marked other document after ≡ greatest_marked other document before
 
--- Each segment of a table is marked, and there are no marks of others.
+-- Each segment of a table is marked, and the greatest mark of any other number is 0.
 pub record AreMarked (table : List (Option Segment)) (marks : List Mark) : Type 0 where
   pub each : (slot : ℕ) (segment : Segment) → slot_at table slot ≡ Some segment → IsMarked segment marks
   pub others : (number : ℕ) → ((slot : ℕ) → number_at (numbers_of table) slot ≢ Some number)

@@ -141,10 +141,10 @@ impl<D: Disk> Store<D> {
     }
 
     /// Writes a batch, and answers once it is on the disk: two syncs, and two more where a slot is opened for it.
-    /// `JournalFull` comes just where the batch doesn't fit the newest segment and no slot is free, which its width tells
-    /// before anything is spelled, then `Stranger` where it doesn't continue the state, `NoMemory` before anything of it is written, and
-    /// `Fault`, after which the store has failed: every later call answers `Fault`, until the device is opened again. The
-    /// documents change only once the batch is on the disk, and no refusal changes them.
+    /// First comes `JournalFull`, just where the batch has more bytes than the newest segment has left and no slot is free. Next
+    /// comes `Stranger`, where it doesn't continue the state. `NoMemory` comes before any byte of the batch is written. After `Fault`
+    /// the store has failed: every later call answers `Fault`, until the device is opened again. The documents change only once
+    /// the batch is on the disk, and no refusal changes them.
     pub fn commit(&mut self, alloc: Global, batch: &[Taken]) -> Result<(), Refusal>
         requires some { 1 ≤ length batch.now }
         requires short { length batch.now < 2 ^ 32 }

@@ -30,7 +30,7 @@ IsLater old new = (commands : List Taken) × (all_grow old commands ≡ true) ×
 abbrev pub FitsLater : Type 0
 FitsLater = (old new : State) (shelf : List Kept) → IsLater old new → Fits old shelf → Fits new shelf
 
--- and so is a document that a look has made, if there was a look and it made one
+-- what a look has made, if anything, is right of the state
 abbrev pub IsGivenLook : State → Option (Option Kept) → Type 0
 IsGivenLook state look = ForSome look (λ made. ForSome made (IsGiven state))
 

@@ -8,7 +8,8 @@ use Rattle.refusal.specs.declared.Refusal.TheVariants.{StoreFailed}
 use Rattle.revision.specs.Readings.{at_revision}
 use Rattle.revision.specs.State.{State, find}
 
--- the names of the documents, in the order of their bytes and each once, with the last revision that was told of each
+-- the names of the documents, in the order of their bytes and each once, with the revision of each from which on
+-- news are still to be told
 abbrev pub Subscriptions : Type 0
 Subscriptions = List (List ℕ × ℕ)
 

@@ -54,7 +54,8 @@ impl Model for Shelf {
     ghost invariant = { λ s. s.documents.cap ≡ 64 };
 }
 
-/// A look at the shelf, which is to be noted there: the document was on it or, as it is seen, it was made.
+/// What came of looking for a document on the shelf. `Shelf::note` takes it afterwards. Its value is the document where it had to
+/// be made, and none where it was there.
 #[derive(Drop)]
 pub struct Look {
     key: Key,

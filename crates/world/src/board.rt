@@ -159,8 +159,7 @@ impl Board {
         ticket.length() <= self.settled
     }
 
-    /// Opens the board anew with so many commands of the order, or with all where there are fewer, and with the state that a
-    /// store gave: the order ends there, and all of it is taken off and settled. The start state stays.
+    /// Opens the board anew with so many commands of the order, and with the state that a store gave: the order ends there, and all of it is taken off and settled. The start state stays.
     pub fn reopen(&mut self, state: State, kept: usize)
         requires { kept ≤ length self.old.order }
         ensures { self.new ≡ reopened self.old state kept }

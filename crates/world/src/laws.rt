@@ -30,8 +30,7 @@ pub fn same_board()
     ensures { SameBoard }
 {}
 
-/// The commands of an order that are taken off and the next ones after them make the same state of its start at once as one after
-/// the other. Which of the two lengths a crash leaves, it doesn't say.
+/// Folding a batch onto the state before it gives the state of the order with the batch. The law says nothing of crashes.
 pub fn batch_goes_on()
     ensures { BatchGoesOn }
 {}
