@@ -11,9 +11,24 @@ use Rattle.history.proofs.CallerLemmas.{at_most_one, recovers, reopens}
 use Rattle.recovery.specs.declared.run.StoreStep.{StoreStep}
 use Rattle.recovery.specs.declared.store.Store.{Store}
 use Rattle.recovery.specs.Found.{Found, FoundBy, FoundAs, RunsWith, limits_of, commands_of}
-use Rattle.recovery.specs.Open.{IsOpen, IsWithOrWithout}
+use Rattle.recovery.specs.Open.{IsOpen, IsUnchanged, IsWithOrWithout}
 use Rattle.recovery.specs.Run.{batch_of, state_after, IsAfterSome}
 use Rattle.recovery.proofs.FoundOnce.{stand_at}
+
+-- a call that does nothing leaves a store as it was, and so do two that do
+pub unchanged : {D : Type 0} {disk : Ghosts D} (store : Store D disk) → IsUnchanged store store
+unchanged store = record { device = refl; shape = refl; ring = refl; cells = refl; marks = refl; state = refl; failed = refl }
+
+pub unchanged_twice : {D : Type 0} {disk : Ghosts D} {one two three : Store D disk} → IsUnchanged one two → IsUnchanged two three → IsUnchanged one three
+unchanged_twice first second = record {
+  device = second.device ∙ first.device;
+  shape = second.shape ∙ first.shape;
+  ring = second.ring ∙ first.ring;
+  cells = second.cells ∙ first.cells;
+  marks = second.marks ∙ first.marks;
+  state = second.state ∙ first.state;
+  failed = second.failed ∙ first.failed;
+}
 
 -- the content under a store that is open is that of a store which runs with its state
 pub found_open : {D : Type 0} {disk : Ghosts D} (store : Store D disk) → IsOpen store → RunsWith (disk.seen store.device) store.state

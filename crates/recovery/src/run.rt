@@ -1,10 +1,10 @@
 //! Whole runs of a store.
-ghost use Rattle.std.specs.Prelude.{◌≡◌, ◌≢◌, ◌⊎◌, ◌↔◌, ◌<◌, ℕ, List, true, false, length, take, All, OnOk, IfErr};
+ghost use Rattle.std.specs.Prelude.{◌≡◌, ◌≢◌, ◌⊎◌, ◌↔◌, ◌<◌, ℕ, List, [], true, false, length, take, All, OnOk, IfErr};
 ghost use Rattle.disk.specs.Device.{Rose};
 ghost use Rattle.disk.specs.Crash.{LeavesOnly, MayLeaveNow};
 ghost use Rattle.refusal.specs.declared.Refusal.TheVariants.{JournalFull, Stranger, NoMemory, Fault};
 ghost use Rattle.revision.specs.State.{all_grow};
-ghost use Rattle.recovery.specs.Open.{IsOpen, device_of, state_of, has_failed, has_room};
+ghost use Rattle.recovery.specs.Open.{IsOpen, IsUnchanged, device_of, state_of, has_failed, has_room};
 ghost use Rattle.recovery.specs.Run.{CanCommit, IsAfterSome, state_after, batch_at};
 
 use crate::store::Store;
@@ -50,6 +50,10 @@ impl<D: Disk> Store<D> {
         ensures stopped { IfErr result (λ stop. (stop.at < length steps.now) × (state_of self.new ≡ state_after (state_of self.old) (take stop.at steps.now))) }
         ensures done { OnOk result (IsOpen self.old → IsOpen self.new) }
         ensures kept { IfErr result (λ stop. stop.refusal ≢ Fault → IsOpen self.old → IsOpen self.new) }
+
+        // A store that had failed takes no step.
+        ensures failed_before { has_failed self.old ≡ true → OnOk result (steps.now ≡ [])
+            × IfErr result (λ stop. (stop.at ≡ 0) × (stop.refusal ≡ Fault)) × IsUnchanged self.old self.new }
 
         // Why it stopped, by the store that it left.
         ensures full { IfErr result (λ stop. stop.refusal ≡ JournalFull → has_room self.new (batch_at steps.now stop.at) ≡ false) }

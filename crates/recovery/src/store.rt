@@ -151,7 +151,7 @@ impl<D: Disk> Store<D> {
         requires fits { FitsSlot (state_of self.old) batch.now }
 
         // When each refusal comes. Want of memory may be told in place of `Stranger`.
-        ensures failed_before { has_failed self.old ≡ true → (IsErrOf result Refusal.Fault) × ((device_of self.new ≡ device_of self.old) × (has_failed self.new ≡ true)) }
+        ensures failed_before { has_failed self.old ≡ true → (IsErrOf result Refusal.Fault) × IsUnchanged self.old self.new }
         ensures full { has_failed self.old ≡ false → (IsErrOf result Refusal.JournalFull ↔ (has_room self.old batch.now ≡ false)) }
         ensures room { OnOk result (has_room self.old batch.now ≡ true) }
         ensures stranger { IsErrOf result Refusal.Stranger → all_grow (state_of self.old) batch.now ≡ false }

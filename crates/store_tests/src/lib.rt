@@ -22,6 +22,8 @@ mod picks;
 #[cfg(test)]
 mod plans;
 #[cfg(test)]
+mod retiring;
+#[cfg(test)]
 mod rings;
 #[cfg(test)]
 mod running;

@@ -5,7 +5,7 @@ use recovery::Pick;
 use std::process::Abort;
 
 // The source "a" created "d" with "z": the cell's gate, the body's length, the body.
-const FIRST: [u8; 57] = [
+pub const FIRST: [u8; 57] = [
     0xa5, 52, 0, 0, 0, // the gate, the length
     0, 0, 0, 0, 1, 0, b'd', 1, 0, 0, 0, 0, 0, 0, 0, // the document, its name, the revision
     1, 0, 0, 0, 1, 1, 0, 0, 0, b'z', 0, 0, 0, 0, // the content
@@ -14,7 +14,7 @@ const FIRST: [u8; 57] = [
 ];
 
 // It then appended "x".
-const SECOND: [u8; 58] = [
+pub const SECOND: [u8; 58] = [
     0xa5, 53, 0, 0, 0, //
     0, 0, 0, 0, 1, 0, b'd', 2, 0, 0, 0, 0, 0, 0, 0, //
     1, 0, 0, 0, 1, 2, 0, 0, 0, b'z', b'x', 0, 0, 0, 0, //

@@ -6,6 +6,9 @@ use Rattle.server.proofs.serve.serve.Goals as goal
 pub returns-in_err-session-clause-keeps : goal.returns-in_err-session-clause-keeps
 returns-in_err-session-clause-keeps g c works store_works is_open = ([], refl, keeps_all g.D.Disk c.args.desk.now c.args.desk.now [] works store_works is_open refl)
 
+pub returns-in_err-shelf-clause-keeps : goal.returns-in_err-shelf-clause-keeps
+returns-in_err-shelf-clause-keeps g c works store_works is_open = ([], refl, keeps_all g.D.Disk c.args.desk.now c.args.desk.now [] works store_works is_open refl)
+
 pub returns-in_err-serve_all-clause-keeps : goal.returns-in_err-serve_all-clause-keeps
 returns-in_err-serve_all-clause-keeps g c works store_works is_open =
     let was = c.serve_all.ensures.asked in

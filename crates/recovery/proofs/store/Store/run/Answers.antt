@@ -3,11 +3,15 @@ use Rattle.disk.specs.Crash.{history_of}
 use Rattle.disk.proofs.CallerLemmas.{synced_leaves, begins, leaves_map, goes_on_run}
 use Rattle.revision.specs.State.{State, fold}
 use Rattle.recovery.specs.declared.run.StoreStep.{StoreStep}
+use Rattle.std.specs.Prelude.{Result, Ok, Err}
+use Rattle.std.proofs.lemmas.Bool.{false≢true}
+use Rattle.refusal.specs.declared.Refusal.{Refusal}
+use Rattle.refusal.specs.declared.Refusal.TheVariants.{Fault}
 use Rattle.std.proofs.lemmas.List.{at_drop_more, take_all}
 use Rattle.recovery.specs.Found.{FoundAs}
 use Rattle.recovery.specs.Run.{batch_of, state_after}
 use Rattle.recovery.proofs.Folds.{fold-limits}
-use Rattle.recovery.proofs.Runs.{found_open, found_as, state_after-more, within_step, some_of, before_all, after_all}
+use Rattle.recovery.proofs.Runs.{unchanged, unchanged_twice, found_open, found_as, state_after-more, within_step, some_of, before_all, after_all}
 use Rattle.recovery.proofs.store.Store.run.Goals as goal
 
 pub loop-at-init : goal.loop-at-init
@@ -19,6 +23,7 @@ loop-at-init g c = record {
   faults = refl;
   honest = (λ h. h, λ h. h);
   is_open = λ o. o;
+  failed_before = λ failed. (refl, unchanged c.args.self.now);
   moments = λ u o. begins (history_of g.D.Disk c.args.self.now.device) o.synced (before_all c.args.self.now.state c.args.steps.now _ (found_as _ _ (found_open c.args.self.now o)));
 }
 
@@ -58,6 +63,9 @@ loop-at-preserved g c =
       unfailed = λ unfailed. c.in_default.ensures.works;
       honest = (λ h. c.loop-at.invariant.honest.0 (c.commit.ensures.honest.0 h), λ h. c.commit.ensures.honest.1 (c.loop-at.invariant.honest.1 h));
       is_open = λ is_open. c.in_default.ensures.done (c.loop-at.invariant.is_open is_open);
+      failed_before = λ failed.
+          let before = (c.loop-at.invariant.failed_before failed).1 in
+          absurd (false≢true (sym c.in_default.ensures.works ∙ (c.commit.ensures.failed_before (before.failed ∙ failed)).1.failed ∙ before.failed ∙ failed));
       moments = λ unfailed is_open.
           goes_on_run (c.loop-at.invariant.moments unfailed is_open)
           (leaves_map (λ content left. some_of at c.args.self.now.state steps content
@@ -73,3 +81,13 @@ returns-clause-acknowledged g c unfailed is_open content left =
     let seen : content ≡ g.D.Disk.seen store.device = synced_leaves _ content now_open.synced left in
     after_all c.args.self.now.state store.state c.args.steps.now content (c.loop-at.invariant.so_far ∙ ap (state_after c.args.self.now.state) all)
     (subst (λ (l : List ℕ). FoundAs l store.state) (sym seen) (found_as _ _ (found_open store now_open)))
+
+abbrev error_of : Result (Unit {0}) Refusal → Refusal
+error_of (Ok done) = Fault
+error_of (Err refusal) = refusal
+
+pub returns-in-Err-clause-failed_before : goal.returns-in-Err-clause-failed_before
+returns-in-Err-clause-failed_before g c failed =
+    let before = c.loop-at.invariant.failed_before failed in
+    let now = c.commit.ensures.failed_before (before.1.failed ∙ failed) in
+    (tt, (before.0, ap error_of (sym c.in-Err.is ∙ now.0)), unchanged_twice before.1 now.1)

@@ -1,6 +1,6 @@
-use Rattle.std.proofs.Common.{◌≡◌, ◌↔◌, false, take, drop}
+use Rattle.std.proofs.Common.{◌≡◌, ◌↔◌, true, false, take, drop}
 use Rattle.disk.specs.Crash.{LeavesOnly}
-use Rattle.recovery.specs.Open.{IsOpen, device_of, state_of, has_failed}
+use Rattle.recovery.specs.Open.{IsOpen, IsUnchanged, device_of, state_of, has_failed}
 use Rattle.recovery.specs.Run.{IsAfterSome, state_after}
 use Rattle.recovery.proofs.store.Store.run.Given as goal
 
@@ -13,5 +13,6 @@ invariant-loop-at g l = record {
   faults : g.D.Disk.faults (device_of l.self) ≡ g.D.Disk.faults (device_of l.fn.self);
   honest : g.D.Disk.honest (device_of l.self) ↔ g.D.Disk.honest (device_of l.fn.self);
   is_open : IsOpen l.fn.self → IsOpen l.self;
+  failed_before : has_failed l.fn.self ≡ true → (l.at ≡ 0) × IsUnchanged l.fn.self l.self;
   moments : has_failed l.fn.self ≡ false → IsOpen l.fn.self → LeavesOnly g.D.Disk (IsAfterSome 0 (state_of l.fn.self) l.steps) (device_of l.fn.self) (device_of l.self);
 }
