@@ -163,7 +163,7 @@ fn feed_byte<K: Desk, O: Output>(
     if byte != b'\n' {
         return Ok(());
     }
-    let Ok(()) = session.on_news(alloc, output, desk) else {
+    let Ok(_) = session.on_news(alloc, output, desk) else {
         return Err(Failure::Stream);
     };
     flush(output)?;

@@ -1,5 +1,5 @@
 -- What is written over a state alone.
-use Rattle.std.proofs.Common.{◌≡◌, ◌++◌, List, ℕ, [], ◌∷◌, Option, Some, refl, sym, ap, subst, ◌∙◌, inl, inr, append_assoc, append-nil}
+use Rattle.std.proofs.Common.{Bool, true, false, ◌≡◌, ◌++◌, List, ℕ, [], ◌∷◌, Option, Some, refl, sym, ap, subst, ◌∙◌, inl, inr, append_assoc, append-nil}
 use Rattle.refusal.specs.declared.Refusal.TheVariants.{NoMemory}
 use Rattle.revision.specs.State.{State}
 use Rattle.revision.specs.Acceptance.{decide}
@@ -8,10 +8,10 @@ use Rattle.session.specs.Reads.{shown_line}
 use Rattle.session.specs.Reply.{subscribed_line, refusal_line}
 use Rattle.session.specs.Subscriptions.{may_follow_shown, subscribed}
 use Rattle.session.specs.News.{news_shown, subscriptions_shown}
-use Rattle.session.specs.Calls.{Call, ComesOf, OfPiece, OfNews, OfMissed, Calls, with_subscriptions}
+use Rattle.session.specs.Calls.{Call, Passes, call_of, ComesOf, OfPiece, OfNews, OfMissed, Calls, with_subscriptions}
 use Rattle.session.specs.Session.{Peer, Session}
 use Rattle.session.specs.Replies.{answer_line, IsLine, IsReplied, Greeted, Asked, WasRead, WasSubscribed, NotSubscribed, WasUnsubscribed, Refused, NotTaken, TakesByte, LineContinues, LineOverflows, LineEnds, Replies, Asks, Feeds}
-use Rattle.session.specs.Alone.{answered, Alone, Conversation, Answer, told, told_of, by_event, with_input_byte, replies, conversation_after, FindsMemory, FedAlone, text_of, after_call, transcript, after_calls, of_session}
+use Rattle.session.specs.Alone.{answered, Alone, Conversation, Answer, told, told_of, by_event, with_input_byte, replies, conversation_after, FindsMemory, FedAlone, HearsAlone, text_of, after_call, transcript, after_calls, of_session}
 
 -- memory is found in each of two texts where it is found in both
 finds_front : (front back : List ℕ) → FindsMemory (front ++ back) → FindsMemory front
@@ -139,3 +139,22 @@ calls_alone old new state after (call ∷ calls) asked text (next, first, others
           ∙ ap (λ (c : Conversation). text_of (of_session old state) call ++ transcript c calls) step.1,
       behind.1 ∙ ap (λ (c : Conversation). after_calls c calls) step.1,
     )
+
+-- news over a state alone need no memory for a reply
+heard : (old new : Session) (state after : State) (told : Bool) (call : Call) (asked : List Exchange) (text : List ℕ) → call ≡ call_of told
+    → ComesOf old call asked new text → Asks Alone state asked after
+    → (text ≡ text_of (of_session old state) call) × (of_session new after ≡ after_call (of_session old state) call)
+heard old new state after true call asked text is (OfPiece piece a n t replies) asks = cc
+heard old new state after false call asked text is (OfPiece piece a n t replies) asks = cc
+heard old new state after told call asked text is (OfNews shown) (next, (shows, to), same) = (
+  ap (news_shown old.peer.subscriptions) shows,
+  ap (λ (o : Option State). of_session (with_subscriptions old (subscriptions_shown old.peer.subscriptions o)) after) shows
+      ∙ ap (of_session (with_subscriptions old (subscriptions_shown old.peer.subscriptions (Some state)))) (same ∙ to),
+)
+heard old new state after told call asked text is (OfMissed shown) (next, (shows, to), same) = (refl, ap (of_session old) (same ∙ to))
+
+pub hears_alone : (old new : Session) (state after : State) (told : Bool) (out out' : Option (List ℕ))
+    → Passes Alone old (call_of told) new state after out out' → HearsAlone told (of_session old state) (of_session new after) out out'
+hears_alone old new state after told out out' passes =
+    let h = heard old new state after told (call_of told) passes.asked passes.text refl passes.comes passes.asks in
+    record { text = passes.text; written = passes.written; heard = h.0; goes_on = h.1 }

@@ -7,10 +7,28 @@ use Rattle.session.specs.News.{news_shown, subscriptions_shown}
 use Rattle.session.specs.Session.{Session}
 use Rattle.session.specs.Output.{AppendsFront}
 use Rattle.session.specs.Subscriptions.{Subscriptions}
-use Rattle.session.specs.Calls.{Told, Missed, ComesOf, OfNews, OfMissed, TellsNews, StopsNews, with_subscriptions}
+use Rattle.session.specs.Calls.{Told, Missed, ComesOf, OfNews, OfMissed, Passes, TellsNews, StopsNews, with_subscriptions}
 use Rattle.session.proofs.Writes.{appends-nothing}
 
 module _ {D : Type 0} (does : D → Exchange → D → Type 0) where
+  pub missed_pass : (old : Session) (desk desk' : D) (out : Option (List ℕ)) → ((shown : Option State) × does desk (Shown shown) desk')
+      → Passes does old Missed old desk desk' out out
+  missed_pass old desk desk' out (shown, shows) =
+      record { asked = Shown shown ∷ []; text = []; comes = OfMissed shown; asks = (desk', shows, refl); written = appends-nothing out }
+
+  pub told_pass : (old new : Session) (desk desk' : D) (out out' : Option (List ℕ)) (text : List ℕ) (left : Subscriptions) (shown : Option State)
+      → does desk (Shown shown) desk' → text ≡ news_shown old.peer.subscriptions shown → left ≡ subscriptions_shown old.peer.subscriptions shown
+      → Appends out out' text → new ≡ with_subscriptions old left → Passes does old Told new desk desk' out out'
+  told_pass old new desk desk' out out' text left shown shows text_is left_is written noted =
+      let is : new ≡ with_subscriptions old (subscriptions_shown old.peer.subscriptions shown) = noted ∙ ap (with_subscriptions old) left_is in
+      record {
+        asked = Shown shown ∷ [];
+        text = news_shown old.peer.subscriptions shown;
+        comes = subst (λ (s : Session). ComesOf old Told (Shown shown ∷ []) s (news_shown old.peer.subscriptions shown)) (sym is) (OfNews shown);
+        asks = (desk', shows, refl);
+        written = subst (Appends out out') text_is written;
+      }
+
   pub missed : (old : Session) (desk desk' : D) (out : Option (List ℕ)) → ((shown : Option State) × does desk (Shown shown) desk')
       → TellsNews does old old desk desk' out out
   missed old desk desk' out (shown, shows) = (

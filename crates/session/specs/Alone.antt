@@ -1,5 +1,5 @@
 -- A session over a state alone: what each line is replied, and what it does to the state.
-use Rattle.std.specs.Prelude.{◌≡◌, ◌⊎◌, ℕ, List, [], ◌∷◌, ◌++◌, Option, Some, Result, Ok, Err}
+use Rattle.std.specs.Prelude.{◌≡◌, ◌⊎◌, ℕ, Bool, List, [], ◌∷◌, ◌++◌, Option, Some, Result, Ok, Err}
 use Rattle.std.specs.Io.KnownBytes.{Appends}
 use Rattle.refusal.specs.declared.Refusal.{Refusal}
 use Rattle.refusal.specs.declared.Refusal.TheVariants.{NoMemory, LineTooLong}
@@ -20,7 +20,7 @@ use Rattle.session.specs.Replies.{answer_line}
 use Rattle.session.specs.Request.{request_of}
 use Rattle.session.specs.Subscriptions.{may_follow, subscribed, without_subscription}
 use Rattle.session.specs.News.{news, subscriptions_after}
-use Rattle.session.specs.Calls.{Call, Fed, Told, Missed}
+use Rattle.session.specs.Calls.{Call, Fed, Told, Missed, call_of}
 use Rattle.session.specs.Session.{Peer, Session}
 
 -- the answer that a reply of the rule of acceptance is
@@ -112,12 +112,6 @@ news_of c = news c.peer.subscriptions c.state
 abbrev pub after_news : Conversation → Conversation
 after_news c = record c { peer = record c.peer { subscriptions = subscriptions_after c.peer.subscriptions c.state } }
 
--- The news were told, or missed for want of memory: then nothing was written, and the conversation is as it was.
-pub record HearsAlone (old new : Conversation) (out out' : Option (List ℕ)) : Type 0 where
-  pub text : List ℕ
-  pub written : Appends out out' text
-  pub told : ((text ≡ news_of old) × (new ≡ after_news old)) ⊎ ((text ≡ []) × (new ≡ old))
-
 -- What comes of one call, and of calls one after another: the replies to the pieces, and the news where they were told.
 abbrev pub text_of : Conversation → Call → List ℕ
 text_of c (Fed piece) = replies c piece
@@ -128,6 +122,13 @@ abbrev pub after_call : Conversation → Call → Conversation
 after_call c (Fed piece) = conversation_after c piece
 after_call c Told = after_news c
 after_call c Missed = c
+
+-- The news were told, or they weren't: then nothing was written, and the conversation is as it was.
+pub record HearsAlone (told : Bool) (old new : Conversation) (out out' : Option (List ℕ)) : Type 0 where
+  pub text : List ℕ
+  pub written : Appends out out' text
+  pub heard : text ≡ text_of old (call_of told)
+  pub goes_on : new ≡ after_call old (call_of told)
 
 abbrev pub transcript : Conversation → List Call → List ℕ
 transcript c [] = []

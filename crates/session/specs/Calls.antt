@@ -1,5 +1,5 @@
 -- What a session is called for, one call after another, and what comes of it.
-use Rattle.std.specs.Prelude.{◌≡◌, ◌⊎◌, ℕ, ◌++◌, true, List, [], ◌∷◌, Option}
+use Rattle.std.specs.Prelude.{◌≡◌, ◌⊎◌, ℕ, ◌++◌, Bool, true, false, List, [], ◌∷◌, Option}
 use Rattle.std.specs.Io.KnownBytes.{Appends}
 use Rattle.revision.specs.State.{State}
 use Rattle.session.specs.Exchange.{Exchange, Shown}
@@ -33,6 +33,11 @@ Calls old [] asked new text = (asked ≡ []) × (new ≡ old) × (text ≡ [])
 Calls old (call ∷ calls) asked new text =
     (next : Session) × (first : List Exchange) × (others : List Exchange) × (front : List ℕ) × (back : List ℕ)
     × ComesOf old call first next front × Calls next calls others new back × (asked ≡ first ++ others) × (text ≡ front ++ back)
+
+-- the call for the news, by whether they were told
+abbrev pub call_of : Bool → Call
+call_of true = Told
+call_of false = Missed
 
 -- a call for the news: they are told or, for want of memory, missed
 abbrev pub IsForNews : Call → Type 0

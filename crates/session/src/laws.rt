@@ -1,5 +1,5 @@
 //! Laws of what comes of a session's input. Each is a function that does nothing: its contract is the law.
-ghost use Rattle.std.specs.Prelude.{◌≡◌, ◌≤◌, ◌<◌, ◌-◌, ◌++◌, ◌∷◌, ℕ, List, [], Option, Some, true, length, take, codes};
+ghost use Rattle.std.specs.Prelude.{◌≡◌, Bool, ◌≤◌, ◌<◌, ◌-◌, ◌++◌, ◌∷◌, ℕ, List, [], Option, Some, true, length, take, codes};
 ghost use Rattle.refusal.specs.declared.Refusal.TheVariants.{LineTooLong, Exists};
 ghost use Rattle.session.specs.declared.reply.Reply.TheVariants.{Taken, Again};
 ghost use Rattle.session.specs.Reply.{greeting, acknowledgement, printed_delta, document_with, since_reply, subscribed_reply, unsubscribed_reply, news_line, ended_line, line_of, refusal_line};
@@ -13,7 +13,7 @@ ghost use Rattle.revision.specs.State.{State};
 ghost use Rattle.session.specs.Replies.{Replies, IsReplied, IsLine, Asks, Feeds};
 ghost use Rattle.session.specs.News.{news, subscriptions_after, lines_after};
 ghost use Rattle.session.specs.Subscriptions.{Subscriptions};
-ghost use Rattle.session.specs.Calls.{Call, Calls, TellsNews};
+ghost use Rattle.session.specs.Calls.{Call, Calls, Passes, call_of};
 ghost use Rattle.revision.specs.Past.{Past, newest, deltas_above};
 ghost use Rattle.session.specs.Alone.{Alone, FedAlone, HearsAlone, FindsMemory, transcript, after_calls, of_session};
 ghost use Rattle.session.specs.Shelf.{FitsLater};
@@ -68,11 +68,11 @@ pub fn replies_of_a_state()
         → FedAlone (of_session old state) piece (of_session new after) out out' }
 {}
 
-/// The news of a session over a state alone: they are written, or for want of memory nothing is.
+/// The news of a session over a state alone: where they were told they are written, and else nothing is.
 pub fn news_of_a_state()
-    ensures { (old new : Session) (state after : State) (out out' : Option (List ℕ))
-        → TellsNews Alone old new state after out out'
-        → HearsAlone (of_session old state) (of_session new after) out out' }
+    ensures { (old new : Session) (state after : State) (told : Bool) (out out' : Option (List ℕ))
+        → Passes Alone old (call_of told) new state after out out'
+        → HearsAlone told (of_session old state) (of_session new after) out out' }
 {}
 
 /// Whatever a session over a state alone is called for, one call after another: where memory is found for its replies, what is

@@ -16,7 +16,7 @@ ghost use Rattle.session.specs.Exchange.{Exchange, Answered, Shown, IsReadOf};
 ghost use Rattle.session.specs.Output.{AppendsFront};
 ghost use Rattle.session.specs.Subscriptions.{may_follow_shown, subscribed, without_subscription};
 ghost use Rattle.session.specs.News.{AreNews, going_on};
-ghost use Rattle.session.specs.Calls.{TellsNews, StopsNews, with_subscriptions};
+ghost use Rattle.session.specs.Calls.{Passes, TellsNews, StopsNews, call_of, with_subscriptions};
 ghost use Rattle.session.specs.Replies.{IsLine, IsReplied, Asks, Feeds, Stops, answer_line, text_told};
 
 use crate::desk::Desk;
@@ -126,14 +126,14 @@ impl Session {
         Ok(())
     }
 
-    /// Tells the news of each document that is followed, in the order of their names. Where memory for them is wanted, none is
-    /// told, and the next call tells all of them.
+    /// Tells the news of each document that is followed, in the order of their names, and answers whether it did. Where the desk
+    /// can show no state, or memory for the news is wanted, none is told, and the next call tells all of them.
     pub fn on_news<O: Output, D: Desk>(
         &mut self,
         alloc: Global,
         out: &mut O,
         desk: &mut D,
-    ) -> Result<(), SessionEnded>
+    ) -> Result<bool, SessionEnded>
         // Once a write has failed, nothing is written or asked.
         ensures ended { self.old.ended ≡ true → IsErr result }
         ensures silent { self.old.ended ≡ true → out.new ≡ out.old }
@@ -142,6 +142,9 @@ impl Session {
 
         // What is written is the news of the state that the desk shows.
         ensures told { OnOk result (TellsNews D.does self.old self.new desk.old desk.new
+            (O.contents out.old) (O.contents out.new)) }
+        // It answers whether they were told.
+        ensures heard { IfOk result (λ heard. Passes D.does self.old (call_of heard) self.new desk.old desk.new
             (O.contents out.old) (O.contents out.new)) }
         // A write that fails ends the session, and nothing else does. A beginning of the news was written.
         ensures stopped { OnErr result (self.old.ended ≡ false
@@ -154,10 +157,10 @@ impl Session {
             return Err(SessionEnded);
         }
         let Ok(news) = show_news(alloc, desk, &self.subscriptions) else {
-            return Ok(());
+            return Ok(false);
         };
         self.tell(out, &news)?;
-        Ok(())
+        Ok(true)
     }
 
     // Writes what is told, and notes it.

@@ -81,20 +81,20 @@ impl StateDesk {
         session.feed(alloc, piece, out, self, shelf)
     }
 
-    /// Tells the news of a session over this desk: the news of the state are written, or for want of memory nothing, and then the
-    /// next call tells all of them.
+    /// Tells the news of a session over this desk, and answers whether it did: then the news of the state are written. For want
+    /// of memory it writes nothing, and the next call tells all of them.
     pub fn on_news<O: Output>(
         &mut self,
         alloc: Global,
         session: &mut Session,
         out: &mut O,
-    ) -> Result<(), SessionEnded>
+    ) -> Result<bool, SessionEnded>
         ensures later { IsLater self.old self.new }
         // Once a write has failed, nothing is written or asked.
         ensures ended { session.old.ended ≡ true → IsErr result }
         ensures silent { session.old.ended ≡ true → out.new ≡ out.old }
         ensures idle { session.old.ended ≡ true → self.new ≡ self.old }
-        ensures heard { OnOk result (HearsAlone (of_session session.old self.old) (of_session session.new self.new)
+        ensures heard { IfOk result (λ told. HearsAlone told (of_session session.old self.old) (of_session session.new self.new)
             (O.contents out.old) (O.contents out.new)) }
         // A write that fails ends the session, and nothing else does. A beginning of the news was written.
         ensures stopped { OnErr result (session.old.ended ≡ false

@@ -49,7 +49,7 @@ impl Conversation {
             .feed(alloc, &mut self.session, piece, out, &mut self.shelf)
     }
 
-    fn on_news<O: Output>(&mut self, alloc: Global, out: &mut O) -> Result<(), SessionEnded> {
+    fn on_news<O: Output>(&mut self, alloc: Global, out: &mut O) -> Result<bool, SessionEnded> {
         kept_documents_stay();
         self.desk.on_news(alloc, &mut self.session, out)
     }

@@ -1,6 +1,5 @@
 use super::Conversation;
 use session::Stream;
-use std::alloc::Global;
 use std::process::Abort;
 use std::test::Fail;
 
@@ -129,13 +128,14 @@ const SEVERAL: [Row; 12] = [
     ),
 ];
 
-/// What is written upon a step, whole or byte by byte.
-fn written(
-    alloc: Global,
+/// What is written upon a step, whole or byte by byte. There is ample memory, so the news are told.
+fn written<R: AllocGlobal + Abort>(
+    rt: &R,
     talk: &mut Conversation,
     step: Step,
     by_bytes: bool,
 ) -> Result<String, Fail> {
+    let alloc = rt.alloc();
     let mut out = Stream::new(Vec::new(alloc));
     match step {
         Step::Say(line) => {
@@ -145,7 +145,7 @@ fn written(
                 talk.feed(alloc, piece, &mut out)?;
             }
         }
-        Step::News => talk.on_news(alloc, &mut out)?,
+        Step::News => assert!(rt; talk.on_news(alloc, &mut out)?),
     }
     Ok(String::from_utf8(out.into_writer())?)
 }
@@ -163,7 +163,7 @@ fn go<R: AllocGlobal + Abort>(
             wanted.push_str(line)?;
             wanted.push('\n')?;
         }
-        let text = written(alloc, talk, *step, by_bytes)?;
+        let text = written(rt, talk, *step, by_bytes)?;
         assert_eq!(rt; text.as_str(), wanted.as_str());
     }
     Ok(())
