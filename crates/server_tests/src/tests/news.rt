@@ -28,7 +28,12 @@ fn the_news_follow_each_line(rt: HostRuntime) -> Result<(), Fail> {
     let input = format!(in rt.alloc(); "{HELLO}{INPUT}")?;
     let output = format!(in rt.alloc(); "{GREETED}{OUTPUT}")?;
     let mut rest = input.as_bytes();
-    runs(&rt, &["richd", "serve", path], &mut rest, (0, output.as_str(), ""))?;
+    runs(
+        &rt,
+        &["richd", "serve", path],
+        &mut rest,
+        (0, output.as_str(), ""),
+    )?;
     fs::remove_file(&rt, path)?;
     Ok(())
 }
