@@ -1,4 +1,6 @@
 //! Stores on devices in memory. What they are to hold stands in docs/FORMATS.md, and is written out by hand here.
+ghost use Rattle.std.specs.Prelude.{◌≤◌, ◌<◌, ◌^◌};
+
 use attributes::Attrs;
 use delta::{Builder, Delta, Op, OpRef};
 use disk::{Disk, MemDisk};
@@ -181,7 +183,7 @@ fn creation(rt: &(impl Abort + AllocGlobal), source: &str, doc: &str, text: &str
     Command::create(doc, source, 1, insert_of(rt, text)).expect(rt, "a creation")
 }
 
-/// An edit of a source, made on a revision, that inserts a text at the beginning.
+/// An edit of a source by its number of 1 to 2^53 - 1, made on a revision, that inserts a text at the beginning.
 pub fn edit(
     rt: &(impl Abort + AllocGlobal),
     source: &str,
@@ -189,7 +191,10 @@ pub fn edit(
     number: u64,
     base: u64,
     text: &str,
-) -> Command {
+) -> Command
+    requires first { 1 ≤ number }
+    requires last { number < 2 ^ 53 }
+{
     let source = Name::source(rt.alloc(), source).expect(rt, "a source");
     let doc = Name::doc(rt.alloc(), doc).expect(rt, "a document");
     Command::edit(doc, source, number, base, insert_of(rt, text)).expect(rt, "an edit")
