@@ -4,6 +4,7 @@ use refusal::Refusal;
 use server::desk::StoreDesk;
 use server::dump::dump;
 use server::serve::serve;
+use session::Stream;
 use std::process::Abort;
 use std::test::Fail;
 
@@ -57,9 +58,9 @@ fn served<R: AllocGlobal + Abort>(
     wanted: &str,
 ) -> Result<FaultDisk, Fail> {
     let mut desk = StoreDesk::new(opened(rt, FaultDisk::new(disk, plan))?);
-    let mut output = Vec::new(rt.alloc());
+    let mut output = Stream::new(Vec::new(rt.alloc()));
     let _ = serve(rt.alloc(), &mut desk, &mut LINES.as_bytes(), &mut output);
-    assert_eq!(rt; output.as_slice(), wanted.as_bytes());
+    assert_eq!(rt; output.into_writer().as_slice(), wanted.as_bytes());
     Ok(desk.into_store().close())
 }
 
