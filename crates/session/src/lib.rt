@@ -20,8 +20,9 @@
 //! ```text
 //! ghost use Rattle.std.specs.Prelude.{OnOk};
 //! ghost use Rattle.session.specs.Alone.{FedAlone, of_session};
+//! ghost use Rattle.session.specs.Shelf.{Fits};
 //!
-//! use session::{Output, Session, SessionEnded, StateDesk};
+//! use session::{Output, Session, SessionEnded, Shelf, StateDesk};
 //! use std::alloc::Global;
 //!
 //! /// Takes a piece of the input over a state in memory.
@@ -31,11 +32,14 @@
 //!     desk: &mut StateDesk,
 //!     piece: &[u8],
 //!     out: &mut O,
+//!     shelf: &mut Shelf,
 //! ) -> Result<(), SessionEnded>
-//!     ensures { OnOk result (FedAlone (of_session session.old desk.old) piece.now (of_session session.new desk.new)
+//!     requires fits { Fits desk.old shelf.old }
+//!     ensures fits { Fits desk.new shelf.new }
+//!     ensures fed { OnOk result (FedAlone (of_session session.old desk.old) piece.now (of_session session.new desk.new)
 //!         (O.contents out.old) (O.contents out.new)) }
 //! {
-//!     desk.feed(alloc, session, piece, out)
+//!     desk.feed(alloc, session, piece, out, shelf)
 //! }
 //! ```
 #![tactic(auto)]

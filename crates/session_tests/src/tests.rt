@@ -4,13 +4,13 @@ mod subscriptions;
 mod writes;
 
 ghost use Rattle.std.specs.Prelude.{◌≤◌};
-ghost use Rattle.session.specs.Shelf.{Fits};
 
 use refusal::Refusal;
 use revision::{Limits, State};
 use session::laws::kept_documents_stay;
 use session::{Output, Session, SessionEnded, Shelf, StateDesk, Stream};
 use std::alloc::Global;
+use std::marker::Model;
 use std::process::Abort;
 use std::test::Fail;
 
@@ -23,7 +23,17 @@ struct Conversation {
     session: Session,
     desk: StateDesk,
     shelf: Shelf,
-    ghost fits: { Fits desk shelf },
+}
+
+impl Model for Conversation {
+    ghost use Rattle.revision.specs.State.{State};
+    ghost use Rattle.session.specs.Shelf.{Fits};
+
+    ghost Value = { State };
+
+    ghost view = { λ c. c.desk };
+
+    ghost invariant = { λ c. Fits c.desk c.shelf };
 }
 
 impl Conversation {
