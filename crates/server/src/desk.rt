@@ -72,7 +72,7 @@ impl<D: Disk> StoreDesk<D> {
         ensures honest { D.honest (device_of (store_of self.new)) ↔ D.honest (device_of (store_of self.old)) }
     {
         let rev = taken.revision();
-        let Err(refusal @ Refusal::NoMemory) = self.store.commit(alloc, &[taken]) else {
+        let Err(refusal) = self.store.commit(alloc, &[taken]) else {
             return Ok(Reply::Taken { rev });
         };
         if refusal == Refusal::NoMemory {
