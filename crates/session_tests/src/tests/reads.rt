@@ -1,7 +1,7 @@
 use super::{Said, talk};
 use std::test::Fail;
 
-const READS: [Said; 16] = [
+const READS: [Said; 18] = [
     ("", r#"{"code":1,"error":"BadLine"}"#),
     (
         r#"{"do":"fetch","doc":"d"}"#,
@@ -49,16 +49,24 @@ const READS: [Said; 16] = [
         r#"{"deltas":[],"doc":"d","ok":"since","rev":2}"#,
     ),
     (
-        r#"{"do":"undo","doc":"d","n":3}"#,
+        r#"{"base":2,"do":"edit","doc":"d","n":3,"ops":[{"retain":4294967296}]}"#,
+        r#"{"code":3,"error":"BadOps"}"#,
+    ),
+    (
+        r#"{"base":2,"do":"edit","doc":"d","n":3,"ops":[{"retain":4294967295}]}"#,
         r#"{"doc":"d","n":3,"ok":"taken","rev":3}"#,
+    ),
+    (
+        r#"{"do":"undo","doc":"d","n":4}"#,
+        r#"{"doc":"d","n":4,"ok":"taken","rev":4}"#,
     ),
     (
         r#"{"do":"fetch","doc":"d","rev":0}"#,
         r#"{"code":13,"error":"TooOld"}"#,
     ),
     (
-        r#"{"do":"undo","doc":"d","n":3}"#,
-        r#"{"doc":"d","n":3,"ok":"again","rev":3}"#,
+        r#"{"do":"undo","doc":"d","n":4}"#,
+        r#"{"doc":"d","n":4,"ok":"again","rev":4}"#,
     ),
 ];
 
