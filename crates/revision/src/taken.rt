@@ -1,5 +1,5 @@
 //! A command that was taken.
-ghost use Rattle.std.specs.Prelude.{◌≡◌, ◌<◌, ◌^◌, ◌+◌, ◌-◌, min, Some, None, length, option_map};
+ghost use Rattle.std.specs.Prelude.{◌≡◌, ◌↔◌, ◌<◌, ◌^◌, ◌+◌, ◌-◌, min, Some, None, length, option_map, IfOk, IsOkUnless, IsTrue};
 ghost use Rattle.revision.specs.Spellable.{IsSpellable};
 ghost use Rattle.revision.specs.Width as wide;
 ghost use Rattle.revision.specs.Command.{IsTaken, width_of};
@@ -7,6 +7,8 @@ ghost use Rattle.revision.specs.Command.{IsTaken, width_of};
 use crate::name::Name;
 use crate::widths::delta_width;
 use delta::Delta;
+use refusal::Refusal;
+use std::alloc::Global;
 use std::marker::Model;
 
 /// A command that was taken: which document's next revision it makes, for whom, and by which delta.
@@ -123,6 +125,62 @@ impl Taken {
         };
         delta_width(&self.delta).saturating_add(23 + self.source.len() + name)
     }
+
+    /// An equal command, or `NoMemory`.
+    pub fn copy(&self, alloc: Global) -> Result<Taken, Refusal>
+        ensures same { IfOk result (λ copy. copy ≡ self.now) }
+        ensures only { IsOkUnless result Refusal.NoMemory }
+    {
+        let delta = self.delta.copy(alloc)?;
+        let source = self.source.copy(alloc)?;
+        let name = match &self.name {
+            Some(name) => Some(name.copy(alloc)?),
+            None => None,
+        };
+        Ok(Taken {
+            document: self.document,
+            name,
+            revision: self.revision,
+            source,
+            number: self.number,
+            delta,
+        })
+    }
+
+    /// Whether two commands are equal in all that they have. It takes no memory.
+    pub fn is_same(&self, other: &Taken) -> bool
+        ensures { IsTrue result ↔ (self.now ≡ other.now) }
+    {
+        self.document() == other.document()
+            && self.revision() == other.revision()
+            && self.number() == other.number()
+            && has_same_name(self.name(), other.name())
+            && is_same_name(self.source(), other.source())
+            && is_same_delta(self.delta(), other.delta())
+    }
+}
+
+fn has_same_name(one: Option<&Name>, other: Option<&Name>) -> bool
+    ensures { IsTrue result ↔ (option_map (λ n. n.now) one.entry ≡ option_map (λ n. n.now) other.entry) }
+{
+    match (one, other) {
+        (None, None) => true,
+        (Some(one), Some(other)) => is_same_name(one, other),
+        (None, Some(_)) => false,
+        (Some(_), None) => false,
+    }
+}
+
+fn is_same_name(one: &Name, other: &Name) -> bool
+    ensures { IsTrue result ↔ (one.now ≡ other.now) }
+{
+    one == other
+}
+
+fn is_same_delta(one: &Delta, other: &Delta) -> bool
+    ensures { IsTrue result ↔ (one.now ≡ other.now) }
+{
+    one == other
 }
 
 /// How many bytes a creation would take in the journal; 2^64 - 1 where it would be more.
