@@ -3,8 +3,8 @@ use Rattle.std.proofs.lemmas.List.{length-map}
 use Rattle.std.specs.Prelude.{min, sum_by}
 use Rattle.revision.specs.Command.{Taken, width_of}
 use Rattle.world.specs.World.{Entry, takens}
-use Rattle.flusher.proofs.Widths.{width-more, above, within}
-use Rattle.flusher.proofs.run.longest.Goals as goal
+use Rattle.hub.proofs.Widths.{width-more, above, within}
+use Rattle.hub.proofs.run.longest.Goals as goal
 
 pub returns-then-more-from : goal.returns-then-more-from
 returns-then-more-from c = record {

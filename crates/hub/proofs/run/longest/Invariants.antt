@@ -2,7 +2,7 @@ use Rattle.std.proofs.Common.{◌≡◌, ◌⊎◌, ◌≤◌, ◌+◌, take}
 use Rattle.std.specs.Prelude.{sum_by}
 use Rattle.revision.specs.Command.{width_of}
 use Rattle.world.specs.World.{takens}
-use Rattle.flusher.proofs.run.longest.Given as goal
+use Rattle.hub.proofs.run.longest.Given as goal
 
 abbrev pub invariant-loop-i : goal.invariant-loop-i
 invariant-loop-i l = record {
