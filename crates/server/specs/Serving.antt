@@ -1,5 +1,5 @@
 -- Serving a session over a pair of streams.
-use Rattle.std.specs.Prelude.{◌≡◌, ◌≢◌, ℕ, List, [], ◌∷◌, false, Option, Some, None}
+use Rattle.std.specs.Prelude.{◌≢◌, ℕ, List, [], ◌∷◌, false, Option, Some, None}
 use Rattle.std.specs.Io.KnownBytes.{Appends, Consumes, IsAtEnd}
 use Rattle.session.specs.Session.{Session}
 use Rattle.session.specs.Exchange.{Exchange}
