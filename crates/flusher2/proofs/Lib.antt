@@ -1,0 +1,4 @@
+pub mod Beginnings
+pub mod Evens
+pub mod Goings
+pub mod Running

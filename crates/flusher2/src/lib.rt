@@ -1,0 +1,2 @@
+//! The flusher's part of a server.
+#![tactic(auto)]
