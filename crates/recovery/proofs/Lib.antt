@@ -5,6 +5,7 @@ pub mod Layouts
 pub mod Folds
 pub mod Commits
 pub mod Runs
+pub mod Going
 pub mod Marking
 pub mod Marked
 pub mod Splitting
