@@ -1,6 +1,6 @@
 -- Some first batches of a list of batches, when more batches come.
-use Rattle.std.proofs.Common.{◌≡◌, ◌≤◌, ◌⊎◌, inl, inr, ℕ, ◌+◌, List, [], ◌∷◌, ◌++◌, length, take, refl, sym, ◌∙◌, ap, subst, arith, append_assoc, append-nil, length-append}
-use Rattle.std.proofs.lemmas.List.{take_at}
+use Rattle.std.proofs.Common.{◌≡◌, ◌≤◌, ◌⊎◌, inl, inr, ℕ, ◌+◌, List, [], ◌∷◌, ◌++◌, length, take, refl, sym, ◌∙◌, ap, subst, arith, append_assoc, append-nil, length-append, length-take}
+use Rattle.std.proofs.lemmas.List.{take_at, take-take}
 use Rattle.std.proofs.lemmas.Grind.{flat_map-append}
 use Rattle.revision.specs.Command.{Taken}
 use Rattle.revision.specs.State.{State, grown, fold}
@@ -63,6 +63,6 @@ is_first least start order batches count content all is =
     }
   where
     shorter : (order : List Taken) (n count : ℕ) → n ≤ length (take count order) → take n (take count order) ≡ take n order
-    shorter order n count fits = ?
+    shorter order n count fits = take-take n count order (omega (arith, fits, length-take {A = Taken} count order))
     within : (order : List Taken) (n count : ℕ) → n ≤ length (take count order) → n ≤ length order
-    within order n count fits = ?
+    within order n count fits = omega (arith, fits, length-take {A = Taken} count order)

@@ -1,4 +1,3 @@
 pub mod Beginnings
 pub mod Evens
-pub mod Goings
 pub mod Running

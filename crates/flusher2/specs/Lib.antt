@@ -1,3 +1,2 @@
-pub mod Goes
 pub mod Batches
 pub mod Standing

@@ -9,7 +9,7 @@ use Rattle.world.specs.World.{Entry, takens}
 use Rattle.recovery.specs.declared.store.Store.{Store}
 use Rattle.recovery.specs.Found.{commands_of}
 use Rattle.recovery.specs.Open.{IsOpen, device_of, state_of, has_failed}
-use Rattle.flusher2.specs.Goes.{Goes}
+use Rattle.recovery.specs.Goes.{Goes}
 use Rattle.flusher2.specs.Batches.{IsBeginning, AreParts}
 
 -- What the board has; the batches that were published; the batch that is committed and not published yet, and the one that isn't
