@@ -1,3 +1,4 @@
 pub mod Beginnings
 pub mod Evens
 pub mod Running
+pub mod Turning
