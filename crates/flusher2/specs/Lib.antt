@@ -1,2 +1,4 @@
 pub mod Batches
 pub mod Standing
+pub mod Flushers
+pub mod Holding

@@ -1,2 +1,8 @@
-//! The flusher's part of a server.
+//! The flusher, which commits and publishes batches, and one thread's run.
 #![tactic(auto)]
+
+mod flusher;
+mod gate;
+
+pub use flusher::Flusher;
+pub use gate::{Gate, Moment, OpenGate};

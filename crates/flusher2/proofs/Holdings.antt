@@ -1,0 +1,50 @@
+-- What a flusher holds, and how it fits the state of its store.
+use Rattle.std.proofs.Common.{◌≡◌, ◌⊎◌, inl, inr, ℕ, true, false, List, [], ◌∷◌, ◌++◌, Vec, Global, Option, Some, None, refl, sym, ◌∙◌, ap, subst, append_assoc, append-nil}
+use Rattle.std.specs.Prelude.{option_map}
+use Rattle.disk.specs.declared.device.Disk.{Ghosts}
+use Rattle.revision.specs.Command.{Taken}
+use Rattle.revision.specs.State.{State, fold}
+use Rattle.recovery.specs.declared.store.Store.{Store}
+use Rattle.recovery.specs.Found.{commands_of}
+use Rattle.recovery.specs.Open.{IsWithOrWithout, state_of}
+use Rattle.recovery.specs.Goes.{Goes}
+use Rattle.recovery.proofs.CallerLemmas.{goes_none, found_as, found_open}
+use Rattle.view.specs.Shown.{Published}
+use Rattle.flusher2.specs.Holding.{listed}
+use Rattle.flusher2.proofs.Beginnings.{commands-append, fold-append}
+
+abbrev pub held_in : Option (Vec Taken Global) → List (List Taken)
+held_in waiting = listed (option_map (λ v. v.items) waiting)
+
+pub none_of_held : (waiting : Option (Vec Taken Global)) → held_in waiting ≡ [] → waiting ≡ None
+none_of_held None is = refl
+none_of_held (Some v) is = absurd (let no : ⊥ = cc in no)
+
+pub same_batch : (batches : List (List Taken)) (one two : List Taken) → batches ≡ one ∷ [] → batches ≡ two ∷ [] → one ≡ two
+same_batch batches one two first second = cc
+
+module _ {D : Type 0} {disk : Ghosts D} where
+  pub goes_not : (store : Store D disk) (commands : List Taken) → Goes (IsWithOrWithout (state_of store) commands) store store
+  goes_not store commands = goes_none store (λ is_open. inl (found_as _ _ (found_open store is_open)))
+
+  pub goes_batch : (old new : Store D disk) (batch : List Taken) (batches : List (List Taken)) → batches ≡ batch ∷ [] → Goes (IsWithOrWithout (state_of old) batch) old new
+      → Goes (IsWithOrWithout (state_of old) (commands_of batches)) old new
+  goes_batch old new batch batches is goes =
+      subst (λ (c : List Taken). Goes (IsWithOrWithout (state_of old) c) old new) (sym (ap commands_of is ∙ append-nil batch)) goes
+
+-- one batch that is committed more
+pub kept_more : (start old new : State) (before after : Published) (receipt batch : List Taken) → old ≡ fold start (commands_of (before.told ++ before.held)) → before.held ≡ []
+    → after ≡ record before { held = receipt ∷ [] } → receipt ≡ batch → new ≡ fold old batch → new ≡ fold start (commands_of (after.told ++ after.held))
+kept_more start old new before after receipt batch kept none is same grown =
+    grown ∙ ap (λ (s : State). fold s batch) (kept ∙ ap (λ (l : List (List Taken)). fold start (commands_of (before.told ++ l))) none ∙ ap (λ (l : List (List Taken)). fold start (commands_of l)) (append-nil before.told))
+    ∙ sym (fold-append start (commands_of before.told) batch)
+    ∙ ap (λ (c : List Taken). fold start (commands_of before.told ++ c)) (sym (append-nil batch) ∙ ap (λ (b : List Taken). b ++ []) (sym same))
+    ∙ ap (fold start) (sym (commands-append before.told (receipt ∷ [])))
+    ∙ ap (λ (p : Published). fold start (commands_of (p.told ++ p.held))) (sym is)
+
+-- the batch that is held is published: what the store holds is the same
+pub kept_published : (start state : State) (before after : Published) → state ≡ fold start (commands_of (before.told ++ before.held)) → after ≡ record { told = before.told ++ before.held; held = [] }
+    → state ≡ fold start (commands_of (after.told ++ after.held))
+kept_published start state before after kept is =
+    kept ∙ ap (λ (l : List (List Taken)). fold start (commands_of l)) (sym (append-nil (before.told ++ before.held)))
+    ∙ ap (λ (p : Published). fold start (commands_of (p.told ++ p.held))) (sym is)
