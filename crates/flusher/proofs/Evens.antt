@@ -5,8 +5,8 @@ use Rattle.std.proofs.Math.Seq.{take-add}
 use Rattle.revision.specs.Command.{Taken}
 use Rattle.recovery.specs.Found.{commands_of}
 use Rattle.world.specs.World.{Entry, takens}
-use Rattle.flusher2.specs.Batches.{AreParts}
-use Rattle.flusher2.proofs.Beginnings.{commands-append}
+use Rattle.flusher.specs.Batches.{AreParts}
+use Rattle.flusher.proofs.Beginnings.{commands-append}
 
 module _ (order : List Taken) (settled taken : ℕ) (ordered : settled ≤ taken) (within : taken ≤ length order) where
   -- as many commands were published as are settled

@@ -6,7 +6,7 @@ use Rattle.revision.specs.Command.{Taken}
 use Rattle.revision.specs.State.{State, grown, fold}
 use Rattle.recovery.specs.Found.{commands_of, FoundAs}
 use Rattle.recovery.specs.Open.{IsWithOrWithout}
-use Rattle.flusher2.specs.Batches.{IsBeginning, IsFirst}
+use Rattle.flusher.specs.Batches.{IsBeginning, IsFirst}
 
 pub commands-append : (first more : List (List Taken)) → commands_of (first ++ more) ≡ commands_of first ++ commands_of more
 commands-append first more = flat_map-append (λ (b : List Taken). b) first more
@@ -64,5 +64,6 @@ is_first least start order batches count content all is =
   where
     shorter : (order : List Taken) (n count : ℕ) → n ≤ length (take count order) → take n (take count order) ≡ take n order
     shorter order n count fits = take-take n count order (omega (arith, fits, length-take {A = Taken} count order))
+
     within : (order : List Taken) (n count : ℕ) → n ≤ length (take count order) → n ≤ length order
     within order n count fits = omega (arith, fits, length-take {A = Taken} count order)

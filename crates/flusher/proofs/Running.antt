@@ -13,18 +13,21 @@ use Rattle.recovery.specs.Found.{commands_of, FoundAs}
 use Rattle.recovery.specs.Open.{IsOpen, IsWithOrWithout, device_of, state_of, has_failed}
 use Rattle.recovery.specs.Goes.{Goes}
 use Rattle.recovery.proofs.CallerLemmas.{goes_none, goes_map, goes_on, found_now, found_as, found_open}
-use Rattle.flusher2.specs.Batches.{IsBeginning, IsFirst, AreParts}
-use Rattle.flusher2.specs.Standing.{Standing, batches_of, IsEven, IsCalm, RunGoes}
-use Rattle.flusher2.proofs.Beginnings.{commands-append, fold-append, fewer, longer, these, within_write, is_first}
-use Rattle.flusher2.proofs.Evens.{told_length, all_settled, all_batches, parts_longer, parts_taken, parts_settled, run_taken, takens_length}
+use Rattle.flusher.specs.Batches.{IsBeginning, IsFirst, AreParts}
+use Rattle.flusher.specs.Standing.{Standing, batches_of, IsEven, IsCalm, RunGoes}
+use Rattle.flusher.proofs.Beginnings.{commands-append, fold-append, fewer, longer, these, within_write, is_first}
+use Rattle.flusher.proofs.Evens.{told_length, all_settled, all_batches, parts_longer, parts_taken, parts_settled, run_taken, takens_length}
 
 module _ {D : Type 0} {disk : Ghosts D} where
   -- at a calm moment no fewer commands are published than are settled
   pub settled_told : (start : State) (here : Standing D disk) → IsCalm start here → here.board.settled ≤ length (commands_of here.told)
   settled_told start here calm =
       let even = calm.even in
-      omega (arith, told_length (takens here.board.order) here.board.settled here.board.taken even.settled
-      (omega (arith, even.taken, takens_length here.board.order)) here.told (here.committed ++ here.waiting) even.parts)
+      omega (
+        arith,
+        told_length (takens here.board.order) here.board.settled here.board.taken even.settled
+            (omega (arith, even.taken, takens_length here.board.order)) here.told (here.committed ++ here.waiting) even.parts,
+      )
 
   -- nothing is left to publish
   pub calm_parts : (start : State) (here : Standing D disk) → IsCalm start here → AreParts (takens here.board.order) here.board.settled here.board.taken here.told []
@@ -79,9 +82,9 @@ module _ {D : Type 0} {disk : Ghosts D} where
         even = second.even;
         settled = omega (arith, first.settled, second.settled);
         more = (
-            first.more.0 ++ more.0,
-            whole ∙ ap (λ (l : List (List Taken)). l ++ more.0) first.more.1 ∙ append_assoc old.told first.more.0 more.0,
-          );
+          first.more.0 ++ more.0,
+          whole ∙ ap (λ (l : List (List Taken)). l ++ more.0) first.more.1 ∙ append_assoc old.told first.more.0 more.0,
+        );
         goes = goes_on
             (goes_map (λ content found. longer old.board.settled start (batches_of mid) (batches_of new) more.0 content whole found) first.goes)
             (goes_map (λ content found. fewer mid.board.settled old.board.settled start (batches_of new) content first.settled found) second.goes);

@@ -10,7 +10,7 @@ use Rattle.recovery.specs.declared.store.Store.{Store}
 use Rattle.recovery.specs.Found.{commands_of}
 use Rattle.recovery.specs.Open.{IsOpen, device_of, state_of, has_failed}
 use Rattle.recovery.specs.Goes.{Goes}
-use Rattle.flusher2.specs.Batches.{IsBeginning, AreParts}
+use Rattle.flusher.specs.Batches.{IsBeginning, AreParts}
 
 -- What the board has; the batches that were published; the batch that is committed and not published yet, and the one that isn't
 -- committed yet, each a list of one batch or of none; and the store.

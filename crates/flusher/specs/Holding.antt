@@ -1,10 +1,11 @@
 -- The parts of a flusher, as contracts name them.
-use Rattle.std.specs.Prelude.{List, option_map}
+use Rattle.std.specs.Prelude.{List}
+use Rattle.std.specs.Option.{option_map}
 use Rattle.disk.specs.declared.device.Disk.{Ghosts}
 use Rattle.revision.specs.Command.{Taken}
 use Rattle.recovery.specs.declared.store.Store.{Store}
-use Rattle.flusher2.specs.declared.flusher.Flusher.{Flusher}
-use Rattle.flusher2.specs.Flushers.{listed}
+use Rattle.flusher.specs.declared.flusher.Flusher.{Flusher}
+use Rattle.flusher.specs.Flushers.{listed}
 
 module _ {D J : Type 0} {disk : Ghosts D} {site ledger : _} where
   abbrev pub store_of : Flusher D J disk site ledger → Store D disk

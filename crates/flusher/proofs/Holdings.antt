@@ -1,17 +1,21 @@
 -- What a flusher holds, and how it fits the state of its store.
-use Rattle.std.proofs.Common.{◌≡◌, ◌⊎◌, inl, inr, ℕ, true, false, List, [], ◌∷◌, ◌++◌, Vec, Global, Option, Some, None, refl, sym, ◌∙◌, ap, subst, append_assoc, append-nil}
-use Rattle.std.specs.Prelude.{option_map}
+use Rattle.std.proofs.Common.{◌≡◌, ◌≢◌, ◌↔◌, ◌⊎◌, inl, inr, ℕ, true, false, List, [], ◌∷◌, ◌++◌, Vec, Global, Option, Some, None, refl, sym, ◌∙◌, ap, subst, append_assoc, append-nil}
+use Rattle.std.specs.Prelude.{Result, Ok, Err, OnOk, IfErr, IsErrOf}
+use Rattle.std.specs.Option.{option_map}
+use Rattle.disk.specs.Crash.{LeavesOnly}
+use Rattle.refusal.specs.declared.Refusal.{Refusal}
+use Rattle.refusal.specs.declared.Refusal.TheVariants.{StillNeeded, Fault}
 use Rattle.disk.specs.declared.device.Disk.{Ghosts}
 use Rattle.revision.specs.Command.{Taken}
 use Rattle.revision.specs.State.{State, fold}
 use Rattle.recovery.specs.declared.store.Store.{Store}
-use Rattle.recovery.specs.Found.{commands_of}
-use Rattle.recovery.specs.Open.{IsWithOrWithout, state_of}
+use Rattle.recovery.specs.Found.{commands_of, FoundAs}
+use Rattle.recovery.specs.Open.{IsOpen, IsUnchanged, IsRetiredNow, IsWithOrWithout, device_of, state_of, has_failed}
 use Rattle.recovery.specs.Goes.{Goes}
-use Rattle.recovery.proofs.CallerLemmas.{goes_none, found_as, found_open}
+use Rattle.recovery.proofs.CallerLemmas.{goes_none, goes_call, open_unchanged, found_as, found_open}
 use Rattle.view.specs.Shown.{Published}
-use Rattle.flusher2.specs.Holding.{listed}
-use Rattle.flusher2.proofs.Beginnings.{commands-append, fold-append}
+use Rattle.flusher.specs.Flushers.{listed}
+use Rattle.flusher.proofs.Beginnings.{commands-append, fold-append}
 
 abbrev pub held_in : Option (Vec Taken Global) → List (List Taken)
 held_in waiting = listed (option_map (λ v. v.items) waiting)
@@ -31,6 +35,26 @@ module _ {D : Type 0} {disk : Ghosts D} where
       → Goes (IsWithOrWithout (state_of old) (commands_of batches)) old new
   goes_batch old new batch batches is goes =
       subst (λ (c : List Taken). Goes (IsWithOrWithout (state_of old) c) old new) (sym (ap commands_of is ∙ append-nil batch)) goes
+
+module _ {D : Type 0} {disk : Ghosts D} (old new : Store D disk) where
+  -- what a retirement leaves, whatever it answers
+  retire_done : (result : Result (Unit {0}) Refusal) → OnOk result ((is_open : IsOpen old) → IsRetiredNow is_open.cells is_open.table new) → OnOk result (IsOpen old → IsOpen new)
+  retire_done (Ok answer) done = λ is_open. (done is_open).goes_on
+  retire_done (Err refusal) done = tt
+
+  retire_kept : (result : Result (Unit {0}) Refusal) → IfErr result (λ e. (e ≡ StillNeeded) ⊎ (e ≡ Fault)) → (IsErrOf result StillNeeded → IsUnchanged old new)
+      → IfErr result (λ e. e ≢ Fault → IsOpen old → IsOpen new)
+  retire_kept (Ok answer) only untouched = tt
+  retire_kept (Err refusal) (inl needed) untouched = λ no_fault is_open. open_unchanged (untouched (ap (λ (e : Refusal). Err e) needed)) is_open
+  retire_kept (Err refusal) (inr fault) untouched = λ no_fault is_open. absurd (no_fault fault)
+
+  pub goes_retired : (result : Result (Unit {0}) Refusal) → (has_failed old ≡ true → IsErrOf result Fault × IsUnchanged old new)
+      → (has_failed old ≡ false → (has_failed new ≡ true ↔ IsErrOf result Fault))
+      → (has_failed old ≡ false → IsOpen old → LeavesOnly disk (λ content. FoundAs content (state_of old)) (device_of old) (device_of new))
+      → OnOk result ((is_open : IsOpen old) → IsRetiredNow is_open.cells is_open.table new)
+      → IfErr result (λ e. (e ≡ StillNeeded) ⊎ (e ≡ Fault)) → (IsErrOf result StillNeeded → IsUnchanged old new)
+      → Goes (λ content. FoundAs content (state_of old)) old new
+  goes_retired result failed_before fails any_moment done only untouched = goes_call result failed_before fails any_moment (retire_done result done) (retire_kept result only untouched)
 
 -- one batch that is committed more
 pub kept_more : (start old new : State) (before after : Published) (receipt batch : List Taken) → old ≡ fold start (commands_of (before.told ++ before.held)) → before.held ≡ []

@@ -12,10 +12,10 @@ use Rattle.recovery.specs.Found.{commands_of, FoundAs}
 use Rattle.recovery.specs.Open.{IsOpen, IsWithOrWithout, device_of, state_of, has_failed}
 use Rattle.recovery.specs.Goes.{Goes}
 use Rattle.recovery.proofs.CallerLemmas.{goes_none, goes_map, found_as, found_open}
-use Rattle.flusher2.specs.Batches.{AreParts}
-use Rattle.flusher2.specs.Standing.{Standing, batches_of, IsEven, IsCalm, RunGoes}
-use Rattle.flusher2.proofs.Evens.{all_settled, parts_longer, parts_taken, parts_settled, run_taken, takens_length}
-use Rattle.flusher2.proofs.Running.{calm_parts, calm_batches, run_step, run_settled_step}
+use Rattle.flusher.specs.Batches.{AreParts}
+use Rattle.flusher.specs.Standing.{Standing, batches_of, IsEven, IsCalm, RunGoes}
+use Rattle.flusher.proofs.Evens.{all_settled, parts_longer, parts_taken, parts_settled, run_taken, takens_length}
+use Rattle.flusher.proofs.Running.{calm_parts, calm_batches, run_step, run_settled_step}
 
 -- a board's counts lie in its order, and its order as far as it is taken off is these batches
 pub record Stands (board : Board Entry) (told rest : List (List Taken)) : Type 0 where
@@ -67,7 +67,7 @@ module _ {D : Type 0} {disk : Ghosts D} where
       let after = calm_of start board here.told here.committed here.waiting here.store is calm.committed calm.waiting calm.state in (
         after,
         run_step start here (record here { board = board }) [] calm after.even (calm_batches start here calm ∙ sym (append-nil here.told)) settled
-        (goes_none here.store (λ is_open. inl (found_as _ _ (found_open here.store is_open)))),
+            (goes_none here.store (λ is_open. inl (found_as _ _ (found_open here.store is_open)))),
       )
 
   -- a command is submitted
@@ -87,7 +87,7 @@ module _ {D : Type 0} {disk : Ghosts D} where
       let after = calm_of start here.board here.told here.committed here.waiting store (calm_stands start here calm) calm.committed calm.waiting (same ∙ calm.state) in (
         after,
         run_step start here (record here { store = store }) [] calm after.even (calm_batches start here calm ∙ sym (append-nil here.told)) refl
-        (goes_map (λ content found. inl found) goes),
+            (goes_map (λ content found. inl found) goes),
       )
 
   -- A turn that was refused: the run is taken off, and is committed or not.
@@ -99,10 +99,10 @@ module _ {D : Type 0} {disk : Ghosts D} where
       let stands = calm_stands start here calm in
       let count = length run in
       let parts = parts_taken (takens here.board.order) here.board.settled here.board.taken stands.settled (omega (arith, stands.taken, takens_length here.board.order)) run count here.told
-          (is ∙ run_taken here.board.order here.board.taken count) stands.parts in
+      (is ∙ run_taken here.board.order here.board.taken count) stands.parts in
       let later : Stands (taken_more here.board count) here.told (run ∷ []) = record { settled = omega (arith, stands.settled); taken = within; parts = parts } in
       let even = even_of board here.told committed waiting store
-          (subst (λ (b : Board Entry). Stands b here.told (committed ++ waiting)) (sym boards) (subst (λ (rest : List (List Taken)). Stands (taken_more here.board count) here.told rest) (sym held) later)) in
+      (subst (λ (b : Board Entry). Stands b here.told (committed ++ waiting)) (sym boards) (subst (λ (rest : List (List Taken)). Stands (taken_more here.board count) here.told rest) (sym held) later)) in
       run_step start here (record { board = board; told = here.told; committed = committed; waiting = waiting; store = store }) (run ∷ []) calm even
       (ap (λ (l : List (List Taken)). here.told ++ l) held) (ap (λ (b : Board Entry). b.settled) boards)
       (subst (λ (c : List Taken). Goes (IsWithOrWithout (state_of here.store) c) here.store store) (sym (append-nil run)) goes)
@@ -120,14 +120,14 @@ module _ {D : Type 0} {disk : Ghosts D} where
       let count = length run in
       let bound : here.board.taken ≤ length (takens here.board.order) = omega (arith, stands.taken, takens_length here.board.order) in
       let parts = parts_settled (takens here.board.order) here.board.settled here.board.taken stands.settled bound run count here.told
-          (is ∙ run_taken here.board.order here.board.taken count) stands.parts in
+      (is ∙ run_taken here.board.order here.board.taken count) stands.parts in
       let later : Stands (settled_more (taken_more here.board count) count) (here.told ++ run ∷ []) [] = record { settled = omega (arith, stands.settled); taken = within; parts = parts } in
       let there = subst (λ (b : Board Entry). Stands b told []) (sym boards) (subst (λ (t : List (List Taken)). Stands (settled_more (taken_more here.board count) count) t []) (sym tells) later) in
       let after = calm_of start board told committed waiting store there none nothing state in (
         after,
         run_settled_step start here (record { board = board; told = told; committed = committed; waiting = waiting; store = store }) (run ∷ []) calm after tells
-        (omega (arith, ap (λ (b : Board Entry). b.settled) boards)) works
-        (subst (λ (c : List Taken). Goes (IsWithOrWithout (state_of here.store) c) here.store store) (sym (append-nil run)) goes),
+            (omega (arith, ap (λ (b : Board Entry). b.settled) boards)) works
+            (subst (λ (c : List Taken). Goes (IsWithOrWithout (state_of here.store) c) here.store store) (sym (append-nil run)) goes),
       )
 
   -- a run of no command at all
