@@ -95,6 +95,13 @@ impl<D, J: Site> Board<D, J> {
         self.board.settled()
     }
 
+    /// The token of what was published, up to what is settled.
+    pub fn told(&self) -> &Told<D, J>
+        ensures { result.now ≡ self.now.told }
+    {
+        &self.told
+    }
+
     /// Whether all commands of the order are taken off.
     pub fn is_idle(&self) -> bool
         ensures { IsTrue result ↔ (untaken self.now.board ≡ []) }

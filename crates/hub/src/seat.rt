@@ -9,7 +9,7 @@ use std::marker::Model;
 use std::sync::ledger::{Book, Share};
 
 /// How many places there are to wait at. Seats above this number share them.
-pub const PLACES: usize = 64;
+pub(crate) const PLACES: usize = 64;
 
 /// A session's right to submit. Contracts see it as the number of commands that were taken from it: the sum over all seats is the
 /// length of the board's order. It is used at the board that gave it, by itself or behind its hub.

@@ -1,77 +1,188 @@
-//! A board over a state in memory: batches that fit their slots, and what is settled.
-use attributes::Attrs;
-use delta::{Builder, Delta, Op};
-use flusher::Board;
-use refusal::Refusal;
-use revision::{Command, Limits, Name, Reply, State};
-use std::process::Abort;
+//! A board over a store in memory: batches that fit their slots, and what is settled.
+ghost use Rattle.std.specs.Prelude.{◌≡◌};
 
-// so many letters
-fn letters(rt: &(impl Abort + AllocGlobal), count: u32) -> Delta {
-    let mut text = String::new(rt.alloc());
-    for _ in 0..count {
-        assert!(rt; text.push('x').is_ok());
-    }
-    let mut builder = Builder::new(rt.alloc());
-    assert!(rt; builder.push(Op::text(text, Attrs::new(rt.alloc()))).is_ok());
-    builder.finish()
+use crate::made::{CAP, SHAPE, command, commit, new_store};
+use disk::MemDisk;
+use hub::{Board, Seat, Ticket};
+use published::{Log, Opened, Site, Told};
+use recovery::{Receipt, Store};
+use refusal::Refusal;
+use revision::{Reply, State, Taken};
+use std::marker::Brand;
+use std::process::Abort;
+use std::sync::ledger::Blank;
+
+// a command is ordered, as this revision, and ends the order at this length
+fn is_ordered<J: Site, R: Abort + AllocGlobal>(
+    rt: &R,
+    board: &mut Board<MemDisk, J>,
+    seat: &mut Seat<J>,
+    number: u64,
+    count: u32,
+) {
+    let command = command(rt, number, count);
+    let ticket = board
+        .submit(rt.alloc(), seat, &command)
+        .expect(rt, "it is taken");
+    assert!(rt; ticket.reply() == Reply::Taken { rev: number });
+    assert!(rt; ticket.length() as u64 == number);
 }
 
-// Source a's first command creates document z, and each other edits the revision before.
-fn command(rt: &(impl Abort + AllocGlobal), number: u64, count: u32) -> Command {
-    assert!(rt; 1 <= number && number < 1 << 53);
-    let name = Name::doc(rt.alloc(), "z").expect(rt, "a document");
-    let source = Name::source(rt.alloc(), "a").expect(rt, "a source");
-    let delta = letters(rt, count);
-    let made = match number {
-        1 => Command::create(name, source, number, delta),
-        _ => Command::edit(name, source, number, number - 1, delta),
-    };
-    made.expect(rt, "a command")
+// it was ordered before
+fn is_again<J: Site, R: Abort + AllocGlobal>(
+    rt: &R,
+    board: &mut Board<MemDisk, J>,
+    seat: &mut Seat<J>,
+    number: u64,
+    count: u32,
+) -> Ticket {
+    let command = command(rt, number, count);
+    let ticket = board
+        .submit(rt.alloc(), seat, &command)
+        .expect(rt, "a retry");
+    assert!(rt; ticket.reply() == Reply::Again { rev: number });
+    ticket
+}
+
+// the next batch has so many commands
+fn batch<J: Site, R: Abort + AllocGlobal>(
+    rt: &R,
+    board: &mut Board<MemDisk, J>,
+    count: usize,
+) -> Vec<Taken> {
+    let batch = board.take(rt.alloc(), CAP).expect(rt, "memory");
+    assert_eq!(rt; batch.len(), count);
+    batch
+}
+
+fn receipt_of<R: Abort + AllocGlobal>(
+    rt: &R,
+    store: &mut Store<MemDisk>,
+    batch: &[Taken],
+) -> Receipt<MemDisk> {
+    commit(rt.alloc(), store, batch).expect(rt, "room")
+}
+
+fn told_more<J: Site, R: Abort>(
+    rt: &R,
+    told: &Told<MemDisk, J>,
+    log: &Log<MemDisk, J>,
+    receipt: &Receipt<MemDisk>,
+) -> Told<MemDisk, J> {
+    told.add(log, receipt).expect(rt, "the log's end")
+}
+
+fn waits<J: Site, R: Abort>(rt: &R, board: &Board<MemDisk, J>, ticket: &Ticket) {
+    match board.ack(ticket) {
+        Ok(None) => {}
+        Ok(Some(_)) => panic!(rt; "acknowledged"),
+        Err(refusal) => panic!(rt; "{refusal}"),
+    }
+}
+
+fn is_acknowledged<J: Site, R: Abort>(rt: &R, board: &Board<MemDisk, J>, ticket: &Ticket) {
+    match board.ack(ticket) {
+        Ok(Some(told)) => assert!(rt; told.len() >= ticket.length() as u64),
+        Ok(None) => panic!(rt; "not settled"),
+        Err(refusal) => panic!(rt; "{refusal}"),
+    }
+}
+
+// Only the next part is settled, and only where what is published ends with it.
+fn settled_in_order<J: Site, R: Abort>(
+    rt: &R,
+    board: &mut Board<MemDisk, J>,
+    one: &Receipt<MemDisk>,
+    two: &Receipt<MemDisk>,
+    told: &Told<MemDisk, J>,
+    last: &Told<MemDisk, J>,
+) {
+    assert_eq!(rt; board.settle(two, last.copy()), Err(Refusal::Stranger));
+    assert_eq!(rt; board.settle(one, last.copy()), Err(Refusal::Stranger));
+    assert_eq!(rt; board.settle(one, told.copy()), Ok(()));
+    assert_eq!(rt; board.settle(one, told.copy()), Err(Refusal::Stranger));
+}
+
+fn batches_fit<J: Site, R: Abort + AllocGlobal>(rt: &R, opened: Opened, blank: Blank, state: State)
+    requires book { opened ≡ J.book }
+    requires name { blank.name ≡ J.name }
+    requires parts { blank.parts ≡ J.parts }
+    requires seats { blank.parts ≡ 2 }
+    requires start { state ≡ J.start }
+{
+    let (log, told) = opened.named::<MemDisk, J>();
+    let mut board = Board::new(rt.alloc(), state, told.copy(), blank, 1);
+    let mut seat = board.seat().expect(rt, "a seat");
+    is_ordered(rt, &mut board, &mut seat, 1, 1);
+    is_ordered(rt, &mut board, &mut seat, 2, 14);
+    is_ordered(rt, &mut board, &mut seat, 3, 199);
+    let again = is_again(rt, &mut board, &mut seat, 3, 199);
+    let first = batch(rt, &mut board, 2);
+    let second = batch(rt, &mut board, 1);
+    let _ = batch(rt, &mut board, 0);
+    let mut store = new_store(rt, 2);
+    let one = receipt_of(rt, &mut store, &first);
+    let two = receipt_of(rt, &mut store, &second);
+    let told = told_more(rt, &told, &log, &one);
+    let last = told_more(rt, &told, &log, &two);
+    settled_in_order(rt, &mut board, &one, &two, &told, &last);
+    waits(rt, &board, &again);
+    assert_eq!(rt; board.settle(&two, last), Ok(()));
+    is_acknowledged(rt, &board, &again);
 }
 
 // The entries have 41, 51 and 236 bytes, and a batch has 4 more.
 #[test]
 fn batches_fit_their_slots(rt: HostRuntime) {
-    let limits = Limits::new(2, 4, 65536, 237, 2);
-    let mut board = Board::new(rt.alloc(), State::new(rt.alloc(), limits));
-    let commands = [
-        command(&rt, 1, 1),
-        command(&rt, 2, 14),
-        command(&rt, 3, 199),
-    ];
-    for command in &commands {
-        assert!(rt; board.submit(rt.alloc(), command).is_ok());
-    }
-    let again = board
-        .submit(rt.alloc(), &commands[2])
-        .expect(&rt, "a retry");
-    assert!(rt; again.reply() == Reply::Again { rev: 3 } && again.length() == 3);
-    let first = board.take(rt.alloc(), 241).expect(&rt, "memory");
-    let second = board.take(rt.alloc(), 241).expect(&rt, "memory");
-    let third = board.take(rt.alloc(), 241).expect(&rt, "memory");
-    assert!(rt; first.len() == 2 && second.len() == 1 && third.is_empty());
-    // only the next part is settled, and only where what is published ends with it
-    assert_eq!(rt; board.settle(second.as_slice(), 3), Err(Refusal::Stranger));
-    assert_eq!(rt; board.settle(first.as_slice(), 3), Err(Refusal::Stranger));
-    assert_eq!(rt; board.settle(first.as_slice(), 2), Ok(()));
-    assert_eq!(rt; board.ack(&again), Ok(false));
-    assert_eq!(rt; board.settle(second.as_slice(), 3), Ok(()));
-    assert_eq!(rt; board.ack(&again), Ok(true));
+    let state = State::new(rt.alloc(), SHAPE.limits());
+    batches_fit::<Brand, _>(&rt, Opened::new(), Blank::new(2), state);
+}
+
+fn settled_before_a_failure<J: Site, R: Abort + AllocGlobal>(
+    rt: &R,
+    opened: Opened,
+    blank: Blank,
+    state: State,
+)
+    requires book { opened ≡ J.book }
+    requires name { blank.name ≡ J.name }
+    requires parts { blank.parts ≡ J.parts }
+    requires seats { blank.parts ≡ 2 }
+    requires start { state ≡ J.start }
+{
+    let (log, told) = opened.named::<MemDisk, J>();
+    let mut board = Board::new(rt.alloc(), state, told.copy(), blank, 1);
+    let mut seat = board.seat().expect(rt, "a seat");
+    is_ordered(rt, &mut board, &mut seat, 1, 1);
+    let create = is_again(rt, &mut board, &mut seat, 1, 1);
+    let first = batch(rt, &mut board, 1);
+    let mut store = new_store(rt, 2);
+    let one = receipt_of(rt, &mut store, &first);
+    assert_eq!(rt;
+        board.settle(&one, told_more(rt, &told, &log, &one)),
+        Ok(())
+    );
+    is_ordered(rt, &mut board, &mut seat, 2, 14);
+    let edit = is_again(rt, &mut board, &mut seat, 2, 14);
+    board.fail();
+    is_acknowledged(rt, &board, &create);
+    fails_from_then_on(rt, &mut board, &mut seat, &edit);
+}
+
+fn fails_from_then_on<J: Site, R: Abort + AllocGlobal>(
+    rt: &R,
+    board: &mut Board<MemDisk, J>,
+    seat: &mut Seat<J>,
+    ticket: &Ticket,
+) {
+    assert!(rt; matches!(board.ack(ticket), Err(Refusal::StoreFailed)));
+    let command = command(rt, 3, 1);
+    let late = board.submit(rt.alloc(), seat, &command);
+    assert!(rt; matches!(late, Err(Refusal::StoreFailed)));
 }
 
 #[test]
 fn what_is_settled_is_acknowledged_after_a_failure(rt: HostRuntime) {
-    let limits = Limits::new(2, 4, 65536, 237, 2);
-    let mut board = Board::new(rt.alloc(), State::new(rt.alloc(), limits));
-    let commands = [command(&rt, 1, 1), command(&rt, 2, 14)];
-    let create = board.submit(rt.alloc(), &commands[0]).expect(&rt, "taken");
-    let batch = board.take(rt.alloc(), 241).expect(&rt, "memory");
-    assert_eq!(rt; board.settle(batch.as_slice(), 1), Ok(()));
-    let edit = board.submit(rt.alloc(), &commands[1]).expect(&rt, "taken");
-    assert!(rt; edit.reply() == Reply::Taken { rev: 2 } && edit.length() == 2);
-    board.fail();
-    assert_eq!(rt; board.ack(&create), Ok(true));
-    assert_eq!(rt; board.ack(&edit), Err(Refusal::StoreFailed));
-    assert!(rt; board.submit(rt.alloc(), &commands[1]).is_err());
+    let state = State::new(rt.alloc(), SHAPE.limits());
+    settled_before_a_failure::<Brand, _>(&rt, Opened::new(), Blank::new(2), state);
 }

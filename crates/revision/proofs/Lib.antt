@@ -10,6 +10,7 @@ mod Named
 mod Following
 mod Light
 mod LettingGo
+mod Copying
 pub mod Sums
 pub mod Texts
 pub mod Taking

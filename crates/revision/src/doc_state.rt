@@ -154,6 +154,24 @@ impl DocState {
         self.next = None;
     }
 
+    /// An equal document, of which nothing is prepared. Refused for want of memory alone.
+    pub(crate) fn copy_held(&self, alloc: Global) -> Result<DocState, Refusal>
+        ensures same { IfOk result (λ copy. copy ≡ record { name = self.now.name; past = record { past = self.now.past.past; next = [] } }) }
+        ensures only { IsOkUnless result Refusal.NoMemory }
+    {
+        let name = self.name.copy(alloc)?;
+        let past = self.past.copy_held(alloc)?;
+        let document = self.document.copy(alloc)?;
+        let sources = SourceTable::from_sources(alloc, self.sources.held())?;
+        Ok(DocState {
+            name,
+            past,
+            document,
+            next: None,
+            sources,
+        })
+    }
+
     /// Its name, of 1 to 64 characters.
     pub fn name(&self) -> &Name
         ensures { result.now ≡ self.now.name }

@@ -243,6 +243,26 @@ impl Past {
         self.count -= gone;
     }
 
+    /// An equal past, of which nothing is prepared. Refused for want of memory alone.
+    pub fn copy_held(&self, alloc: Global) -> Result<Past, Refusal>
+        ensures same { IfOk result (λ copy. copy ≡ record { past = self.now.past; next = [] }) }
+        ensures only { IsOkUnless result Refusal.NoMemory }
+    {
+        let document = self.document.copy(alloc)?;
+        let sources = self.sources.copy(alloc)?;
+        let takers = copies_of_takers(alloc, &self.takers.as_slice()[..self.count])?;
+        let deltas = copies_of_deltas(alloc, &self.deltas.as_slice()[..self.count])?;
+        Ok(Past {
+            start: self.start,
+            floor: self.floor,
+            document,
+            sources,
+            takers,
+            deltas,
+            count: self.count,
+        })
+    }
+
     /// Drops what was prepared.
     pub fn forget(&mut self)
         ensures { self.new ≡ record self.old { next = [] } }
@@ -250,6 +270,39 @@ impl Past {
         self.takers.truncate(self.count);
         self.deltas.truncate(self.count);
     }
+}
+
+// equal takers, or `NoMemory`
+fn copies_of_takers(alloc: Global, takers: &[Taker]) -> Result<Vec<Taker>, Refusal>
+    ensures same { IfOk result (λ copies. copies.items ≡ takers.now) }
+    ensures only { IsOkUnless result Refusal.NoMemory }
+{
+    let mut copies = Vec::with_capacity(alloc, takers.len())?;
+    for taker in takers {
+        copies.push(copy_of_taker(alloc, taker)?)?;
+    }
+    Ok(copies)
+}
+
+// an equal taker, or `NoMemory`
+fn copy_of_taker(alloc: Global, taker: &Taker) -> Result<Taker, Refusal>
+    ensures same { IfOk result (λ copy. copy ≡ taker.now) }
+    ensures only { IsOkUnless result Refusal.NoMemory }
+{
+    Ok(Taker {
+        source: taker.source.copy(alloc)?,
+        number: taker.number,
+    })
+}
+
+// equal deltas, or `NoMemory`
+fn copies_of_deltas(alloc: Global, deltas: &[Delta]) -> Result<Vec<Delta>, Refusal>
+    ensures same { IfOk result (λ copies. copies.items ≡ deltas.now) }
+    ensures only { IsOkUnless result Refusal.NoMemory }
+{
+    let mut copies = Vec::with_capacity(alloc, deltas.len())?;
+    push_copies(alloc, &mut copies, deltas)?;
+    Ok(copies)
 }
 
 // Adds to both lists. Refused for want of memory alone, and then both are unchanged.
