@@ -208,7 +208,7 @@ pub compose-steps : (world : World) (limits : Limits) (document revision : ℕ) 
     → state ≡ fold (empty_store limits) (takens (take world.without world.board.order))
     → (nat_le 1 revision && nat_le revision (revision_at (slice_get state.documents document))) ≡ made
     → cond made (record world { composed = world.composed ++ (document, revision) ∷ [] }) world ≡ running_step world (Compose document revision)
-compose-steps world limits document revision state made start is test =
+compose-steps world limits document revision state there start is test =
     ap (λ b. cond b (record world { composed = world.composed ++ (document, revision) ∷ [] }) world)
     (sym test ∙ ap (λ (s : State). nat_le 1 revision && nat_le revision (revision_at (slice_get s.documents document)))
     (is ∙ ap (λ s. fold s (takens (take world.without world.board.order))) (sym start)))

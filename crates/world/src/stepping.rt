@@ -317,6 +317,7 @@ impl World {
         ensures unchanged { OnErr result (self.new ≡ self.old) }
     {
         // the limits are in their ranges
+        let _ = self.limits.docs();
         let keep = self.limits.keep();
         if !self.may_leave(kept) {
             return Ok(());
@@ -347,8 +348,7 @@ fn recovered(
     ensures state { IfOk result (λ state. state ≡ spec_recovered (empty_store limits) (takens entries.now) milestones.now) }
     ensures only { IsOkUnless result Refusal.NoMemory }
 {
-    let state = folded(alloc, limits, entries)?;
-    state.copy_from(alloc, milestones)
+    folded(alloc, limits, entries)?.copy_from(alloc, milestones)
 }
 
 // Whether no document's floor is above both what was composed of it and `keep` below its newest revision.
