@@ -52,7 +52,7 @@ impl Cells {
     ghost use Rattle.journal.specs.Area.{frame};
     ghost use Rattle.milestone.specs.CellSpelling.{cell_body, IsCell};
     ghost use Rattle.milestone.specs.OneCell.{HoldsPair};
-    ghost use Rattle.milestone.specs.Revisions.{lowest_of, freed_of, with_revision};
+    ghost use Rattle.milestone.specs.Revisions.{lowest_of, highest_of, freed_of, with_revision};
     ghost use Rattle.milestone.specs.Cells.{place_of, size_of, number_of, revisions_of, with_cell, HasClosed, Fits, FitsNow, SameCells, IsLeftByFreeing, IsLeftByPut, IsLeftByReplacing};
     ghost use Rattle.milestone.specs.ReadCells.{pair_of, IsReadAs};
 
@@ -105,6 +105,18 @@ impl Cells {
             (None, Some(second)) => second,
             (Some(first), None) => first,
             (Some(first), Some(second)) => first.min(second),
+        }
+    }
+
+    /// The highest revision of the open cells, 0 where none is open.
+    pub fn highest(&self) -> u64
+        ensures { result ≡ highest_of (revisions_of self.now) }
+    {
+        match (self.first, self.second) {
+            (None, None) => 0,
+            (None, Some(second)) => second,
+            (Some(first), None) => first,
+            (Some(first), Some(second)) => first.max(second),
         }
     }
 

@@ -5,6 +5,7 @@ pub mod Found
 pub mod Marks
 pub mod Marked
 pub mod Open
+pub mod Goes
 pub mod Run
 pub mod Formatting
 pub mod steps
