@@ -5,6 +5,7 @@ pub mod Bytes
 pub mod Holding
 pub mod Freeing
 pub mod Putting
+pub mod Replacing
 pub mod Order
 pub mod Fields
 pub mod Bodies

@@ -3,6 +3,7 @@ pub mod EmptyStores
 pub mod Superblocks
 pub mod Layouts
 pub mod Folds
+pub mod Refusals
 pub mod Commits
 pub mod Runs
 pub mod Going

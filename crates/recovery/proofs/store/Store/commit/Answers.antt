@@ -17,6 +17,7 @@ use Rattle.recovery.proofs.Upkeep.{cells_later, marked_with, marked_left}
 use Rattle.recovery.proofs.Folds.{fold-limits}
 use Rattle.recovery.specs.Open.{kept_jobs}
 use Rattle.recovery.proofs.KeptJobs.{kept_later}
+use Rattle.recovery.proofs.Refusals.{refusal_or}
 use Rattle.recovery.proofs.store.Store.commit.Goals as goal
 
 -- nothing was called
@@ -117,7 +118,7 @@ returns-in-Err-clause-unwritten g c memory is_open =
 
 pub returns-in-Err-append_batch-clause-unwritten : goal.returns-in-Err-append_batch-clause-unwritten
 returns-in-Err-append_batch-clause-unwritten g c memory is_open =
-    leaves_map (λ content left. opened_for c.args.self.now is_open _ content left) (c.in-Err-append_batch.ensures.unwritten memory is_open.table is_open.synced is_open.fits)
+    leaves_map (λ content left. opened_for c.args.self.now is_open _ content left) (c.in-Err-append_batch.ensures.unwritten (ap (λ (r : Refusal). Err r) (ap (refusal_or NoMemory) memory)) is_open.table is_open.synced is_open.fits)
 
 -- no room could be made for the marks
 pub returns-in_err-make_room-clause-any_moment : goal.returns-in_err-make_room-clause-any_moment
@@ -126,4 +127,13 @@ returns-in_err-make_room-clause-any_moment g c unfailed is_open =
 
 pub returns-in_err-make_room-clause-unwritten : goal.returns-in_err-make_room-clause-unwritten
 returns-in_err-make_room-clause-unwritten g c memory is_open =
+    begins (history_of g.D.Disk c.args.self.now.device) is_open.synced (found_before c.args.self.now is_open)
+
+-- the receipt could not be made
+pub returns-in_err-receipt-clause-any_moment : goal.returns-in_err-receipt-clause-any_moment
+returns-in_err-receipt-clause-any_moment g c unfailed is_open =
+    begins (history_of g.D.Disk c.args.self.now.device) is_open.synced (inl (found_before c.args.self.now is_open))
+
+pub returns-in_err-receipt-clause-unwritten : goal.returns-in_err-receipt-clause-unwritten
+returns-in_err-receipt-clause-unwritten g c memory is_open =
     begins (history_of g.D.Disk c.args.self.now.device) is_open.synced (found_before c.args.self.now is_open)
