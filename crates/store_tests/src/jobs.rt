@@ -3,7 +3,9 @@ ghost use Rattle.std.specs.Prelude.{◌≤◌, ◌<◌, ◌^◌};
 
 use crate::picks::written;
 use crate::stopping::store_under_plan;
-use crate::stores::{answer_text, create, device_of, edit, has_documents, open_store, small_device};
+use crate::stores::{
+    answer_text, create, device_of, edit, has_documents, open_store, small_device,
+};
 use delta::{Delta, OpRef};
 use disk::{Disk, Left};
 use milestone::{Job, Milestone, compose_job};
@@ -49,7 +51,10 @@ fn is_milestone(rt: &(impl Abort + AllocGlobal), milestone: &Milestone, revision
     assert_eq!(rt; milestone.name().as_str(), "d");
     assert_eq!(rt; milestone.revision(), revision);
     let content = milestone.document().as_delta(rt.alloc());
-    assert!(rt; inserts(&content.expect(rt, "memory"), text), "at {revision}");
+    assert!(rt;
+        inserts(&content.expect(rt, "memory"), text),
+        "at {revision}"
+    );
     let sources = milestone.sources().entries();
     assert_eq!(rt; sources.len(), 1);
     assert_eq!(rt; sources[0].0.as_str(), "a");
