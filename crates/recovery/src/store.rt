@@ -214,7 +214,7 @@ impl<D: Disk> Store<D> {
         if !self.has_room(batch) {
             return Err(Refusal::JournalFull);
         }
-        self.marks.make_room(batch.len())?;
+        self.marks.make_room(batch)?;
         let receipt = Receipt::of(alloc, batch)?;
         let empty = State::new(alloc, self.state.limits());
         let prepared = match replace(&mut self.state, empty).prepare(alloc, batch) {
