@@ -13,6 +13,7 @@ pub mod Splitting
 pub mod MarkedRead
 pub mod KnownCells
 pub mod Retirement
+pub mod PutCells
 pub mod Upkeep
 pub mod Named
 pub mod Gathering
