@@ -6,6 +6,7 @@ pub mod Folds
 pub mod Commits
 pub mod Runs
 pub mod Going
+pub mod KeptJobs
 pub mod Marking
 pub mod Marked
 pub mod Splitting

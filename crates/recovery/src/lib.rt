@@ -32,8 +32,10 @@
 #![tactic(auto)]
 
 mod formatting;
+mod jobs;
 pub mod laws;
 mod marks;
+mod milestone_jobs;
 mod reading;
 mod retiring;
 mod run;
