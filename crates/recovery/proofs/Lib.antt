@@ -7,6 +7,7 @@ pub mod Refusals
 pub mod Commits
 pub mod Runs
 pub mod Going
+pub mod KeptJobs
 pub mod Marking
 pub mod Marked
 pub mod Splitting

@@ -36,8 +36,10 @@
 #![tactic(auto)]
 
 mod formatting;
+mod jobs;
 pub mod laws;
 mod marks;
+mod milestone_jobs;
 mod reading;
 mod receipt;
 mod retiring;

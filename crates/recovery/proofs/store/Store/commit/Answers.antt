@@ -16,6 +16,8 @@ use Rattle.recovery.specs.Marked.{AreMarked}
 use Rattle.recovery.proofs.Upkeep.{cells_later, marked_with, marked_left}
 use Rattle.recovery.proofs.Folds.{fold-limits}
 use Rattle.recovery.proofs.Refusals.{refusal_or}
+use Rattle.recovery.specs.Open.{kept_jobs}
+use Rattle.recovery.proofs.KeptJobs.{kept_later}
 use Rattle.recovery.proofs.store.Store.commit.Goals as goal
 
 -- nothing was called
@@ -69,6 +71,7 @@ returns-in-Ok-append_batch-clause-done g c is_open =
       limits = subst (λ (s : State). s.limits ≡ limits_of store.shape) (sym state) (limits_with store is_open commands c.has_room.ensures.is_batch grow);
       runs = subst (Runs (is_open.order ++ commands) is_open.cells (commands_of (is_open.batches ++ commands ∷ []))) (sym state)
           (runs_with store is_open commands c.has_room.ensures.is_batch grow);
+      kept = kept_later is_open.order commands is_open.cells (kept_jobs store) is_open.kept;
     }
 
 -- a slot has as many bytes as the limits say
@@ -106,6 +109,7 @@ returns-in-Err-append_batch-clause-kept g c not_fault is_open =
       marked = subst (AreMarked kept.left) (sym c.make_room.ensures.same) (marked_left store is_open _ kept.left kept.is_left);
       limits = subst (λ (s : State). s.limits ≡ limits_of store.shape) (sym state) is_open.limits;
       runs = subst (Runs is_open.order is_open.cells (commands_of is_open.batches)) (sym state) is_open.runs;
+      kept = is_open.kept;
     }
 
 pub returns-in-Err-clause-unwritten : goal.returns-in-Err-clause-unwritten
