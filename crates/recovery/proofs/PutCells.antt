@@ -3,17 +3,21 @@ use Rattle.std.proofs.Common.{◌≡◌, ◌⊎◌, ⊎_elim, inl, inr, ℕ, zer
 use Rattle.std.specs.Prelude.{slice_get}
 use Rattle.std.proofs.lemmas.Bool.{cases_eq}
 use Rattle.std.proofs.lemmas.List.{drop-drop, length-set}
+use Rattle.std.proofs.lemmas.Option.{same_Some, slice_get_within}
 use Rattle.std.proofs.Math.Nat.{mul-le-mul_right}
 use Rattle.disk.specs.Device.{SameOutside}
 use Rattle.disk.proofs.CallerLemmas.{same_at}
 use Rattle.history.specs.Cell.{Pair, cells_at, with_pair}
 use Rattle.milestone.proofs.CallerLemmas.{agree_within}
 use Rattle.milestone.specs.OneCell.{HoldsPair}
+use Rattle.milestone.specs.declared.cells.Cells.{Cells}
+use Rattle.milestone.specs.Cells.{Fits, SameCells, place_of, size_of, number_of}
 use Rattle.segments.specs.Slot.{Segment, HoldsSlot}
 use Rattle.segments.specs.Table.{HoldsTable, slot_at, slot_place, slot_bytes}
 use Rattle.recovery.specs.declared.shape.Shape.{Shape}
 use Rattle.recovery.specs.Shape.{cells_place, slots_place}
 use Rattle.recovery.specs.Layout.{IsLaidOut}
+use Rattle.recovery.specs.Cells.{IsCellsOf, AreCellsOf, FitEach}
 use Rattle.recovery.proofs.Layouts.{part_same, part_before, cells_before}
 use Rattle.recovery.proofs.Superblocks.{ranges_of}
 
@@ -108,3 +112,42 @@ module _ (shape : Shape) (number : ℕ) (old content : List ℕ) (same : SameOut
         holds = table_stays (slots_place shape) shape.slot (cells_place shape number + 2 * shape.cell) old content table (cells_before shape number inside) same.after laid_out.in_slots.holds;
       };
     }
+
+-- what holds of the one that is set and of the others as they were holds of each
+pub set_each : {A : Type 0} (P : ℕ → A → Type 0) (xs : List A) (number : ℕ) (x : A) → P number x
+    → ((n : ℕ) (a : A) → (number ≡ n → ⊥) → slice_get xs n ≡ Some a → P n a) → (n : ℕ) (a : A) → slice_get (set xs number x) n ≡ Some a → P n a
+set_each P [] number x here each n a is = absurd (omega (arith, slice_get_within [] n a is))
+set_each P (y ∷ ys) zero x here each zero a is = subst (P 0) (same_Some x a is) here
+set_each P (y ∷ ys) zero x here each (suc n) a is = each (suc n) a (λ same. absurd (omega (arith, same))) is
+set_each P (y ∷ ys) (suc number) x here each zero a is = each zero a (λ same. absurd (omega (arith, same))) is
+set_each P (y ∷ ys) (suc number) x here each (suc n) a is =
+    set_each (λ m b. P (suc m) b) ys number x here (λ m b differ. each (suc m) b (λ same. differ (omega (arith, same)))) n a is
+
+-- the known cells of a document are others, in the same place
+pub cells_put : (shape : Shape) (known : List Cells) (number : ℕ) (one later : Cells) → AreCellsOf shape known → IsCellsOf shape number one → SameCells one later
+    → AreCellsOf shape (set known number later)
+cells_put shape known number one later are its same = record {
+  count = length-set known number later ∙ are.count;
+  each = set_each (IsCellsOf shape) known number later (record { place = same.place ∙ its.place; size = same.size ∙ its.size; of = same.number ∙ its.of })
+      (λ n c differ is. are.each n c is);
+}
+
+-- cells that hold a pair in one content hold it in another that agrees with it there
+pub fits_there : (shape : Shape) (number : ℕ) (cells : Cells) (a b : List ℕ) (pair : Pair) → IsCellsOf shape number cells
+    → take (2 * shape.cell) (drop (cells_place shape number) b) ≡ take (2 * shape.cell) (drop (cells_place shape number) a) → Fits a cells pair → Fits b cells pair
+fits_there shape number cells a b pair its same fits = record {
+  holds = agree_within (place_of cells) (size_of cells) (number_of cells) a b pair
+      (subst (λ n. take (2 * size_of cells) (drop n b) ≡ take (2 * size_of cells) (drop n a)) (sym its.place)
+      (subst (λ n. take (2 * n) (drop (cells_place shape number) b) ≡ take (2 * n) (drop (cells_place shape number) a)) (sym its.size) same)) fits.holds;
+  revisions = fits.revisions;
+}
+
+-- and fit the content with the pair set
+pub fit_put : (shape : Shape) (old new : List ℕ) (known : List Cells) (number : ℕ) (later : Cells) (cells : List Pair) (pair : Pair) → AreCellsOf shape known → number < length cells
+    → SameOutside (cells_place shape number) (2 * shape.cell) old new → FitEach old known cells → Fits new later pair → FitEach new (set known number later) (with_pair number pair cells)
+fit_put shape old new known number later cells pair are below same fit fits =
+    set_each (λ n c. Fits new c (cells_at (with_pair number pair cells) n)) known number later
+    (subst (Fits new later) (sym (pair_own number pair cells below)) fits)
+    (λ n c differ is.
+    subst (Fits new c) (sym (pair_other number pair cells n differ))
+    (fits_there shape n c old new (cells_at cells n) (are.each n c is) (other_bytes shape number old new same n differ) (fit n c is)))
