@@ -1,7 +1,10 @@
 -- A store into which a milestone is put.
-use Rattle.std.proofs.Common.{◌≡◌, ◌⊎◌, ⊎_elim, inl, inr, ℕ, zero, suc, ◌+◌, ◌*◌, ◌≤◌, ◌<◌, true, Option, Some, None, List, [], ◌∷◌, length, set, drop, refl, sym, ◌∙◌, ap, subst, arith}
-use Rattle.std.specs.Prelude.{nat_lt, min, max, slice_get}
-use Rattle.std.proofs.lemmas.Bool.{cond_both, cases_eq}
+use Rattle.std.proofs.Common.{◌≡◌, ◌⊎◌, ⊎_elim, inl, inr, ℕ, zero, suc, ◌+◌, ◌*◌, ◌≤◌, ◌<◌, true, Option, Some, None, List, [], ◌∷◌, length, get_or, set, drop, refl, sym, ◌∙◌, ap, subst, arith}
+use Rattle.std.specs.Prelude.{nat_lt, min, max, slice_get, ◌==◌, ◌^◌, not, Contains}
+use Rattle.std.proofs.lemmas.Bool.{cond_both}
+use Rattle.std.proofs.lemmas.List.{set-get_or}
+use Rattle.std.proofs.lemmas.List.Elements.{All-contains}
+use Rattle.std.proofs.lemmas.Option.{slice_get_read}
 use Rattle.disk.specs.declared.device.Disk.{Ghosts}
 use Rattle.disk.specs.Device.{SameOutside}
 use Rattle.revision.specs.State.{State}
@@ -11,19 +14,25 @@ use Rattle.history.specs.Running.{Runs, IsCellOf}
 use Rattle.history.proofs.CallerLemmas.{frees, puts}
 use Rattle.milestone.specs.declared.cells.Cells.{Cells}
 use Rattle.milestone.specs.OneCell.{HoldsPair}
-use Rattle.milestone.specs.Cells.{Fits, FitsNow, HoldsInCells, IsLeftByReplacing, with_cell, place_of, size_of, number_of}
+use Rattle.milestone.specs.Cells.{Fits, FitsNow, SameCells, HoldsInCells, IsLeftByReplacing, with_cell, place_of, size_of, number_of}
 use Rattle.milestone.specs.Job.{Job, cell_of_job}
+use Rattle.milestone.specs.CellSpelling.{IsCell, cell_body, inserts_of}
+use Rattle.milestone.proofs.CallerLemmas.{cell_fits, light_content}
+use Rattle.revision.specs.Sources.{count_of}
+use Rattle.revision.specs.Width.{delta_width}
 use Rattle.segments.specs.Ring.{Fits as RingFits, at_of, size_of as slot_size}
 use Rattle.recovery.specs.declared.shape.Shape.{Shape}
 use Rattle.recovery.specs.declared.store.Store.{Store}
 use Rattle.recovery.specs.Shape.{cells_place, slots_place}
 use Rattle.recovery.specs.Cells.{IsCellsOf, AreCellsOf, FitEach}
 use Rattle.recovery.specs.Layout.{IsLaidOut}
-use Rattle.recovery.specs.Found.{FoundAs, HoldsParts, commands_of}
-use Rattle.recovery.specs.Jobs.{highest, IsKept}
-use Rattle.recovery.specs.Open.{IsOpen}
+use Rattle.recovery.specs.Found.{FoundAs, HoldsParts, commands_of, limits_of}
+use Rattle.recovery.specs.Jobs.{highest, IsKept, KeepsLimits, AllKeep, without_job}
+use Rattle.recovery.specs.Open.{IsOpen, kept_jobs}
 use Rattle.recovery.proofs.Layouts.{cells_before}
-use Rattle.recovery.proofs.PutCells.{pair_own, length_with_pair, with_pair_twice, table_stays, laid_out_with}
+use Rattle.recovery.proofs.PutCells.{pair_own, length_with_pair, with_pair_twice, table_stays, laid_out_with, cells_put, fit_put}
+use Rattle.recovery.proofs.KeptJobs.{all_passing}
+use Rattle.recovery.proofs.Superblocks.{Ranges, ranges_of}
 use Rattle.recovery.proofs.Runs.{found_as}
 
 -- what is there already is set again
@@ -51,6 +60,11 @@ closed_there cell (Some first, Some second) =
 
 pub put_freed : (cell : Cell) (pair : Pair) → highest pair ≤ cell.revision → IsPut cell (freed pair) (with_cell cell (freed pair))
 put_freed cell pair above = (omega (arith, freed_low pair, above), closed_there cell pair)
+
+-- cells that are known elsewhere as they are there
+cells_hold : {p q s t m n : ℕ} (content : List ℕ) (pair : Pair) → p ≡ q → s ≡ t → m ≡ n → HoldsPair q t n content pair → HoldsPair p s m content pair
+cells_hold {p} {q} {s} {t} {m} {n} content pair place size number holds =
+    subst (λ k. HoldsPair k s m content pair) (sym place) (subst (λ k. HoldsPair q k m content pair) (sym size) (subst (λ k. HoldsPair q t k content pair) (sym number) holds))
 
 module _ {D : Type 0} {disk : Ghosts D} (store : Store D disk) (is_open : IsOpen store) (job : Job) (kept : IsKept is_open.order is_open.cells job)
     (inside : job.document < store.shape.docs) (one : Cells) (its : IsCellsOf store.shape job.document one) where
@@ -136,3 +150,72 @@ module _ {D : Type 0} {disk : Ghosts D} (store : Store D disk) (is_open : IsOpen
         numbers = is_open.fits.numbers;
         newest = is_open.fits.newest;
       }
+
+  module _ (content : List ℕ) (later : Cells) (now : FitsNow old one content later after) where
+    -- the parts once the cell is put
+    pub parts_now : HoldsParts content store.shape (with_pair number after is_open.cells) is_open.table is_open.batches
+    parts_now = parts_with content after (record { outside = now.outside; holds = cells_hold content after (sym now.same.place) (sym now.same.size) (sym now.same.number) now.fits.holds })
+
+    -- and the cells that are known
+    pub fit_now : FitEach content (set store.cells.items number later) (with_pair number after is_open.cells)
+    fit_now = fit_put store.shape old content store.cells.items number later is_open.cells after is_open.cells_are below (outside_there content now.outside) is_open.cells_fit now.fits
+
+-- what a store keeps in memory of a kept job and of its document's cells
+module _ {D : Type 0} {disk : Ghosts D} (store : Store D disk) where
+  pub composable_later : (number : ℕ) → AllKeep (limits_of store.shape) (without_job number (kept_jobs store))
+  composable_later number = all_passing (KeepsLimits (limits_of store.shape)) (λ other. not (other.document == number)) (kept_jobs store) store.composable
+
+  module _ (job : Job) (contains : Contains (kept_jobs store) job) where
+    pub keeps_it : KeepsLimits (limits_of store.shape) job
+    keeps_it = All-contains (KeepsLimits (limits_of store.shape)) (kept_jobs store) job store.composable contains
+
+    pub never_heavy : ¬ (2 ^ 32 ≤ delta_width (inserts_of (cell_of_job job).content.units))
+    never_heavy heavy =
+        omega (arith, heavy, light_content (cell_of_job job).content.units, keeps_it.keeps.weight, (ranges_of store.shape store.in_range).cell)
+
+    pub inside_items : (document : ℕ) → document ≡ job.document → document < length store.cells.items
+    inside_items document is = omega (arith, is, keeps_it.inside, store.placed.count)
+
+module _ {D : Type 0} {disk : Ghosts D} (store : Store D disk) (job : Job) (contains : Contains (kept_jobs store) job) (document : ℕ) (is : document ≡ job.document)
+    (one : Cells) (read : one ≡ get_or store.cells.items document one) where
+  pub keeps : KeepsLimits (limits_of store.shape) job
+  keeps = keeps_it store job contains
+
+  pub inside_known : document < length store.cells.items
+  inside_known = omega (arith, is, keeps.inside, store.placed.count)
+
+  pub there : slice_get store.cells.items document ≡ Some one
+  there = slice_get_read store.cells.items (length store.cells.items) document one refl inside_known read
+
+  pub its_cells : IsCellsOf store.shape job.document one
+  its_cells = subst (λ n. IsCellsOf store.shape n one) is (store.placed.each document one there)
+
+  pub cells_within : place_of one + 2 * size_of one ≤ length (disk.seen store.device)
+  cells_within = omega (arith, its_cells.place, its_cells.size, cells_before store.shape job.document keeps.inside, store.long)
+
+  ranges : Ranges store.shape
+  ranges = ranges_of store.shape store.in_range
+
+  -- the milestone has a spelling, and fits
+  pub is_cell : ((number : ℕ) → number < 2 ^ 32 → count_of (cell_of_job job).sources < 2 ^ 32 → IsCell number (cell_of_job job)) → IsCell (number_of one) (cell_of_job job)
+  is_cell spelled = spelled (number_of one) (omega (arith, its_cells.of, keeps.inside, ranges.docs)) (omega (arith, keeps.keeps.count, ranges.sources))
+
+  pub fits_cell : IsCell (number_of one) (cell_of_job job) → 5 + length (cell_body (number_of one) (cell_of_job job)) ≤ size_of one
+  fits_cell is_one =
+      omega (arith, cell_fits (number_of one) (limits_of store.shape) (cell_of_job job) is_one keeps.keeps, its_cells.size, ranges.cell_low)
+
+  -- the cells that are known later
+  pub placed_later : (later : Cells) → SameCells one later → AreCellsOf store.shape (set store.cells.items document later)
+  placed_later later same = cells_put store.shape store.cells.items document one later store.placed (store.placed.each document one there) same
+
+  -- put back as they were
+  pub put_back : (later : Cells) → later ≡ one → set store.cells.items document later ≡ store.cells.items
+  put_back later same =
+      ap (λ (c : Cells). set store.cells.items document c) (same ∙ read) ∙ set-get_or store.cells.items document one
+
+  module _ (is_open : IsOpen store) where
+    pub kept_one : IsKept is_open.order is_open.cells job
+    kept_one = All-contains (IsKept is_open.order is_open.cells) (kept_jobs store) job is_open.kept contains
+
+    pub fits_one : Fits (disk.seen store.device) one (cells_at is_open.cells job.document)
+    fits_one = subst (λ n. Fits (disk.seen store.device) one (cells_at is_open.cells n)) is (is_open.cells_fit document one there)

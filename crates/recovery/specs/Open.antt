@@ -69,7 +69,7 @@ module _ {D : Type 0} {disk : Ghosts D} where
     pub device : new.device ≡ old.device
     pub shape : new.shape ≡ old.shape
     pub ring : new.ring ≡ old.ring
-    pub cells : new.cells ≡ old.cells
+    pub cells : known_cells new ≡ known_cells old
     pub marks : marks_of new.marks ≡ marks_of old.marks
     pub jobs : kept_jobs new ≡ kept_jobs old
     pub state : new.state ≡ old.state

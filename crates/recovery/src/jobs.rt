@@ -41,7 +41,8 @@ impl Jobs {
         ensures only { IsOkUnless result Refusal.NoMemory }
     {
         self.list.reserve(1)?;
-        self.forget(job.document());
+        let document = job.document();
+        self.list.retain(|kept| kept.document() != document);
         self.list.push(job).unwrap();
         Ok(())
     }

@@ -53,7 +53,9 @@ impl<D: Disk> Store<D> {
         }
         let document = job.document();
         let milestone = composed.milestone();
-        let _spelled = milestone.content(alloc)?;
+        if let Err(refusal) = milestone.content(alloc) {
+            return Err(refusal);
+        }
         match self.cells[document as usize].replace_older(alloc, &mut self.device, milestone) {
             Ok(()) => {
                 self.jobs.forget(document);
