@@ -4,7 +4,7 @@ use Rattle.std.specs.Prelude.{◌==◌, All}
 use Rattle.std.proofs.lemmas.Bool.{false≢true, eq-eqb}
 use Rattle.std.proofs.lemmas.List.Elements.{All-nil, All-cons, All-head, All-tail, All-push, All-weaker}
 use Rattle.revision.specs.Command.{Taken}
-use Rattle.revision.specs.State.{State, Limits}
+use Rattle.revision.specs.State.{State}
 use Rattle.recovery.proofs.PutCells.{pair_other}
 use Rattle.history.specs.Cell.{with_pair, Cell, Pair, cells_at}
 use Rattle.history.specs.Shown.{StateShows}

@@ -8,6 +8,7 @@ pub mod Commits
 pub mod Runs
 pub mod Going
 pub mod KeptJobs
+pub mod HandedOut
 pub mod Marking
 pub mod Marked
 pub mod Splitting

@@ -65,8 +65,8 @@ impl<D: Disk> Store<D> {
         ensures job { IfOk result (λ job. IsJobTo (state_of self.now).documents document revision job) }
         ensures keeps { IfOk result (λ job. KeepsLimits (state_of self.now).limits job) }
         ensures given { OnOk result (no_job_for (slice_get (state_of self.now).documents document) (highest_known (known_cells self.now) document) revision ≡ None) }
-        ensures refused { IfErr result (λ e. (e ≢ Refusal.NoMemory → no_job_for (slice_get (state_of self.now).documents document) (highest_known (known_cells self.now) document) revision ≡ Some e)
-            × (e ≡ Refusal.NoMemory → no_job_for (slice_get (state_of self.now).documents document) (highest_known (known_cells self.now) document) revision ≡ None)) }
+        ensures refused { (why : Why) → no_job_for (slice_get (state_of self.now).documents document) (highest_known (known_cells self.now) document) revision ≡ Some why → IsErrOf result why }
+        ensures refusal { IfErr result (λ e. e ≢ Refusal.NoMemory → no_job_for (slice_get (state_of self.now).documents document) (highest_known (known_cells self.now) document) revision ≡ Some e) }
         ensures no_fault { ¬ IsErrOf result Refusal.Fault }
     {
         let _ = self.state.limits();
@@ -104,12 +104,7 @@ fn highest_of(cells: &[Cells], document: u32) -> u64
 }
 
 // The job of a document to a revision that it holds. Refused for want of memory alone.
-fn job_of(
-    alloc: Global,
-    document: u32,
-    found: &DocState,
-    revision: u64,
-) -> Result<Job, Refusal>
+fn job_of(alloc: Global, document: u32, found: &DocState, revision: u64) -> Result<Job, Refusal>
     requires first { 1 ≤ revision }
     requires held { found.now.past.past.floor ≤ revision }
     requires there { revision ≤ revision_of (held found.now) }

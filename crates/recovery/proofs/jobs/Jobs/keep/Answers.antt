@@ -1,4 +1,4 @@
-use Rattle.std.proofs.Common.{rules, ◌≡◌, ◌∙◌, [], ◌∷◌, ◌++◌, ℕ, List, ap}
+use Rattle.std.proofs.Common.{rules, ◌≡◌, ◌∙◌, [], ◌∷◌, ◌++◌, List, ap}
 use Rattle.std.proofs.lemmas.Fn.{filter_same}
 use Rattle.milestone.specs.Job.{Job}
 use Rattle.recovery.specs.Jobs.{jobs_of, without_job}

@@ -15,6 +15,8 @@ use Rattle.recovery.specs.Marks.{marks_of, IsNoted}
 use Rattle.recovery.specs.Marked.{AreMarked}
 use Rattle.recovery.proofs.Upkeep.{cells_later, marked_with, marked_left}
 use Rattle.recovery.proofs.Folds.{fold-limits}
+use Rattle.recovery.specs.Open.{kept_jobs}
+use Rattle.recovery.proofs.KeptJobs.{kept_later}
 use Rattle.recovery.proofs.Refusals.{refusal_or}
 use Rattle.recovery.specs.Open.{kept_jobs}
 use Rattle.recovery.proofs.KeptJobs.{kept_later}
