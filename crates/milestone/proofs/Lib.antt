@@ -1,6 +1,7 @@
 pub mod CallerLemmas
 pub mod InTurn
 pub mod Sizes
+pub mod Light
 pub mod Bytes
 pub mod Holding
 pub mod Freeing

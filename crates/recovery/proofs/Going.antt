@@ -59,7 +59,7 @@ module _ {D : Type 0} {disk : Ghosts D} where
       seen = ap (λ (d : D). disk.seen d) same.device
 
       known : new.cells.items ≡ old.cells.items
-      known = ap (λ c. c.items) same.cells
+      known = same.cells
 
   -- a crash now leaves what an open store holds
   pub found_now : (store : Store D disk) → IsOpen store → (content : List ℕ) → MayLeaveNow disk (device_of store) content → FoundAs content (state_of store)

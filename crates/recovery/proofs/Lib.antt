@@ -15,6 +15,8 @@ pub mod Splitting
 pub mod MarkedRead
 pub mod KnownCells
 pub mod Retirement
+pub mod PutCells
+pub mod Putting
 pub mod Upkeep
 pub mod Named
 pub mod Gathering

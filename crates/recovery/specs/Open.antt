@@ -4,9 +4,10 @@ use Rattle.disk.specs.declared.device.Disk.{Ghosts}
 use Rattle.revision.specs.Command.{Taken}
 use Rattle.journal.specs.BatchSpelling.{batch_width}
 use Rattle.revision.specs.State.{State, fold}
-use Rattle.history.specs.Cell.{Pair}
+use Rattle.history.specs.Cell.{Pair, cells_at, freed, with_pair}
 use Rattle.history.specs.Running.{Runs}
-use Rattle.milestone.specs.Job.{Job}
+use Rattle.milestone.specs.Job.{Job, cell_of_job}
+use Rattle.milestone.specs.Cells.{with_cell}
 use Rattle.milestone.specs.declared.cells.Cells.{Cells}
 use Rattle.segments.specs.Slot.{Segment}
 use Rattle.segments.specs.Table.{IsRetired}
@@ -68,7 +69,7 @@ module _ {D : Type 0} {disk : Ghosts D} where
     pub device : new.device ≡ old.device
     pub shape : new.shape ≡ old.shape
     pub ring : new.ring ≡ old.ring
-    pub cells : new.cells ≡ old.cells
+    pub cells : known_cells new ≡ known_cells old
     pub marks : marks_of new.marks ≡ marks_of old.marks
     pub jobs : kept_jobs new ≡ kept_jobs old
     pub state : new.state ≡ old.state
@@ -100,3 +101,9 @@ module _ {D : Type 0} {disk : Ghosts D} where
     pub goes_on : IsOpen store
     pub same_cells : goes_on.cells ≡ cells
     pub retired : IsRetired table goes_on.table
+
+  -- After a milestone was put: the store goes on over the same slots, and the cell that comes of the job is open in its document's pair,
+  -- in place of the older one where both were open. The other documents' cells are as they were.
+  pub record IsPutNow (cells : List Pair) (job : Job) (store : Store D disk) : Type 0 where
+    pub goes_on : IsOpen store
+    pub put : goes_on.cells ≡ with_pair job.document (with_cell (cell_of_job job) (freed (cells_at cells job.document))) cells

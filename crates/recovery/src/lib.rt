@@ -40,6 +40,7 @@ mod jobs;
 pub mod laws;
 mod marks;
 mod milestone_jobs;
+mod milestones;
 mod reading;
 mod receipt;
 mod retiring;
