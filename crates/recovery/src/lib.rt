@@ -14,13 +14,17 @@
 //! ghost use Rattle.recovery.specs.Open.{FitsSlot, IsOpen, IsWithOrWithout, device_of, state_of, has_failed};
 //!
 //! use disk::Disk;
-//! use recovery::Store;
+//! use recovery::{Receipt, Store};
 //! use refusal::Refusal;
 //! use revision::Taken;
 //! use std::alloc::Global;
 //!
 //! /// Commits one command. A crash at any moment leaves the state without it or with it, and at Ok the store goes on.
-//! pub fn commit_one<D: Disk>(alloc: Global, store: &mut Store<D>, taken: Taken) -> Result<(), Refusal>
+//! pub fn commit_one<D: Disk>(
+//!     alloc: Global,
+//!     store: &mut Store<D>,
+//!     taken: Taken,
+//! ) -> Result<Receipt<D>, Refusal>
 //!     requires { FitsSlot (state_of store.old) (taken ∷ []) }
 //!     ensures any_moment { has_failed store.old ≡ false → IsOpen store.old
 //!         → LeavesOnly ⟦<D as Disk>⟧ (IsWithOrWithout (state_of store.old) (taken ∷ [])) (device_of store.old) (device_of store.new) }
@@ -32,9 +36,13 @@
 #![tactic(auto)]
 
 mod formatting;
+mod jobs;
 pub mod laws;
 mod marks;
+mod milestone_jobs;
+mod milestones;
 mod reading;
+mod receipt;
 mod retiring;
 mod run;
 mod shape;
@@ -43,6 +51,7 @@ mod superblock;
 
 pub use formatting::format_device;
 pub use history::Pick;
+pub use receipt::Receipt;
 pub use run::{Stop, StoreStep};
 pub use shape::Shape;
 pub use store::{OpenFault, Store};

@@ -10,9 +10,15 @@ ghost use Rattle.segments.specs.Room.{has_room_for};
 ghost use Rattle.segments.specs.Numbers.{IsNewest};
 ghost use Rattle.segments.specs.Ring.{known_numbers};
 ghost use Rattle.recovery.specs.Marks.{marks_of, room_of, IsNoted};
+ghost use Rattle.recovery.specs.Shape.{is_in_range, layout_length};
+ghost use Rattle.recovery.specs.Cells.{AreCellsOf};
+ghost use Rattle.recovery.specs.Found.{limits_of};
+ghost use Rattle.recovery.specs.Jobs.{jobs_of, AllKeep};
 
+use crate::jobs::Jobs;
 use crate::marks::Marks;
 use crate::reading::read_store;
+use crate::receipt::Receipt;
 use crate::shape::Shape;
 use disk::Disk;
 use history::Pick;
@@ -39,10 +45,16 @@ pub struct Store<D: Disk> {
     pub(crate) ring: Ring,
     pub(crate) cells: Vec<Cells>,
     pub(crate) marks: Marks,
+    pub(crate) jobs: Jobs,
     pub(crate) state: State,
     pub(crate) failed: bool,
     ghost within: { end_of ring ≤ length (D.seen device) },
     ghost slot: { size_of ring ≡ state.limits.width + 19 },
+    ghost in_range: { is_in_range shape ≡ true },
+    ghost long: { layout_length shape ≤ length (D.seen device) },
+    ghost bounded: { state.limits ≡ limits_of shape },
+    ghost placed: { AreCellsOf shape cells.items },
+    ghost composable: { AllKeep (limits_of shape) (jobs_of jobs) },
 }
 
 impl<D: Disk> Store<D> {
@@ -100,6 +112,7 @@ impl<D: Disk> Store<D> {
                 ring: recovered.ring,
                 cells: recovered.cells,
                 marks: recovered.marks,
+                jobs: Jobs::new(alloc),
                 state: recovered.state,
                 failed: false,
             }),
@@ -134,21 +147,25 @@ impl<D: Disk> Store<D> {
             ring: _,
             cells: _,
             marks: _,
+            jobs: _,
             state: _,
             failed: _,
         } = self;
         device
     }
 
-    /// Writes a batch, and answers once it is on the disk: two syncs, and two more where a slot is opened for it.
+    /// Writes a batch, and answers with its receipt once it is on the disk: two syncs, and two more where a slot is opened for it.
     /// First comes `JournalFull`, just where the batch has more bytes than the newest segment has left and no slot is free. Next
     /// comes `Stranger`, where it doesn't continue the state. `NoMemory` comes before any byte of the batch is written. After `Fault`
     /// the store has failed: every later call answers `Fault`, until the device is opened again. The documents change only once
     /// the batch is on the disk, and no refusal changes them.
-    pub fn commit(&mut self, alloc: Global, batch: &[Taken]) -> Result<(), Refusal>
+    pub fn commit(&mut self, alloc: Global, batch: &[Taken]) -> Result<Receipt<D>, Refusal>
         requires some { 1 ≤ length batch.now }
         requires short { length batch.now < 2 ^ 32 }
         requires fits { FitsSlot (state_of self.old) batch.now }
+
+        // What an Ok hands out names just this batch.
+        ensures receipt { IfOk result (λ receipt. receipt ≡ batch.now) }
 
         // When each refusal comes. Want of memory may be told in place of `Stranger`.
         ensures failed_before { has_failed self.old ≡ true → (IsErrOf result Refusal.Fault) × IsUnchanged self.old self.new }
@@ -198,6 +215,7 @@ impl<D: Disk> Store<D> {
             return Err(Refusal::JournalFull);
         }
         self.marks.make_room(batch)?;
+        let receipt = Receipt::of(alloc, batch)?;
         let empty = State::new(alloc, self.state.limits());
         let prepared = match replace(&mut self.state, empty).prepare(alloc, batch) {
             Ok(prepared) => prepared,
@@ -210,7 +228,7 @@ impl<D: Disk> Store<D> {
             Ok(()) => {
                 self.state = prepared.accept();
                 mark_batch(&self.ring, &mut self.marks, batch);
-                Ok(())
+                Ok(receipt)
             }
             Err(refusal) => {
                 self.state = prepared.forget();

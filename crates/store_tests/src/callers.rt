@@ -8,7 +8,7 @@ ghost use Rattle.recovery.specs.Open.{FitsSlot, IsOpen, IsWithOrWithout, device_
 
 use disk::{Disk, Fault};
 use journal::{Area, encode_batch};
-use recovery::Store;
+use recovery::{Receipt, Store};
 use refusal::Refusal;
 use revision::Taken;
 use std::alloc::Global;
@@ -42,7 +42,11 @@ pub fn keep<D: Disk>(
 }
 
 /// Commits one command. A crash at any moment leaves the state without it or with it, and at Ok the store goes on.
-pub fn commit_one<D: Disk>(alloc: Global, store: &mut Store<D>, taken: Taken) -> Result<(), Refusal>
+pub fn commit_one<D: Disk>(
+    alloc: Global,
+    store: &mut Store<D>,
+    taken: Taken,
+) -> Result<Receipt<D>, Refusal>
     requires { FitsSlot (state_of store.old) (taken ∷ []) }
     ensures any_moment { has_failed store.old ≡ false → IsOpen store.old
         → LeavesOnly ⟦<D as Disk>⟧ (IsWithOrWithout (state_of store.old) (taken ∷ [])) (device_of store.old) (device_of store.new) }

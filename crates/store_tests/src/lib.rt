@@ -16,6 +16,8 @@ mod deltas;
 #[cfg(test)]
 mod devices;
 #[cfg(test)]
+mod jobs;
+#[cfg(test)]
 mod opening;
 #[cfg(test)]
 mod picks;

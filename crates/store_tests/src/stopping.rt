@@ -23,8 +23,8 @@ fn calls_before(rt: &(impl Abort + AllocGlobal), bytes: &[u8]) -> u64 {
     open_store(rt, device_of(rt, bytes)).close().calls().len() as u64
 }
 
-// A store over a new device that goes wrong at a call of the first commit, counted from 0.
-fn store_under_plan(
+/// A store over a new device that goes wrong at a call of the first commit, counted from 0.
+pub fn store_under_plan(
     rt: &(impl Abort + AllocGlobal),
     call: u64,
     stops: bool,

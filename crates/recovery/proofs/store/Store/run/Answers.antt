@@ -3,14 +3,13 @@ use Rattle.disk.specs.Crash.{history_of}
 use Rattle.disk.proofs.CallerLemmas.{synced_leaves, begins, leaves_map, goes_on_run}
 use Rattle.revision.specs.State.{State, fold}
 use Rattle.recovery.specs.declared.run.StoreStep.{StoreStep}
-use Rattle.std.specs.Prelude.{Result, Ok, Err}
 use Rattle.std.proofs.lemmas.Bool.{false≢true}
-use Rattle.refusal.specs.declared.Refusal.{Refusal}
 use Rattle.refusal.specs.declared.Refusal.TheVariants.{Fault}
 use Rattle.std.proofs.lemmas.List.{at_drop_more, take_all}
 use Rattle.recovery.specs.Found.{FoundAs}
 use Rattle.recovery.specs.Run.{batch_of, state_after}
 use Rattle.recovery.proofs.Folds.{fold-limits}
+use Rattle.recovery.proofs.Refusals.{refusal_or}
 use Rattle.recovery.proofs.Runs.{unchanged, unchanged_twice, found_open, found_as, state_after-more, within_step, some_of, before_all, after_all}
 use Rattle.recovery.proofs.store.Store.run.Goals as goal
 
@@ -82,12 +81,8 @@ returns-clause-acknowledged g c unfailed is_open content left =
     after_all c.args.self.now.state store.state c.args.steps.now content (c.loop-at.invariant.so_far ∙ ap (state_after c.args.self.now.state) all)
     (subst (λ (l : List ℕ). FoundAs l store.state) (sym seen) (found_as _ _ (found_open store now_open)))
 
-abbrev error_of : Result (Unit {0}) Refusal → Refusal
-error_of (Ok done) = Fault
-error_of (Err refusal) = refusal
-
 pub returns-in-Err-clause-failed_before : goal.returns-in-Err-clause-failed_before
 returns-in-Err-clause-failed_before g c failed =
     let before = c.loop-at.invariant.failed_before failed in
     let now = c.commit.ensures.failed_before (before.1.failed ∙ failed) in
-    (tt, (before.0, ap error_of (sym c.in-Err.is ∙ now.0)), unchanged_twice before.1 now.1)
+    (tt, (before.0, ap (refusal_or Fault) (sym c.in-Err.is ∙ now.0)), unchanged_twice before.1 now.1)
