@@ -1,0 +1,17 @@
+//! What holds of published batches. Each function does nothing: its contract is the law.
+ghost use Rattle.std.specs.Prelude.{◌≡◌, ◌++◌, ◌∷◌, [], List};
+ghost use mathlib.Core.List.{IsPrefix};
+ghost use Rattle.revision.specs.Command.{Taken};
+ghost use Rattle.recovery.specs.Found.{commands_of};
+
+/// The commands of batches and of further ones are those of the first, and then those of the others.
+pub fn commands_join()
+    ensures join { (first others : List (List Taken)) → commands_of (first ++ others) ≡ commands_of first ++ commands_of others }
+    ensures one { (first : List (List Taken)) (batch : List Taken) → commands_of (first ++ batch ∷ []) ≡ commands_of first ++ batch }
+{}
+
+/// A list begins with itself, and with the beginnings of its beginnings.
+pub fn beginnings()
+    ensures itself { (batches : List (List Taken)) → IsPrefix batches batches }
+    ensures through { (first more all : List (List Taken)) → IsPrefix first more → IsPrefix more all → IsPrefix first all }
+{}

@@ -1,0 +1,40 @@
+//! A beginning of a log, without the run's name.
+ghost use Rattle.std.specs.Prelude.{◌≡◌};
+
+use crate::batch::{Batch, Law};
+use logbook::Seen;
+use std::marker::Model;
+
+/// A beginning of the log that was seen, with the log's own name. It is what a `Told` has inside, for a type that can't carry the
+/// run's name, and takes no memory.
+#[derive(Drop)]
+pub struct Mark {
+    pub(crate) batches: u64,
+    pub(crate) len: u64,
+    pub(crate) seen: Seen<Batch, u64, Law>,
+}
+
+impl Model for Mark {
+    ghost use Rattle.std.specs.Prelude.{◌≡◌, length};
+    ghost use Rattle.recovery.specs.Found.{commands_of};
+    ghost use Rattle.published.specs.Batches as spec;
+
+    ghost Value = { spec.Mark };
+
+    ghost view = { λ m. record { book = m.seen.book; batches = m.seen.log } };
+
+    ghost invariant = { λ m. (m.batches ≡ length m.seen.log) × (m.len ≡ length (commands_of m.seen.log)) };
+}
+
+impl Mark {
+    /// Another one of the same batches. It takes no memory.
+    pub fn copy(&self) -> Mark
+        ensures { result ≡ self.now }
+    {
+        Mark {
+            batches: self.batches,
+            len: self.len,
+            seen: self.seen.again(),
+        }
+    }
+}

@@ -1,0 +1,139 @@
+//! The token of what was published.
+ghost use Rattle.std.specs.Prelude.{◌≡◌, ◌⊎◌, ◌∷◌, ◌++◌, [], length, IfSome, MatchBool};
+ghost use mathlib.Core.List.{IsPrefix};
+ghost use Rattle.recovery.specs.Found.{commands_of};
+ghost use Rattle.published.specs.Batches.{IsShorter};
+
+use crate::batch::{Add, Batch, Law, Nothing};
+use crate::log::Log;
+use crate::mark::Mark;
+use crate::site::Site;
+use logbook::Offer;
+use recovery::Receipt;
+use std::marker::{Model, PhantomData};
+
+/// The most batches and the most commands that a log counts.
+const MOST: u64 = 1 << 62;
+
+/// A token of what was published: a beginning of the run's log that was seen. Contracts see it as its batches, the oldest first.
+#[derive(Drop)]
+pub struct Told<D, J: Site> {
+    pub(crate) mark: Mark,
+    pub(crate) of: PhantomData<(D, J)>,
+}
+
+impl<D, J: Site> Model for Told<D, J> {
+    ghost use Rattle.std.specs.Prelude.{◌≡◌, List};
+    ghost use Rattle.revision.specs.Command.{Taken};
+
+    ghost Value = { List (List Taken) };
+
+    ghost view = { λ t. t.mark.batches };
+
+    ghost invariant = { λ t. t.mark.book ≡ J.book };
+}
+
+impl<D, J: Site> Told<D, J> {
+    /// How many commands its batches have. It takes no memory.
+    pub fn len(&self) -> u64
+        ensures { result ≡ length (commands_of self.now) }
+    {
+        self.mark.len
+    }
+
+    /// Another token of the same batches. It takes no memory.
+    pub fn copy(&self) -> Told<D, J>
+        ensures { result ≡ self.now }
+    {
+        Told {
+            mark: self.mark.copy(),
+            of: PhantomData,
+        }
+    }
+
+    /// Whether the other token begins with this one: of two tokens of a run one begins the other. It takes no memory.
+    pub fn begins(&self, other: &Told<D, J>) -> bool
+        ensures { MatchBool result (IsPrefix self.now other.now) (IsShorter other.now self.now) }
+    {
+        let mut both = self.mark.seen.again();
+        both.learn(&other.mark.seen);
+        self.mark.batches <= other.mark.batches
+    }
+
+    /// The longer of two tokens, which the other begins. It takes no memory.
+    pub fn longer(&self, other: &Told<D, J>) -> Told<D, J>
+        ensures one { (result ≡ self.now) ⊎ (result ≡ other.now) }
+        ensures this { IsPrefix self.now result }
+        ensures that { IsPrefix other.now result }
+    {
+        if self.begins(other) {
+            other.copy()
+        } else {
+            self.copy()
+        }
+    }
+
+    /// Becomes the longer of the two. It takes no memory.
+    pub fn learn(&mut self, other: &Told<D, J>)
+        ensures one { (self.new ≡ self.old) ⊎ (self.new ≡ other.now) }
+        ensures this { IsPrefix self.old self.new }
+        ensures that { IsPrefix other.now self.new }
+    {
+        *self = self.longer(other);
+    }
+
+    /// Publishes a batch that was committed behind the batches of this token, and gives the token that ends with it. `None` where
+    /// something else was published behind them, or the log would count more than 2^62 batches or commands. It takes no memory.
+    pub fn add(&self, log: &Log<D, J>, receipt: &Receipt<D>) -> Option<Told<D, J>>
+        ensures { IfSome result (λ told. told ≡ self.now ++ receipt.now ∷ []) }
+    {
+        let batches = self.mark.batches;
+        let more = receipt.batch().len() as u64;
+        if batches >= MOST || self.mark.len >= MOST || more >= MOST {
+            return None;
+        }
+        let mut seen = self.mark.seen.again();
+        let mut offer: Offer<Batch, u64, Law, Nothing> = seen.plain::<Nothing, Receipt<D>, Add>(
+            receipt,
+        );
+        let mut pen = seen.no_pen();
+        let found = log
+            .head
+            .compare_exchange::<Add, Nothing>(
+                batches,
+                batches + 1,
+                &mut seen,
+                &mut offer,
+                &mut pen,
+            );
+        if found != batches {
+            return None;
+        }
+        Some(Told {
+            mark: Mark {
+                batches: batches + 1,
+                len: self.mark.len + more,
+                seen,
+            },
+            of: PhantomData,
+        })
+    }
+
+    /// What it has inside, without the run's name. It takes no memory.
+    pub fn mark(&self) -> Mark
+        ensures { result ≡ record { book = J.book; batches = self.now } }
+    {
+        self.mark.copy()
+    }
+
+    /// The token of a mark of this run's log. It takes no memory.
+    pub fn of_mark(mark: Mark) -> Told<D, J>
+        requires { mark.book ≡ J.book }
+        ensures { result ≡ mark.batches }
+    {
+        Told {
+            mark,
+            of: PhantomData,
+        }
+    }
+}
