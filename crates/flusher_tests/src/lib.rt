@@ -1,5 +1,0 @@
-//! Tests of `flusher`, by its public calls alone.
-#![tactic(auto)]
-
-#[cfg(test)]
-mod board;

@@ -1,0 +1,38 @@
+-- What stands behind the lock at any time that it is free.
+use Rattle.std.specs.Prelude.{◌≡◌, ◌≤◌, ◌+◌, ℕ, Bool, List, [], ◌∷◌, length}
+use Rattle.revision.specs.Command.{Taken}
+use Rattle.revision.specs.State.{State, grown, fold}
+use Rattle.revision.specs.Acceptance.{Takes, Reply, TakenAt, AgainAt, Refused, answer}
+use Rattle.recovery.specs.Found.{commands_of}
+use Rattle.world.specs.Board.{Board as Inner}
+use Rattle.world.specs.World.{Entry, takens}
+
+-- a board of a world, whether the store under it has failed, the batches that were published up to what is settled, and how many seats
+-- there are left to give
+pub record Board : Type 0 where
+  pub board : Inner Entry
+  pub failed : Bool
+  pub told : List (List Taken)
+  pub left : ℕ
+
+-- A legal history from a state: each command was taken as the rule of acceptance says at that point.
+abbrev pub IsLegal : State → List Entry → Type 0
+IsLegal state [] = Unit {0}
+IsLegal state (first ∷ others) = (answer state first.command ≡ Takes first.taken) × IsLegal (grown state first.taken) others
+
+-- the order is a legal history from the start, of which the state is the fold
+pub record IsHistory (board : Inner Entry) : Type 0 where
+  pub legal : IsLegal board.start board.order
+  pub state : board.state ≡ fold board.start (takens board.order)
+
+-- No more is settled than is taken off, no more is taken off than the order has, and what was published is as long as what is settled.
+pub record IsWithin (board : Inner Entry) (told : List (List Taken)) : Type 0 where
+  pub settled : board.settled ≤ board.taken
+  pub taken : board.taken ≤ length board.order
+  pub published : length (commands_of told) ≡ board.settled
+
+-- how many commands a seat has counted after a reply: one more where the command was taken
+abbrev pub counted : ℕ → Reply → ℕ
+counted count (TakenAt revision) = count + 1
+counted count (AgainAt revision) = count
+counted count (Refused refusal) = count

@@ -1,0 +1,252 @@
+//! The board.
+ghost use Rattle.std.specs.Prelude.{◌≡◌, ◌⊎◌, ◌↔◌, ◌≤◌, ◌<◌, ◌+◌, ◌-◌, ◌^◌, min, true, false, [], Some, None, Ok, length, IfOk, IfErr, IfSome, OnOk, OnErr, IsTrue, IsOk, IsErrOf};
+ghost use Rattle.revision.specs.Acceptance.{answer, Refuses};
+ghost use Rattle.recovery.specs.Found.{commands_of};
+ghost use Rattle.world.specs.Board.{begun_board, submitted, ticket_of, next_run, taken_more, settled_more, can_ack};
+ghost use Rattle.world.specs.World.{entry_of, takens};
+ghost use Rattle.hub.specs.Legal.{IsHistory, IsWithin, counted};
+ghost use Rattle.hub.specs.Runs.{IsLongest, untaken, MaySettle};
+
+use crate::run::{copied, is_beginning, longest};
+use crate::seat::{PLACES, Seat, Ticket, count};
+use published::{Site, Told};
+use recovery::Receipt;
+use refusal::Refusal;
+use revision::{Command, State, Taken};
+use std::alloc::Global;
+use std::marker::Model;
+use std::sync::ledger::{Blank, Book, Share};
+use world::Board as Inner;
+
+/// The order of the commands that were taken since a store was opened, with the state after them, how many are taken off to be written
+/// and how many of those are settled; the token of what was published up to there; whether the store has failed; and the ledger of the
+/// seats, whose counts add up to the length of the order.
+#[derive(Drop)]
+pub struct Board<D, J: Site> {
+    board: Inner,
+    failed: bool,
+    told: Told<D, J>,
+    seats: Book<J>,
+    spare: Share<J>,
+    left: u32,
+    used: [u32; 64],
+}
+
+impl<D, J: Site> Model for Board<D, J> {
+    ghost use Rattle.std.specs.Prelude.{◌≡◌, ◌+◌, length};
+    ghost use Rattle.hub.specs.Legal as spec;
+
+    ghost Value = { spec.Board };
+
+    ghost view = { λ b. record { board = b.board; failed = b.failed; told = b.told; left = b.left } };
+
+    ghost invariant = { λ b. spec.IsHistory b.board × spec.IsWithin b.board b.told × (b.board.start ≡ J.start) × (b.seats.total ≡ length b.board.order) × (b.spare.parts ≡ b.left + 1) };
+}
+
+impl<D, J: Site> Board<D, J> {
+    /// The board of a state that a store was opened with, with the token of its start, and a ledger of so many seats. It takes no memory.
+    pub fn new(
+        alloc: Global,
+        state: State,
+        told: Told<D, J>,
+        blank: Blank,
+        seats: u32,
+    ) -> Board<D, J>
+        requires start { state ≡ J.start }
+        requires told { told ≡ [] }
+        requires name { blank.name ≡ J.name }
+        requires parts { blank.parts ≡ J.parts }
+        requires seats { blank.parts ≡ seats + 1 }
+        ensures { result ≡ record { board = begun_board state; failed = false; told = []; left = seats } }
+    {
+        let (book, spare) = blank.open::<J>();
+        Board {
+            board: Inner::new(alloc, state),
+            failed: false,
+            told,
+            seats: book,
+            spare,
+            left: seats,
+            used: [0; 64],
+        }
+    }
+
+    /// The state after the whole order, which is a legal history from the state that the store was opened with.
+    pub fn state(&self) -> &State
+        ensures state { result.now ≡ self.now.board.state }
+        ensures start { self.now.board.start ≡ J.start }
+        ensures history { IsHistory self.now.board }
+        ensures within { IsWithin self.now.board self.now.told }
+    {
+        self.board.state()
+    }
+
+    /// How many commands the order has.
+    pub fn ordered(&self) -> usize
+        ensures { result ≡ length self.now.board.order }
+    {
+        self.board.order().len()
+    }
+
+    /// How many commands of the order are settled.
+    pub fn settled(&self) -> usize
+        ensures { result ≡ self.now.board.settled }
+    {
+        self.board.settled()
+    }
+
+    /// The token of what was published, up to what is settled.
+    pub fn told(&self) -> &Told<D, J>
+        ensures { result.now ≡ self.now.told }
+    {
+        &self.told
+    }
+
+    /// Whether all commands of the order are taken off.
+    pub fn is_idle(&self) -> bool
+        ensures { IsTrue result ↔ (untaken self.now.board ≡ []) }
+    {
+        self.board.untaken().is_empty()
+    }
+
+    /// A seat more, of which nothing is counted yet. Refused with `NoSeat` just where none is left to give, and then nothing has changed. It takes no memory.
+    pub fn seat(&mut self) -> Result<Seat<J>, Refusal>
+        ensures ok { OnOk result (self.old ≡ record self.new { left = self.new.left + 1 }) }
+        ensures new { IfOk result (λ seat. seat ≡ 0) }
+        ensures none { (self.old.left ≡ 0) ↔ IsErrOf result Refusal.NoSeat }
+        ensures only { IfErr result (λ e. e ≡ Refusal.NoSeat) }
+        ensures unchanged { OnErr result (self.new ≡ self.old) }
+    {
+        if self.left == 0 {
+            return Err(Refusal::NoSeat);
+        }
+        let share = self.spare.split_off(1, 0);
+        self.left -= 1;
+        let place = least(&self.used);
+        self.used[place] = self.used[place].saturating_add(1);
+        Ok(Seat { share, place })
+    }
+
+    /// Takes a seat back, so that it can be given again. What was counted of it stays counted. It takes no memory.
+    pub fn give_back(&mut self, seat: Seat<J>)
+        ensures { self.new ≡ record self.old { left = min (self.old.left + 1) (2 ^ 32 - 1) } }
+    {
+        let Seat { share, place } = seat;
+        self.used[place] = self.used[place].saturating_sub(1);
+        if self.left < u32::MAX {
+            self.spare.merge(share);
+            self.left += 1;
+        }
+    }
+
+    /// Answers a command by the rule of acceptance. One that is taken is put behind the order and counted on the seat, and any other leaves the board and the seat alone. The
+    /// ticket has the reply, and the length of the order that has to be settled before the reply may be given, for a retry too.
+    /// Refused with `StoreFailed` where the store has failed, else as `State::plan` refuses it; nothing has changed then.
+    #[tactic(auto, using(crate::proofs::Histories::counts))]
+    pub fn submit(
+        &mut self,
+        alloc: Global,
+        seat: &mut Seat<J>,
+        command: &Command,
+    ) -> Result<Ticket, Refusal>
+        ensures ok { OnOk result (self.new ≡ record self.old { board = submitted (entry_of command.now) self.old.board command.now }) }
+        ensures ticket { IfOk result (λ ticket. Some ticket ≡ ticket_of self.old.board command.now) }
+        ensures command { IfOk result (λ ticket. ticket.command ≡ command.now) }
+        ensures counts { IfOk result (λ ticket. seat.new ≡ counted seat.old ticket.reply) }
+        ensures works { OnOk result (self.old.failed ≡ false) }
+        ensures failed { self.old.failed ≡ true → IsErrOf result Refusal.StoreFailed }
+        ensures refused { self.old.failed ≡ false → IfErr result (λ e. (e ≡ Refusal.NoMemory) ⊎ (answer self.old.board.state command.now ≡ Refuses e)) }
+        ensures unchanged { OnErr result (self.new ≡ self.old) }
+        ensures uncounted { OnErr result (seat.new ≡ seat.old) }
+    {
+        if self.failed {
+            return Err(Refusal::StoreFailed);
+        }
+        // its number is in range
+        let _ = command.number();
+        match self.board.submit(alloc, command) {
+            Ok(ticket) => {
+                count(&mut self.seats, &mut seat.share, ticket.reply());
+                Ok(Ticket {
+                    ticket,
+                    place: seat.place,
+                })
+            }
+            Err(refusal) => Err(refusal),
+        }
+    }
+
+    /// Takes off the longest run of the next commands whose batch has at most `cap` bytes, and gives a copy of it; it is empty where
+    /// there is none. Refused for want of memory alone, and then nothing has changed.
+    pub fn take(&mut self, alloc: Global, cap: u32) -> Result<Vec<Taken>, Refusal>
+        ensures longest { IfOk result (λ run. IsLongest cap (untaken self.old.board) (length run.items)) }
+        ensures run { IfOk result (λ run. run.items ≡ takens (next_run self.old.board (length run.items))) }
+        ensures board { IfOk result (λ run. self.new ≡ record self.old { board = taken_more self.old.board (length run.items) }) }
+        ensures only { IfErr result (λ e. e ≡ Refusal.NoMemory) }
+        ensures unchanged { OnErr result (self.new ≡ self.old) }
+    {
+        let untaken = self.board.untaken();
+        let count = longest(untaken, cap);
+        let run = copied(alloc, &untaken[..count])?;
+        self.board.take(count);
+        Ok(run)
+    }
+
+    /// Settles a batch that was committed, by the receipt of its commit and the token of its publish. Refused with `Stranger` just where the batch isn't the
+    /// next part of the order after what is settled, some of it isn't taken off, it is empty, or what was published doesn't end with
+    /// it; nothing has changed then. It takes no memory.
+    pub fn settle(&mut self, receipt: &Receipt<D>, told: Told<D, J>) -> Result<(), Refusal>
+        ensures ok { OnOk result (self.new ≡ record self.old { board = settled_more self.old.board (length receipt.now); told = told }) }
+        ensures may { OnOk result (MaySettle self.old.board receipt.now (length (commands_of told))) }
+        ensures stranger { MaySettle self.old.board receipt.now (length (commands_of told)) → IsOk result }
+        ensures only { IfErr result (λ e. e ≡ Refusal.Stranger) }
+        ensures unchanged { OnErr result (self.new ≡ self.old) }
+    {
+        let batch = receipt.batch();
+        if !is_beginning(batch, self.board.unsettled()) {
+            return Err(Refusal::Stranger);
+        }
+        if !self.board.settle(batch.len(), told.len() as usize) {
+            return Err(Refusal::Stranger);
+        }
+        self.told = told;
+        Ok(())
+    }
+
+    /// Acknowledges a ticket: the token of what was published, just where the ticket's length is settled, which stays so once the store has failed. Else
+    /// refused with `StoreFailed` where the store has failed, and `None` where it hasn't. It takes no memory.
+    pub fn ack(&self, ticket: &Ticket) -> Result<Option<Told<D, J>>, Refusal>
+        ensures settled { (can_ack self.now.board ticket.now ≡ true) ↔ (result ≡ Ok (Some self.now.told)) }
+        ensures waits { (result ≡ Ok None) ↔ ((can_ack self.now.board ticket.now ≡ false) × (self.now.failed ≡ false)) }
+        ensures holds { IfOk result (λ told. IfSome told (λ t. ticket.now.length ≤ length (commands_of t))) }
+        ensures only { IfErr result (λ e. e ≡ Refusal.StoreFailed) }
+    {
+        if self.board.acknowledges(&ticket.ticket) {
+            return Ok(Some(self.told.copy()));
+        }
+        if self.failed {
+            return Err(Refusal::StoreFailed);
+        }
+        Ok(None)
+    }
+
+    /// Notes that the store has failed. It takes no memory.
+    pub fn fail(&mut self)
+        ensures { self.new ≡ record self.old { failed = true } }
+    {
+        self.failed = true;
+    }
+}
+
+// the place that the fewest seats have
+fn least(used: &[u32; 64]) -> usize
+    ensures { result < 64 }
+{
+    let mut best = 0;
+    for i in 0..PLACES {
+        if used[i] < used[best] {
+            best = i;
+        }
+    }
+    best
+}

@@ -1,0 +1,61 @@
+//! The board that many sessions order their edits on, and from which one flusher takes batches; and the hub, which is that board
+//! behind its lock.
+//!
+//! A `Board` is the value behind the lock. Its order is a legal history from the state that the store was opened with, and its state is
+//! the fold of that order; no more of it is settled than is taken off, the published batches that it was told of have as many
+//! commands as are settled, and its order is as long as what its seats have counted. This holds whenever the lock is free, by its
+//! type. Each call moves the board as the definition of that step in `world` says (specs/Legal.antt, specs/Runs.antt). What is
+//! settled was committed: `Board::settle` wants the receipt of a commit, which a store alone makes, and the token of a publish.
+//!
+//! A `Hub` is shared by threads: sessions submit and wait for their acknowledgements, and one flusher takes batches, writes them with
+//! the board unlocked, and settles them. After it has let the lock go, `settle` wakes the seats whose tickets are covered.
+//!
+//! A caller, with its contract, which `hub_tests` proves as it stands:
+//!
+//! ```text
+//! ghost use Rattle.std.specs.Prelude.{◌≡◌, ◌≤◌, length, IfOk};
+//! ghost use Rattle.recovery.specs.Found.{commands_of};
+//!
+//! use hub::{Hub, Seat, Ticket};
+//! use published::{Site, Told};
+//! use refusal::Refusal;
+//! use revision::Command;
+//! use std::alloc::Global;
+//! use std::sync::Wait;
+//!
+//! /// Submits a command, and waits until its reply may be given: the token that comes with it holds what the reply rests on.
+//! pub fn submit_and_wait<D, J: Site, R: Wait>(
+//!     rt: &R,
+//!     alloc: Global,
+//!     hub: &Hub<D, J>,
+//!     seat: &mut Seat<J>,
+//!     command: &Command,
+//! ) -> Result<(Ticket, Told<D, J>), Refusal>
+//!     ensures command { IfOk result (λ done. done.0.command ≡ command.now) }
+//!     ensures holds { IfOk result (λ done. done.0.length ≤ length (commands_of done.1)) }
+//! {
+//!     let ticket = hub.submit(rt, alloc, seat, command)?;
+//!     let told = hub.wait_ack(rt, &ticket)?;
+//!     Ok((ticket, told))
+//! }
+//! ```
+//!
+//! The crate stands on `world`, on `revision`, on `journal` for the width of a batch, on `recovery` for receipts and on `published` for
+//! the tokens of what was published.
+//!
+//! # What isn't promised
+//!
+//! - What a hub's call did to the board under the lock: no clause can name the board at that moment. The tokens that it moves say
+//!   some of it (a ticket, a seat's count, a `Told`), and tests the rest; so also that a call doesn't just refuse.
+//! - That a thread which waits is ever woken.
+//! - That a ticket is asked for at the board that gave it. A seat and a token are of one run by their types.
+#![tactic(auto)]
+
+mod board;
+mod hub;
+mod run;
+mod seat;
+
+pub use board::Board;
+pub use hub::Hub;
+pub use seat::{Seat, Ticket};

@@ -1,0 +1,188 @@
+//! A board over a store in memory: batches that fit their slots, and what is settled.
+ghost use Rattle.std.specs.Prelude.{◌≡◌};
+
+use crate::made::{CAP, SHAPE, command, commit, new_store};
+use disk::MemDisk;
+use hub::{Board, Seat, Ticket};
+use published::{Log, Opened, Site, Told};
+use recovery::{Receipt, Store};
+use refusal::Refusal;
+use revision::{Reply, State, Taken};
+use std::marker::Brand;
+use std::process::Abort;
+use std::sync::ledger::Blank;
+
+// a command is ordered, as this revision, and ends the order at this length
+fn is_ordered<J: Site, R: Abort + AllocGlobal>(
+    rt: &R,
+    board: &mut Board<MemDisk, J>,
+    seat: &mut Seat<J>,
+    number: u64,
+    count: u32,
+) {
+    let command = command(rt, number, count);
+    let ticket = board
+        .submit(rt.alloc(), seat, &command)
+        .expect(rt, "it is taken");
+    assert!(rt; ticket.reply() == Reply::Taken { rev: number });
+    assert!(rt; ticket.length() as u64 == number);
+}
+
+// it was ordered before
+fn is_again<J: Site, R: Abort + AllocGlobal>(
+    rt: &R,
+    board: &mut Board<MemDisk, J>,
+    seat: &mut Seat<J>,
+    number: u64,
+    count: u32,
+) -> Ticket {
+    let command = command(rt, number, count);
+    let ticket = board
+        .submit(rt.alloc(), seat, &command)
+        .expect(rt, "a retry");
+    assert!(rt; ticket.reply() == Reply::Again { rev: number });
+    ticket
+}
+
+// the next batch has so many commands
+fn batch<J: Site, R: Abort + AllocGlobal>(
+    rt: &R,
+    board: &mut Board<MemDisk, J>,
+    count: usize,
+) -> Vec<Taken> {
+    let batch = board.take(rt.alloc(), CAP).expect(rt, "memory");
+    assert_eq!(rt; batch.len(), count);
+    batch
+}
+
+fn receipt_of<R: Abort + AllocGlobal>(
+    rt: &R,
+    store: &mut Store<MemDisk>,
+    batch: &[Taken],
+) -> Receipt<MemDisk> {
+    commit(rt.alloc(), store, batch).expect(rt, "room")
+}
+
+fn told_more<J: Site, R: Abort>(
+    rt: &R,
+    told: &Told<MemDisk, J>,
+    log: &Log<MemDisk, J>,
+    receipt: &Receipt<MemDisk>,
+) -> Told<MemDisk, J> {
+    told.add(log, receipt).expect(rt, "the log's end")
+}
+
+fn waits<J: Site, R: Abort>(rt: &R, board: &Board<MemDisk, J>, ticket: &Ticket) {
+    match board.ack(ticket) {
+        Ok(None) => {}
+        Ok(Some(_)) => panic!(rt; "acknowledged"),
+        Err(refusal) => panic!(rt; "{refusal}"),
+    }
+}
+
+fn is_acknowledged<J: Site, R: Abort>(rt: &R, board: &Board<MemDisk, J>, ticket: &Ticket) {
+    match board.ack(ticket) {
+        Ok(Some(told)) => assert!(rt; told.len() >= ticket.length() as u64),
+        Ok(None) => panic!(rt; "not settled"),
+        Err(refusal) => panic!(rt; "{refusal}"),
+    }
+}
+
+// Only the next part is settled, and only where what is published ends with it.
+fn settled_in_order<J: Site, R: Abort>(
+    rt: &R,
+    board: &mut Board<MemDisk, J>,
+    one: &Receipt<MemDisk>,
+    two: &Receipt<MemDisk>,
+    told: &Told<MemDisk, J>,
+    last: &Told<MemDisk, J>,
+) {
+    assert_eq!(rt; board.settle(two, last.copy()), Err(Refusal::Stranger));
+    assert_eq!(rt; board.settle(one, last.copy()), Err(Refusal::Stranger));
+    assert_eq!(rt; board.settle(one, told.copy()), Ok(()));
+    assert_eq!(rt; board.settle(one, told.copy()), Err(Refusal::Stranger));
+}
+
+fn batches_fit<J: Site, R: Abort + AllocGlobal>(rt: &R, opened: Opened, blank: Blank, state: State)
+    requires book { opened ≡ J.book }
+    requires name { blank.name ≡ J.name }
+    requires parts { blank.parts ≡ J.parts }
+    requires seats { blank.parts ≡ 2 }
+    requires start { state ≡ J.start }
+{
+    let (log, told) = opened.named::<MemDisk, J>();
+    let mut board = Board::new(rt.alloc(), state, told.copy(), blank, 1);
+    let mut seat = board.seat().expect(rt, "a seat");
+    is_ordered(rt, &mut board, &mut seat, 1, 1);
+    is_ordered(rt, &mut board, &mut seat, 2, 14);
+    is_ordered(rt, &mut board, &mut seat, 3, 199);
+    let again = is_again(rt, &mut board, &mut seat, 3, 199);
+    let first = batch(rt, &mut board, 2);
+    let second = batch(rt, &mut board, 1);
+    let _ = batch(rt, &mut board, 0);
+    let mut store = new_store(rt, 2);
+    let one = receipt_of(rt, &mut store, &first);
+    let two = receipt_of(rt, &mut store, &second);
+    let told = told_more(rt, &told, &log, &one);
+    let last = told_more(rt, &told, &log, &two);
+    settled_in_order(rt, &mut board, &one, &two, &told, &last);
+    waits(rt, &board, &again);
+    assert_eq!(rt; board.settle(&two, last), Ok(()));
+    is_acknowledged(rt, &board, &again);
+}
+
+// The entries have 41, 51 and 236 bytes, and a batch has 4 more.
+#[test]
+fn batches_fit_their_slots(rt: HostRuntime) {
+    let state = State::new(rt.alloc(), SHAPE.limits());
+    batches_fit::<Brand, _>(&rt, Opened::new(), Blank::new(2), state);
+}
+
+fn settled_before_a_failure<J: Site, R: Abort + AllocGlobal>(
+    rt: &R,
+    opened: Opened,
+    blank: Blank,
+    state: State,
+)
+    requires book { opened ≡ J.book }
+    requires name { blank.name ≡ J.name }
+    requires parts { blank.parts ≡ J.parts }
+    requires seats { blank.parts ≡ 2 }
+    requires start { state ≡ J.start }
+{
+    let (log, told) = opened.named::<MemDisk, J>();
+    let mut board = Board::new(rt.alloc(), state, told.copy(), blank, 1);
+    let mut seat = board.seat().expect(rt, "a seat");
+    is_ordered(rt, &mut board, &mut seat, 1, 1);
+    let create = is_again(rt, &mut board, &mut seat, 1, 1);
+    let first = batch(rt, &mut board, 1);
+    let mut store = new_store(rt, 2);
+    let one = receipt_of(rt, &mut store, &first);
+    assert_eq!(rt;
+        board.settle(&one, told_more(rt, &told, &log, &one)),
+        Ok(())
+    );
+    is_ordered(rt, &mut board, &mut seat, 2, 14);
+    let edit = is_again(rt, &mut board, &mut seat, 2, 14);
+    board.fail();
+    is_acknowledged(rt, &board, &create);
+    fails_from_then_on(rt, &mut board, &mut seat, &edit);
+}
+
+fn fails_from_then_on<J: Site, R: Abort + AllocGlobal>(
+    rt: &R,
+    board: &mut Board<MemDisk, J>,
+    seat: &mut Seat<J>,
+    ticket: &Ticket,
+) {
+    assert!(rt; matches!(board.ack(ticket), Err(Refusal::StoreFailed)));
+    let command = command(rt, 3, 1);
+    let late = board.submit(rt.alloc(), seat, &command);
+    assert!(rt; matches!(late, Err(Refusal::StoreFailed)));
+}
+
+#[test]
+fn what_is_settled_is_acknowledged_after_a_failure(rt: HostRuntime) {
+    let state = State::new(rt.alloc(), SHAPE.limits());
+    settled_before_a_failure::<Brand, _>(&rt, Opened::new(), Blank::new(2), state);
+}

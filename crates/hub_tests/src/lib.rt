@@ -1,0 +1,13 @@
+//! Tests of `hub`, by its public calls alone.
+#![tactic(auto)]
+
+#[cfg(test)]
+mod board;
+#[cfg(test)]
+pub mod callers;
+#[cfg(test)]
+mod made;
+#[cfg(test)]
+mod seats;
+#[cfg(test)]
+mod threads;
