@@ -1,0 +1,5 @@
+pub mod Beginnings
+pub mod Evens
+pub mod Running
+pub mod Turning
+pub mod Holdings

@@ -1,0 +1,11 @@
+//! The flusher, which commits and publishes batches, and one thread's run.
+#![tactic(auto)]
+
+mod drive;
+mod flusher;
+mod gate;
+mod turning;
+
+pub use drive::{Answer, Call};
+pub use flusher::Flusher;
+pub use gate::{Gate, Moment, OpenGate};
