@@ -1,10 +1,10 @@
 //! The flusher, which commits and publishes batches, and one thread's run.
 #![tactic(auto)]
 
+mod begun;
 mod drive;
 mod flusher;
 mod gate;
-mod turning;
 
 pub use drive::{Answer, Call};
 pub use flusher::Flusher;
