@@ -11,7 +11,9 @@ use Rattle.journal.specs.BatchSpelling.{batch_width}
 use Rattle.world.specs.Board.{Board, next_run, taken_more, can_settle}
 use Rattle.world.specs.World.{Entry, takens}
 use Rattle.recovery.specs.Found.{commands_of}
-use Rattle.recovery.specs.Open.{FitsSlot}
+use Rattle.recovery.specs.declared.store.Store.{Store}
+use Rattle.recovery.specs.Open.{FitsSlot, IsWithOrWithout, state_of}
+use Rattle.recovery.specs.Goes.{Goes}
 use Rattle.hub.specs.Runs.{IsLongest, untaken, MaySettle}
 use Rattle.flusher.specs.Batches.{AreParts}
 use Rattle.flusher.specs.Flushers.{cap_of}
@@ -74,3 +76,10 @@ module _ {D : Type 0} {disk : Ghosts D} where
       } in
       subst (λ (b : Board Entry). MaySettle b receipt (length (commands_of token))) (sym boards)
       (subst (λ (r : List Taken). MaySettle (taken_more here.board (length run)) r (length (commands_of token))) (sym same) here_may)
+
+  -- what goes from the store that held a run goes from the store before
+  pub goes_held : (old mid new : Store D disk) (batches : List (List Taken)) (run : List Taken) → mid ≡ old → batches ≡ run ∷ [] → Goes (IsWithOrWithout (state_of mid) (commands_of batches)) mid new
+      → Goes (IsWithOrWithout (state_of old) run) old new
+  goes_held old mid new batches run same is goes =
+      subst (λ (c : List Taken). Goes (IsWithOrWithout (state_of old) c) old new) (ap commands_of is ∙ append-nil run)
+      (subst (λ (s : Store D disk). Goes (IsWithOrWithout (state_of s) (commands_of batches)) s new) same goes)

@@ -35,6 +35,21 @@ impl<D: Disk, J: Site> Flusher<D, J> {
     ghost use Rattle.recovery.specs.Goes.{Goes};
     ghost use Rattle.flusher.specs.Holding.{store_of, told_of, committed_of, waiting_of};
 
+    // A flusher of which nothing was published yet.
+    pub(crate) fn of(store: Store<D>, publisher: Publisher<D, J>, begun: Begun<J>) -> Flusher<D, J>
+        requires nothing { publisher ≡ record { told = []; held = [] } }
+        requires begin { state_of store ≡ begun }
+        ensures store { store_of result ≡ store }
+        ensures nothing { (told_of result ≡ []) × (committed_of result ≡ []) × (waiting_of result ≡ []) }
+    {
+        Flusher {
+            store,
+            publisher,
+            waiting: None,
+            begun,
+        }
+    }
+
     /// What the store holds is what the batches make of the start that are published, or committed and not published yet.
     pub fn kept(&self)
         ensures { state_of (store_of self.now) ≡ fold J.start (commands_of (told_of self.now ++ committed_of self.now)) }
