@@ -10,7 +10,7 @@
 //! viewer shows what was published. `left_right` makes two kinds of step on the view, publish and enter; the token adds a third beside
 //! it, on a word that the publisher alone writes.
 //!
-//! A caller, with its contract:
+//! A caller, with its contract, which `view_tests` proves as it stands:
 //!
 //! ```text
 //! ghost use mathlib.Core.List.{IsPrefix};
