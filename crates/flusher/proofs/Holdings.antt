@@ -13,7 +13,7 @@ use Rattle.recovery.specs.Found.{commands_of, FoundAs}
 use Rattle.recovery.specs.Open.{IsOpen, IsUnchanged, IsRetiredNow, IsWithOrWithout, device_of, state_of, has_failed}
 use Rattle.recovery.specs.Goes.{Goes}
 use Rattle.recovery.proofs.CallerLemmas.{goes_none, goes_call, open_unchanged, found_as, found_open}
-use Rattle.view.specs.Shown.{Published}
+use Rattle.view.specs.Published.{Published}
 use Rattle.flusher.specs.Flushers.{listed}
 use Rattle.flusher.proofs.Beginnings.{commands-append, fold-append}
 

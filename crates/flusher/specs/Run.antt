@@ -5,8 +5,8 @@ use Rattle.flusher.specs.declared.flusher.Flusher.{Flusher}
 use Rattle.flusher.specs.Holding.{store_of, told_of, committed_of, waiting_of}
 use Rattle.flusher.specs.Standing.{Standing}
 
-module _ {D J : Type 0} {disk : Ghosts D} {site ledger : _} where
-  abbrev pub standing : Board → Flusher D J disk site ledger → Standing D disk
+module _ {D J : Type 0} {disk : Ghosts D} where
+  abbrev pub standing : Board → Flusher D J disk → Standing D disk
   standing board flusher = record {
     board = board.board;
     told = told_of flusher;

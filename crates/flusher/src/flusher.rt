@@ -6,6 +6,7 @@ ghost use Rattle.recovery.specs.Found.{commands_of};
 ghost use Rattle.recovery.specs.Open.{FitsSlot, state_of};
 ghost use Rattle.flusher.specs.Flushers.{MayCommit};
 
+use crate::begun::Begun;
 use crate::gate::{Gate, Moment};
 use disk::Disk;
 use published::{Opened, Site, Told};
@@ -21,7 +22,8 @@ pub struct Flusher<D: Disk, J: Site> {
     store: Store<D>,
     publisher: Publisher<D, J>,
     waiting: Option<Vec<Taken>>,
-    ghost kept: { state_of store ≡ fold J.start (commands_of (publisher.told ++ publisher.held)) },
+    begun: Begun<J>,
+    ghost kept: { state_of store ≡ fold begun (commands_of (publisher.told ++ publisher.held)) },
     ghost fits: { ForSome waiting (λ batch. MayCommit (state_of store) batch.items publisher.held) },
 }
 
@@ -32,6 +34,28 @@ impl<D: Disk, J: Site> Flusher<D, J> {
     ghost use Rattle.flusher.specs.Flushers.{IsWritten, cap_of};
     ghost use Rattle.recovery.specs.Goes.{Goes};
     ghost use Rattle.flusher.specs.Holding.{store_of, told_of, committed_of, waiting_of};
+
+    // A flusher of which nothing was published yet.
+    pub(crate) fn of(store: Store<D>, publisher: Publisher<D, J>, begun: Begun<J>) -> Flusher<D, J>
+        requires nothing { publisher ≡ record { told = []; held = [] } }
+        requires begin { state_of store ≡ begun }
+        ensures store { store_of result ≡ store }
+        ensures nothing { (told_of result ≡ []) × (committed_of result ≡ []) × (waiting_of result ≡ []) }
+    {
+        Flusher {
+            store,
+            publisher,
+            waiting: None,
+            begun,
+        }
+    }
+
+    /// What the store holds is what the batches make of the start that are published, or committed and not published yet.
+    pub fn kept(&self)
+        ensures { state_of (store_of self.now) ≡ fold J.start (commands_of (told_of self.now ++ committed_of self.now)) }
+    {
+        self.begun.is_start();
+    }
 
     /// Holds a batch, which the next `commit_held` or `write` commits. It takes no memory.
     pub fn hold(&mut self, batch: Vec<Taken>)
@@ -111,6 +135,14 @@ impl<D: Disk, J: Site> Flusher<D, J> {
         self.publisher.publish(rt, alloc)
     }
 
+    /// Whether a batch is held that isn't committed yet, or one is committed that isn't published yet.
+    pub fn holds(&self) -> bool
+        ensures held { result ≡ false → (committed_of self.now ≡ []) × (waiting_of self.now ≡ []) }
+        ensures none { committed_of self.now ++ waiting_of self.now ≡ [] → result ≡ false }
+    {
+        self.publisher.holds() || self.waiting.is_some()
+    }
+
     /// How many bytes a batch may have: what fits a slot in which nothing stands yet.
     pub fn cap(&self) -> u32
         ensures { result ≡ cap_of (state_of (store_of self.now)) }
@@ -119,11 +151,8 @@ impl<D: Disk, J: Site> Flusher<D, J> {
     }
 
     /// A reader of what is published, if there is a place for one more. It takes no memory.
-    pub fn viewer(&mut self) -> Option<Viewer<D, J>>
-        ensures store { store_of self.new ≡ store_of self.old }
-        ensures told { told_of self.new ≡ told_of self.old }
-        ensures committed { committed_of self.new ≡ committed_of self.old }
-        ensures waiting { waiting_of self.new ≡ waiting_of self.old }
+    pub fn viewer(&self) -> Option<Viewer<D, J>>
+        ensures { IfSome result (λ viewer. viewer ≡ told_of self.now) }
     {
         self.publisher.viewer()
     }
@@ -152,6 +181,7 @@ impl<D: Disk, J: Site> Flusher<D, J> {
             store,
             publisher,
             waiting: _,
+            begun: _,
         } = self;
         publisher.end(rt);
         store

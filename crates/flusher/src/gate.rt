@@ -15,6 +15,7 @@ pub trait Gate {
 }
 
 /// The gate that lets each write pass at once.
+#[derive(Clone, Copy, Debug)]
 pub struct OpenGate;
 
 impl Gate for OpenGate {

@@ -19,7 +19,7 @@ use std::sync::Wait;
 
 /// A turn: takes off the longest run of commands whose batch fits a slot, writes it, and settles it. Gives how many commands there are
 /// in it, which are none where nothing was left to take off. At a refusal the run may be committed or not.
-pub(crate) fn turn<D: Disk, J: Site, R: Wait>(
+pub fn turn<D: Disk, J: Site, R: Wait>(
     rt: &R,
     alloc: Global,
     flusher: &mut Flusher<D, J>,
@@ -45,6 +45,7 @@ pub(crate) fn turn<D: Disk, J: Site, R: Wait>(
         Some(both) => {
             let (receipt, told) = both;
             board.settle(&receipt, told)?;
+            flusher.kept();
             Ok(count)
         }
     }

@@ -6,7 +6,7 @@
 //! store. All types carry one parameter, a `Site`, which names the run: its log, its ledger of seats, and the state that its store was
 //! opened with. The crate stands on `revision` and on `recovery`, for the receipt.
 //!
-//! A caller, with its contract, which `view_tests` proves as it stands:
+//! A caller, with its contract:
 //!
 //! ```text
 //! ghost use Rattle.std.specs.Prelude.{◌≡◌, [], ◌∷◌, IfSome};

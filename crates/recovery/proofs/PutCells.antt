@@ -1,10 +1,9 @@
 -- What a store stands for when the two cells of one document change.
-use Rattle.std.proofs.Common.{◌≡◌, ◌⊎◌, ⊎_elim, inl, inr, ℕ, zero, suc, ◌+◌, ◌-◌, ◌*◌, ◌≤◌, ◌<◌, true, Option, Some, None, List, [], ◌∷◌, length, set, get_or, take, drop, refl, sym, ◌∙◌, ap, subst, arith}
+use Rattle.std.proofs.Common.{◌≡◌, ◌⊎◌, ⊎_elim, inl, inr, ℕ, zero, suc, ◌+◌, ◌-◌, ◌*◌, ◌≤◌, ◌<◌, Option, Some, List, [], ◌∷◌, length, set, take, drop, refl, sym, ◌∙◌, ap, subst, arith}
 use Rattle.std.specs.Prelude.{slice_get}
 use Rattle.std.proofs.lemmas.Bool.{cases_eq}
 use Rattle.std.proofs.lemmas.List.{drop-drop, length-set}
 use Rattle.std.proofs.lemmas.Option.{same_Some, slice_get_within}
-use Rattle.std.proofs.Math.Nat.{mul-le-mul_right}
 use Rattle.disk.specs.Device.{SameOutside}
 use Rattle.disk.proofs.CallerLemmas.{same_at}
 use Rattle.history.specs.Cell.{Pair, cells_at, with_pair}
@@ -13,13 +12,12 @@ use Rattle.milestone.specs.OneCell.{HoldsPair}
 use Rattle.milestone.specs.declared.cells.Cells.{Cells}
 use Rattle.milestone.specs.Cells.{Fits, SameCells, place_of, size_of, number_of}
 use Rattle.segments.specs.Slot.{Segment, HoldsSlot}
-use Rattle.segments.specs.Table.{HoldsTable, slot_at, slot_place, slot_bytes}
+use Rattle.segments.specs.Table.{HoldsTable, slot_at, slot_place}
 use Rattle.recovery.specs.declared.shape.Shape.{Shape}
 use Rattle.recovery.specs.Shape.{cells_place, slots_place}
 use Rattle.recovery.specs.Layout.{IsLaidOut}
 use Rattle.recovery.specs.Cells.{IsCellsOf, AreCellsOf, FitEach}
 use Rattle.recovery.proofs.Layouts.{part_same, part_before, cells_before}
-use Rattle.recovery.proofs.Superblocks.{ranges_of}
 
 -- the cells of the document, and those of the others
 pub pair_own : (number : ℕ) (pair : Pair) (cells : List Pair) → number < length cells → cells_at (with_pair number pair cells) number ≡ pair

@@ -1,16 +1,14 @@
 -- A store into which a milestone is put.
-use Rattle.std.proofs.Common.{◌≡◌, ◌⊎◌, ⊎_elim, inl, inr, ℕ, zero, suc, ◌+◌, ◌*◌, ◌≤◌, ◌<◌, true, Option, Some, None, List, [], ◌∷◌, length, get_or, set, drop, refl, sym, ◌∙◌, ap, subst, arith}
-use Rattle.std.specs.Prelude.{nat_lt, min, max, slice_get, ◌==◌, ◌^◌, not, Contains}
+use Rattle.std.proofs.Common.{◌≡◌, ◌⊎◌, inl, inr, ℕ, zero, suc, ◌+◌, ◌*◌, ◌≤◌, ◌<◌, Some, None, List, [], ◌∷◌, length, get_or, set, refl, sym, ◌∙◌, ap, subst, arith}
+use Rattle.std.specs.Prelude.{nat_lt, max, slice_get, ◌==◌, ◌^◌, not, Contains}
 use Rattle.std.proofs.lemmas.Bool.{cond_both}
 use Rattle.std.proofs.lemmas.List.{set-get_or}
 use Rattle.std.proofs.lemmas.List.Elements.{All-contains}
 use Rattle.std.proofs.lemmas.Option.{slice_get_read}
 use Rattle.disk.specs.declared.device.Disk.{Ghosts}
 use Rattle.disk.specs.Device.{SameOutside}
-use Rattle.revision.specs.State.{State}
-use Rattle.history.specs.Entries.{of_document}
 use Rattle.history.specs.Cell.{Cell, Pair, cells_at, with_pair, lowest, freed, IsPut}
-use Rattle.history.specs.Running.{Runs, IsCellOf}
+use Rattle.history.specs.Running.{Runs}
 use Rattle.history.proofs.CallerLemmas.{frees, puts}
 use Rattle.milestone.specs.declared.cells.Cells.{Cells}
 use Rattle.milestone.specs.OneCell.{HoldsPair}
@@ -21,11 +19,9 @@ use Rattle.milestone.proofs.CallerLemmas.{cell_fits, light_content}
 use Rattle.revision.specs.Sources.{count_of}
 use Rattle.revision.specs.Width.{delta_width}
 use Rattle.segments.specs.Ring.{Fits as RingFits, at_of, size_of as slot_size}
-use Rattle.recovery.specs.declared.shape.Shape.{Shape}
 use Rattle.recovery.specs.declared.store.Store.{Store}
-use Rattle.recovery.specs.Shape.{cells_place, slots_place}
+use Rattle.recovery.specs.Shape.{cells_place}
 use Rattle.recovery.specs.Cells.{IsCellsOf, AreCellsOf, FitEach}
-use Rattle.recovery.specs.Layout.{IsLaidOut}
 use Rattle.recovery.specs.Found.{FoundAs, HoldsParts, commands_of, limits_of}
 use Rattle.recovery.specs.Jobs.{highest, IsKept, KeepsLimits, AllKeep, without_job}
 use Rattle.recovery.specs.Open.{IsOpen, kept_jobs}

@@ -18,6 +18,8 @@ mod devices;
 #[cfg(test)]
 mod jobs;
 #[cfg(test)]
+mod milestones;
+#[cfg(test)]
 mod opening;
 #[cfg(test)]
 mod picks;

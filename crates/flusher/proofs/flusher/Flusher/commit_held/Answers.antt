@@ -5,7 +5,7 @@ use Rattle.revision.specs.State.{fold}
 use Rattle.recovery.specs.Found.{commands_of}
 use Rattle.recovery.specs.Open.{has_room}
 use Rattle.recovery.proofs.CallerLemmas.{goes_call}
-use Rattle.view.specs.Shown.{Published}
+use Rattle.view.specs.Published.{Published}
 use Rattle.flusher.specs.Flushers.{listed}
 use Rattle.flusher.proofs.Holdings.{held_in, none_of_held, same_batch, goes_not, goes_batch, kept_more}
 use Rattle.flusher.proofs.flusher.Flusher.commit_held.Goals as goal

@@ -1,16 +1,15 @@
-use Rattle.std.proofs.Common.{◌≡◌, ◌⊎◌, ⊎_elim, ◌∙◌, ◌<◌, ◌≤◌, ℕ, List, length, set, get_or, true, false, inl, inr, refl, sym, ap, subst, rules, arith}
+use Rattle.std.proofs.Common.{◌≡◌, ⊎_elim, ◌∙◌, ◌<◌, ◌≤◌, ℕ, length, set, inl, inr, refl, sym, ap, subst, rules, arith}
 use Rattle.std.specs.Prelude.{Contains, Err, ◌+◌, ◌^◌}
 use Rattle.disk.specs.Crash.{history_of}
 use Rattle.disk.proofs.CallerLemmas.{begins, leaves_map}
 use Rattle.history.specs.Cell.{Cell, cells_at}
-use Rattle.milestone.specs.declared.cells.Cells.{Cells}
 use Rattle.milestone.specs.Job.{Job, cell_of_job}
 use Rattle.milestone.specs.CellSpelling.{IsCell, cell_body}
 use Rattle.milestone.specs.Cells.{IsLeftByReplacing, FitsNow, number_of, size_of}
 use Rattle.refusal.specs.declared.Refusal.{Refusal}
 use Rattle.refusal.specs.declared.Refusal.TheVariants.{NoMemory, Stranger, Fault}
 use Rattle.recovery.specs.Jobs.{AreKept, AllKeep, without_job}
-use Rattle.recovery.specs.Open.{IsOpen, kept_jobs}
+use Rattle.recovery.specs.Open.{kept_jobs}
 use Rattle.recovery.proofs.Commits.{found_before}
 use Rattle.recovery.proofs.Refusals.{refusal_or}
 use Rattle.recovery.proofs.Putting.{keeps, inside_items, its_cells, cells_within, is_cell, fits_cell, never_heavy, placed_later, composable_later, put_back, kept_one, fits_one, left_putting, after, runs_after, parts_now, ring_stays, fit_now}

@@ -107,6 +107,15 @@ module _ {D : Type 0} {disk : Ghosts D} where
       (ap (λ (l : List (List Taken)). here.told ++ l) held) (ap (λ (b : Board Entry). b.settled) boards)
       (subst (λ (c : List Taken). Goes (IsWithOrWithout (state_of here.store) c) here.store store) (sym (append-nil run)) goes)
 
+  -- the same, where what was published is as it was by an equation
+  pub run_refused_by : (start : State) (here : Standing D disk) (board : Board Entry) (told committed waiting : List (List Taken)) (store : Store D disk) (run : List Taken) → IsCalm start here
+      → run ≡ takens (next_run here.board (length run)) → here.board.taken + length run ≤ length here.board.order → board ≡ taken_more here.board (length run) → committed ++ waiting ≡ run ∷ []
+      → Goes (IsWithOrWithout (state_of here.store) run) here.store store → told ≡ here.told
+      → RunGoes start here (record { board = board; told = told; committed = committed; waiting = waiting; store = store })
+  run_refused_by start here board told committed waiting store run calm is within boards held goes same =
+      subst (λ (t : List (List Taken)). RunGoes start here (record { board = board; told = t; committed = committed; waiting = waiting; store = store })) (sym same)
+      (run_refused start here board committed waiting store run calm is within boards held goes)
+
   -- A turn that was good: the run is taken off, committed, published and settled.
   pub run_settled : (start : State) (here : Standing D disk) (board : Board Entry) (told committed waiting : List (List Taken)) (store : Store D disk) (run : List Taken) → IsCalm start here
       → run ≡ takens (next_run here.board (length run)) → here.board.taken + length run ≤ length here.board.order
