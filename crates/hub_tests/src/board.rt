@@ -20,7 +20,7 @@ fn is_ordered<J: Site, R: Abort + AllocGlobal>(
     number: u64,
     count: u32,
 ) {
-    let command = command(rt, number, count);
+    let command = command(rt.alloc(), number, count).expect(rt, "a command");
     let ticket = board
         .submit(rt.alloc(), seat, &command)
         .expect(rt, "it is taken");
@@ -36,7 +36,7 @@ fn is_again<J: Site, R: Abort + AllocGlobal>(
     number: u64,
     count: u32,
 ) -> Ticket {
-    let command = command(rt, number, count);
+    let command = command(rt.alloc(), number, count).expect(rt, "a command");
     let ticket = board
         .submit(rt.alloc(), seat, &command)
         .expect(rt, "a retry");
@@ -176,7 +176,7 @@ fn fails_from_then_on<J: Site, R: Abort + AllocGlobal>(
     ticket: &Ticket,
 ) {
     assert!(rt; matches!(board.ack(ticket), Err(Refusal::StoreFailed)));
-    let command = command(rt, 3, 1);
+    let command = command(rt.alloc(), 3, 1).expect(rt, "a command");
     let late = board.submit(rt.alloc(), seat, &command);
     assert!(rt; matches!(late, Err(Refusal::StoreFailed)));
 }

@@ -9,5 +9,3 @@ pub mod callers;
 mod made;
 #[cfg(test)]
 mod seats;
-#[cfg(test)]
-mod threads;

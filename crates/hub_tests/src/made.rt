@@ -24,27 +24,28 @@ pub const SHAPE: Shape = Shape {
 pub const CAP: u32 = 241;
 
 // so many letters
-fn letters(rt: &(impl Abort + AllocGlobal), count: u32) -> Delta {
-    let mut text = String::new(rt.alloc());
+fn letters(alloc: Global, count: u32) -> Result<Delta, Refusal> {
+    let mut text = String::new(alloc);
     for _ in 0..count {
-        assert!(rt; text.push('x').is_ok());
+        text.push('x')?;
     }
-    let mut builder = Builder::new(rt.alloc());
-    assert!(rt; builder.push(Op::text(text, Attrs::new(rt.alloc()))).is_ok());
-    builder.finish()
+    let mut builder = Builder::new(alloc);
+    builder.push(Op::text(text, Attrs::new(alloc)))?;
+    Ok(builder.finish())
 }
 
 /// Source a's first command creates document z, and each other edits the revision before.
-pub fn command(rt: &(impl Abort + AllocGlobal), number: u64, count: u32) -> Command {
-    assert!(rt; 1 <= number && number < 1 << 53);
-    let name = Name::doc(rt.alloc(), "z").expect(rt, "a document");
-    let source = Name::source(rt.alloc(), "a").expect(rt, "a source");
-    let delta = letters(rt, count);
-    let made = match number {
+pub fn command(alloc: Global, number: u64, count: u32) -> Result<Command, Refusal> {
+    if number < 1 || number >= 1 << 53 {
+        return Err(Refusal::OldNumber);
+    }
+    let name = Name::doc(alloc, "z")?;
+    let source = Name::source(alloc, "a")?;
+    let delta = letters(alloc, count)?;
+    match number {
         1 => Command::create(name, source, number, delta),
         _ => Command::edit(name, source, number, number - 1, delta),
-    };
-    made.expect(rt, "a command")
+    }
 }
 
 /// A store that was just formatted, of so many slots.

@@ -4,6 +4,7 @@ pub mod Cells
 pub mod Found
 pub mod Marks
 pub mod Marked
+pub mod Jobs
 pub mod Open
 pub mod Goes
 pub mod Run

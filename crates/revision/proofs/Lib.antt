@@ -10,7 +10,8 @@ mod Named
 mod Following
 mod Light
 mod LettingGo
-mod Copying
+mod NewNames
+mod Raising
 pub mod Sums
 pub mod Texts
 pub mod Taking

@@ -4,6 +4,7 @@ ghost use Rattle.delta.specs.Operation.{base_of, out_of};
 ghost use Rattle.delta.specs.Gaps.{counted, apply};
 ghost use Rattle.document.specs.Outcome.{IsAccepted};
 ghost use Rattle.compose.specs.Many.{applied};
+ghost use Rattle.revision.specs.Floors.{raised};
 ghost use Rattle.revision.specs.Late.{late as late_edit, all_inserted, HasCommandRoom};
 ghost use Rattle.revision.specs.Past.{StandInTurn, newest, content_at, deltas_of, deltas_above, undo_of, way_back, way_back_late, with_changes, prepared_units, prepared_revision, without_last, sources_after, sources_at, changes_by};
 ghost use Rattle.revision.specs.Name.{is_source_name};
@@ -261,6 +262,15 @@ impl Past {
             deltas,
             count: self.count,
         })
+    }
+
+    /// From now on the past is held from a revision on: from its floor on where that is higher, and from its newest revision on where
+    /// that is lower. It takes no memory.
+    pub fn raise_floor(&mut self, revision: u64)
+        ensures { self.new ≡ record self.old { past = raised revision self.old.past } }
+    {
+        let newest = self.start + self.count as u64;
+        self.floor = self.floor.max(revision.min(newest));
     }
 
     /// Drops what was prepared.

@@ -1,5 +1,5 @@
 //! What a store holds: documents in order of creation, under limits.
-ghost use Rattle.std.specs.Prelude.{◌≡◌, ◌≤◌, [], length, map, option_map, IfOk, IsOkUnless};
+ghost use Rattle.std.specs.Prelude.{◌≡◌, ◌≤◌, [], length, map, option_map};
 ghost use Rattle.revision.specs.Invariants.{IsState};
 ghost use Rattle.revision.specs.Pending.{held};
 ghost use Rattle.revision.specs.State.{find};
@@ -50,19 +50,6 @@ impl State {
         ensures state { IsState self.now }
     {
         self.documents.limits()
-    }
-
-    /// An equal state. Refused for want of memory alone.
-    pub fn copy(&self, alloc: Global) -> Result<State, Refusal>
-        ensures same { IfOk result (λ copy. copy ≡ self.now) }
-        ensures only { IsOkUnless result Refusal.NoMemory }
-    {
-        let mut copy = Documents::new(alloc, self.limits());
-        for document in self.documents() {
-            copy.adopt(alloc, document.copy_held(alloc)?)?;
-        }
-        copy.accept();
-        Ok(State { documents: copy })
     }
 
     /// The documents in order of creation, at most 65,536.

@@ -31,10 +31,11 @@ impl Model for News {
     ghost view = { λ n. record { batch = n.batch.items; mark = n.mark } };
 }
 
-/// What the two copies have in common. No value of it is made.
+/// What the two copies have in common, and whether each batch continued the state. No value of it is made.
 pub struct Basis {
     pub state: State,
     pub mark: Mark,
+    pub grew: bool,
 }
 
 impl Absorb<News> for Shown {

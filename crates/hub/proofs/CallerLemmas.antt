@@ -1,0 +1,48 @@
+-- What a hub keeps may go to another thread: for a caller whose threads share a hub. The search for it is too long in one piece.
+use denote.Param.Send.{IsSend, IsSync, sendable}
+use Rattle.std.proofs.Crossing.{crosses}
+use Rattle.std.proofs.MapsCrossing as maps
+use Rattle.delta.specs.contracts.delta.Delta as delta
+use Rattle.document.specs.contracts.document.Document as document
+use Rattle.revision.specs.contracts.name.Name as name
+use Rattle.revision.specs.contracts.sources.Sources as sources
+use Rattle.revision.specs.contracts.source_table.SourceTable as table
+use Rattle.revision.specs.contracts.past.Past as past
+use Rattle.revision.specs.contracts.doc_state.DocState as one
+use Rattle.revision.specs.contracts.taken.Taken as taken
+use Rattle.revision.specs.contracts.state.State as state
+use Rattle.world.specs.contracts.entry.Entry as entry
+use Rattle.world.specs.contracts.board.Board as board
+
+pub name_send : IsSend name.the_row
+name_send = search (sendable, crosses, maps.crosses) depth 60 fits 20000
+
+pub delta_send : IsSend delta.the_row
+delta_send = search (sendable, crosses, maps.crosses) depth 60 fits 20000
+
+pub document_send : IsSend document.the_row
+document_send = search (sendable, crosses, maps.crosses) depth 60 fits 20000
+
+pub sources_send : IsSend sources.the_row
+sources_send = search (name_send, sendable, crosses) depth 60 fits 20000
+
+pub table_send : IsSend table.the_row
+table_send = search (name_send, sources_send, sendable, crosses) depth 60 fits 20000
+
+pub past_send : IsSend past.the_row
+past_send = search (name_send, delta_send, document_send, sources_send, sendable, crosses) depth 60 fits 20000
+
+pub one_send : IsSend one.the_row
+one_send = search (name_send, past_send, document_send, table_send, sendable, crosses) depth 60 fits 20000
+
+pub taken_send : IsSend taken.the_row
+taken_send = search (name_send, delta_send, sendable, crosses, maps.crosses) depth 60 fits 20000
+
+pub state_send : IsSend state.the_row
+state_send = search (one_send, name_send, sendable, crosses, maps.crosses) depth 60 fits 20000
+
+pub entry_send : IsSend entry.the_row
+entry_send = search (taken_send, sendable, crosses, maps.crosses) depth 60 fits 20000
+
+pub board_send : IsSend board.the_row
+board_send = search (state_send, entry_send, sendable, crosses) depth 30 fits 20000

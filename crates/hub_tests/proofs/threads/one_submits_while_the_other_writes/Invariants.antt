@@ -1,7 +1,0 @@
-use Rattle.hub_tests.proofs.threads.one_submits_while_the_other_writes.Given as goal
-
-abbrev pub ghosts-both-J-Site : goal.ghosts-both-J-Site
-ghosts-both-J-Site a = record { book = a.opened; start = a.state }
-
-abbrev pub ghosts-both-J-Ledger : goal.ghosts-both-J-Ledger
-ghosts-both-J-Ledger a = record { name = a.blank.name; parts = a.blank.parts }
