@@ -127,9 +127,8 @@ fn an_acknowledged_edit_stays(rt: HostRuntime) {
     assert_eq!(rt; world.published(), 1);
 }
 
-// Three revisions are acknowledged, and the third is composed. A fourth edit of revision 1 is taken, its batch is given up, and the
-// crash takes it back.
-fn given_up(rt: &(impl Abort + AllocGlobal), fourth: &Command) -> World {
+// Three revisions are acknowledged, and the third is composed.
+fn composed(rt: &(impl Abort + AllocGlobal)) -> World {
     let commands = [command(rt, 1), command(rt, 2), command(rt, 3)];
     let mut world = store(rt);
     let events = [
@@ -144,6 +143,15 @@ fn given_up(rt: &(impl Abort + AllocGlobal), fourth: &Command) -> World {
         Event::Ack(1),
         Event::Ack(2),
         Event::Compose(0, 3),
+    ];
+    go(rt, &mut world, &events);
+    world
+}
+
+// A fourth edit of revision 1 is taken then, its batch is given up, and the crash takes it back.
+fn given_up(rt: &(impl Abort + AllocGlobal), fourth: &Command) -> World {
+    let mut world = composed(rt);
+    let events = [
         Event::Submit(fourth),
         Event::Take(1),
         Event::Device(Outcome::Stopped),
