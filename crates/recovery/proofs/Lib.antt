@@ -17,6 +17,7 @@ pub mod KnownCells
 pub mod Retirement
 pub mod PutCells
 pub mod Putting
+pub mod PutAtOnce
 pub mod Upkeep
 pub mod Named
 pub mod Gathering

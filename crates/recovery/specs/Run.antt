@@ -1,15 +1,19 @@
 -- Runs of steps, and what a crash within one leaves.
-use Rattle.std.specs.Prelude.{◌≤◌, ◌<◌, ◌^◌, ℕ, List, [], ◌∷◌, length, take, map, get_or}
+use Rattle.std.specs.Prelude.{◌≡◌, ◌⊎◌, ◌≤◌, ◌<◌, ◌^◌, ℕ, List, [], ◌∷◌, length, take, map, get_or}
+use Rattle.refusal.specs.declared.Refusal.{Refusal}
+use Rattle.refusal.specs.declared.Refusal.TheVariants.{JournalFull, Stranger, NoDocument, Future, TooOld, StillNeeded, NoMemory, Fault}
 use Rattle.revision.specs.Command.{Taken}
 use Rattle.revision.specs.State.{State, fold}
 use Rattle.recovery.specs.declared.run.StoreStep.{StoreStep}
-use Rattle.recovery.specs.declared.run.StoreStep.TheVariants.{Commit}
+use Rattle.recovery.specs.declared.run.StoreStep.TheVariants.{Commit, Milestone, Retire}
 use Rattle.recovery.specs.Found.{FoundAs}
 use Rattle.recovery.specs.Open.{FitsSlot}
 
--- the batch of a step
+-- the batch of a step, empty where it commits none
 abbrev pub batch_of : StoreStep → List Taken
 batch_of (Commit batch) = batch.items
+batch_of (Milestone document revision) = []
+batch_of Retire = []
 
 -- the batch of the step at a place, from 0
 abbrev pub batch_at : List StoreStep → ℕ → List Taken
@@ -29,7 +33,18 @@ pub record IsAfterSome (least : ℕ) (state : State) (steps : List StoreStep) (c
   pub found : FoundAs content (state_after state (take count steps))
 
 -- a batch has a command, its count has four bytes, and it fits a slot in which nothing stands yet
-pub record CanCommit (state : State) (step : StoreStep) : Type 0 where
-  pub some : 1 ≤ length (batch_of step)
-  pub short : length (batch_of step) < 2 ^ 32
-  pub fits : FitsSlot state (batch_of step)
+pub record CanCommit (state : State) (batch : List Taken) : Type 0 where
+  pub some : 1 ≤ length batch
+  pub short : length batch < 2 ^ 32
+  pub fits : FitsSlot state batch
+
+-- the batch of a step can be committed, if it has one
+abbrev pub CanTake : State → StoreStep → Type 0
+CanTake state (Commit batch) = CanCommit state batch.items
+CanTake state (Milestone document revision) = Unit {0}
+CanTake state Retire = Unit {0}
+
+-- the refusals of a step: those of a commit, of a milestone and of a retirement
+abbrev pub IsOfStep : Refusal → Type 0
+IsOfStep e =
+    ((e ≡ JournalFull) ⊎ (e ≡ Stranger)) ⊎ (((e ≡ NoDocument) ⊎ ((e ≡ Future) ⊎ (e ≡ TooOld))) ⊎ ((e ≡ StillNeeded) ⊎ ((e ≡ NoMemory) ⊎ (e ≡ Fault))))

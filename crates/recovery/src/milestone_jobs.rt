@@ -1,5 +1,5 @@
 //! Handing out the jobs of milestones.
-ghost use Rattle.std.specs.Prelude.{◌≡◌, ◌≢◌, ◌≤◌, true, false, Some, None, slice_get, OnOk, OnErr, IfOk, IfErr, IsErrOf, IsOkUnless};
+ghost use Rattle.std.specs.Prelude.{◌≡◌, ◌≢◌, ◌⊎◌, ◌≤◌, true, false, Some, None, slice_get, OnOk, OnErr, IfOk, IfErr, IfSome, IsErrOf, IsOkUnless};
 ghost use Rattle.refusal.specs.declared.Refusal.{Refusal as Why};
 ghost use Rattle.revision.specs.Past.{sources_at};
 ghost use Rattle.revision.specs.Pending.{held};
@@ -38,6 +38,7 @@ impl<D: Disk> Store<D> {
         ensures refusal { IfErr result (λ e. e ≢ Refusal.NoMemory → has_failed self.old ≡ false → (is_open : IsOpen self.old)
             → no_job_for (slice_get (state_of self.old).documents document) (highest (cells_at is_open.cells document)) revision ≡ Some e) }
         ensures works { has_failed self.old ≡ false → ¬ IsErrOf result Refusal.Fault }
+        ensures only { IfErr result (λ e. ((e ≡ Refusal.NoDocument) ⊎ ((e ≡ Refusal.Future) ⊎ (e ≡ Refusal.TooOld))) ⊎ ((e ≡ Refusal.NoMemory) ⊎ (e ≡ Refusal.Fault))) }
 
         // What it gives.
         ensures job { IfOk result (λ job. IsJobTo (state_of self.old).documents document revision job) }
@@ -68,6 +69,7 @@ impl<D: Disk> Store<D> {
         ensures refused { (why : Why) → no_job_for (slice_get (state_of self.now).documents document) (highest_known (known_cells self.now) document) revision ≡ Some why → IsErrOf result why }
         ensures refusal { IfErr result (λ e. e ≢ Refusal.NoMemory → no_job_for (slice_get (state_of self.now).documents document) (highest_known (known_cells self.now) document) revision ≡ Some e) }
         ensures no_fault { ¬ IsErrOf result Refusal.Fault }
+        ensures only { IfErr result (λ e. ((e ≡ Refusal.NoDocument) ⊎ ((e ≡ Refusal.Future) ⊎ (e ≡ Refusal.TooOld))) ⊎ (e ≡ Refusal.NoMemory)) }
     {
         let _ = self.state.limits();
         let Some(found) = self.state.documents().get(document as usize) else {
@@ -82,7 +84,8 @@ impl<D: Disk> Store<D> {
 
 // Why a document is given no job to a revision, above the open cells of which this is the highest.
 fn why_none(found: &DocState, highest: u64, revision: u64) -> Option<Refusal>
-    ensures { result ≡ no_job_of (held found.now) highest revision }
+    ensures is { result ≡ no_job_of (held found.now) highest revision }
+    ensures only { IfSome result (λ e. (e ≡ Refusal.Future) ⊎ (e ≡ Refusal.TooOld)) }
 {
     if found.revision() < revision {
         Some(Refusal::Future)

@@ -1,14 +1,16 @@
 //! Whole runs of a store.
-ghost use Rattle.std.specs.Prelude.{◌≡◌, ◌≢◌, ◌⊎◌, ◌↔◌, ◌<◌, ℕ, List, [], true, false, length, take, All, OnOk, IfErr};
+ghost use Rattle.std.specs.Prelude.{◌≡◌, ◌≢◌, ◌⊎◌, ◌↔◌, ◌<◌, ℕ, List, [], true, false, length, take, All, OnOk, OnErr, IfErr, IsErrOf};
 ghost use Rattle.disk.specs.Device.{Rose};
 ghost use Rattle.disk.specs.Crash.{LeavesOnly, MayLeaveNow};
-ghost use Rattle.refusal.specs.declared.Refusal.TheVariants.{JournalFull, Stranger, NoMemory, Fault};
-ghost use Rattle.revision.specs.State.{all_grow};
-ghost use Rattle.recovery.specs.Open.{IsOpen, IsUnchanged, device_of, state_of, has_failed, has_room};
-ghost use Rattle.recovery.specs.Run.{CanCommit, IsAfterSome, state_after, batch_at};
+ghost use Rattle.refusal.specs.declared.Refusal.TheVariants.{JournalFull, Stranger, NoDocument, Future, TooOld, NoMemory, Fault};
+ghost use Rattle.revision.specs.State.{all_grow, fold};
+ghost use Rattle.recovery.specs.Found.{FoundAs};
+ghost use Rattle.recovery.specs.Open.{IsOpen, IsUnchanged, IsWithOrWithout, device_of, state_of, has_failed, has_room};
+ghost use Rattle.recovery.specs.Run.{CanTake, IsOfStep, IsAfterSome, state_after, batch_of, batch_at};
 
 use crate::store::Store;
 use disk::Disk;
+use milestone::compose_job;
 use refusal::Refusal;
 use revision::Taken;
 use std::alloc::Global;
@@ -18,19 +20,10 @@ use std::alloc::Global;
 pub enum StoreStep {
     /// Commit this batch.
     Commit(Vec<Taken>),
-}
-
-impl StoreStep {
-    ghost use Rattle.recovery.specs.Run.{batch_of};
-
-    // The batch of the step.
-    fn batch(&self) -> &[Taken]
-        ensures { result.now ≡ batch_of self.now }
-    {
-        match self {
-            StoreStep::Commit(batch) => batch,
-        }
-    }
+    /// Put a milestone of the document of this number, in order of creation, at this revision.
+    Milestone(u32, u64),
+    /// Retire the oldest segment.
+    Retire,
 }
 
 /// Where a run stopped, counted from 0, and why.
@@ -43,7 +36,7 @@ pub struct Stop {
 impl<D: Disk> Store<D> {
     /// Takes steps in order. It stops at the first that is refused, and says where.
     pub fn run(&mut self, alloc: Global, steps: &[StoreStep]) -> Result<(), Stop>
-        requires { All (CanCommit (state_of self.old)) steps.now }
+        requires { All (CanTake (state_of self.old)) steps.now }
 
         // How far it came, and what the store then holds.
         ensures state { OnOk result (state_of self.new ≡ state_after (state_of self.old) steps.now) }
@@ -62,7 +55,7 @@ impl<D: Disk> Store<D> {
             → Rose (D.faults (device_of self.old)) (D.faults (device_of self.new))) }
         ensures no_fault { IfErr result (λ stop. stop.refusal ≢ Fault → D.faults (device_of self.new) ≡ D.faults (device_of self.old)) }
         ensures good { OnOk result (D.faults (device_of self.new) ≡ D.faults (device_of self.old)) }
-        ensures only { IfErr result (λ stop. ((stop.refusal ≡ JournalFull) ⊎ (stop.refusal ≡ Stranger)) ⊎ ((stop.refusal ≡ NoMemory) ⊎ (stop.refusal ≡ Fault))) }
+        ensures only { IfErr result (λ stop. IsOfStep stop.refusal) }
 
         ensures works { OnOk result (has_failed self.old ≡ false → has_failed self.new ≡ false) }
         ensures fails { IfErr result (λ stop. has_failed self.old ≡ false → (has_failed self.new ≡ true ↔ stop.refusal ≡ Fault)) }
@@ -78,9 +71,78 @@ impl<D: Disk> Store<D> {
             → (content : List ℕ) → MayLeaveNow ⟦<D as Disk>⟧ (device_of self.new) content → IsAfterSome stop.at (state_of self.old) steps.now content) }
     {
         for (at, step) in steps.iter().enumerate() {
-            if let Err(refusal) = self.commit(alloc, step.batch()) {
+            if let Err(refusal) = self.take_step(alloc, step) {
                 return Err(Stop { at, refusal });
             }
+        }
+        Ok(())
+    }
+
+    // Takes one step.
+    fn take_step(&mut self, alloc: Global, step: &StoreStep) -> Result<(), Refusal>
+        requires { CanTake (state_of self.old) step.now }
+
+        ensures failed_before { has_failed self.old ≡ true → (IsErrOf result Fault) × IsUnchanged self.old self.new }
+        ensures full { IsErrOf result JournalFull → has_room self.new (batch_of step.now) ≡ false }
+        ensures stranger { IsErrOf result Stranger → all_grow (state_of self.new) (batch_of step.now) ≡ false }
+        ensures fault { IsErrOf result Fault → has_failed self.old ≡ false → Rose (D.faults (device_of self.old)) (D.faults (device_of self.new)) }
+        ensures only { IfErr result (λ e. IsOfStep e) }
+
+        ensures state { OnOk result (state_of self.new ≡ fold (state_of self.old) (batch_of step.now)) }
+        ensures same_state { OnErr result (state_of self.new ≡ state_of self.old) }
+        ensures fails { has_failed self.old ≡ false → (has_failed self.new ≡ true ↔ IsErrOf result Fault) }
+        ensures works { OnOk result (has_failed self.new ≡ false) }
+        ensures good { OnOk result (D.faults (device_of self.new) ≡ D.faults (device_of self.old)) }
+        ensures no_fault { IfErr result (λ e. e ≢ Fault → D.faults (device_of self.new) ≡ D.faults (device_of self.old)) }
+
+        ensures any_moment { has_failed self.old ≡ false → IsOpen self.old
+            → LeavesOnly ⟦<D as Disk>⟧ (IsWithOrWithout (state_of self.old) (batch_of step.now)) (device_of self.old) (device_of self.new) }
+        ensures done { OnOk result (IsOpen self.old → IsOpen self.new) }
+        ensures kept { IfErr result (λ e. e ≢ Fault → IsOpen self.old → IsOpen self.new) }
+        ensures honest { D.honest (device_of self.new) ↔ D.honest (device_of self.old) }
+    {
+        match step {
+            StoreStep::Commit(batch) => {
+                if let Err(refusal) = self.commit(alloc, batch) {
+                    return Err(refusal);
+                }
+                Ok(())
+            }
+            StoreStep::Milestone(document, revision) => {
+                self.put_document(alloc, *document, *revision)
+            }
+            StoreStep::Retire => self.retire(),
+        }
+    }
+
+    // Puts a milestone of a document at a revision: hands out the job, does it here, and puts what came of it.
+    fn put_document(&mut self, alloc: Global, document: u32, revision: u64) -> Result<(), Refusal>
+        ensures failed_before { has_failed self.old ≡ true → (IsErrOf result Fault) × IsUnchanged self.old self.new }
+        ensures fault { IsErrOf result Fault → has_failed self.old ≡ false → Rose (D.faults (device_of self.old)) (D.faults (device_of self.new)) }
+        ensures only { IfErr result (λ e. ((e ≡ NoDocument) ⊎ ((e ≡ Future) ⊎ (e ≡ TooOld))) ⊎ ((e ≡ NoMemory) ⊎ (e ≡ Fault))) }
+
+        ensures state { state_of self.new ≡ state_of self.old }
+        ensures fails { has_failed self.old ≡ false → (has_failed self.new ≡ true ↔ IsErrOf result Fault) }
+        ensures works { OnOk result (has_failed self.new ≡ false) }
+        ensures good { OnOk result (D.faults (device_of self.new) ≡ D.faults (device_of self.old)) }
+        ensures no_fault { IfErr result (λ e. e ≢ Fault → D.faults (device_of self.new) ≡ D.faults (device_of self.old)) }
+
+        ensures any_moment { has_failed self.old ≡ false → IsOpen self.old
+            → LeavesOnly ⟦<D as Disk>⟧ (λ content. FoundAs content (state_of self.old)) (device_of self.old) (device_of self.new) }
+        ensures done { OnOk result (IsOpen self.old → IsOpen self.new) }
+        ensures kept { IfErr result (λ e. e ≢ Fault → IsOpen self.old → IsOpen self.new) }
+        ensures honest { D.honest (device_of self.new) ↔ D.honest (device_of self.old) }
+    {
+        let job = match self.milestone_job(alloc, document, revision) {
+            Ok(job) => job,
+            Err(refusal) => return Err(refusal),
+        };
+        let composed = match compose_job(alloc, job) {
+            Ok(composed) => composed,
+            Err(back) => return Err(back.refusal),
+        };
+        if let Err(refusal) = self.put_milestone(alloc, &composed) {
+            return Err(refusal);
         }
         Ok(())
     }

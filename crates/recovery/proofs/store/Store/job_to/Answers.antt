@@ -15,7 +15,7 @@ job_of-requires-clause-sources g c =
     let store = c.args.self.now in
     let found = c.in-Some.found.now in
     let there : slice_get c.documents.result.now c.args.document ≡ Some found = slice_get_read c.documents.result.now (length c.documents.result.now) c.args.document found refl c.in-Some.ensures.lookup.3.0 c.in-Some.ensures.lookup.1 in
-    let none : no_job_of (held found) c.highest_of.result c.args.revision ≡ None = sym c.why_none.ensures ∙ c.in_default-why_none.is in
+    let none : no_job_of (held found) c.highest_of.result c.args.revision ≡ None = sym c.why_none.ensures.is ∙ c.in_default-why_none.is in
     sources_here store.state c.limits.ensures.state c.args.document c.args.revision c.highest_of.result (held found)
     (document_there c.documents.result.now store.state.documents c.args.document found c.documents.ensures.documents there) none
 
@@ -24,7 +24,7 @@ returns-clause-job g c =
     let store = c.args.self.now in
     let found = c.in-Some.found.now in
     let there : slice_get c.documents.result.now c.args.document ≡ Some found = slice_get_read c.documents.result.now (length c.documents.result.now) c.args.document found refl c.in-Some.ensures.lookup.3.0 c.in-Some.ensures.lookup.1 in
-    let none : no_job_of (held found) c.highest_of.result c.args.revision ≡ None = sym c.why_none.ensures ∙ c.in_default-why_none.is in
+    let none : no_job_of (held found) c.highest_of.result c.args.revision ≡ None = sym c.why_none.ensures.is ∙ c.in_default-why_none.is in
     job_given store.state c.limits.ensures.state c.args.document c.args.revision c.highest_of.result (held found)
     (document_there c.documents.result.now store.state.documents c.args.document found c.documents.ensures.documents there) none
     c.job_of.result c.job_of.ensures.document c.job_of.ensures.is
@@ -34,7 +34,7 @@ returns-clause-keeps g c =
     let store = c.args.self.now in
     let found = c.in-Some.found.now in
     let there : slice_get c.documents.result.now c.args.document ≡ Some found = slice_get_read c.documents.result.now (length c.documents.result.now) c.args.document found refl c.in-Some.ensures.lookup.3.0 c.in-Some.ensures.lookup.1 in
-    let none : no_job_of (held found) c.highest_of.result c.args.revision ≡ None = sym c.why_none.ensures ∙ c.in_default-why_none.is in
+    let none : no_job_of (held found) c.highest_of.result c.args.revision ≡ None = sym c.why_none.ensures.is ∙ c.in_default-why_none.is in
     job_keeps store.state c.limits.ensures.state c.args.document c.args.revision c.highest_of.result (held found)
     (document_there c.documents.result.now store.state.documents c.args.document found c.documents.ensures.documents there) none
     c.job_of.result c.job_of.ensures.document c.job_of.ensures.is
@@ -46,7 +46,7 @@ returns-clause-given g c =
     let there : slice_get c.documents.result.now c.args.document ≡ Some found = slice_get_read c.documents.result.now (length c.documents.result.now) c.args.document found refl c.in-Some.ensures.lookup.3.0 c.in-Some.ensures.lookup.1 in
     let highest : c.highest_of.result ≡ highest_known store.cells.items c.args.document = c.highest_of.ensures ∙ ap (λ (l : List Cells). highest_known l c.args.document) c.deref.ensures.value in
     let none : no_job_of (held found) (highest_known store.cells.items c.args.document) c.args.revision ≡ None =
-    ap (λ n. no_job_of (held found) n c.args.revision) (sym highest) ∙ sym c.why_none.ensures ∙ c.in_default-why_none.is in
+    ap (λ n. no_job_of (held found) n c.args.revision) (sym highest) ∙ sym c.why_none.ensures.is ∙ c.in_default-why_none.is in
     on_ok c.job_of.result (no_reason store.state c.limits.ensures.state c.args.document c.args.revision (highest_known store.cells.items c.args.document) (held found)
     (document_there c.documents.result.now store.state.documents c.args.document found c.documents.ensures.documents there) none)
 
@@ -57,7 +57,7 @@ returns-clause-refused g c why is =
     let there : slice_get c.documents.result.now c.args.document ≡ Some found = slice_get_read c.documents.result.now (length c.documents.result.now) c.args.document found refl c.in-Some.ensures.lookup.3.0 c.in-Some.ensures.lookup.1 in
     let highest : c.highest_of.result ≡ highest_known store.cells.items c.args.document = c.highest_of.ensures ∙ ap (λ (l : List Cells). highest_known l c.args.document) c.deref.ensures.value in
     let none : no_job_of (held found) (highest_known store.cells.items c.args.document) c.args.revision ≡ None =
-    ap (λ n. no_job_of (held found) n c.args.revision) (sym highest) ∙ sym c.why_none.ensures ∙ c.in_default-why_none.is in
+    ap (λ n. no_job_of (held found) n c.args.revision) (sym highest) ∙ sym c.why_none.ensures.is ∙ c.in_default-why_none.is in
     let no_one : None ≡ Some why = sym (no_reason store.state c.limits.ensures.state c.args.document c.args.revision (highest_known store.cells.items c.args.document) (held found)
     (document_there c.documents.result.now store.state.documents c.args.document found c.documents.ensures.documents there) none) ∙ is in
     absurd (none≢some no_one)
@@ -73,7 +73,7 @@ returns-in-Some-why_none-clause-refusal g c other =
     let highest : c.highest_of.result ≡ highest_known store.cells.items c.args.document = c.highest_of.ensures ∙ ap (λ (l : List Cells). highest_known l c.args.document) c.deref.ensures.value in
     ap (λ (d : Option DocumentRecord). no_job_for d (highest_known store.cells.items c.args.document) c.args.revision)
     (document_there c.documents.result.now store.state.documents c.args.document found c.documents.ensures.documents there)
-    ∙ ap (λ n. no_job_of (held found) n c.args.revision) (sym highest) ∙ sym c.why_none.ensures ∙ c.in-Some-why_none.is
+    ∙ ap (λ n. no_job_of (held found) n c.args.revision) (sym highest) ∙ sym c.why_none.ensures.is ∙ c.in-Some-why_none.is
 
 pub returns-in-Some-why_none-clause-refused : goal.returns-in-Some-why_none-clause-refused
 returns-in-Some-why_none-clause-refused g c why is =
@@ -84,5 +84,5 @@ returns-in-Some-why_none-clause-refused g c why is =
     let reason : no_job_for (slice_get store.state.documents c.args.document) (highest_known store.cells.items c.args.document) c.args.revision ≡ Some c.in-Some-why_none.refusal =
     ap (λ (d : Option DocumentRecord). no_job_for d (highest_known store.cells.items c.args.document) c.args.revision)
     (document_there c.documents.result.now store.state.documents c.args.document found c.documents.ensures.documents there)
-    ∙ ap (λ n. no_job_of (held found) n c.args.revision) (sym highest) ∙ sym c.why_none.ensures ∙ c.in-Some-why_none.is in
+    ∙ ap (λ n. no_job_of (held found) n c.args.revision) (sym highest) ∙ sym c.why_none.ensures.is ∙ c.in-Some-why_none.is in
     ap (λ (r : Refusal). Err r) (same_some c.in-Some-why_none.refusal why (sym reason ∙ is))

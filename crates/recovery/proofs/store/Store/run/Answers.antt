@@ -34,14 +34,14 @@ returns-in-Err-clause-any_moment g c unfailed is_open =
     let step = c.index-steps-at.result in
     goes_on_run (c.loop-at.invariant.moments unfailed is_open)
     (leaves_map (λ content left. some_of c.loop-at.at c.args.self.now.state c.args.steps.now content
-    (within_step c.args.self.now.state c.args.steps.now c.loop-at.at step c.loop-at-test.true c.index-steps-at.is c.loop-at.self.state c.batch.result.now content c.loop-at.invariant.so_far c.batch.ensures left))
-    (c.commit.ensures.any_moment (c.loop-at.invariant.unfailed unfailed) (c.loop-at.invariant.is_open is_open)))
+    (within_step c.args.self.now.state c.args.steps.now c.loop-at.at step c.loop-at-test.true c.index-steps-at.is c.loop-at.self.state (batch_of step) content c.loop-at.invariant.so_far refl left))
+    (c.take_step.ensures.any_moment (c.loop-at.invariant.unfailed unfailed) (c.loop-at.invariant.is_open is_open)))
 
 pub returns-in-Err-clause-acknowledged_before : goal.returns-in-Err-clause-acknowledged_before
 returns-in-Err-clause-acknowledged_before g c unfailed is_open content left =
     let step = c.index-steps-at.result in
-    within_step c.args.self.now.state c.args.steps.now c.loop-at.at step c.loop-at-test.true c.index-steps-at.is c.loop-at.self.state c.batch.result.now content c.loop-at.invariant.so_far c.batch.ensures
-    ((c.commit.ensures.any_moment (c.loop-at.invariant.unfailed unfailed) (c.loop-at.invariant.is_open is_open)).last content left)
+    within_step c.args.self.now.state c.args.steps.now c.loop-at.at step c.loop-at-test.true c.index-steps-at.is c.loop-at.self.state (batch_of step) content c.loop-at.invariant.so_far refl
+    ((c.take_step.ensures.any_moment (c.loop-at.invariant.unfailed unfailed) (c.loop-at.invariant.is_open is_open)).last content left)
 
 pub loop-at-preserved : goal.loop-at-preserved
 loop-at-preserved g c =
@@ -49,7 +49,7 @@ loop-at-preserved g c =
     let now = c.loop-at.self.state in
     let steps = c.args.steps.now in
     let at = c.loop-at.at in
-    let state : c.commit.new.self.state ≡ fold now (batch_of step) = c.in_default.ensures.state ∙ ap (fold now) c.batch.ensures in
+    let state : c.take_step.new.self.state ≡ fold now (batch_of step) = c.in_default.ensures.state in
     record {
       rest =
           ap (λ (s : State). state_after s (drop (at + 1) steps)) (state ∙ ap (λ (s : StoreStep). fold now (batch_of s)) c.index-steps-at.is)
@@ -60,16 +60,16 @@ loop-at-preserved g c =
           ∙ sym (state_after-more c.args.self.now.state steps at step c.loop-at-test.true c.index-steps-at.is);
       faults = c.in_default.ensures.good ∙ c.loop-at.invariant.faults;
       unfailed = λ unfailed. c.in_default.ensures.works;
-      honest = (λ h. c.loop-at.invariant.honest.0 (c.commit.ensures.honest.0 h), λ h. c.commit.ensures.honest.1 (c.loop-at.invariant.honest.1 h));
+      honest = (λ h. c.loop-at.invariant.honest.0 (c.take_step.ensures.honest.0 h), λ h. c.take_step.ensures.honest.1 (c.loop-at.invariant.honest.1 h));
       is_open = λ is_open. c.in_default.ensures.done (c.loop-at.invariant.is_open is_open);
       failed_before = λ failed.
           let before = (c.loop-at.invariant.failed_before failed).1 in
-          absurd (false≢true (sym c.in_default.ensures.works ∙ (c.commit.ensures.failed_before (before.failed ∙ failed)).1.failed ∙ before.failed ∙ failed));
+          absurd (false≢true (sym c.in_default.ensures.works ∙ (c.take_step.ensures.failed_before (before.failed ∙ failed)).1.failed ∙ before.failed ∙ failed));
       moments = λ unfailed is_open.
           goes_on_run (c.loop-at.invariant.moments unfailed is_open)
           (leaves_map (λ content left. some_of at c.args.self.now.state steps content
-          (within_step c.args.self.now.state steps at step c.loop-at-test.true c.index-steps-at.is now c.batch.result.now content c.loop-at.invariant.so_far c.batch.ensures left))
-          (c.commit.ensures.any_moment (c.loop-at.invariant.unfailed unfailed) (c.loop-at.invariant.is_open is_open)));
+          (within_step c.args.self.now.state steps at step c.loop-at-test.true c.index-steps-at.is now (batch_of step) content c.loop-at.invariant.so_far refl left))
+          (c.take_step.ensures.any_moment (c.loop-at.invariant.unfailed unfailed) (c.loop-at.invariant.is_open is_open)));
     }
 
 pub returns-clause-acknowledged : goal.returns-clause-acknowledged
@@ -84,5 +84,5 @@ returns-clause-acknowledged g c unfailed is_open content left =
 pub returns-in-Err-clause-failed_before : goal.returns-in-Err-clause-failed_before
 returns-in-Err-clause-failed_before g c failed =
     let before = c.loop-at.invariant.failed_before failed in
-    let now = c.commit.ensures.failed_before (before.1.failed ∙ failed) in
+    let now = c.take_step.ensures.failed_before (before.1.failed ∙ failed) in
     (tt, (before.0, ap (refusal_or Fault) (sym c.in-Err.is ∙ now.0)), unchanged_twice before.1 now.1)

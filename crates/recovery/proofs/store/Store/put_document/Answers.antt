@@ -1,0 +1,58 @@
+use Rattle.std.proofs.Common.{◌≡◌, ◌∙◌, ⊎_elim, inr, false, ap}
+use Rattle.std.specs.Prelude.{Err}
+use Rattle.refusal.specs.declared.Refusal.{Refusal}
+use Rattle.refusal.specs.declared.Refusal.TheVariants.{Fault}
+use Rattle.recovery.specs.Open.{has_failed, kept_jobs}
+use Rattle.recovery.proofs.Refusals.{ok≢err}
+use Rattle.recovery.proofs.PutAtOnce.{keeps_it, had_not_failed, has_not_failed, still, from_there}
+use Rattle.recovery.proofs.store.Store.put_document.Goals as goal
+
+-- no call of the device came before the put
+pub returns-in-Err-clause-any_moment : goal.returns-in-Err-clause-any_moment
+returns-in-Err-clause-any_moment g c = still c.milestone_job.ensures.device c.milestone_job.ensures.failed c.milestone_job.ensures.open
+
+pub returns-in-Err-compose_job-clause-any_moment : goal.returns-in-Err-compose_job-clause-any_moment
+returns-in-Err-compose_job-clause-any_moment g c = still c.milestone_job.ensures.device c.milestone_job.ensures.failed c.milestone_job.ensures.open
+
+-- a store that had failed hands out no job
+pub returns-in-Err-put_milestone-clause-failed_before : goal.returns-in-Err-put_milestone-clause-failed_before
+returns-in-Err-put_milestone-clause-failed_before g c failed = absurd (ok≢err c.in-Ok.job Fault (c.in-Ok.ensures.failed_before failed).0)
+
+pub returns-clause-failed_before : goal.returns-clause-failed_before
+returns-clause-failed_before g c failed = absurd (ok≢err c.in-Ok.job Fault (c.in-Ok.ensures.failed_before failed).0)
+
+-- the job that was handed out is kept, so what comes of it is no stranger
+pub returns-in-Err-put_milestone-clause-only : goal.returns-in-Err-put_milestone-clause-only
+returns-in-Err-put_milestone-clause-only g c =
+    let store = c.args.self.now in
+    let mid = c.milestone_job.new.self in
+    let works : has_failed mid ≡ false = c.milestone_job.ensures.failed ∙ had_not_failed c.in-Ok.job c.in-Ok.ensures.failed_before in
+    ⊎_elim
+    (λ stranger. absurd ((c.in-Err-put_milestone.ensures.stranger works).0 (ap (λ (r : Refusal). Err r) stranger)
+    (keeps_it c.in-Ok.job c.in-Ok-compose_job.composed (kept_jobs store) (kept_jobs mid) c.in-Ok.ensures.keeps c.in-Ok-compose_job.ensures.done)))
+    (λ other. inr other) c.in-Err-put_milestone.ensures.only
+
+pub returns-in-Err-put_milestone-clause-no_fault : goal.returns-in-Err-put_milestone-clause-no_fault
+returns-in-Err-put_milestone-clause-no_fault g c other = c.in-Err-put_milestone.ensures.no_fault other ∙ ap g.D.Disk.faults c.milestone_job.ensures.device
+
+pub returns-in-Err-put_milestone-clause-kept : goal.returns-in-Err-put_milestone-clause-kept
+returns-in-Err-put_milestone-clause-kept g c other is_open = c.in-Err-put_milestone.ensures.kept other (c.milestone_job.ensures.open is_open)
+
+pub returns-clause-done : goal.returns-clause-done
+returns-clause-done g c is_open = (c.in_default.ensures.done (c.milestone_job.ensures.open is_open)).goes_on
+
+pub returns-clause-works : goal.returns-clause-works
+returns-clause-works g c =
+    has_not_failed c.milestone_job.new.self c.put_milestone.new.self c.in_default.field-0 c.in_default.ensures.fails
+    (c.milestone_job.ensures.failed ∙ had_not_failed c.in-Ok.job c.in-Ok.ensures.failed_before)
+
+-- a crash within the put leaves the state
+pub returns-in-Err-put_milestone-clause-any_moment : goal.returns-in-Err-put_milestone-clause-any_moment
+returns-in-Err-put_milestone-clause-any_moment g c unfailed is_open =
+    from_there c.args.self.now c.milestone_job.new.self c.put_milestone.new.self c.milestone_job.ensures.device c.milestone_job.ensures.state
+    (c.put_milestone.ensures.any_moment (c.milestone_job.ensures.failed ∙ unfailed) (c.milestone_job.ensures.open is_open))
+
+pub returns-clause-any_moment : goal.returns-clause-any_moment
+returns-clause-any_moment g c unfailed is_open =
+    from_there c.args.self.now c.milestone_job.new.self c.put_milestone.new.self c.milestone_job.ensures.device c.milestone_job.ensures.state
+    (c.put_milestone.ensures.any_moment (c.milestone_job.ensures.failed ∙ unfailed) (c.milestone_job.ensures.open is_open))
