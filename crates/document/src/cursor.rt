@@ -8,7 +8,7 @@ ghost use Rattle.document.specs.steps.Runs.{units_of_runs, AreRuns};
 use crate::run::{Piece, Run};
 use crate::weights::runs_weight;
 use std::marker::Model;
-use utf16::{Cut, split_at16};
+use utf16::{Cut, split_counted};
 
 /// A place in runs, seen as the units from there on.
 #[derive(Drop)]
@@ -106,7 +106,7 @@ fn cut<'a>(piece: Piece<'a>, most: u64) -> Result<(Piece<'a>, Option<Piece<'a>>)
             if units <= most {
                 return Ok((piece, None));
             }
-            let (front, back) = split_at16(text, most)?;
+            let (front, back) = split_counted(text, units, most)?;
             let left = Piece::Text(back, units - most, attrs);
             Ok((Piece::Text(front, most, attrs), Some(left)))
         }

@@ -1,5 +1,5 @@
 //! Runs of a document.
-ghost use Rattle.std.specs.Prelude.{◌≡◌, ◌≢◌, ◌+◌, ◌-◌, ◌*◌, min, ◌<◌, ◌^◌, ◌++◌, [], ◌∷◌, length, IfOk, OnErr, IsOkUnless, MatchBool, Some};
+ghost use Rattle.std.specs.Prelude.{◌≡◌, ◌≢◌, ◌+◌, ◌-◌, ◌*◌, min, ◌<◌, ◌^◌, ◌++◌, [], ◌∷◌, length, IfOk, OnErr, IsOkUnless, MatchBool, Some, string_bytes};
 ghost use Rattle.utf16.specs.Units.{units_of};
 ghost use Rattle.delta.specs.Element.{letters, embedded};
 ghost use Rattle.document.specs.steps.Runs.{text_attributes};
@@ -10,6 +10,9 @@ use refusal::Refusal;
 use std::alloc::Global;
 use std::marker::Model;
 use utf16::append;
+
+/// So many bytes of room a run's text is made with.
+const SPARE: usize = 16;
 
 /// A text or an embed with attributes, seen as its units. Its number of code units is kept beside it.
 #[derive(Drop)]
@@ -130,7 +133,7 @@ impl Run {
         ensures only { IsOkUnless result Refusal.NoMemory }
     {
         Ok(Run {
-            content: Content::Text(String::from_str(alloc, text)?),
+            content: Content::Text(with_spare(alloc, text)?),
             attrs,
             units,
         })
@@ -196,6 +199,16 @@ impl Run {
             Content::Embed(_, _) => Ok(false),
         }
     }
+}
+
+// a text with room for a few more bytes, since what is put behind a run is mostly short: so its text isn't moved for it
+fn with_spare(alloc: Global, text: &str) -> Result<String, Refusal>
+    ensures same { IfOk result (λ made. string_bytes made ≡ text.now) }
+    ensures only { IsOkUnless result Refusal.NoMemory }
+{
+    let mut made = String::with_capacity(alloc, text.len().saturating_add(SPARE))?;
+    made.push_str(text)?;
+    Ok(made)
 }
 
 // the weight of attributes, and 2^64 - 1 where that is more

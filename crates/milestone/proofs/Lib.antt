@@ -1,10 +1,12 @@
 pub mod CallerLemmas
 pub mod InTurn
 pub mod Sizes
+pub mod Light
 pub mod Bytes
 pub mod Holding
 pub mod Freeing
 pub mod Putting
+pub mod Replacing
 pub mod Order
 pub mod Fields
 pub mod Bodies

@@ -61,7 +61,7 @@ IsNarrow (retain n c) = Unit {0}
 IsNarrow (delete n) = Unit {0}
 
 -- what an operation takes where each unit is given three bytes
-abbrev light : Operation → ℕ
+abbrev pub light : Operation → ℕ
 light (insert_text units a) = 9 + 3 * length units + sum_by (pair_width value_width) a.entries
 light (insert_embed name v a) = operation_width (insert_embed name v a)
 light (retain n c) = operation_width (retain n c)
@@ -99,7 +99,7 @@ light_item x ops = of x.item x.attributes
     of (code_unit u) a = omega (arith, light_unit u a ops)
     of (embed name v) a = omega (arith, sum_by-cons light (insert_embed name v a) ops, light_value v name, light_entries a.entries)
 
-light_inserts : (units : List Element) → sum_by light (spell_inserts units []) ≤ weight_of units
+pub light_inserts : (units : List Element) → sum_by light (spell_inserts units []) ≤ weight_of units
 light_inserts [] = omega arith
 light_inserts (x ∷ units) = omega (arith, light_item x (spell_inserts units []), light_inserts units)
 

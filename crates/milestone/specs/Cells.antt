@@ -52,6 +52,11 @@ IsLeftByFreeing old cells pair content = HoldsInCells old cells pair content ⊎
 abbrev pub IsLeftByPut : List ℕ → Cells → Pair → Cell → List ℕ → Type 0
 IsLeftByPut old cells pair cell content = HoldsInCells old cells pair content ⊎ HoldsInCells old cells (with_cell cell pair) content
 
+-- what a crash leaves while a cell is put over the older one of two open ones, or where one is closed: the pair before, the one without
+-- its older cell, or that with the cell
+abbrev pub IsLeftByReplacing : List ℕ → Cells → Pair → Cell → List ℕ → Type 0
+IsLeftByReplacing old cells pair cell content = IsLeftByFreeing old cells pair content ⊎ HoldsInCells old cells (with_cell cell (freed pair)) content
+
 -- A call that is done: outside the cells nothing has changed, and they are those of a content that holds this pair.
 pub record FitsNow (old : List ℕ) (before : Cells) (new : List ℕ) (after : Cells) (pair : Pair) : Type 0 where
   pub outside : SameOutside (place_of before) (2 * size_of before) old new

@@ -1,8 +1,11 @@
 -- What holds of cells.
 use Rattle.std.specs.Prelude.{ℕ, ◌≡◌, ◌+◌, ◌*◌, ◌≤◌, List, length, take, drop}
+use Rattle.delta.specs.Element.{Element}
+use Rattle.document.specs.Weight.{weight_of}
 use Rattle.revision.specs.State.{Limits}
+use Rattle.revision.specs.Width.{delta_width}
 use Rattle.history.specs.Cell.{Cell, Pair, CellKeeps}
-use Rattle.milestone.specs.CellSpelling.{cell_body, IsCell}
+use Rattle.milestone.specs.CellSpelling.{cell_body, inserts_of, IsCell}
 use Rattle.milestone.specs.OneCell.{HoldsPair}
 
 -- What has a spelling as a cell and keeps the limits fits a cell that has 128 bytes more than a document may weigh: the gate and the
@@ -10,6 +13,10 @@ use Rattle.milestone.specs.OneCell.{HoldsPair}
 abbrev pub FitsItsCell : Type 0
 FitsItsCell = (number : ℕ) (limits : Limits) (cell : Cell) → IsCell number cell → CellKeeps limits cell
     → 5 + length (cell_body number cell) ≤ limits.weight + 128
+
+-- The spelling of a content has at most twice as many bytes as the document weighs, and four.
+abbrev pub LightContent : Type 0
+LightContent = (units : List Element) → delta_width (inserts_of units) ≤ 4 + 2 * weight_of units
 
 -- A content holds one pair at most at a place.
 abbrev pub OnePair : Type 0

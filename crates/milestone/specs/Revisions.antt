@@ -1,5 +1,5 @@
 -- The revisions of the two cells of a document, None where one isn't open.
-use Rattle.std.specs.Prelude.{ℕ, min, nat_lt, if◌then◌else◌, Option, Some, None}
+use Rattle.std.specs.Prelude.{ℕ, min, max, nat_lt, if◌then◌else◌, Option, Some, None}
 use Rattle.history.specs.Cell.{Cell, Pair}
 
 -- the revision of what a cell holds, and of both
@@ -19,6 +19,13 @@ lowest_of (None, None) = 0
 lowest_of (None, Some second) = second
 lowest_of (Some first, None) = first
 lowest_of (Some first, Some second) = min first second
+
+-- the highest of the revisions, 0 where there is none
+abbrev pub highest_of : Revisions → ℕ
+highest_of (None, None) = 0
+highest_of (None, Some second) = second
+highest_of (Some first, None) = first
+highest_of (Some first, Some second) = max first second
 
 -- the revisions with the lower one gone where there are two, of two that are equal the first
 abbrev pub freed_of : Revisions → Revisions

@@ -49,10 +49,11 @@ fn revision_of(cell: &Option<Milestone>) -> Option<u64>
 impl Cells {
     ghost use Rattle.disk.specs.Crash.{LeavesOnly};
     ghost use Rattle.history.specs.Cell.{Pair, freed, lowest};
+    ghost use Rattle.journal.specs.Area.{frame};
     ghost use Rattle.milestone.specs.CellSpelling.{cell_body, IsCell};
     ghost use Rattle.milestone.specs.OneCell.{HoldsPair};
-    ghost use Rattle.milestone.specs.Revisions.{lowest_of, freed_of, with_revision};
-    ghost use Rattle.milestone.specs.Cells.{place_of, size_of, number_of, revisions_of, with_cell, HasClosed, Fits, FitsNow, SameCells, IsLeftByFreeing, IsLeftByPut};
+    ghost use Rattle.milestone.specs.Revisions.{lowest_of, highest_of, freed_of, with_revision};
+    ghost use Rattle.milestone.specs.Cells.{place_of, size_of, number_of, revisions_of, with_cell, HasClosed, Fits, FitsNow, SameCells, IsLeftByFreeing, IsLeftByPut, IsLeftByReplacing};
     ghost use Rattle.milestone.specs.ReadCells.{pair_of, IsReadAs};
 
     /// Reads the two cells of the document of this number. Each has `size` bytes, 256 to 16,777,216, and the first begins at
@@ -104,6 +105,18 @@ impl Cells {
             (None, Some(second)) => second,
             (Some(first), None) => first,
             (Some(first), Some(second)) => first.min(second),
+        }
+    }
+
+    /// The highest revision of the open cells, 0 where none is open.
+    pub fn highest(&self) -> u64
+        ensures { result ≡ highest_of (revisions_of self.now) }
+    {
+        match (self.first, self.second) {
+            (None, None) => 0,
+            (None, Some(second)) => second,
+            (Some(first), None) => first,
+            (Some(first), Some(second)) => first.max(second),
         }
     }
 
@@ -176,12 +189,78 @@ impl Cells {
         ensures faults { CountsFaultsAs ⟦<D as Disk>⟧ Refusal.Fault result disk.old disk.new }
     {
         let bytes = framed(alloc, self.number, milestone)?;
+        self.put_spelled(disk, milestone, &bytes)?;
+        Ok(())
+    }
+
+    /// Puts a milestone where one cell is closed, and where both are open over the older one, which is closed first. `NoMemory`
+    /// comes before any call of the device, and leaves the cells as they were. After a `Fault` each of the two cells may be open
+    /// or not, but for the newer one of two that were open, which stays.
+    pub fn replace_older<D: Disk>(
+        &mut self,
+        alloc: Global,
+        disk: &mut D,
+        milestone: &Milestone,
+    ) -> Result<(), Refusal>
+        requires within { place_of self.old + 2 * size_of self.old ≤ length (D.seen disk.old) }
+        requires is { IsCell (number_of self.old) milestone.now }
+        requires fits { 5 + length (cell_body (number_of self.old) milestone.now) ≤ size_of self.old }
+
+        ensures only { IfErr result (λ e. (e ≡ Refusal.NoMemory) ⊎ (e ≡ Refusal.Fault)) }
+        ensures untouched { IsErrOf result Refusal.NoMemory → (disk.new ≡ disk.old) × (self.new ≡ self.old) }
+        ensures same { SameCells self.old self.new }
+        ensures revisions { OnOk result (revisions_of self.new ≡ with_revision milestone.now.revision (freed_of (revisions_of self.old))) }
+
+        // Whatever the cells held: a crash at any moment leaves that, or that without the older cell, or with the milestone there.
+        ensures any_moment { (pair : Pair) → D.unsynced disk.old ≡ [] → Fits (D.seen disk.old) self.old pair
+            → LeavesOnly ⟦<D as Disk>⟧ (IsLeftByReplacing (D.seen disk.old) self.old pair milestone.now) disk.old disk.new }
+        ensures done { OnOk result ((pair : Pair) → Fits (D.seen disk.old) self.old pair
+            → FitsNow (D.seen disk.old) self.old (D.seen disk.new) self.new (with_cell milestone.now (freed pair))) }
+        ensures synced { OnOk result (D.unsynced disk.new ≡ []) }
+
+        // Six calls of the device at most.
+        ensures calls { length (D.past disk.new) ≤ length (D.past disk.old) + 6 }
+        ensures only_written { HasOnlyWritten ⟦<D as Disk>⟧ disk.old disk.new }
+        ensures faults { CountsFaultsAs ⟦<D as Disk>⟧ Refusal.Fault result disk.old disk.new }
+    {
+        let bytes = framed(alloc, self.number, milestone)?;
+        self.free_older(disk)?;
+        self.put_spelled(disk, milestone, &bytes)?;
+        Ok(())
+    }
+
+    // Puts a milestone, whose spelling these bytes are, into the cell that is closed, the first one where both are.
+    fn put_spelled<D: Disk>(
+        &mut self,
+        disk: &mut D,
+        milestone: &Milestone,
+        bytes: &[u8],
+    ) -> Result<(), Refusal>
+        requires within { place_of self.old + 2 * size_of self.old ≤ length (D.seen disk.old) }
+        requires closed { HasClosed (revisions_of self.old) }
+        requires is { IsCell (number_of self.old) milestone.now }
+        requires fits { 5 + length (cell_body (number_of self.old) milestone.now) ≤ size_of self.old }
+        requires spelled { bytes.now ≡ frame (cell_body (number_of self.old) milestone.now) }
+
+        ensures only { IfErr result (λ e. e ≡ Refusal.Fault) }
+        ensures err { OnErr result (self.new ≡ self.old) }
+        ensures same { SameCells self.old self.new }
+        ensures revisions { OnOk result (revisions_of self.new ≡ with_revision milestone.now.revision (revisions_of self.old)) }
+        ensures any_moment { (pair : Pair) → D.unsynced disk.old ≡ [] → Fits (D.seen disk.old) self.old pair
+            → LeavesOnly ⟦<D as Disk>⟧ (IsLeftByPut (D.seen disk.old) self.old pair milestone.now) disk.old disk.new }
+        ensures done { OnOk result ((pair : Pair) → Fits (D.seen disk.old) self.old pair
+            → FitsNow (D.seen disk.old) self.old (D.seen disk.new) self.new (with_cell milestone.now pair)) }
+        ensures synced { OnOk result (D.unsynced disk.new ≡ []) }
+        ensures calls { length (D.past disk.new) ≤ length (D.past disk.old) + 4 }
+        ensures only_written { HasOnlyWritten ⟦<D as Disk>⟧ disk.old disk.new }
+        ensures faults { CountsFaultsAs ⟦<D as Disk>⟧ Refusal.Fault result disk.old disk.new }
+    {
         if self.first.is_none() {
-            write_gated(disk, self.place, &bytes)?;
+            write_gated(disk, self.place, bytes)?;
             self.first = Some(milestone.revision());
             return Ok(());
         }
-        write_gated(disk, self.place + self.size, &bytes)?;
+        write_gated(disk, self.place + self.size, bytes)?;
         self.second = Some(milestone.revision());
         Ok(())
     }

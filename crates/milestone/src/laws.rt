@@ -1,9 +1,14 @@
 //! What holds of cells, as contracts of functions that do nothing.
-ghost use Rattle.milestone.specs.Law.{FitsItsCell, OnePair, AgreeWithin};
+ghost use Rattle.milestone.specs.Law.{FitsItsCell, LightContent, OnePair, AgreeWithin};
 
 /// What has a spelling as a cell and keeps the limits fits a cell that has 128 bytes more than a document may weigh.
 pub fn fits()
     ensures { FitsItsCell }
+{}
+
+/// The spelling of a document's content has at most twice as many bytes as it weighs, and four.
+pub fn light_content()
+    ensures { LightContent }
 {}
 
 /// A content holds one pair of cells at most at a place.

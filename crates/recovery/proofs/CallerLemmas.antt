@@ -2,3 +2,4 @@
 pub use Rattle.recovery.proofs.FoundOnce.{found_once}
 pub use Rattle.recovery.proofs.Runs.{found_open, found_as, found_again}
 pub use Rattle.recovery.proofs.Fitting.{one_fits}
+pub use Rattle.recovery.proofs.Going.{open_unchanged, found_now, goes_call, goes_none, goes_still, goes_map, goes_on}

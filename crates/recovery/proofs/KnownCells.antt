@@ -4,12 +4,13 @@ use Rattle.std.proofs.lemmas.Option.{slice_get_within}
 use Rattle.history.specs.Cell.{Pair, cells_at, lowest}
 use Rattle.milestone.specs.declared.cells.Cells.{Cells}
 use Rattle.milestone.specs.OneCell.{HoldsPair}
-use Rattle.milestone.specs.Revisions.{revisions_in, lowest_of}
+use Rattle.milestone.specs.Revisions.{revisions_in, lowest_of, highest_of}
 use Rattle.milestone.specs.Cells.{size_of, number_of}
 use Rattle.milestone.proofs.CallerLemmas.{agree_within}
 use Rattle.recovery.specs.declared.shape.Shape.{Shape}
 use Rattle.recovery.specs.Shape.{is_in_range, cells_place, slots_place}
-use Rattle.recovery.specs.Cells.{AreCellsOf, FitEach, lowest_known}
+use Rattle.recovery.specs.Cells.{AreCellsOf, FitEach, lowest_known, highest_known}
+use Rattle.recovery.specs.Jobs.{highest}
 use Rattle.recovery.proofs.Layouts.{part_same, cells_before}
 use Rattle.recovery.proofs.Superblocks.{ranges_of}
 
@@ -27,6 +28,15 @@ lowest_same content (cells ∷ known) [] number count fit = absurd (omega (arith
 lowest_same content (cells ∷ known) (pair ∷ pairs) zero count fit = ap lowest_of (fit zero cells refl).revisions ∙ lowest_revision pair
 lowest_same content (cells ∷ known) (pair ∷ pairs) (suc number) count fit =
     lowest_same content known pairs number (omega (arith, count)) (λ other one is. fit (suc other) one is)
+
+-- and so is the highest
+pub highest_same : (content : List ℕ) (known : List Cells) (pairs : List Pair) (number : ℕ) → length known ≡ length pairs → FitEach content known pairs → highest_known known number ≡ highest (cells_at pairs number)
+highest_same content [] [] number count fit = refl
+highest_same content [] (pair ∷ pairs) number count fit = absurd (omega (arith, count))
+highest_same content (cells ∷ known) [] number count fit = absurd (omega (arith, count))
+highest_same content (cells ∷ known) (pair ∷ pairs) zero count fit = ap highest_of (fit zero cells refl).revisions
+highest_same content (cells ∷ known) (pair ∷ pairs) (suc number) count fit =
+    highest_same content known pairs number (omega (arith, count)) (λ other one is. fit (suc other) one is)
 
 -- they stay where nothing before the slots changes
 pub fit_stays : (old content : List ℕ) (shape : Shape) (known : List Cells) (pairs : List Pair) → is_in_range shape ≡ true → AreCellsOf shape known

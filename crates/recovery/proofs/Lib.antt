@@ -6,12 +6,17 @@ pub mod Folds
 pub mod Refusals
 pub mod Commits
 pub mod Runs
+pub mod Going
+pub mod KeptJobs
+pub mod HandedOut
 pub mod Marking
 pub mod Marked
 pub mod Splitting
 pub mod MarkedRead
 pub mod KnownCells
 pub mod Retirement
+pub mod PutCells
+pub mod Putting
 pub mod Upkeep
 pub mod Named
 pub mod Gathering

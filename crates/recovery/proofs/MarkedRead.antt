@@ -34,7 +34,7 @@ no_bodies number marks = record {
     none [] is = refl
     none (first ∷ others) is = absurd cc
 
--- one body, which spells a batch, or none
+-- one body, which spells a batch
 pub one_noted : (number : ℕ) (body : List ℕ) (commands : List Taken) (before after : List Mark) → IsBatch commands → body ≡ batch commands → IsNoted number commands before after
     → AreBodiesMarked number (body ∷ []) before after
 one_noted number body commands before after is spelled noted = record {
@@ -50,16 +50,6 @@ one_noted number body commands before after is spelled noted = record {
     no_batches : (batches : List (List Taken)) → [] ≡ map batch batches → batches ≡ []
     no_batches [] is = refl
     no_batches (first ∷ others) is = absurd cc
-
-pub one_none : (number : ℕ) (body : List ℕ) (marks : List Mark) → ((commands : List Taken) → IsBatch commands → body ≢ batch commands) → AreBodiesMarked number (body ∷ []) marks marks
-one_none number body marks none = record {
-  here = λ batches same each. absurd (spells batches same (recursion_from_All IsBatch batches each));
-  segments = λ other document apart. refl;
-}
-  where
-    spells : (batches : List (List Taken)) → body ∷ [] ≡ map batch batches → AllByRecursion IsBatch batches → ⊥
-    spells [] same each = absurd cc
-    spells (first ∷ others) same each = let here : body ≡ batch first = cc in none first each.0 here
 
 -- bodies behind others
 pub bodies_more : (number : ℕ) (first second : List (List ℕ)) (before mid after : List Mark) → AreBodiesMarked number first before mid → AreBodiesMarked number second mid after

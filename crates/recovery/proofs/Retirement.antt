@@ -20,11 +20,12 @@ use Rattle.segments.proofs.CallerLemmas.{retired_bodies}
 use Rattle.recovery.specs.declared.store.Store.{Store}
 use Rattle.recovery.specs.Found.{FoundAs, HoldsParts, commands_of}
 use Rattle.recovery.specs.Open.{IsOpen}
-use Rattle.recovery.specs.Cells.{lowest_known}
+use Rattle.recovery.specs.Cells.{lowest_known, highest_known}
 use Rattle.recovery.specs.Marks.{marks_of, greatest_marked}
+use Rattle.recovery.specs.Jobs.{highest}
 use Rattle.recovery.specs.Marked.{SpellSegment, MayRetire}
 use Rattle.recovery.proofs.Commits.{again, left_same, parts_kept}
-use Rattle.recovery.proofs.KnownCells.{lowest_same}
+use Rattle.recovery.proofs.KnownCells.{lowest_same, highest_same}
 use Rattle.recovery.proofs.Marked.{number_held, one_oldest, covered_by_marks}
 use Rattle.recovery.proofs.Runs.{found_as}
 use Rattle.recovery.proofs.Splitting.{Split, split}
@@ -43,6 +44,9 @@ module _ {D : Type 0} {disk : Ghosts D} (store : Store D disk) (is_open : IsOpen
   -- what is known in memory is what the content holds
   pub known : (document : ℕ) → lowest_known store.cells.items document ≡ lowest (cells_at is_open.cells document)
   known document = lowest_same old store.cells.items is_open.cells document count is_open.cells_fit
+
+  pub known_highest : (document : ℕ) → highest_known store.cells.items document ≡ highest (cells_at is_open.cells document)
+  known_highest document = highest_same old store.cells.items is_open.cells document count is_open.cells_fit
 
   -- the batches of what is retired, and those that stay
   pub parted : (after : List (Option Segment)) (retired : IsRetired is_open.table after) → Split retired.segment.bodies (bodies_of after) is_open.batches

@@ -17,7 +17,7 @@ use Rattle.recovery.proofs.FoundOnce.{stand_at}
 
 -- a call that does nothing leaves a store as it was, and so do two that do
 pub unchanged : {D : Type 0} {disk : Ghosts D} (store : Store D disk) → IsUnchanged store store
-unchanged store = record { device = refl; shape = refl; ring = refl; cells = refl; marks = refl; state = refl; failed = refl }
+unchanged store = record { device = refl; shape = refl; ring = refl; cells = refl; marks = refl; jobs = refl; state = refl; failed = refl }
 
 pub unchanged_twice : {D : Type 0} {disk : Ghosts D} {one two three : Store D disk} → IsUnchanged one two → IsUnchanged two three → IsUnchanged one three
 unchanged_twice first second = record {
@@ -26,6 +26,7 @@ unchanged_twice first second = record {
   ring = second.ring ∙ first.ring;
   cells = second.cells ∙ first.cells;
   marks = second.marks ∙ first.marks;
+  jobs = second.jobs ∙ first.jobs;
   state = second.state ∙ first.state;
   failed = second.failed ∙ first.failed;
 }

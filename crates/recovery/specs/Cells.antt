@@ -2,7 +2,7 @@
 use Rattle.std.specs.Prelude.{◌≡◌, ℕ, Option, Some, None, List, length, slice_get}
 use Rattle.history.specs.Cell.{Pair, cells_at}
 use Rattle.milestone.specs.declared.cells.Cells.{Cells}
-use Rattle.milestone.specs.Revisions.{lowest_of}
+use Rattle.milestone.specs.Revisions.{lowest_of, highest_of}
 use Rattle.milestone.specs.Cells.{Fits, place_of, size_of, number_of, revisions_of}
 use Rattle.recovery.specs.declared.shape.Shape.{Shape}
 use Rattle.recovery.specs.Shape.{cells_place}
@@ -29,3 +29,11 @@ lowest_in (Some cells) = lowest_of (revisions_of cells)
 
 abbrev pub lowest_known : List Cells → ℕ → ℕ
 lowest_known known number = lowest_in (slice_get known number)
+
+-- and the highest one
+abbrev pub highest_in : Option Cells → ℕ
+highest_in None = 0
+highest_in (Some cells) = highest_of (revisions_of cells)
+
+abbrev pub highest_known : List Cells → ℕ → ℕ
+highest_known known number = highest_in (slice_get known number)

@@ -4,7 +4,9 @@ pub mod Cells
 pub mod Found
 pub mod Marks
 pub mod Marked
+pub mod Jobs
 pub mod Open
+pub mod Goes
 pub mod Run
 pub mod Formatting
 pub mod steps

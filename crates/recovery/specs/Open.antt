@@ -4,8 +4,11 @@ use Rattle.disk.specs.declared.device.Disk.{Ghosts}
 use Rattle.revision.specs.Command.{Taken}
 use Rattle.journal.specs.BatchSpelling.{batch_width}
 use Rattle.revision.specs.State.{State, fold}
-use Rattle.history.specs.Cell.{Pair}
+use Rattle.history.specs.Cell.{Pair, cells_at, freed, with_pair}
 use Rattle.history.specs.Running.{Runs}
+use Rattle.milestone.specs.Job.{Job, cell_of_job}
+use Rattle.milestone.specs.Cells.{with_cell}
+use Rattle.milestone.specs.declared.cells.Cells.{Cells}
 use Rattle.segments.specs.Slot.{Segment}
 use Rattle.segments.specs.Table.{IsRetired}
 use Rattle.segments.specs.declared.ring.Ring.{Ring}
@@ -16,6 +19,7 @@ use Rattle.recovery.specs.Shape.{slots_place}
 use Rattle.recovery.specs.Cells.{AreCellsOf, FitEach}
 use Rattle.recovery.specs.Marks.{marks_of}
 use Rattle.recovery.specs.Marked.{AreMarked}
+use Rattle.recovery.specs.Jobs.{jobs_of, AreKept}
 use Rattle.recovery.specs.Found.{limits_of, commands_of, HoldsParts, FoundAs}
 
 -- a content that stands for a state that agrees with the one before a batch, or with the one with it
@@ -44,6 +48,14 @@ module _ {D : Type 0} {disk : Ghosts D} where
   abbrev pub has_failed : Store D disk → Bool
   has_failed store = store.failed
 
+  -- the cells of its documents, as they are known in memory
+  abbrev pub known_cells : Store D disk → List Cells
+  known_cells store = store.cells.items
+
+  -- the jobs that it handed out and keeps
+  abbrev pub kept_jobs : Store D disk → List Job
+  kept_jobs store = jobs_of store.jobs
+
   -- a batch fits behind what is there: into the newest segment, or, where a slot is free, into that
   abbrev pub has_room : Store D disk → List Taken → Bool
   has_room store batch = has_room_for store.ring (batch_width batch)
@@ -57,14 +69,15 @@ module _ {D : Type 0} {disk : Ghosts D} where
     pub device : new.device ≡ old.device
     pub shape : new.shape ≡ old.shape
     pub ring : new.ring ≡ old.ring
-    pub cells : new.cells ≡ old.cells
+    pub cells : known_cells new ≡ known_cells old
     pub marks : marks_of new.marks ≡ marks_of old.marks
+    pub jobs : kept_jobs new ≡ kept_jobs old
     pub state : new.state ≡ old.state
     pub failed : new.failed ≡ old.failed
 
   -- The device is synced, and a store runs on it with the state that is held: its content holds these parts, the ring is that of its
-  -- slots, its cells and the marks of its segments are known, and its cells and entries are of the order of commands that the state
-  -- shows.
+  -- slots, its cells and the marks of its segments are known, its cells and entries are of the order of commands that the state
+  -- shows, and so is what comes of the jobs that it keeps.
   pub record IsOpen (store : Store D disk) : Type 0 where
     pub synced : disk.unsynced store.device ≡ []
     pub cells : List Pair
@@ -80,6 +93,7 @@ module _ {D : Type 0} {disk : Ghosts D} where
     pub marked : AreMarked table (marks_of store.marks)
     pub limits : store.state.limits ≡ limits_of store.shape
     pub runs : Runs order cells (commands_of batches) store.state
+    pub kept : AreKept order cells (kept_jobs store)
 
 -- After a retirement: the store goes on over the same cells, and the slot of the oldest segment is closed.
 module _ {D : Type 0} {disk : Ghosts D} where
@@ -87,3 +101,9 @@ module _ {D : Type 0} {disk : Ghosts D} where
     pub goes_on : IsOpen store
     pub same_cells : goes_on.cells ≡ cells
     pub retired : IsRetired table goes_on.table
+
+  -- After a milestone was put: the store goes on over the same slots, and the cell that comes of the job is open in its document's pair,
+  -- in place of the older one where both were open. The other documents' cells are as they were.
+  pub record IsPutNow (cells : List Pair) (job : Job) (store : Store D disk) : Type 0 where
+    pub goes_on : IsOpen store
+    pub put : goes_on.cells ≡ with_pair job.document (with_cell (cell_of_job job) (freed (cells_at cells job.document))) cells

@@ -36,8 +36,11 @@
 #![tactic(auto)]
 
 mod formatting;
+mod jobs;
 pub mod laws;
 mod marks;
+mod milestone_jobs;
+mod milestones;
 mod reading;
 mod receipt;
 mod retiring;

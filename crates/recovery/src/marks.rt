@@ -1,5 +1,5 @@
 //! What is known of the entries of each open segment: the greatest revision of each document.
-ghost use Rattle.std.specs.Prelude.{◌≡◌, ◌+◌, ◌-◌, ◌≤◌, ◌<◌, ℕ, [], ◌∷◌, List, max, if◌then◌else◌, ◌==◌, ◌&&◌, length, OnOk, OnErr, IfErr, IsOkUnless, filter, ◌≢◌, not};
+ghost use Rattle.std.specs.Prelude.{◌≡◌, ◌+◌, ◌-◌, ◌≤◌, ◌<◌, ℕ, [], ◌∷◌, List, max, if◌then◌else◌, ◌==◌, ◌&&◌, length, OnOk, OnErr, IfErr, IsOkUnless, filter, ◌≢◌, not, get_or, IfSome};
 ghost use Rattle.recovery.specs.Marks.{Raised, IsNoted, marks_of, room_of, is_of, greatest_marked};
 
 use refusal::Refusal;
@@ -17,11 +17,18 @@ pub struct Mark {
     pub revision: u64,
 }
 
+/// Documents of numbers up to this one are found in the table of places: a store has no more.
+const MOST_DOCUMENTS: u32 = 65_536;
+
 /// A mark for each document that has entries in an open segment. It grows with what the segments hold, and what is known of a
 /// segment is forgotten when the segment is retired.
+///
+/// Beside the list a table has the place of each document's newest mark, so that a mark is raised without a search. It is a
+/// guess: where another mark stands at the place, or none, a new one is set.
 #[derive(Debug, Drop)]
 pub struct Marks {
     list: Vec<Mark>,
+    places: Vec<usize>,
 }
 
 impl Marks {
@@ -31,6 +38,7 @@ impl Marks {
     {
         Marks {
             list: Vec::new(alloc),
+            places: Vec::new(alloc),
         }
     }
 
@@ -41,13 +49,14 @@ impl Marks {
         self.list.as_slice()
     }
 
-    /// Makes room for so many more entries, so that noting them takes no memory.
-    pub fn make_room(&mut self, count: usize) -> Result<(), Refusal>
+    /// Makes room for the commands of a batch, so that noting them takes no memory.
+    pub fn make_room(&mut self, batch: &[Taken]) -> Result<(), Refusal>
         ensures same { marks_of self.new ≡ marks_of self.old }
-        ensures room { OnOk result (count ≤ room_of self.new) }
+        ensures room { OnOk result (length batch.now ≤ room_of self.new) }
         ensures only { IsOkUnless result Refusal.NoMemory }
     {
-        self.list.reserve(count)?;
+        cover_all(&mut self.places, batch)?;
+        self.list.reserve(batch.len())?;
         Ok(())
     }
 
@@ -67,17 +76,15 @@ impl Marks {
         ensures raised { Raised segment document revision (marks_of self.old) (marks_of self.new) }
         ensures room { room_of self.old ≤ room_of self.new + 1 }
     {
-        for place in 0..self.list.len() {
-            let mark = self.list[place];
-            if mark.segment == segment && mark.document == document {
-                self.list[place] = Mark {
-                    segment,
-                    document,
-                    revision: mark.revision.max(revision),
-                };
-                return;
-            }
+        if let Some((place, mark)) = self.mark_of(segment, document) {
+            self.list[place] = Mark {
+                segment,
+                document,
+                revision: mark.revision.max(revision),
+            };
+            return;
         }
+        set_place(&mut self.places, document, self.list.len());
         self.list
             .push(Mark {
                 segment,
@@ -87,10 +94,76 @@ impl Marks {
             .unwrap();
     }
 
+    // The mark of a document in a segment with its place, where the table has it.
+    fn mark_of(&self, segment: u64, document: u32) -> Option<(usize, Mark)>
+        ensures there { IfSome result (λ found. (found.0 < length (marks_of self.now)) × (get_or (marks_of self.now) found.0 found.1 ≡ found.1)) }
+        ensures own { IfSome result (λ found. (found.1.segment ≡ segment) × (found.1.document ≡ document)) }
+    {
+        let place = place_of(self.places.as_slice(), document)?;
+        if place >= self.list.len() {
+            return None;
+        }
+        let mark = self.list[place];
+        if mark.segment == segment && mark.document == document {
+            Some((place, mark))
+        } else {
+            None
+        }
+    }
+
     /// Forgets a segment that was retired. It takes no memory.
     pub fn forget(&mut self, segment: u64)
         ensures { marks_of self.new ≡ filter (λ mark. not (is_of segment mark)) (marks_of self.old) }
     {
         self.list.retain(|mark| mark.segment != segment);
+        find_places(&mut self.places, self.list.as_slice());
+    }
+}
+
+// The place that the table has for a document.
+fn place_of(places: &[usize], document: u32) -> Option<usize> {
+    let number = document as usize;
+    if number < places.len() {
+        Some(places[number])
+    } else {
+        None
+    }
+}
+
+// Notes a place for a document, where the table has one for it.
+fn set_place(places: &mut Vec<usize>, document: u32, place: usize) {
+    let number = document as usize;
+    if number < places.len() {
+        places[number] = place;
+    }
+}
+
+// Adds places to the table so that it has one for the document of each command. Refused for want of memory alone.
+fn cover_all(places: &mut Vec<usize>, batch: &[Taken]) -> Result<(), Refusal>
+    ensures { IsOkUnless result Refusal.NoMemory }
+{
+    for taken in batch {
+        cover(places, taken.document())?;
+    }
+    Ok(())
+}
+
+// Adds places to the table so that it has one for this document. Refused for want of memory alone.
+fn cover(places: &mut Vec<usize>, document: u32) -> Result<(), Refusal>
+    ensures { IsOkUnless result Refusal.NoMemory }
+{
+    if document >= MOST_DOCUMENTS {
+        return Ok(());
+    }
+    for _ in places.len()..document as usize + 1 {
+        places.push(0)?;
+    }
+    Ok(())
+}
+
+// Puts the place of each mark into the table, the last one of each document where it has more.
+fn find_places(places: &mut Vec<usize>, list: &[Mark]) {
+    for place in 0..list.len() {
+        set_place(places, list[place].document, place);
     }
 }

@@ -17,7 +17,6 @@ ghost use Rattle.recovery.specs.steps.Reading.{IsRingOf, IsReadAs};
 mod documents;
 mod entries;
 mod gates;
-mod marking;
 mod one_document;
 
 use crate::marks::Marks;
@@ -25,10 +24,9 @@ use crate::shape::Shape;
 use crate::superblock::{BODY_LEN, SUPERBLOCK_LEN, read_superblock};
 use disk::Disk;
 use documents::{ReadDocuments, read_documents};
-use entries::gather;
+use entries::{Gathered, gather};
 use gates::{is_open, read_at};
 use history::Pick;
-use marking::mark_segments;
 use milestone::Cells;
 use refusal::Refusal;
 use revision::State;
@@ -96,9 +94,8 @@ fn read_content<D: Disk>(alloc: Global, disk: &mut D, pick: Pick) -> Result<Reco
 {
     let shape = read_shape(disk)?;
     let RecoveredRing { ring, segments } = read_slots(alloc, disk, &shape)?;
-    let entries = gather(alloc, shape.docs, &segments)?;
-    let marks = mark_segments(alloc, &segments)?;
-    let ReadDocuments { state, cells } = read_documents(alloc, disk, &shape, pick, entries)?;
+    let Gathered { lists, marks } = gather(alloc, shape.docs, &segments)?;
+    let ReadDocuments { state, cells } = read_documents(alloc, disk, &shape, pick, lists)?;
     Ok(RecoveredStore {
         shape,
         ring,

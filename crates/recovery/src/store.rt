@@ -10,7 +10,12 @@ ghost use Rattle.segments.specs.Room.{has_room_for};
 ghost use Rattle.segments.specs.Numbers.{IsNewest};
 ghost use Rattle.segments.specs.Ring.{known_numbers};
 ghost use Rattle.recovery.specs.Marks.{marks_of, room_of, IsNoted};
+ghost use Rattle.recovery.specs.Shape.{is_in_range, layout_length};
+ghost use Rattle.recovery.specs.Cells.{AreCellsOf};
+ghost use Rattle.recovery.specs.Found.{limits_of};
+ghost use Rattle.recovery.specs.Jobs.{jobs_of, AllKeep};
 
+use crate::jobs::Jobs;
 use crate::marks::Marks;
 use crate::reading::read_store;
 use crate::receipt::Receipt;
@@ -40,10 +45,16 @@ pub struct Store<D: Disk> {
     pub(crate) ring: Ring,
     pub(crate) cells: Vec<Cells>,
     pub(crate) marks: Marks,
+    pub(crate) jobs: Jobs,
     pub(crate) state: State,
     pub(crate) failed: bool,
     ghost within: { end_of ring ≤ length (D.seen device) },
     ghost slot: { size_of ring ≡ state.limits.width + 19 },
+    ghost in_range: { is_in_range shape ≡ true },
+    ghost long: { layout_length shape ≤ length (D.seen device) },
+    ghost bounded: { state.limits ≡ limits_of shape },
+    ghost placed: { AreCellsOf shape cells.items },
+    ghost composable: { AllKeep (limits_of shape) (jobs_of jobs) },
 }
 
 impl<D: Disk> Store<D> {
@@ -101,6 +112,7 @@ impl<D: Disk> Store<D> {
                 ring: recovered.ring,
                 cells: recovered.cells,
                 marks: recovered.marks,
+                jobs: Jobs::new(alloc),
                 state: recovered.state,
                 failed: false,
             }),
@@ -135,6 +147,7 @@ impl<D: Disk> Store<D> {
             ring: _,
             cells: _,
             marks: _,
+            jobs: _,
             state: _,
             failed: _,
         } = self;
@@ -201,7 +214,7 @@ impl<D: Disk> Store<D> {
         if !self.has_room(batch) {
             return Err(Refusal::JournalFull);
         }
-        self.marks.make_room(batch.len())?;
+        self.marks.make_room(batch)?;
         let receipt = Receipt::of(alloc, batch)?;
         let empty = State::new(alloc, self.state.limits());
         let prepared = match replace(&mut self.state, empty).prepare(alloc, batch) {

@@ -102,7 +102,7 @@ kept-accepted limits units sources taken is h =
     ((there, whole, omega (arith, light, is.weight, weight-some (apply units (counted taken.delta)))), light)
 
 -- what is kept at a revision comes of what is held there
-keeps-same : (limits : Limits) (a b : Past) (revision : ℕ) → (content_at b revision).units ≡ (content_at a revision).units → sources_at b revision ≡ sources_at a revision
+pub keeps-same : (limits : Limits) (a b : Past) (revision : ℕ) → (content_at b revision).units ≡ (content_at a revision).units → sources_at b revision ≡ sources_at a revision
     → KeepsAt limits a revision → KeepsAt limits b revision
 keeps-same limits a b revision units sources kept = record {
   weight = subst (λ u. weight_of u (count_of (sources_at b revision)) ≤ limits.weight) (sym units)

@@ -10,6 +10,8 @@ mod Named
 mod Following
 mod Light
 mod LettingGo
+mod NewNames
+mod Raising
 pub mod Sums
 pub mod Texts
 pub mod Taking

@@ -1,12 +1,23 @@
 -- A past from higher floors on, and with changes more: what comes of one in whichever order.
-use Rattle.std.specs.Prelude.{◌≡◌, ℕ, ◌+◌, ◌≤◌, [], ◌∷◌, ◌++◌}
+use Rattle.std.specs.Prelude.{◌≡◌, ℕ, ◌+◌, ◌≤◌, max, min, List, [], ◌∷◌, ◌++◌}
 use Rattle.delta.specs.Gaps.{counted, apply}
 use Rattle.revision.specs.Sources.{with_last}
+use Rattle.revision.specs.State.{DocumentRecord}
 use Rattle.revision.specs.Past.{Change, Past, newest, content_at, sources_at, from_floor, with_change}
 
 -- the past with a change more, of which nothing is let go
 abbrev pub longer : Past → Change → Past
 longer past change = record past { changes = past.changes ++ change ∷ [] }
+
+-- the past from a revision on: from its floor on where that is higher, and from its newest revision on where that is lower
+abbrev pub raised : ℕ → Past → Past
+raised revision past = from_floor past (max past.floor (min revision (newest past)))
+
+-- each of the first documents from the revision on that stands at its place
+abbrev pub raised_each : List ℕ → List DocumentRecord → List DocumentRecord
+raised_each [] documents = documents
+raised_each (floor ∷ floors) [] = []
+raised_each (floor ∷ floors) (first ∷ others) = record first { past = raised floor first.past } ∷ raised_each floors others
 
 -- from its own floor on it is itself
 abbrev pub FromItself : Type 0

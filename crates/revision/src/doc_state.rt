@@ -2,6 +2,7 @@
 ghost use Rattle.std.specs.Prelude.{◌≡◌, ◌↔◌, ◌+◌, ◌≤◌, ◌<◌, ◌^◌, ◌⊎◌, ◌∷◌, ◌++◌, true, false, [], length, IfOk, IfErr, OnOk, OnErr, IsErrOf, IsOkUnless};
 ghost use Rattle.delta.specs.Operation.{base_of, out_of};
 ghost use Rattle.delta.specs.Gaps.{counted, apply};
+ghost use Rattle.revision.specs.Floors.{raised};
 ghost use Rattle.revision.specs.Late.{late as late_edit, HasCommandRoom};
 ghost use Rattle.compose.specs.Many.{applied};
 ghost use Rattle.revision.specs.Past.{empty_past, StandInTurn, newest, content_at, sources_at, deltas_of, deltas_above, undo_of, with_changes, prepared_units, prepared_revision};
@@ -152,6 +153,25 @@ impl DocState {
         self.past.forget();
         self.sources.forget();
         self.next = None;
+    }
+
+    /// The same document, held from a revision on, of which nothing is prepared. Refused for want of memory alone.
+    pub(crate) fn copy_from(&self, alloc: Global, revision: u64) -> Result<DocState, Refusal>
+        ensures same { IfOk result (λ copy. copy ≡ record { name = self.now.name; past = record { past = raised revision self.now.past.past; next = [] } }) }
+        ensures only { IsOkUnless result Refusal.NoMemory }
+    {
+        let name = self.name.copy(alloc)?;
+        let mut past = self.past.copy_held(alloc)?;
+        past.raise_floor(revision);
+        let document = self.document.copy(alloc)?;
+        let sources = SourceTable::from_sources(alloc, self.sources.held())?;
+        Ok(DocState {
+            name,
+            past,
+            document,
+            next: None,
+            sources,
+        })
     }
 
     /// Its name, of 1 to 64 characters.

@@ -12,6 +12,7 @@
 
 mod adopting;
 mod command;
+mod copying;
 mod doc_state;
 mod documents;
 mod growing;

@@ -4,6 +4,7 @@ ghost use Rattle.delta.specs.Operation.{base_of, out_of};
 ghost use Rattle.delta.specs.Gaps.{counted, apply};
 ghost use Rattle.document.specs.Outcome.{IsAccepted};
 ghost use Rattle.compose.specs.Many.{applied};
+ghost use Rattle.revision.specs.Floors.{raised};
 ghost use Rattle.revision.specs.Late.{late as late_edit, all_inserted, HasCommandRoom};
 ghost use Rattle.revision.specs.Past.{StandInTurn, newest, content_at, deltas_of, deltas_above, undo_of, way_back, way_back_late, with_changes, prepared_units, prepared_revision, without_last, sources_after, sources_at, changes_by};
 ghost use Rattle.revision.specs.Name.{is_source_name};
@@ -243,6 +244,35 @@ impl Past {
         self.count -= gone;
     }
 
+    /// An equal past, of which nothing is prepared. Refused for want of memory alone.
+    pub fn copy_held(&self, alloc: Global) -> Result<Past, Refusal>
+        ensures same { IfOk result (λ copy. copy ≡ record { past = self.now.past; next = [] }) }
+        ensures only { IsOkUnless result Refusal.NoMemory }
+    {
+        let document = self.document.copy(alloc)?;
+        let sources = self.sources.copy(alloc)?;
+        let takers = copies_of_takers(alloc, &self.takers.as_slice()[..self.count])?;
+        let deltas = copies_of_deltas(alloc, &self.deltas.as_slice()[..self.count])?;
+        Ok(Past {
+            start: self.start,
+            floor: self.floor,
+            document,
+            sources,
+            takers,
+            deltas,
+            count: self.count,
+        })
+    }
+
+    /// From now on the past is held from a revision on: from its floor on where that is higher, and from its newest revision on where
+    /// that is lower. It takes no memory.
+    pub fn raise_floor(&mut self, revision: u64)
+        ensures { self.new ≡ record self.old { past = raised revision self.old.past } }
+    {
+        let newest = self.start + self.count as u64;
+        self.floor = self.floor.max(revision.min(newest));
+    }
+
     /// Drops what was prepared.
     pub fn forget(&mut self)
         ensures { self.new ≡ record self.old { next = [] } }
@@ -250,6 +280,39 @@ impl Past {
         self.takers.truncate(self.count);
         self.deltas.truncate(self.count);
     }
+}
+
+// equal takers, or `NoMemory`
+fn copies_of_takers(alloc: Global, takers: &[Taker]) -> Result<Vec<Taker>, Refusal>
+    ensures same { IfOk result (λ copies. copies.items ≡ takers.now) }
+    ensures only { IsOkUnless result Refusal.NoMemory }
+{
+    let mut copies = Vec::with_capacity(alloc, takers.len())?;
+    for taker in takers {
+        copies.push(copy_of_taker(alloc, taker)?)?;
+    }
+    Ok(copies)
+}
+
+// an equal taker, or `NoMemory`
+fn copy_of_taker(alloc: Global, taker: &Taker) -> Result<Taker, Refusal>
+    ensures same { IfOk result (λ copy. copy ≡ taker.now) }
+    ensures only { IsOkUnless result Refusal.NoMemory }
+{
+    Ok(Taker {
+        source: taker.source.copy(alloc)?,
+        number: taker.number,
+    })
+}
+
+// equal deltas, or `NoMemory`
+fn copies_of_deltas(alloc: Global, deltas: &[Delta]) -> Result<Vec<Delta>, Refusal>
+    ensures same { IfOk result (λ copies. copies.items ≡ deltas.now) }
+    ensures only { IsOkUnless result Refusal.NoMemory }
+{
+    let mut copies = Vec::with_capacity(alloc, deltas.len())?;
+    push_copies(alloc, &mut copies, deltas)?;
+    Ok(copies)
 }
 
 // Adds to both lists. Refused for want of memory alone, and then both are unchanged.

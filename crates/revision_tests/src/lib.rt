@@ -10,6 +10,8 @@ mod asking;
 #[cfg(test)]
 mod batches;
 #[cfg(test)]
+mod copies;
+#[cfg(test)]
 mod creations;
 #[cfg(test)]
 mod edits;

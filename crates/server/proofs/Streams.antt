@@ -145,7 +145,9 @@ module _ {D : Type 0} (does : D → Exchange → D → Type 0) where
   by_end : (old : Session) (piece : List ℕ) (new : Session) (d e : D) (o p : Option (List ℕ)) (ended : Bool) → old.ended ≡ ended → (old.ended ≡ true → e ≡ d)
       → (old.ended ≡ false → Stops does old piece new d e o p) → WasAsked does d e
   by_end old piece new d e o p true is idle stops = ([], idle is)
-  by_end old piece new d e o p false is idle stops = let stopped = stops is in (stopped.asked, stopped.asks)
+  by_end old piece new d e o p false is idle stops =
+      let stopped = stops is in
+      asked-joined d stopped.desk_mid e (stopped.fed.asked, stopped.fed.asks) (stopped.asked, stopped.asks)
 
   -- a piece whose feeding failed, in a session that had ended or not
   pub asked-stopped : (old : Session) (piece : List ℕ) (new : Session) (d e : D) (o p : Option (List ℕ)) → (old.ended ≡ true → e ≡ d)

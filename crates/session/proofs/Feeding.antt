@@ -1,10 +1,9 @@
 -- Pieces of the input, one behind another.
-use Rattle.std.proofs.lemmas.List.{take_more}
-use Rattle.std.proofs.Common.{zero, suc, get_or, ◌<◌, add-zero, ◌≡◌, ◌≤◌, ◌+◌, ◌++◌, ℕ, List, [], ◌∷◌, Option, length, take, refl, sym, ap, subst, ◌∙◌, append_assoc, append-nil, arith}
+use Rattle.std.proofs.Common.{◌≡◌, ◌++◌, ℕ, List, [], ◌∷◌, Option, refl, sym, ap, subst, ◌∙◌, append_assoc}
 use Rattle.session.specs.Session.{Session}
 use Rattle.session.specs.Exchange.{Exchange}
 use Rattle.session.specs.Replies.{Replies, Asks, Feeds, Stops}
-use Rattle.session.proofs.Writes.{appends-nothing, appends-both, front-behind}
+use Rattle.session.proofs.Writes.{appends-nothing, appends-both}
 
 -- what comes of two pieces comes of them joined
 pub replies-joined : (front back : List ℕ) (old mid new : Session) (a b : List Exchange) (t u : List ℕ)
@@ -45,28 +44,28 @@ module _ {D : Type 0} (does : D → Exchange → D → Type 0) where
     written = appends-both o p q first.text second.text first.written second.written;
   }
 
-  -- a piece, and one behind it in which a write fails
-  pub stops-behind : (front back : List ℕ) (old mid new : Session) (d e f : D) (o p q : Option (List ℕ))
-      → Feeds does old front mid d e o p → Stops does mid back new e f p q → (whole : List ℕ) → (n : ℕ) → ((k : ℕ) → k ≤ length back → take (n + k) whole ≡ front ++ take k back)
-      → n + length back ≤ length whole → Stops does old whole new d f o q
-  stops-behind front back old mid new d e f o p q first second whole n at within = record {
-    count = n + second.count;
-    within = let w = second.within in omega arith;
-    asked = first.asked ++ second.asked;
-    text = first.text ++ second.text;
-    next = second.next;
-    replies = subst (λ (l : List ℕ). Replies old l (first.asked ++ second.asked) second.next (first.text ++ second.text)) (sym (at second.count second.within))
-        (replies-joined front (take second.count back) old mid second.next _ _ _ _ first.replies second.replies);
-    ended = second.ended;
-    asks = asks-joined first.asked second.asked d e f first.asks second.asks;
-    written = front-behind o p q first.text second.text first.written second.written;
+  -- a write that fails within a piece fails within a longer one
+  pub stops-longer : (piece more whole : List ℕ) (old new : Session) (d e : D) (o p : Option (List ℕ)) → whole ≡ piece ++ more
+      → Stops does old piece new d e o p → Stops does old whole new d e o p
+  stops-longer piece more whole old new d e o p is stops = record {
+    front = stops.front;
+    part = stops.part;
+    rest = stops.rest ++ more;
+    whole = is ∙ ap (λ (l : List ℕ). l ++ more) stops.whole ∙ append_assoc stops.front (stops.part ++ stops.rest) more
+        ∙ ap (λ (l : List ℕ). stops.front ++ l) (append_assoc stops.part stops.rest more);
+    mid = stops.mid;
+    desk_mid = stops.desk_mid;
+    out_mid = stops.out_mid;
+    fed = stops.fed;
+    asked = stops.asked;
+    text = stops.text;
+    next = stops.next;
+    replies = stops.replies;
+    at_once = stops.at_once;
+    asks = stops.asks;
+    written = stops.written;
+    ended = stops.ended;
   }
-
--- no byte more, or one
-pub take-one_more : (xs : List ℕ) (i : ℕ) → i < length xs → (k : ℕ) → k ≤ 1 → take (i + k) xs ≡ take i xs ++ take k (get_or xs i 0 ∷ [])
-take-one_more xs i within zero small = ap (λ n. take n xs) (add-zero i) ∙ sym (append-nil (take i xs))
-take-one_more xs i within (suc zero) small = take_more xs i 0 within
-take-one_more xs i within (suc (suc k)) small = absurd (omega arith)
 
 -- what comes of two pieces joined comes of them one behind the other
 pub replies-parted : (front back : List ℕ) (old new : Session) (asked : List Exchange) (text : List ℕ) → Replies old (front ++ back) asked new text

@@ -1,6 +1,6 @@
 -- What a state gives of a document at a revision that it has reached, each later one gives too, or no longer holds it.
 use Rattle.std.proofs.Common.{◌≡◌, ◌⊎◌, inl, inr, ℕ, zero, suc, ◌+◌, ◌-◌, ◌≤◌, max, Bool, true, false, cond, List, [], ◌∷◌, Option, Some, None, refl, sym, ap, subst, ◌∙◌, arith}
-use Rattle.std.specs.Prelude.{◌&&◌, OnOk, OnErr, bytes_eq, nat_lt, slice_get, slice_index_or, Result, Ok, Err}
+use Rattle.std.specs.Prelude.{◌++◌, ◌&&◌, OnOk, OnErr, bytes_eq, nat_lt, slice_get, slice_index_or, Result, Ok, Err}
 use Rattle.std.proofs.lemmas.Bool.{ltb-false, le-ltb}
 use Rattle.std.proofs.lemmas.Option.{same_Some}
 use Rattle.refusal.specs.declared.Refusal.{Refusal}
@@ -10,7 +10,7 @@ use Rattle.revision.specs.Command.{Taken}
 use Rattle.revision.specs.Floors.{longer}
 use Rattle.revision.specs.Past.{Past, Change, Content, newest, content_at, with_change}
 use Rattle.revision.specs.Readings.{at_revision}
-use Rattle.revision.specs.State.{DocumentRecord, State, find, grows, grown, fold, record_by_name, set_document, change_of}
+use Rattle.revision.specs.State.{DocumentRecord, State, find, grows, grown, all_grow, fold, record_by_name, set_document, change_of}
 use Rattle.revision.proofs.CallerLemmas.{from_twice, from_longer, change_makes}
 use Rattle.session.specs.Shelf.{Kept, IsGiven, IsLater, FitsLater}
 
@@ -174,3 +174,26 @@ pub later_by : {A E : Type 0} (old new : State) (taken : Taken) (result : Result
     → OnOk result (new ≡ grown old taken) → OnErr result (new ≡ old) → IsLater old new
 later_by old new taken (Ok a) grow added same = (taken ∷ [], ap (λ b. b && true) grow, added)
 later_by old new taken (Err e) grow added same = ([], refl, same)
+
+-- a state is later than itself
+pub later_same : (state : State) → IsLater state state
+later_same state = ([], refl, refl)
+
+and_both : (a b : Bool) → (a && b) ≡ true → (a ≡ true) × (b ≡ true)
+and_both true b h = (refl, h)
+and_both false b h = cc
+
+-- commands behind others that grow the state
+grow_joined : (front back : List Taken) (state : State) → all_grow state front ≡ true → all_grow (fold state front) back ≡ true
+    → (all_grow state (front ++ back) ≡ true) × (fold state (front ++ back) ≡ fold (fold state front) back)
+grow_joined [] back state grow more = (more, refl)
+grow_joined (first ∷ others) back state grow more =
+    let both = and_both (grows state first) (all_grow (grown state first) others) grow in
+    let behind = grow_joined others back (grown state first) both.1 more in
+    (rw (both.0, behind.0) refl, behind.1)
+
+-- and later than each state that came before
+pub later_still : (old mid new : State) → IsLater old mid → IsLater mid new → IsLater old new
+later_still old mid new (front, grow, is) (back, more, so) =
+    let joined = grow_joined front back old grow (subst (λ (s : State). all_grow s back ≡ true) is more) in
+    (front ++ back, joined.0, so ∙ ap (λ (s : State). fold s back) is ∙ sym joined.1)

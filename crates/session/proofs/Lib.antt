@@ -9,6 +9,7 @@ mod Telling
 pub mod Writes
 pub mod Replying
 pub mod Feeding
+pub mod Sending
 pub mod CallerLemmas
 mod Later
 mod Shelved

@@ -1,7 +1,6 @@
 -- What comes of a line and of a byte.
 use Rattle.std.specs.Prelude.{◌==◌}
-use Rattle.std.proofs.Common.{Bool, true, false, cond, length, ◌≡◌, ◌++◌, List, ℕ, [], ◌∷◌, Option, Some, None, Result, Ok, Err, IfSome, IfOk, OnOk, OnErr, refl, sym, ap, subst, arith, ◌∙◌, inl, inr, append-nil}
-use Rattle.std.specs.Io.KnownBytes.{Appends}
+use Rattle.std.proofs.Common.{Bool, true, false, cond, length, ◌≡◌, ◌++◌, List, ℕ, [], ◌∷◌, Option, Some, None, Result, Ok, Err, IfSome, IfOk, OnOk, OnErr, refl, sym, ap, subst, ◌∙◌, inl, inr, append-nil}
 use Rattle.refusal.specs.declared.Refusal.{Refusal}
 use Rattle.refusal.specs.declared.Refusal.TheVariants.{NoMemory, LineTooLong}
 use Rattle.revision.specs.Command.{Command}
@@ -18,15 +17,13 @@ use Rattle.session.specs.Request.{request_of}
 use Rattle.session.specs.Reply.{greeting, unsubscribed_reply, subscribed_line, line_of, refusal_line}
 use Rattle.session.specs.Subscriptions.{may_follow_shown, subscribed, without_subscription}
 use Rattle.session.specs.Calls.{with_subscriptions}
-use Rattle.session.specs.Output.{AppendsFront}
 use Rattle.session.specs.Reads.{shown_line}
 use Rattle.session.specs.Session.{Peer, Session}
 use Rattle.session.specs.Exchange.{Exchange, Answered, Shown}
-use Rattle.session.specs.Replies.{answer_line, IsLine, text_told, IsReplied, Greeted, Asked, WasRead, WasSubscribed, NotSubscribed, WasUnsubscribed, Refused, NotTaken, TakesByte, LineContinues, LineOverflows, LineEnds, Replies, Asks, Feeds, Stops}
-use Rattle.session.proofs.Writes.{appends-nothing}
+use Rattle.session.specs.Replies.{answer_line, IsLine, text_told, IsReplied, Greeted, Asked, WasRead, WasSubscribed, NotSubscribed, WasUnsubscribed, Refused, NotTaken, TakesByte, LineContinues, LineOverflows, LineEnds, IsAtOnce, Replies, Asks}
 
 -- an answer that is no refusal is the one that is due
-due_ok : {T : Type 0} (due : Result T Refusal) (x : T) → IsAnswer due (Ok x) → due ≡ Ok x
+pub due_ok : {T : Type 0} (due : Result T Refusal) (x : T) → IsAnswer due (Ok x) → due ≡ Ok x
 due_ok due x (inl is) = sym is
 due_ok due x (inr memory) = absurd cc
 
@@ -40,6 +37,11 @@ pub line_due : (o : Partial) (source known : Option (List ℕ)) (bytes : List �
     → known ≡ source → IsAnswer (request_of known bytes) r → IfSome o (λ line. IsAnswer (request_of source line) r)
 line_due None source known bytes r is same due = tt
 line_due (Some line) source known bytes r is same due = rw (is, same) at due
+
+-- what is due of a request is due of an equal one
+pub due_of : (o : Partial) (source : Option (List ℕ)) (r s : Result Request Refusal) → r ≡ s → IfSome o (λ line. IsAnswer (request_of source line) r)
+    → IfSome o (λ line. IsAnswer (request_of source line) s)
+due_of o source r s is due = subst (λ (a : Result Request Refusal). IfSome o (λ line. IsAnswer (request_of source line) a)) is due
 
 module _ {D : Type 0} (does : D → Exchange → D → Type 0) where
   -- what respond owes of a line
@@ -112,7 +114,7 @@ module _ {D : Type 0} (does : D → Exchange → D → Type 0) where
   left bytes (Some line) old new doc (Err e) desk request is due text noted same = ([], rw same NotTaken, refl)
 
 -- a complete line is not one that is dropped
-some_line : (line : Partial) (byte : ℕ) → with_byte line byte ≡ (Complete, None) → ⊥
+pub some_line : (line : Partial) (byte : ℕ) → with_byte line byte ≡ (Complete, None) → ⊥
 some_line None byte h = let e : More ≡ Complete = ap (λ (p : Event × Partial). p.0) h in cc
 some_line (Some bytes) byte h = by_end (byte == 10) (length bytes == 65536) h where
   by_end : (b c : Bool) → ◌≡◌ {A = Event × Partial} (cond b (Complete, Some bytes) (cond c (TooLong, None) (More, Some (bytes ++ byte ∷ [])))) (Complete, None) → ⊥
@@ -121,81 +123,79 @@ some_line (Some bytes) byte h = by_end (byte == 10) (length bytes == 65536) h wh
   by_end false false h = let e : More ≡ Complete = ap (λ (p : Event × Partial). p.0) h in cc
 
 -- a line that ends, with its bytes
-abbrev pair : Partial → Event × Partial
+abbrev pub pair : Partial → Event × Partial
 pair line = (Complete, line)
 
 -- one byte as a piece
 pub one_byte : (old new : Session) (byte : ℕ) (asked : List Exchange) (text : List ℕ) → TakesByte old byte asked new text → Replies old (byte ∷ []) asked new text
 one_byte old new byte asked text takes = (new, asked, [], text, [], takes, (refl, refl, refl), sym (append-nil asked), sym (append-nil text))
 
-module _ {D : Type 0} (does : D → Exchange → D → Type 0) where
-  -- the line goes on
-  pub goes_on : (old new : Session) (byte : ℕ) (desk : D) (out : Option (List ℕ)) → with_byte old.line byte ≡ (More, new.line)
-      → new ≡ record old { line = new.line } → Feeds does old (byte ∷ []) new desk desk out out
-  goes_on old new byte desk out event others = record {
-    asked = [];
-    text = [];
-    replies = one_byte old new byte [] [] (subst (λ n. TakesByte old byte [] n []) (sym others) (LineContinues new.line event));
-    asks = refl;
-    written = appends-nothing out;
-  }
+-- the line goes on
+pub goes_on : (old new : Session) (byte : ℕ) → with_byte old.line byte ≡ (More, new.line) → new ≡ record old { line = new.line } → Replies old (byte ∷ []) [] new []
+goes_on old new byte event others = one_byte old new byte [] [] (subst (λ n. TakesByte old byte [] n []) (sym others) (LineContinues new.line event))
 
-  -- the line gets too long
-  overflows : (old new : Session) (byte : ℕ) (text : List ℕ) → with_byte old.line byte ≡ (TooLong, new.line)
-      → new ≡ record old { line = new.line } → IsLine (refusal_line LineTooLong) text → Replies old (byte ∷ []) [] new text
-  overflows old new byte text event others line =
-      one_byte old new byte [] text (subst (λ n. TakesByte old byte [] n text) (sym others) (LineOverflows new.line text event line))
+-- the line gets too long
+pub overflows : (old new : Session) (byte : ℕ) (text : List ℕ) → with_byte old.line byte ≡ (TooLong, new.line)
+    → new ≡ record old { line = new.line } → IsLine (refusal_line LineTooLong) text → Replies old (byte ∷ []) [] new text
+overflows old new byte text event others line =
+    one_byte old new byte [] text (subst (λ n. TakesByte old byte [] n text) (sym others) (LineOverflows new.line text event line))
 
-  pub overflow_fed : (old new sent : Session) (byte : ℕ) (text : List ℕ) (desk : D) (out out' : Option (List ℕ)) → with_byte old.line byte ≡ (TooLong, new.line)
-      → new ≡ record old { line = new.line } → IsLine (refusal_line LineTooLong) text → sent ≡ new → Appends out out' text → Feeds does old (byte ∷ []) sent desk desk out out'
-  overflow_fed old new sent byte text desk out out' event others line is written =
-      let replies : Replies old (byte ∷ []) [] sent text = subst (λ n. Replies old (byte ∷ []) [] n text) (sym is) (overflows old new byte text event others line) in
-      record { asked = []; text = text; replies = replies; asks = refl; written = written }
+-- what a line is replied is asked at once
+at_once : (peer : Peer) (line : List ℕ) (asked : List Exchange) (peer' : Peer) (text : List ℕ) → IsReplied peer line asked peer' text → IsAtOnce asked
+at_once peer line exchanges peer' text (Greeted name is) = inl tt
+at_once peer line exchanges peer' text (Asked command answer t is reply) = inl tt
+at_once peer line exchanges peer' text (WasRead doc question shown t is reply) = inr (shown, refl)
+at_once peer line exchanges peer' text (WasSubscribed doc revision shown is) = inr (shown, refl)
+at_once peer line exchanges peer' text (NotSubscribed doc revision shown is) = inr (shown, refl)
+at_once peer line exchanges peer' text (WasUnsubscribed doc is) = inl tt
+at_once peer line exchanges peer' text (Refused refusal is) = inl tt
+at_once peer line exchanges peer' text NotTaken = inl tt
 
-  pub overflow_stopped : (old new ended : Session) (byte : ℕ) (text : List ℕ) (desk : D) (out out' : Option (List ℕ)) → with_byte old.line byte ≡ (TooLong, new.line)
-      → new ≡ record old { line = new.line } → IsLine (refusal_line LineTooLong) text → ended ≡ record new { ended = true } → AppendsFront out out' text → Stops does old (byte ∷ []) ended desk desk out out'
-  overflow_stopped old new ended byte text desk out out' event others line is written = record {
-    count = 1;
-    within = omega arith;
-    asked = [];
-    text = text;
-    next = new;
-    replies = overflows old new byte text event others line;
-    ended = is;
-    asks = refl;
-    written = written;
-  }
+-- the line ends
+module _ {D : Type 0} (does : D → Exchange → D → Type 0) (old read answered new : Session) (byte : ℕ) (text : List ℕ) (desk desk' : D)
+    (event : with_byte old.line byte ≡ (Complete, read.line))
+    (others : read ≡ record old { line = read.line }) (peer : answered ≡ record read { peer = answered.peer })
+    (next : new ≡ record answered { line = Some [] }) where
+  new_session : new ≡ record old { line = Some []; peer = answered.peer }
+  new_session =
+      next ∙ ap (λ (b : Bool). record { line = Some []; peer = answered.peer; ended = b })
+      (ap (λ (s : Session). s.ended) peer ∙ ap (λ (s : Session). s.ended) others)
 
-  -- the line ends
-  module _ (old read answered new : Session) (byte : ℕ) (text : List ℕ) (desk desk' : D) (event : with_byte old.line byte ≡ (Complete, read.line))
-      (others : read ≡ record old { line = read.line }) (peer : answered ≡ record read { peer = answered.peer })
-      (next : new ≡ record answered { line = Some [] }) where
-    new_session : new ≡ record old { line = Some []; peer = answered.peer }
-    new_session =
-        next ∙ ap (λ (b : Bool). record { line = Some []; peer = answered.peer; ended = b })
-        (ap (λ (s : Session). s.ended) peer ∙ ap (λ (s : Session). s.ended) others)
+  ends_at : (line : Partial) → read.line ≡ line → IfSome line (Responds does read answered desk desk' text)
+      → (asked : List Exchange) × Replies old (byte ∷ []) asked new text × Asks does desk asked desk' × IsAtOnce asked
+  ends_at None none responds = absurd (some_line old.line byte (event ∙ ap (λ (l : Partial). pair l) none))
+  ends_at (Some line) is responds =
+      let reply : IsReplied old.peer line responds.0 answered.peer text =
+      subst (λ (s : Peer). IsReplied s line responds.0 answered.peer text) (ap (λ (s : Session). s.peer) others) responds.1 in (
+        responds.0,
+        one_byte old new byte responds.0 text
+            (subst (λ n. TakesByte old byte responds.0 n text) (sym new_session)
+            (LineEnds line responds.0 answered.peer text (event ∙ ap (λ (l : Partial). pair l) is) reply)),
+        responds.2,
+        at_once old.peer line responds.0 answered.peer text reply,
+      )
 
-    ends_at : (line : Partial) → read.line ≡ line → IfSome line (Responds does read answered desk desk' text)
-        → (asked : List Exchange) × Replies old (byte ∷ []) asked new text × Asks does desk asked desk'
-    ends_at None none responds = absurd (some_line old.line byte (event ∙ ap (λ (l : Partial). pair l) none))
-    ends_at (Some line) is responds =
-        let reply : IsReplied old.peer line responds.0 answered.peer text =
-        subst (λ (s : Peer). IsReplied s line responds.0 answered.peer text) (ap (λ (s : Session). s.peer) others) responds.1 in (
-          responds.0,
-          one_byte old new byte responds.0 text
-              (subst (λ n. TakesByte old byte responds.0 n text) (sym new_session)
-              (LineEnds line responds.0 answered.peer text (event ∙ ap (λ (l : Partial). pair l) is) reply)),
-          responds.2,
-        )
+  pub ends : IfSome read.line (Responds does read answered desk desk' text)
+      → (asked : List Exchange) × Replies old (byte ∷ []) asked new text × Asks does desk asked desk' × IsAtOnce asked
+  ends responds = ends_at read.line refl responds
 
-    pub end_fed : (sent : Session) (out out' : Option (List ℕ)) → IfSome read.line (Responds does read answered desk desk' text) → sent ≡ new → Appends out out' text
-        → Feeds does old (byte ∷ []) sent desk desk' out out'
-    end_fed sent out out' responds is written =
-        let e = ends_at read.line refl responds in
-        record { asked = e.0; text = text; replies = subst (λ n. Replies old (byte ∷ []) e.0 n text) (sym is) e.1; asks = e.2; written = written }
+-- a line that ends is the one that was begun
+pub same_line : (line read : Partial) (byte : ℕ) → with_byte line byte ≡ (Complete, read) → read ≡ line
+same_line None read byte h = let e : More ≡ Complete = ap (λ (p : Event × Partial). p.0) h in cc
+same_line (Some bytes) read byte h = by_end (byte == 10) (length bytes == 65536) h where
+  by_end : (b c : Bool) → ◌≡◌ {A = Event × Partial} (cond b (Complete, Some bytes) (cond c (TooLong, None) (More, Some (bytes ++ byte ∷ [])))) (Complete, read) → read ≡ Some bytes
+  by_end true c h = sym (ap (λ (p : Event × Partial). p.1) h)
+  by_end false true h = let e : TooLong ≡ Complete = ap (λ (p : Event × Partial). p.0) h in cc
+  by_end false false h = let e : More ≡ Complete = ap (λ (p : Event × Partial). p.0) h in cc
 
-    pub end_stopped : (ended : Session) (out out' : Option (List ℕ)) → IfSome read.line (Responds does read answered desk desk' text) → ended ≡ record new { ended = true }
-        → AppendsFront out out' text → Stops does old (byte ∷ []) ended desk desk' out out'
-    end_stopped ended out out' responds is written =
-        let e = ends_at read.line refl responds in
-        record { count = 1; within = omega arith; asked = e.0; text = text; next = new; replies = e.1; ended = is; asks = e.2; written = written }
+-- the session is as it was at the line's end
+pub same_session : (old read : Session) (byte : ℕ) → with_byte old.line byte ≡ (Complete, read.line) → read ≡ record old { line = read.line } → read ≡ old
+same_session old read byte event others = others ∙ ap (λ (l : Partial). record old { line = l }) (same_line old.line read.line byte event)
+
+-- and still is once what was sent ahead is settled
+pub read_after : (old read same : Session) (byte : ℕ) → same ≡ read → with_byte old.line byte ≡ (Complete, read.line) → read ≡ record old { line = read.line }
+    → (with_byte old.line byte ≡ (Complete, same.line)) × (same ≡ record old { line = same.line })
+read_after old read same byte is event others = (
+  subst (λ (s : Session). with_byte old.line byte ≡ pair s.line) (sym is) event,
+  subst (λ (s : Session). s ≡ record old { line = s.line }) (sym is) others,
+)

@@ -1,7 +1,7 @@
 -- Writes to a stream whose bytes may be known.
-use Rattle.std.proofs.Common.{◌≡◌, ◌++◌, ◌+◌, ◌≤◌, List, ℕ, [], ◌∷◌, suc, length, take, drop, false, refl, subst, arith, Option, Some, None, Result, Ok, Err, OnOk, OnErr, sym, ap, ◌∙◌, append_assoc, append-nil, true≢false}
-use Rattle.std.specs.Result.{is_err}
-use Rattle.std.proofs.lemmas.List.{take_at, take-append-drop, length-append}
+use Rattle.std.proofs.Common.{◌≡◌, ◌++◌, ◌+◌, ◌≤◌, List, ℕ, [], ◌∷◌, suc, length, take, drop, true, false, cond, refl, subst, arith, Option, Some, None, Result, Ok, Err, OnOk, OnErr, sym, ap, ◌∙◌, append_assoc, append-nil, true≢false}
+use Rattle.std.specs.Result.{is_ok, is_err}
+use Rattle.std.proofs.lemmas.List.{take_at, take-append-drop, take-append-le, length-append}
 use Rattle.std.specs.Io.KnownBytes.{Appends, Keeps}
 use Rattle.session.specs.Output.{AppendsFront}
 
@@ -9,6 +9,11 @@ use Rattle.session.specs.Output.{AppendsFront}
 pub on_ok : {T E : Type 0} {P : Type 0} (r : Result T E) → is_err r ≡ false → OnOk r P → P
 on_ok (Ok x) succeeded h = h
 on_ok (Err e) failed h = absurd (true≢false failed)
+
+-- what was, where a call failed
+pub on_failed : {T E X : Type 0} (r : Result T E) (x after before : X) → x ≡ cond (is_ok r) after before → is_err r ≡ true → x ≡ before
+on_failed (Ok t) x after before is failed = absurd (true≢false (sym failed))
+on_failed (Err e) x after before is failed = is
 
 -- what holds anyhow holds of a call that fails
 pub on_err : {T E : Type 0} {P : Type 0} (r : Result T E) → P → OnErr r P
@@ -66,4 +71,12 @@ moved a b c done rest left text n is whole first second = (
   done ++ take n rest,
   ap (λ (l : List ℕ). (done ++ take n rest) ++ l) is ∙ append_assoc done (take n rest) (drop n rest) ∙ ap (λ (l : List ℕ). done ++ l) (take-append-drop n rest) ∙ whole,
   appends-both a b c done (take n rest) first second,
+)
+
+-- a beginning of a text is one of a longer text
+pub front-longer : (a b : Option (List ℕ)) (front back : List ℕ) → AppendsFront a b front → AppendsFront a b (front ++ back)
+front-longer a b front back (n, within, written) = (
+  n,
+  (let len = length-append front back in omega arith),
+  subst (Appends a b) (sym (take-append-le n front back within)) written,
 )

@@ -11,6 +11,7 @@ pub mod Subscriptions
 pub mod News
 pub mod Session
 pub mod Replies
+pub mod Ahead
 pub mod Calls
 pub mod Alone
 pub mod Shelf

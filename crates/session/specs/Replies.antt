@@ -1,5 +1,5 @@
 -- What a session asks of its desk and writes upon its input.
-use Rattle.std.specs.Prelude.{◌≡◌, ◌⊎◌, ◌≤◌, ℕ, ◌++◌, true, List, [], ◌∷◌, length, take, Option, Some, Result, Ok, Err}
+use Rattle.std.specs.Prelude.{◌≡◌, ◌⊎◌, ℕ, ◌++◌, true, List, [], ◌∷◌, Option, Some, Result, Ok, Err}
 use Rattle.std.specs.Io.KnownBytes.{Appends}
 use Rattle.refusal.specs.declared.Refusal.{Refusal}
 use Rattle.refusal.specs.declared.Refusal.TheVariants.{NoMemory, LineTooLong}
@@ -13,7 +13,7 @@ use Rattle.session.specs.Line.{Partial, with_byte}
 use Rattle.session.specs.Request.{request_of}
 use Rattle.session.specs.Reply.{greeting, acknowledgement, unsubscribed_reply, subscribed_line, line_of, refusal_line}
 use Rattle.session.specs.Reads.{shown_line}
-use Rattle.session.specs.Exchange.{Exchange, Answered, Shown}
+use Rattle.session.specs.Exchange.{Exchange, Answered, Shown, AreAnswered}
 use Rattle.session.specs.Subscriptions.{may_follow_shown, subscribed, without_subscription}
 use Rattle.session.specs.Output.{AppendsFront}
 use Rattle.session.specs.Session.{Peer, Session}
@@ -78,6 +78,10 @@ Replies old (byte ∷ bytes) asked new text =
     (next : Session) × (first : List Exchange) × (others : List Exchange) × (front : List ℕ) × (back : List ℕ)
     × TakesByte old byte first next front × Replies next bytes others new back × (asked ≡ first ++ others) × (text ≡ front ++ back)
 
+-- What is asked of the desk before one write: commands one after another, or its state is shown once.
+abbrev pub IsAtOnce : List Exchange → Type 0
+IsAtOnce asked = AreAnswered asked ⊎ ((shown : Option State) × (asked ≡ Shown shown ∷ []))
+
 -- by which exchanges a desk of old state comes to which new one
 module _ {D : Type 0} (does : D → Exchange → D → Type 0) where
   -- these passed in order, and the desk came from its old state to the new one
@@ -93,15 +97,22 @@ module _ {D : Type 0} (does : D → Exchange → D → Type 0) where
     pub asks : Asks desk asked desk'
     pub written : Appends out out' text
 
-  -- A write failed within a piece. The desk was asked just for the front of the piece that was taken by then, and what was
-  -- written is a beginning of what comes of it.
+  -- A write failed within a piece. What comes of the front of it had been written, and of the part after that a beginning was
+  -- written. The desk was asked just for the front and that part, and the part is one write's: nothing was asked behind it.
   pub record Stops (old : Session) (piece : List ℕ) (new : Session) (desk desk' : D) (out out' : Option (List ℕ)) : Type 0 where
-    pub count : ℕ
-    pub within : count ≤ length piece
+    pub front : List ℕ
+    pub part : List ℕ
+    pub rest : List ℕ
+    pub whole : piece ≡ front ++ (part ++ rest)
+    pub mid : Session
+    pub desk_mid : D
+    pub out_mid : Option (List ℕ)
+    pub fed : Feeds old front mid desk desk_mid out out_mid
     pub asked : List Exchange
     pub text : List ℕ
     pub next : Session
-    pub replies : Replies old (take count piece) asked next text
+    pub replies : Replies mid part asked next text
+    pub at_once : IsAtOnce asked
+    pub asks : Asks desk_mid asked desk'
+    pub written : AppendsFront out_mid out' text
     pub ended : new ≡ record next { ended = true }
-    pub asks : Asks desk asked desk'
-    pub written : AppendsFront out out' text

@@ -1,5 +1,6 @@
 //! What answers a session.
 use crate::reply::Reply;
+use crate::sent::Sent;
 use refusal::Refusal;
 use revision::{Command, State};
 use std::alloc::Global;
@@ -11,6 +12,8 @@ pub trait Desk {
     ghost use Rattle.std.specs.Option.{ForSome};
     ghost use Rattle.revision.specs.State as state;
     ghost use Rattle.session.specs.Exchange.{Exchange, Answered, Shown, IsReadOf};
+    ghost use Rattle.session.specs.Replies.{Asks};
+    ghost use Rattle.session.specs.Ahead.{commands_of, exchanges_of};
     ghost use Rattle.session.specs.Shelf.{IsLater};
 
     /// At the first of two states of the desk this passes between it and the session, and it goes on to the second.
@@ -24,6 +27,18 @@ pub trait Desk {
     fn ask(&mut self, alloc: Global, command: &Command) -> Result<Reply, Refusal>
         ensures answered { does self.old (Answered command.now result) self.new }
         ensures later { IsLater (reached self.old) (reached self.new) };
+
+    /// The answers to commands that were sent ahead: what comes of them is what comes of asking each alone, one after another.
+    fn ask_all(&mut self, alloc: Global, sent: &mut Vec<Sent>)
+        ensures commands { commands_of sent.new.items ≡ commands_of sent.old.items }
+        ensures answered { Asks does self.old (exchanges_of sent.new.items) self.new }
+        ensures later { IsLater (reached self.old) (reached self.new) }
+    {
+        for i in 0..sent.len() {
+            let answer = self.ask(alloc, &sent[i].command);
+            sent[i].answer = answer;
+        }
+    }
 
     /// What is read of the state that the desk shows, which is the one that it has reached then. Refused with `StoreFailed` where it
     /// can show none, and then nothing is read.

@@ -1,5 +1,5 @@
 //! A session: lines of messages to lines of replies.
-ghost use Rattle.std.specs.Prelude.{◌≡◌, length, Option, Some, None, List, [], ◌∷◌, true, false, Result, IfOk, IfErr, IfSome, IsErr, OnOk, OnErr};
+ghost use Rattle.std.specs.Prelude.{◌≡◌, ◌++◌, ℕ, length, Option, Some, None, List, [], ◌∷◌, true, false, Result, IfOk, IfErr, IfSome, IsErr, OnOk, OnErr};
 ghost use Rattle.std.specs.String.{string_bytes};
 ghost use Rattle.std.specs.Io.KnownBytes.{Appends};
 ghost use Rattle.refusal.specs.declared.Refusal as refusal;
@@ -18,6 +18,7 @@ ghost use Rattle.session.specs.Subscriptions.{may_follow_shown, subscribed, with
 ghost use Rattle.session.specs.News.{AreNews, going_on};
 ghost use Rattle.session.specs.Calls.{Passes, TellsNews, StopsNews, call_of, with_subscriptions};
 ghost use Rattle.session.specs.Replies.{IsLine, IsReplied, Asks, Feeds, Stops, answer_line, text_told};
+ghost use Rattle.session.specs.Ahead.{commands_of, AreReplies, Settles, IsPut, TakesAhead, StopsAhead};
 
 use crate::desk::Desk;
 use crate::line::{Event, Line};
@@ -29,6 +30,7 @@ use crate::reply::{
     acknowledgement, greeting, refusal_reply, subscribed_reply, unsubscribed_reply,
 };
 use crate::request::Request;
+use crate::sent::Sent;
 use crate::shelf::Shelf;
 use crate::subscriptions::Subscriptions;
 use refusal::Refusal;
@@ -89,7 +91,8 @@ impl Session {
         }
     }
 
-    /// Takes a piece of the input, and writes the replies to the lines that end in it.
+    /// Takes a piece of the input, and writes the replies to the lines that end in it. Commands whose lines follow one another in
+    /// the piece are asked together (`Desk::ask_all`) and replied in one write.
     pub fn feed<O: Output, D: Desk>(
         &mut self,
         alloc: Global,
@@ -110,7 +113,7 @@ impl Session {
         ensures fed { OnOk result (Feeds D.does self.old piece.now self.new desk.old desk.new
             (O.contents out.old) (O.contents out.new)) }
         // A write that fails ends the session, and nothing else does. The desk was asked for the front of the piece, each command
-        // once, and a beginning of the replies to it was written.
+        // once, and nothing behind that write. What was due before it had been written, and a beginning of its own text was.
         ensures stopped { OnErr result (self.old.ended ≡ false
             → Stops D.does self.old piece.now self.new desk.old desk.new (O.contents out.old) (O.contents out.new)) }
         ensures cause { OnErr result (self.old.ended ≡ false → O.has_failed out.new ≡ true) }
@@ -120,9 +123,11 @@ impl Session {
         if self.ended {
             return Err(SessionEnded);
         }
+        let mut sent = Vec::new(alloc);
         for byte in piece {
-            self.take(alloc, *byte, out, desk, shelf)?;
+            self.take(alloc, *byte, out, desk, shelf, &mut sent)?;
         }
+        self.settle(alloc, out, desk, &mut sent)?;
         Ok(())
     }
 
@@ -180,7 +185,7 @@ impl Session {
         Ok(())
     }
 
-    // Takes the next byte of the input.
+    // Takes the next byte of the input. A command is sent ahead, and every other reply waits for what was sent ahead of it.
     fn take<O: Output, D: Desk>(
         &mut self,
         alloc: Global,
@@ -188,26 +193,110 @@ impl Session {
         out: &mut O,
         desk: &mut D,
         shelf: &mut Shelf,
+        sent: &mut Vec<Sent>,
     ) -> Result<(), SessionEnded>
         requires works { self.old.ended ≡ false }
         requires fits { Fits (D.reached desk.old) shelf.old }
         ensures fits { Fits (D.reached desk.new) shelf.new }
-        ensures fed { OnOk result (Feeds D.does self.old (byte ∷ []) self.new desk.old desk.new
-            (O.contents out.old) (O.contents out.new)) }
-        ensures stopped { OnErr result (Stops D.does self.old (byte ∷ []) self.new desk.old desk.new
-            (O.contents out.old) (O.contents out.new)) }
+        ensures taken { OnOk result (TakesAhead D.does self.old byte (commands_of sent.old.items) self.new (commands_of sent.new.items)
+            desk.old desk.new (O.contents out.old) (O.contents out.new)) }
+        ensures stopped { OnErr result (StopsAhead D.does self.old byte (commands_of sent.old.items) self.new
+            desk.old desk.new (O.contents out.old) (O.contents out.new)) }
         ensures cause { OnErr result (O.has_failed out.new ≡ true) }
         ensures ok { OnOk result (self.new.ended ≡ false) }
         ensures err { OnErr result (self.new.ended ≡ true) }
     {
         match self.event_of(byte) {
             Event::More => {}
-            Event::TooLong => self.send(out, &refusal_reply(alloc, Refusal::LineTooLong))?,
-            Event::Complete => {
-                let reply = self.respond(alloc, desk, shelf);
-                self.next_line();
-                self.send(out, &reply)?;
+            Event::TooLong => {
+                self.settle(alloc, out, desk, sent)?;
+                self.send(out, &refusal_reply(alloc, Refusal::LineTooLong))?;
             }
+            Event::Complete => {
+                let request = self.request(alloc);
+                match put(request, sent) {
+                    Some(request) => {
+                        self.settle(alloc, out, desk, sent)?;
+                        let reply = self.respond(alloc, desk, shelf, request);
+                        self.next_line();
+                        self.send(out, &reply)?;
+                    }
+                    None => self.next_line(),
+                }
+            }
+        }
+        Ok(())
+    }
+
+    // Asks the desk for the commands that were sent ahead, and writes their replies.
+    fn settle<O: Output, D: Desk>(
+        &mut self,
+        alloc: Global,
+        out: &mut O,
+        desk: &mut D,
+        sent: &mut Vec<Sent>,
+    ) -> Result<(), SessionEnded>
+        requires works { self.old.ended ≡ false }
+        ensures later { IsLater (D.reached desk.old) (D.reached desk.new) }
+        ensures none_left { sent.new.items ≡ [] }
+        ensures settled { Settles D.does (commands_of sent.old.items) desk.old desk.new (λ text.
+            OnOk result (Appends (O.contents out.old) (O.contents out.new) text)
+            × OnErr result (AppendsFront (O.contents out.old) (O.contents out.new) text)) }
+        ensures failed { OnErr result (O.has_failed out.new ≡ true) }
+        ensures ok { OnOk result (self.new ≡ self.old) }
+        ensures err { OnErr result (self.new ≡ record self.old { ended = true }) }
+    {
+        desk.ask_all(alloc, sent);
+        let written = self.reply_all(alloc, out, sent.as_slice());
+        sent.clear();
+        written
+    }
+
+    // Writes the replies to commands that were asked, all at once where memory is found for it.
+    fn reply_all<O: Output>(
+        &mut self,
+        alloc: Global,
+        out: &mut O,
+        sent: &[Sent],
+    ) -> Result<(), SessionEnded>
+        requires works { self.old.ended ≡ false }
+        ensures written { (text : List ℕ) × AreReplies sent.now text
+            × OnOk result (Appends (O.contents out.old) (O.contents out.new) text)
+            × OnErr result (AppendsFront (O.contents out.old) (O.contents out.new) text) }
+        ensures failed { OnErr result (O.has_failed out.new ≡ true) }
+        ensures ok { OnOk result (self.new ≡ self.old) }
+        ensures err { OnErr result (self.new ≡ record self.old { ended = true }) }
+    {
+        let mut text = Vec::new(alloc);
+        for one in sent {
+            let reply = reply_of(alloc, one);
+            self.gather(out, &mut text, bytes_of(&reply))?;
+        }
+        if !text.is_empty() {
+            self.put(out, text.as_slice())?;
+        }
+        Ok(())
+    }
+
+    // Puts bytes to the text that is to be written or, where no memory is found for them, writes both.
+    fn gather<O: Output>(
+        &mut self,
+        out: &mut O,
+        text: &mut Vec<u8>,
+        bytes: &[u8],
+    ) -> Result<(), SessionEnded>
+        requires works { self.old.ended ≡ false }
+        ensures gathered { OnOk result ((done : List ℕ) × (text.old.items ++ bytes.now ≡ done ++ text.new.items)
+            × Appends (O.contents out.old) (O.contents out.new) done) }
+        ensures front { OnErr result (AppendsFront (O.contents out.old) (O.contents out.new) (text.old.items ++ bytes.now)) }
+        ensures failed { OnErr result (O.has_failed out.new ≡ true) }
+        ensures ok { OnOk result (self.new ≡ self.old) }
+        ensures err { OnErr result (self.new ≡ record self.old { ended = true }) }
+    {
+        if text.extend_from_slice(bytes).is_err() {
+            self.put(out, text.as_slice())?;
+            text.clear();
+            self.put(out, bytes)?;
         }
         Ok(())
     }
@@ -226,13 +315,16 @@ impl Session {
         self.line.clear();
     }
 
-    // The reply to the line, which is complete.
+    // The reply to the line, which is complete and asks for this.
     fn respond<D: Desk>(
         &mut self,
         alloc: Global,
         desk: &mut D,
         shelf: &mut Shelf,
+        request: Result<Request, Refusal>,
     ) -> Result<String, AllocError>
+        requires greets { IfOk request GreetsSource }
+        requires due { IfSome self.old.line (λ line. IsAnswer (request_of self.old.peer.source line) request) }
         requires fits { Fits (D.reached desk.old) shelf.old }
         ensures fits { Fits (D.reached desk.new) shelf.new }
         ensures others { self.new ≡ record self.old { peer = self.new.peer } }
@@ -240,7 +332,7 @@ impl Session {
             × IsReplied self.old.peer line asked self.new.peer (text_told (λ t. string_bytes t) result)
             × Asks D.does desk.old asked desk.new) }
     {
-        match self.request(alloc) {
+        match request {
             Ok(Request::Greet(source)) => self.greet(alloc, source),
             Ok(Request::Ask(command)) => ask(alloc, desk, &command),
             Ok(Request::Read(name, question)) => answer(alloc, desk, shelf, &name, question),
@@ -336,6 +428,33 @@ impl Session {
             return Err(SessionEnded);
         }
         Ok(())
+    }
+}
+
+// Puts a command to those that are sent ahead. Any other request is given back, and so is one that finds no memory.
+fn put(request: Result<Request, Refusal>, sent: &mut Vec<Sent>) -> Option<Result<Request, Refusal>>
+    ensures { IsPut request (commands_of sent.old.items) (commands_of sent.new.items) result }
+{
+    let Ok(Request::Ask(command)) = request else {
+        return Some(request);
+    };
+    let answer = Err(Refusal::NoMemory);
+    match sent.push(Sent { command, answer }) {
+        Ok(()) => None,
+        Err(refused) => {
+            let Sent { command, answer: _ } = refused.value;
+            Some(Ok(Request::Ask(command)))
+        }
+    }
+}
+
+// The reply that tells the answer of a command.
+fn reply_of(alloc: Global, sent: &Sent) -> Result<String, AllocError>
+    ensures { IsLine (answer_line sent.now.command sent.now.answer) (text_told (λ t. string_bytes t) result) }
+{
+    match sent.answer {
+        Ok(reply) => acknowledgement(alloc, &sent.command, reply),
+        Err(refusal) => refusal_reply(alloc, refusal),
     }
 }
 

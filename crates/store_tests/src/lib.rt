@@ -16,6 +16,10 @@ mod deltas;
 #[cfg(test)]
 mod devices;
 #[cfg(test)]
+mod jobs;
+#[cfg(test)]
+mod milestones;
+#[cfg(test)]
 mod opening;
 #[cfg(test)]
 mod picks;

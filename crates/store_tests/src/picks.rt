@@ -25,7 +25,8 @@ pub const SECOND: [u8; 58] = [
 // The gate and the number of slot 0, and the gate and the length of the record, whose body is the edit.
 const SLOT_HEAD: [u8; 14] = [0xa5, 1, 0, 0, 0, 0, 0, 0, 0, 0xa5, 55, 0, 0, 0];
 
-fn written(rt: &(impl Abort + AllocGlobal)) -> Vec<u8> {
+/// The bytes of such a device.
+pub fn written(rt: &(impl Abort + AllocGlobal)) -> Vec<u8> {
     let bytes = with_bytes_at(rt, small_device(rt).bytes(), 64, &FIRST);
     let bytes = with_bytes_at(rt, &bytes, 320, &SECOND);
     let bytes = with_bytes_at(rt, &bytes, 1_088, &SLOT_HEAD);

@@ -8,7 +8,7 @@ use std::process::Abort;
 
 /// What is left of the unsynced ranges, and whether a gate that was being opened then stands open. Half of one byte is no
 /// byte.
-const LEFT: [(Left, bool); 7] = [
+pub const LEFT: [(Left, bool); 7] = [
     (Left::Nothing, false),
     (Left::All, true),
     (Left::FirstHalf, false),
@@ -18,13 +18,13 @@ const LEFT: [(Left, bool); 7] = [
     (Left::Byte(0xff), false),
 ];
 
-// How many calls it takes to open a device of these bytes.
-fn calls_before(rt: &(impl Abort + AllocGlobal), bytes: &[u8]) -> u64 {
+/// How many calls it takes to open a device of these bytes.
+pub fn calls_before(rt: &(impl Abort + AllocGlobal), bytes: &[u8]) -> u64 {
     open_store(rt, device_of(rt, bytes)).close().calls().len() as u64
 }
 
-// A store over a new device that goes wrong at a call of the first commit, counted from 0.
-fn store_under_plan(
+/// A store over a new device that goes wrong at a call of the first commit, counted from 0.
+pub fn store_under_plan(
     rt: &(impl Abort + AllocGlobal),
     call: u64,
     stops: bool,

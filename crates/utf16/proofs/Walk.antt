@@ -3,8 +3,8 @@ use Rattle.std.proofs.Common.{◌≡◌, ℕ, ◌+◌, ◌-◌, ◌<◌, ◌≤�
 use Rattle.std.proofs.Math.ListN.{drop_of_length-le}
 use Rattle.std.proofs.Math.Seq.{take-append_seam, drop-append_seam}
 use Rattle.std.proofs.lemmas.Bool.{and_parts, cases_lt}
-use Rattle.std.proofs.lemmas.List.{get_or-append-add}
-use Rattle.std.proofs.lemmas.Str.{IsUtf8-append, IsUtf8-encode, IsUtf8-nil, IsUtf8-past_char, chars_past_char, scalars-chars, chars-nil, IsCharBoundary-at_seam}
+use Rattle.std.proofs.lemmas.List.{get_or-append-add, take-append-drop, length-take-le}
+use Rattle.std.proofs.lemmas.Str.{IsUtf8-append, IsUtf8-encode, IsUtf8-nil, IsUtf8-past_char, IsUtf8-take, IsUtf8-drop, chars_past_char, scalars-chars, chars-nil, IsCharBoundary-at_seam}
 use Rattle.std.specs.Char.{IsScalar, encode_utf8}
 use Rattle.std.specs.Char.Escape.{encode_utf16}
 use Rattle.std.specs.Str.{IsUtf8, chars, IsCharBoundary}
@@ -140,3 +140,22 @@ within_at text rest after bytes units c n at walk begins one two before past =
 pub nothing_left : (text rest : List ℕ) (bytes units at : ℕ) → IsWalk text rest bytes units → length rest ≡ 0 → units ≡ at → units_of [] ≡ drop at (units_of text)
 nothing_left text rest bytes units at walk empty here =
     ap units_of_chars chars-nil ∙ sym (drop_of_length-le (units_of text) (omega (arith, IsWalk-end text rest bytes units walk empty)))
+
+-- a walk to a place in a text that has as many code units as bytes
+pub counted_walk : (text : List ℕ) (at : ℕ) → IsUtf8 text → IsCharBoundary text at → at ≤ length text → length (units_of text) ≡ length text → IsWalk text (drop at text) at at
+counted_walk text at valid boundary inside same =
+    let front = IsUtf8-take text at valid boundary in
+    let back = IsUtf8-drop text at valid boundary in
+    let parts : text ≡ take at text ++ drop at text = sym (take-append-drop at text) in
+    let whole : length (units_of text) ≡ length (units_of (take at text)) + length (units_of (drop at text)) =
+    ap (λ t. length (units_of t)) parts ∙ (ap length (units_of-append (take at text) (drop at text) front) ∙ length-append (units_of (take at text)) (units_of (drop at text))) in
+    let long : length text ≡ length (take at text) + length (drop at text) = ap length parts ∙ length-append (take at text) (drop at text) in
+    let taken : length (take at text) ≡ at = length-take-le at text inside in
+    record {
+      behind = take at text;
+      parts = parts;
+      behind_valid = front;
+      rest_valid = back;
+      bytes_is = sym taken;
+      units_is = omega (arith, whole, long, taken, same, length-units_of-le (take at text) front, length-units_of-le (drop at text) back);
+    }

@@ -36,3 +36,20 @@ pub fn split_at16(text: &str, at: u64) -> Result<(&str, &str), Cut>
         Err(Cut::PastEnd)
     }
 }
+
+/// The text before and from the code unit `at`, of a text whose code units were counted. Where it has as many as bytes, each
+/// character is one byte, and nothing is walked over. Takes no memory.
+pub fn split_counted(text: &str, units: u64, at: u64) -> Result<(&str, &str), Cut>
+    requires { units ≡ length (units_of text.now) }
+    ensures whole { IfOk result (λ halves. halves.0.now ++ halves.1.now ≡ text.now) }
+    ensures front { IfOk result (λ halves. units_of halves.0.now ≡ take at (units_of text.now)) }
+    ensures back { IfOk result (λ halves. units_of halves.1.now ≡ drop at (units_of text.now)) }
+
+    ensures past_end { (result ≡ Err Cut.PastEnd) ↔ (length (units_of text.now) < at) }
+    ensures in_pair { (result ≡ Err Cut.InPair) ↔ IsInPair (units_of text.now) at }
+{
+    if at <= units && text.len() as u64 == units && text.is_char_boundary(at as usize) {
+        return Ok(text.split_at(at as usize));
+    }
+    split_at16(text, at)
+}

@@ -30,5 +30,5 @@ pub mod laws;
 mod len;
 
 pub use appending::append;
-pub use cut::{Cut, split_at16};
+pub use cut::{Cut, split_at16, split_counted};
 pub use len::len16;

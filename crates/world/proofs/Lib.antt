@@ -12,5 +12,5 @@ pub mod Followings
 pub mod Cutting
 pub mod Agreeing
 pub mod SameBoards
-pub mod Uncomposed
+pub mod Milestones
 pub mod Steps

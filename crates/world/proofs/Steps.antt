@@ -12,8 +12,8 @@ use Rattle.world.specs.Board.{Board, Ticket, submitted, submitted_by, ticket_of,
 use Rattle.world.specs.Event.{Submit, Publish, Compose}
 use Rattle.world.specs.World.{Entry, entry_of, takens, World}
 use Rattle.world.specs.Step.{revision_at, is_numbered, with_command, may_leave, may_pick, whole, opened, can_open, running_step}
-use Rattle.world.specs.Stepping.{empty_store, AreStepped, floors_left}
-use Rattle.world.proofs.Uncomposed.{uncomposed_picks, uncomposed_state}
+use Rattle.world.specs.Stepping.{empty_store, AreStepped, recovered, floors_left, are_reached}
+use Rattle.world.proofs.Milestones.{recovered_picks, recovered_state, recovered_agrees}
 
 -- what is left of an order continues the start
 all_grow-take : (n : ℕ) (state : State) (commands : List Taken) → all_grow state commands ≡ true → all_grow state (take n commands) ≡ true
@@ -68,18 +68,19 @@ module _ (limits : Limits) (board : Board Entry) (shown without with_batch : ℕ
   pub stepped-submitted : AreStepped limits (submitted (entry_of command) board command) shown without with_batch
   stepped-submitted = answered (answer board.state command) refl
 
--- an opening with nothing composed
-pub stepped-opened : (limits : Limits) (board : Board Entry) (shown without with_batch : ℕ) (state : State) (kept : ℕ)
-    → AreStepped limits board shown without with_batch → kept ≤ board.taken → state ≡ fold (empty_store limits) (takens (take kept board.order))
+-- an opening
+pub stepped-opened : (limits : Limits) (board : Board Entry) (shown without with_batch : ℕ) (state : State) (kept : ℕ) (milestones : List ℕ)
+    → AreStepped limits board shown without with_batch → kept ≤ board.taken → state ≡ recovered (empty_store limits) (takens (take kept board.order)) milestones
     → AreStepped limits (reopened board state kept) kept kept kept
-stepped-opened limits board shown without with_batch state kept stepped within is = record {
+stepped-opened limits board shown without with_batch state kept milestones stepped within is = record {
   start = stepped.start;
   shown_taken = omega arith;
   without_taken = omega arith;
   with_taken = omega arith;
   taken_long = omega (arith, within, stepped.taken_long, length-take-le kept board.order (omega (arith, within, stepped.taken_long)));
   grow = left_grow limits kept board.order stepped.grow;
-  agree = subst (λ s. Agree s (fold (empty_store limits) (takens (take kept board.order)))) (sym is) (agrees (fold (empty_store limits) (takens (take kept board.order))));
+  agree = subst (λ s. Agree s (fold (empty_store limits) (takens (take kept board.order)))) (sym is)
+      (recovered_agrees (empty_store limits) (takens (take kept board.order)) milestones);
 }
 
 module _ (world : World) (command : Command) (some : 1 ≤ command.number) (below : command.number < 2 ^ 53) where
@@ -145,41 +146,54 @@ publish-steps world n end is shown below long done =
         ∙ (sym (map-append (λ (e : Entry). e.taken) (take (length world.published) (take world.board.taken world.board.order)) (drop (length world.published) (take world.board.taken world.board.order)))
         ∙ ap takens (take-append-drop (length world.published) (take world.board.taken world.board.order)))
 
--- an opening with nothing composed
-pub open-steps : (world : World) (limits : Limits) (kept : ℕ) (state : State) → world.board.start ≡ empty_store limits → limits.keep ≤ last_of_all
-    → may_leave world kept ≡ true → state ≡ fold (empty_store limits) (takens (take kept world.board.order))
-    → record world {
-      board = reopened world.board state kept;
-      published = takens (take kept (take kept world.board.order));
-      without = kept;
-      with_batch = kept;
-      tickets = [];
-      failed = false;
-      crashed = false;
-    } ≡ (if can_open world kept (floors_left world kept) then opened world kept (floors_left world kept) else world)
-open-steps world limits kept state start few may is =
-    (λ i. record world {
-      board = record world.board { order = take kept world.board.order; state = made i; taken = kept; settled = kept };
-      published = ap takens (take-take kept kept world.board.order (omega arith)) i;
-      without = kept;
-      with_batch = kept;
-      tickets = [];
-      failed = false;
-      crashed = false;
-    }) ∙ sym (ap (λ b. cond b (opened world kept (floors_left world kept)) world) can)
-  where
-    none : world.board.start.documents ≡ []
-    none = ap (λ (s : State). s.documents) start
+-- an opening, by milestones that were composed, or by others
+module _ (world : World) (limits : Limits) (kept : ℕ) (milestones : List ℕ) (state : State) (start : world.board.start ≡ empty_store limits) (few : limits.keep ≤ last_of_all)
+    (may : may_leave world kept ≡ true) (is : state ≡ recovered (empty_store limits) (takens (take kept world.board.order)) milestones) where
+  none : world.board.start.documents ≡ []
+  none = ap (λ (s : State). s.documents) start
 
-    some : world.board.start.limits.keep ≤ last_of_all
-    some = subst (λ (s : State). s.limits.keep ≤ last_of_all) (sym start) few
+  some : world.board.start.limits.keep ≤ last_of_all
+  some = subst (λ (s : State). s.limits.keep ≤ last_of_all) (sym start) few
 
-    can : can_open world kept (floors_left world kept) ≡ true
-    can = and_from (may_leave world kept) (may_pick world.board.start.limits.keep world.composed 0 (whole world.board.start (takens (take kept world.board.order))).documents (floors_left world kept))
-        may (uncomposed_picks world.board.start none some world.composed (takens (take kept world.board.order)))
+  made : state ≡ recovered world.board.start (takens (take kept world.board.order)) milestones
+  made = is ∙ ap (λ s. recovered s (takens (take kept world.board.order)) milestones) (sym start)
 
-    made : state ≡ (opened world kept (floors_left world kept)).board.state
-    made = is ∙ (ap (λ s. fold s (takens (take kept world.board.order))) (sym start) ∙ sym (uncomposed_state world.board.start none some (takens (take kept world.board.order))))
+  can : can_open world kept (floors_left world kept milestones) ≡ are_reached limits.keep world.composed 0 state.documents
+  can =
+      ap (λ b. b && may_pick world.board.start.limits.keep world.composed 0 (whole world.board.start (takens (take kept world.board.order))).documents (floors_left world kept milestones)) may
+      ∙ (recovered_picks world.board.start none some (takens (take kept world.board.order)) milestones world.composed
+      ∙ (ap (λ (s : State). are_reached world.board.start.limits.keep world.composed 0 s.documents) (sym made)
+      ∙ ap (λ (s : State). are_reached s.limits.keep world.composed 0 state.documents) start))
+
+  pub open-steps : are_reached limits.keep world.composed 0 state.documents ≡ true
+      → record world {
+        board = reopened world.board state kept;
+        published = takens (take kept (take kept world.board.order));
+        without = kept;
+        with_batch = kept;
+        tickets = [];
+        failed = false;
+        crashed = false;
+      } ≡ (if can_open world kept (floors_left world kept milestones) then opened world kept (floors_left world kept milestones) else world)
+  open-steps reached =
+      (λ i. record world {
+        board = record world.board {
+          order = take kept world.board.order;
+          state = (made ∙ sym (recovered_state world.board.start none some (takens (take kept world.board.order)) milestones)) i;
+          taken = kept;
+          settled = kept;
+        };
+        published = ap takens (take-take kept kept world.board.order (omega arith)) i;
+        without = kept;
+        with_batch = kept;
+        tickets = [];
+        failed = false;
+        crashed = false;
+      }) ∙ sym (ap (λ b. cond b (opened world kept (floors_left world kept milestones)) world) (can ∙ reached))
+
+  pub closed-steps : are_reached limits.keep world.composed 0 state.documents ≡ false
+      → world ≡ (if can_open world kept (floors_left world kept milestones) then opened world kept (floors_left world kept milestones) else world)
+  closed-steps out = sym (ap (λ b. cond b (opened world kept (floors_left world kept milestones)) world) (can ∙ out))
 
 -- what may be left is within what is taken off
 pub left-taken : (limits : Limits) (world : World) (shown kept : ℕ) → AreStepped limits world.board shown world.without world.with_batch
@@ -194,7 +208,7 @@ pub compose-steps : (world : World) (limits : Limits) (document revision : ℕ) 
     → state ≡ fold (empty_store limits) (takens (take world.without world.board.order))
     → (nat_le 1 revision && nat_le revision (revision_at (slice_get state.documents document))) ≡ made
     → cond made (record world { composed = world.composed ++ (document, revision) ∷ [] }) world ≡ running_step world (Compose document revision)
-compose-steps world limits document revision state made start is test =
+compose-steps world limits document revision state there start is test =
     ap (λ b. cond b (record world { composed = world.composed ++ (document, revision) ∷ [] }) world)
     (sym test ∙ ap (λ (s : State). nat_le 1 revision && nat_le revision (revision_at (slice_get s.documents document)))
     (is ∙ ap (λ s. fold s (takens (take world.without world.board.order))) (sym start)))

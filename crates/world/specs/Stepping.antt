@@ -1,6 +1,8 @@
 -- What the program that steps a world keeps of one, and which events its events are.
-use Rattle.std.specs.Prelude.{◌≡◌, ◌≤◌, ℕ, true, List, [], length, map, take}
-use Rattle.revision.specs.State.{Limits, DocumentRecord, State, all_grow, fold}
+use Rattle.std.specs.Prelude.{◌≡◌, ◌≤◌, ◌+◌, ◌-◌, ◌&&◌, nat_le, max, ℕ, Bool, true, List, [], ◌∷◌, length, map, take}
+use Rattle.revision.specs.Command.{Taken}
+use Rattle.revision.specs.Floors.{raised_each}
+use Rattle.revision.specs.State.{Limits, DocumentRecord, State, revision_of, all_grow, fold}
 use Rattle.revision.specs.Agree.{Agree}
 use Rattle.world.specs.declared.stepping.World.TheInside.{Inside}
 use Rattle.world.specs.declared.stepping.Outcome as outcome
@@ -9,7 +11,7 @@ use Rattle.world.specs.declared.stepping.Event as program
 use Rattle.world.specs.declared.stepping.Event.TheVariants as events
 use Rattle.world.specs.Event.{Outcome, Done, Failed, Stopped, Event, Submit, Take, Device, Publish, Settle, Ack, Compose, Crash, Open, Resend}
 use Rattle.world.specs.Board.{Board}
-use Rattle.world.specs.World.{Entry, takens, World}
+use Rattle.world.specs.World.{Entry, takens, World, last_composed}
 
 -- a store without documents
 abbrev pub empty_store : Limits → State
@@ -49,12 +51,23 @@ outcome_of outcomes.Done = Done
 outcome_of outcomes.Failed = Failed
 outcome_of outcomes.Stopped = Stopped
 
--- the floors of the documents that the order makes of the start without anything composed
+-- the floors of documents
 abbrev pub floors_of : List DocumentRecord → List ℕ
 floors_of documents = map (λ (d : DocumentRecord). d.past.floor) documents
 
-abbrev pub floors_left : World → ℕ → List ℕ
-floors_left world kept = floors_of (fold world.board.start (takens (take kept world.board.order))).documents
+-- What a store holds that is opened with so many commands, each document from a milestone at the revision that stands at its number, or
+-- from none (0): its floor is the milestone's revision, or `keep` below its newest revision where that is higher.
+abbrev pub recovered : State → List Taken → List ℕ → State
+recovered start commands milestones = record (fold start commands) { documents = raised_each milestones (fold start commands).documents }
+
+abbrev pub floors_left : World → ℕ → List ℕ → List ℕ
+floors_left world kept milestones = floors_of (recovered world.board.start (takens (take kept world.board.order)) milestones).documents
+
+-- no floor is above both what was composed of its document and `keep` below the newest revision; counted from this number on
+abbrev pub are_reached : ℕ → List (ℕ × ℕ) → ℕ → List DocumentRecord → Bool
+are_reached keep composed number [] = true
+are_reached keep composed number (first ∷ others) =
+    nat_le first.past.floor (max (last_composed number composed) (revision_of first - keep)) && are_reached keep composed (number + 1) others
 
 -- the event of a world that an event of the program is
 abbrev pub event_of : World → program.Event → Event
@@ -66,5 +79,5 @@ event_of world events.Settle = Settle
 event_of world (events.Ack place) = Ack place
 event_of world (events.Compose document revision) = Compose document revision
 event_of world (events.Crash kept) = Crash kept
-event_of world (events.Open kept) = Open kept (floors_left world kept)
+event_of world (events.Open kept milestones) = Open kept (floors_left world kept milestones.now)
 event_of world (events.Resend command) = Resend command.now

@@ -3,16 +3,16 @@ ghost use Rattle.std.specs.Prelude.{◌≡◌, ◌≤◌, ◌&&◌, [], true, na
 ghost use Rattle.revision.specs.Pending.{held};
 ghost use Rattle.revision.specs.State.{all_grow, fold};
 ghost use Rattle.world.specs.Event as spec_event;
-ghost use Rattle.world.specs.World.{takens, begun};
+ghost use Rattle.world.specs.World.{takens, begun, last_composed as spec_last_composed};
 ghost use Rattle.world.specs.Step.{with_command, may_leave, stopped, acknowledged as spec_acknowledged, revision_at, can_open, opened, running_step, step as spec_step};
-ghost use Rattle.world.specs.Stepping.{empty_store, outcome_of, event_of, floors_left};
+ghost use Rattle.world.specs.Stepping.{empty_store, outcome_of, event_of, recovered as spec_recovered, floors_left, are_reached as spec_are_reached};
 
 use crate::board::Board;
 use crate::entry::Entry;
 use crate::sent::{Sent, last_number};
 use crate::ticket::{Ack, Ticket};
 use refusal::Refusal;
-use revision::{Command, Limits, State};
+use revision::{Command, DocState, Limits, State};
 use std::alloc::Global;
 use std::marker::Model;
 
@@ -46,9 +46,9 @@ pub enum Event<'a> {
     Compose(usize, u64),
     /// The machine stops, and the device keeps so many commands of the order.
     Crash(usize),
-    /// The store is opened with so many commands of the order, and each document with the floor that it has without anything
-    /// composed.
-    Open(usize),
+    /// The store is opened with so many commands of the order, each document from a milestone at the revision that stands at its
+    /// number, or from none where 0 or nothing stands there. A milestone is possible that was composed.
+    Open(usize, &'a [u64]),
     /// A source sends its last command to a document again.
     Resend(&'a Command),
 }
@@ -146,8 +146,8 @@ impl World {
         if !self.crashed {
             return self.run(alloc, event);
         }
-        if let Event::Open(kept) = event {
-            self.open(alloc, kept)?;
+        if let Event::Open(kept, milestones) = event {
+            self.open(alloc, kept, milestones)?;
         }
         Ok(())
     }
@@ -168,9 +168,9 @@ impl World {
             Event::Ack(place) => self.acknowledge(place)?,
             Event::Compose(document, revision) => self.compose(alloc, document, revision)?,
             Event::Crash(kept) => self.crash(kept),
-            Event::Open(kept) => {
+            Event::Open(kept, milestones) => {
                 if self.failed {
-                    self.open(alloc, kept)?;
+                    self.open(alloc, kept, milestones)?;
                 }
             }
         }
@@ -309,26 +309,72 @@ impl World {
         }
     }
 
-    // The store is opened with so many commands.
-    fn open(&mut self, alloc: Global, kept: usize) -> Result<(), Refusal>
-        ensures ok { OnOk result (self.new ≡ (if can_open self.old kept (floors_left self.old kept) then opened self.old kept (floors_left self.old kept) else self.old)) }
+    // The store is opened with so many commands, each document from its milestone on.
+    fn open(&mut self, alloc: Global, kept: usize, milestones: &[u64]) -> Result<(), Refusal>
+        ensures ok { OnOk result (self.new ≡ (if can_open self.old kept (floors_left self.old kept milestones.now)
+            then opened self.old kept (floors_left self.old kept milestones.now) else self.old)) }
         ensures only { IsOkUnless result Refusal.NoMemory }
         ensures unchanged { OnErr result (self.new ≡ self.old) }
     {
         // the limits are in their ranges
         let _ = self.limits.docs();
-        if self.may_leave(kept) {
-            let state = folded(alloc, self.limits, &self.board.order()[..kept])?;
-            self.board.reopen(state, kept);
-            self.published = kept;
-            self.without = kept;
-            self.with_batch = kept;
-            self.tickets.clear();
-            self.failed = false;
-            self.crashed = false;
+        let keep = self.limits.keep();
+        if !self.may_leave(kept) {
+            return Ok(());
         }
+        let state = recovered(alloc, self.limits, &self.board.order()[..kept], milestones)?;
+        if !are_reached(keep, self.composed.as_slice(), state.documents()) {
+            return Ok(());
+        }
+        self.board.reopen(state, kept);
+        self.published = kept;
+        self.without = kept;
+        self.with_batch = kept;
+        self.tickets.clear();
+        self.failed = false;
+        self.crashed = false;
         Ok(())
     }
+}
+
+// What a store holds that is opened with these commands, each document from its milestone on.
+fn recovered(
+    alloc: Global,
+    limits: Limits,
+    entries: &[Entry],
+    milestones: &[u64],
+) -> Result<State, Refusal>
+    requires grow { all_grow (empty_store limits) (takens entries.now) ≡ true }
+    ensures state { IfOk result (λ state. state ≡ spec_recovered (empty_store limits) (takens entries.now) milestones.now) }
+    ensures only { IsOkUnless result Refusal.NoMemory }
+{
+    folded(alloc, limits, entries)?.copy_from(alloc, milestones)
+}
+
+// Whether no document's floor is above both what was composed of it and `keep` below its newest revision.
+fn are_reached(keep: u32, composed: &[(usize, u64)], documents: &[DocState]) -> bool
+    ensures { result ≡ spec_are_reached keep composed.now 0 (map held documents.now) }
+{
+    for (number, document) in documents.iter().enumerate() {
+        let least = document.revision().saturating_sub(u64::from(keep));
+        if document.floor() > last_composed(composed, number).max(least) {
+            return false;
+        }
+    }
+    true
+}
+
+// The greatest revision that a document was composed at, 0 where it wasn't.
+fn last_composed(composed: &[(usize, u64)], document: usize) -> u64
+    ensures { result ≡ spec_last_composed document composed.now }
+{
+    let mut last = 0;
+    for (number, revision) in composed {
+        if *number == document {
+            last = u64::max(last, *revision);
+        }
+    }
+    last
 }
 
 // The state that commands make of a store without documents.

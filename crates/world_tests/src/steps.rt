@@ -2,6 +2,7 @@
 //! out by hand.
 use attributes::Attrs;
 use delta::{Builder, Delta, Op};
+use refusal::Refusal;
 use revision::{Command, Limits, Name, Reply};
 use std::process::Abort;
 use world::{Ack, Event, Outcome, Ticket, World};
@@ -93,7 +94,7 @@ fn a_retry_waits_for_its_edit(rt: HostRuntime) {
     let lost = [
         Event::Crash(0),
         Event::Submit(&create),
-        Event::Open(0),
+        Event::Open(0, &[]),
         Event::Resend(&create),
     ];
     go(&rt, &mut world, &lost);
@@ -113,7 +114,10 @@ fn an_acknowledged_edit_stays(rt: HostRuntime) {
     assert!(rt; has_acks(world.acks(), &[TAKEN]));
     let opened = [
         Event::Crash(1),
-        Event::Open(1),
+        // a milestone that wasn't composed opens nothing
+        Event::Open(1, &[1]),
+        Event::Resend(&create),
+        Event::Open(1, &[]),
         Event::Resend(&create),
         Event::Ack(0),
     ];
@@ -123,16 +127,12 @@ fn an_acknowledged_edit_stays(rt: HostRuntime) {
     assert_eq!(rt; world.published(), 1);
 }
 
-#[test]
-fn a_revision_that_was_given_up_is_taken_again(rt: HostRuntime) {
-    let commands = [
-        command(&rt, 1),
-        command(&rt, 2),
-        command(&rt, 3),
-        command(&rt, 4),
-    ];
-    let mut world = store(&rt);
-    let three = [
+// Three revisions are acknowledged, and the third is composed. A fourth edit of revision 1 is taken, its batch is given up, and the
+// crash takes it back.
+fn given_up(rt: &(impl Abort + AllocGlobal), fourth: &Command) -> World {
+    let commands = [command(rt, 1), command(rt, 2), command(rt, 3)];
+    let mut world = store(rt);
+    let events = [
         Event::Submit(&commands[0]),
         Event::Submit(&commands[1]),
         Event::Submit(&commands[2]),
@@ -140,21 +140,61 @@ fn a_revision_that_was_given_up_is_taken_again(rt: HostRuntime) {
         Event::Device(Outcome::Done),
         Event::Publish,
         Event::Settle,
+        Event::Ack(0),
+        Event::Ack(1),
+        Event::Ack(2),
         Event::Compose(0, 3),
-        Event::Submit(&commands[3]),
+        Event::Submit(fourth),
         Event::Take(1),
         Event::Device(Outcome::Stopped),
         Event::Ack(3),
         Event::Crash(3),
-        Event::Open(3),
     ];
-    go(&rt, &mut world, &three);
+    go(rt, &mut world, &events);
+    assert_eq!(rt; world.acks().len(), 3);
+    world
+}
+
+#[test]
+fn an_edit_that_was_taken_back_is_too_old(rt: HostRuntime) {
+    let fourth = command(&rt, 4);
+    let mut world = given_up(&rt, &fourth);
+    // a milestone that was composed
+    go(
+        &rt,
+        &mut world,
+        &[Event::Open(3, &[3]), Event::Resend(&fourth)],
+    );
     assert!(rt; has_tickets(world.tickets(), &[]));
-    assert!(rt; has_acks(world.acks(), &[]));
-    // A number that isn't the last one isn't sent again. What the crash took back is taken again, as the same revision.
-    let again = [Event::Resend(&commands[2]), Event::Resend(&commands[3])];
-    go(&rt, &mut world, &again);
+    let answer = world.board().state().plan(rt.alloc(), &fourth);
+    assert!(rt; answer.err() == Some(Refusal::TooOld));
+    assert_eq!(rt; world.acks().len(), 3);
+}
+
+#[test]
+fn an_edit_that_was_taken_back_is_taken_again(rt: HostRuntime) {
+    let fourth = command(&rt, 4);
+    let mut world = given_up(&rt, &fourth);
+    // without a milestone the floor is 1, two revisions below the newest one
+    go(
+        &rt,
+        &mut world,
+        &[Event::Open(3, &[]), Event::Resend(&fourth)],
+    );
     assert!(rt; has_tickets(world.tickets(), &[(Reply::Taken { rev: 4 }, 4)]));
+}
+
+#[test]
+fn a_number_that_is_not_the_last_is_not_sent_again(rt: HostRuntime) {
+    let (first, second) = (command(&rt, 1), command(&rt, 2));
+    let mut world = store(&rt);
+    let events = [
+        Event::Submit(&first),
+        Event::Submit(&second),
+        Event::Resend(&first),
+    ];
+    go(&rt, &mut world, &events);
+    assert_eq!(rt; world.tickets().len(), 2);
 }
 
 #[test]

@@ -1,36 +1,59 @@
-//! The entries of the slots, gathered by their documents.
-ghost use Rattle.std.specs.Prelude.{◌≡◌, ◌⊎◌, ◌≤◌, ◌<◌, ℕ, List, [], ◌∷◌, ◌++◌, length, map, set, get_or, false, true, OnOk, IfOk, IfErr};
+//! The entries of the slots, gathered by their documents, and marked by their segments.
+ghost use Rattle.std.specs.Prelude.{◌≡◌, ◌⊎◌, ◌≤◌, ◌<◌, ℕ, List, Option, [], ◌∷◌, ◌++◌, length, map, set, get_or, false, true, OnOk, IfOk, IfErr, IsOkUnless};
 ghost use Rattle.revision.specs.Command.{Taken as TakenValue};
 ghost use Rattle.journal.specs.Scan.{items_of};
+ghost use Rattle.segments.specs.Slot.{Segment};
+ghost use Rattle.segments.specs.Numbers.{NumbersDiffer};
+ghost use Rattle.segments.specs.Table.{numbers_of};
+ghost use Rattle.segments.specs.Order.{segments_of};
 ghost use Rattle.segments.specs.Recovered.{segment_in};
 ghost use Rattle.recovery.specs.Found.{commands_of};
+ghost use Rattle.recovery.specs.Marks.{IsNoted, marks_of};
+ghost use Rattle.recovery.specs.Marked.{AreMarked, AreBodiesMarked};
 ghost use Rattle.recovery.specs.steps.Reading.{lists_of, are_below, AreByDocument, SpellEach, SpellGroups, commands_in, AreAdded};
 
+use crate::marks::Marks;
 use journal::decode_batch;
 use refusal::Refusal;
 use revision::Taken;
 use segments::RecoveredSegment;
 use std::alloc::Global;
 
-/// The commands that the bodies of all segments spell, one list for each document number below `docs`. `Damaged` comes just where
-/// a body spells no batch, or a command is of another number.
+/// What was gathered: the commands of each document number in order, and the marks of the segments.
+#[derive(Drop)]
+pub(super) struct Gathered {
+    pub(super) lists: Vec<Vec<Taken>>,
+    pub(super) marks: Marks,
+}
+
+/// The commands that the bodies of all segments spell, one list for each document number below `docs`, and the marks of the
+/// segments. Each body is read once. `Damaged` comes just where a body spells no batch, or a command is of another number.
 pub(super) fn gather(
     alloc: Global,
     docs: u32,
     segments: &[RecoveredSegment],
-) -> Result<Vec<Vec<Taken>>, Refusal>
-    ensures found { IfOk result (λ lists. (groups : List (List (List TakenValue))) × SpellGroups (map segment_in segments.now) groups
-        × AreByDocument (commands_in groups) (lists_of lists.items)) }
-    ensures count { IfOk result (λ lists. length lists.items ≡ docs) }
+) -> Result<Gathered, Refusal>
+    ensures found { IfOk result (λ gathered. (groups : List (List (List TakenValue))) × SpellGroups (map segment_in segments.now) groups
+        × AreByDocument (commands_in groups) (lists_of gathered.lists.items)) }
+    ensures count { IfOk result (λ gathered. length gathered.lists.items ≡ docs) }
+    ensures marked { IfOk result (λ gathered. (table : List (Option Segment)) → NumbersDiffer (numbers_of table)
+        → map segment_in segments.now ≡ segments_of table → AreMarked table (marks_of gathered.marks)) }
     ensures damaged { IfErr result (λ e. e ≡ Refusal.Damaged → (groups : List (List (List TakenValue))) → SpellGroups (map segment_in segments.now) groups
         → are_below docs (commands_in groups) ≡ false) }
     ensures only { IfErr result (λ e. (e ≡ Refusal.Damaged) ⊎ (e ≡ Refusal.NoMemory)) }
 {
     let mut lists = empty_lists(alloc, docs)?;
+    let mut marks = Marks::new(alloc);
     for segment in segments {
-        add_bodies(alloc, &mut lists, &segment.bodies)?;
+        add_bodies(
+            alloc,
+            &mut lists,
+            &mut marks,
+            segment.number,
+            &segment.bodies,
+        )?;
     }
-    Ok(lists)
+    Ok(Gathered { lists, marks })
 }
 
 // So many lists without a command.
@@ -46,10 +69,17 @@ fn empty_lists(alloc: Global, count: u32) -> Result<Vec<Vec<Taken>>, Refusal>
     Ok(lists)
 }
 
-// Adds the commands that the bodies of a segment spell.
-fn add_bodies(alloc: Global, lists: &mut [Vec<Taken>], bodies: &[Vec<u8>]) -> Result<(), Refusal>
+// Adds the commands that the bodies of a segment spell, and marks them.
+fn add_bodies(
+    alloc: Global,
+    lists: &mut [Vec<Taken>],
+    marks: &mut Marks,
+    number: u64,
+    bodies: &[Vec<u8>],
+) -> Result<(), Refusal>
     ensures added { OnOk result ((batches : List (List TakenValue)) × SpellEach (items_of bodies.now) batches
         × AreAdded (commands_of batches) (lists_of lists.old) (lists_of lists.new)) }
+    ensures marked { OnOk result (AreBodiesMarked number (items_of bodies.now) (marks_of marks.old) (marks_of marks.new)) }
     ensures damaged { IfErr result (λ e. e ≡ Refusal.Damaged → (batches : List (List TakenValue)) → SpellEach (items_of bodies.now) batches
         → are_below (length lists.old) (commands_of batches) ≡ false) }
     ensures only { IfErr result (λ e. (e ≡ Refusal.Damaged) ⊎ (e ≡ Refusal.NoMemory)) }
@@ -58,8 +88,19 @@ fn add_bodies(alloc: Global, lists: &mut [Vec<Taken>], bodies: &[Vec<u8>]) -> Re
         let Some(batch) = decode_batch(alloc, body)? else {
             return Err(Refusal::Damaged);
         };
+        mark_batch(marks, number, &batch)?;
         add_batch(lists, batch)?;
     }
+    Ok(())
+}
+
+// Marks the commands of a batch that a segment holds. Refused for want of memory alone.
+fn mark_batch(marks: &mut Marks, number: u64, batch: &[Taken]) -> Result<(), Refusal>
+    ensures noted { OnOk result (IsNoted number batch.now (marks_of marks.old) (marks_of marks.new)) }
+    ensures only { IsOkUnless result Refusal.NoMemory }
+{
+    marks.make_room(batch)?;
+    marks.note(number, batch);
     Ok(())
 }
 

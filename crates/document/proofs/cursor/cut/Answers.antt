@@ -34,3 +34,6 @@ returns-in_ok-front-in-Text-clause-back c =
     let whole : ¬ (IsInPair us c.args.most) = λ parted. not_refused _ _ _ (c.in_ok-front-in-Text.ensures.in_pair.1 parted) in
     let both = both_formed us _ _ c.args.most c.in-Text.attrs.now within c.in_ok-front-in-Text.ensures.front c.in_ok-front-in-Text.ensures.back piece.2 whole in
     ((ap (λ n. n - c.args.most) piece.0 ∙ length-back us _ c.args.most within c.in_ok-front-in-Text.ensures.back, omega (arith, c.if-units-most.false)), both.1)
+
+pub split_counted-requires : goal.split_counted-requires
+split_counted-requires c = (text_of_piece _ c.in-Text.is c.requires.piece).0

@@ -26,9 +26,9 @@ returns-in_err-ring-clause-damaged g c =
     not-slots content shape c.args.pick found (c.in_ok-shape.ensures.named (c.read_slots.ensures.only_read.honest honest))
     (λ table holds. c.in_err-ring.ensures.damaged (sym p.2 ∙ is) honest table (subst (λ (l : List ℕ). HoldsSlots l shape table) (sym before) holds)))
 
-pub returns-in_err-entries-clause-damaged : goal.returns-in_err-entries-clause-damaged
-returns-in_err-entries-clause-damaged g c =
-    let p = err_from_is_err_and c.from_residual-in_err-entries.result c.from_residual-in_err-entries.ensures.1 in
+pub returns-in_err-lists-clause-damaged : goal.returns-in_err-lists-clause-damaged
+returns-in_err-lists-clause-damaged g c =
+    let p = err_from_is_err_and c.from_residual-in_err-lists.result c.from_residual-in_err-lists.ensures.1 in
     let content = g.D.Disk.seen c.args.disk.now in
     let shape = c.in_ok-shape.shape in
     let ring = c.in_ok-ring.field-0.ring in
@@ -40,7 +40,7 @@ returns-in_err-entries-clause-damaged g c =
     let segments : map segment_in c.deref.result.now ≡ segments_of read.table = ap (map segment_in) c.deref.ensures.value ∙ read.segments in
     let there = in-groups content shape c.args.pick read.table found names (slots_of content shape ring read.table c.in_ok-ring.ensures.place fits) holds in
     both_ways (are_below shape.docs (commands_in there.groups))
-    (c.in_err-entries.ensures.damaged (sym p.2 ∙ is) there.groups (subst (λ (s : List Segment). SpellGroups s there.groups) (sym segments) there.spell)) there.below)
+    (c.in_err-lists.ensures.damaged (sym p.2 ∙ is) there.groups (subst (λ (s : List Segment). SpellGroups s there.groups) (sym segments) there.spell)) there.below)
 
 pub returns-in_err-state-clause-damaged : goal.returns-in_err-state-clause-damaged
 returns-in_err-state-clause-damaged g c =
@@ -48,7 +48,7 @@ returns-in_err-state-clause-damaged g c =
     let content = g.D.Disk.seen c.args.disk.now in
     let shape = c.in_ok-shape.shape in
     let ring = c.in_ok-ring.field-0.ring in
-    let lists = lists_of c.in_ok-entries.entries.items in
+    let lists = lists_of c.in_ok-lists.field-0.lists.items in
     let before : g.D.Disk.seen c.read_shape.new.disk ≡ content = ap (λ (h : History). h.now.seen) c.read_shape.ensures.only_read.history in
     let same : g.D.Disk.seen c.read_slots.new.disk ≡ content = ap (λ (h : History). h.now.seen) (c.read_slots.ensures.only_read.history ∙ c.read_shape.ensures.only_read.history) in
     rw p.1 (λ is honest found holds.
@@ -58,7 +58,7 @@ returns-in_err-state-clause-damaged g c =
     let fits : Fits content ring read.table = subst (λ (l : List ℕ). Fits l ring read.table) before read.fits in
     let segments : map segment_in c.deref.result.now ≡ segments_of read.table = ap (map segment_in) c.deref.ensures.value ∙ read.segments in
     let there = in-groups content shape c.args.pick read.table found names (slots_of content shape ring read.table c.in_ok-ring.ensures.place fits) holds in
-    let own = gathered (map segment_in c.deref.result.now) lists c.in_ok-entries.ensures.found in
+    let own = gathered (map segment_in c.deref.result.now) lists c.in_ok-lists.ensures.found in
     let commands = groups-same read.table own.groups there.groups (subst (λ (s : List Segment). SpellGroups s own.groups) segments own.spell) there.spell in
     c.in_err-state.ensures.damaged (sym p.2 ∙ is) honest there.cells (subst (λ (l : List ℕ). HoldsCells l shape there.cells) (sym same) there.in_cells)
     (commands_in there.groups) (subst (λ (e : List Taken). AreByDocument e lists) commands own.by) found there.stand)
@@ -69,7 +69,7 @@ returns-clause-read g c honest =
     let shape = c.in_ok-shape.shape in
     let ring = c.in_ok-ring.field-0.ring in
     let documents = c.in_ok-state.field-0 in
-    let lists = lists_of c.in_ok-entries.entries.items in
+    let lists = lists_of c.in_ok-lists.field-0.lists.items in
     let before : g.D.Disk.seen c.read_shape.new.disk ≡ content = ap (λ (h : History). h.now.seen) c.read_shape.ensures.only_read.history in
     let same : g.D.Disk.seen c.read_slots.new.disk ≡ content = ap (λ (h : History). h.now.seen) (c.read_slots.ensures.only_read.history ∙ c.read_shape.ensures.only_read.history) in
     let honest_slots = c.read_documents.ensures.only_read.honest honest in
@@ -77,7 +77,7 @@ returns-clause-read g c honest =
     let read = c.in_ok-ring.ensures.found honest_slots in
     let fits : Fits content ring read.table = subst (λ (l : List ℕ). Fits l ring read.table) before read.fits in
     let segments : map segment_in c.deref.result.now ≡ segments_of read.table = ap (map segment_in) c.deref.ensures.value ∙ read.segments in
-    let own = gathered (map segment_in c.deref.result.now) lists c.in_ok-entries.ensures.found in
+    let own = gathered (map segment_in c.deref.result.now) lists c.in_ok-lists.ensures.found in
     let there = c.in_ok-state.ensures.found honest (commands_in own.groups) own.by in
     record {
       cells = there.pairs;
@@ -95,6 +95,6 @@ returns-clause-read g c honest =
       place = c.in_ok-ring.ensures.place;
       cells_are = c.in_ok-state.ensures.cells;
       cells_fit = subst (λ (l : List ℕ). FitEach l documents.cells.items there.pairs) same there.fit;
-      marked = c.in_ok-marks.ensures.marked read.table fits.holds.differ (ap (map segment_in) c.deref-2.ensures.value ∙ read.segments);
+      marked = c.in_ok-lists.ensures.marked read.table fits.holds.differ segments;
       stand = subst (λ (e : List Taken). StandFor (limits_of shape) there.pairs e c.args.pick documents.state) (sym (commands-all own.groups)) there.stand;
     }

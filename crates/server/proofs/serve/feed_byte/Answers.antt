@@ -1,6 +1,6 @@
 use Rattle.std.proofs.Common.{◌≡◌, ◌≢◌, [], ◌∷◌, rules}
 use Rattle.session.proofs.CallerLemmas.{fits_later}
-use Rattle.server.proofs.Streams.{byte-within, byte-ending, asked-joined, asked-fed, asked-told, asked-news-stopped}
+use Rattle.server.proofs.Streams.{byte-within, byte-ending, asked-joined, asked-fed, asked-told, asked-stopped, asked-news-stopped}
 use Rattle.server.proofs.serve.feed_byte.Goals as goal
 
 pub returns-then-byte-ne10-clause-served : goal.returns-then-byte-ne10-clause-served
@@ -8,6 +8,10 @@ returns-then-byte-ne10-clause-served g c =
     let inner : c.args.byte ≢ 10 = search rules in
     byte-within g.K.Desk.does c.args.byte c.args.session.now c.feed.new.self c.args.desk.now c.feed.new.desk (g.O.Output.contents c.args.output.now) (g.O.Output.contents c.feed.new.out)
     inner c.in-Ok.ensures.fed
+
+pub returns-in_default-clause-asked : goal.returns-in_default-clause-asked
+returns-in_default-clause-asked g c =
+    asked-stopped g.K.Desk.does c.args.session.now (c.args.byte ∷ []) c.feed.new.self c.args.desk.now c.feed.new.desk _ _ c.in_default.ensures.idle c.in_default.ensures.stopped
 
 pub returns-in_default-on_news-clause-asked : goal.returns-in_default-on_news-clause-asked
 returns-in_default-on_news-clause-asked g c =

@@ -6,10 +6,15 @@ use Rattle.revision.specs.Command.{Taken}
 use Rattle.journal.specs.Scan.{items_of}
 use Rattle.segments.specs.Slot.{Segment}
 use Rattle.segments.specs.Recovered.{segment_in}
+use Rattle.segments.specs.Order.{segments_of}
 use Rattle.segments.specs.declared.reading.RecoveredSegment.{RecoveredSegment}
+use Rattle.recovery.specs.declared.marks.Mark.{Mark}
+use Rattle.recovery.specs.Marks.{marks_of}
+use Rattle.recovery.specs.Marked.{AreBodiesMarked}
 use Rattle.recovery.specs.Found.{commands_of}
 use Rattle.recovery.specs.steps.Reading.{lists_of, are_below, SpellEach, SpellGroups}
-use Rattle.recovery.proofs.Gathering.{AddedBy, GatheredFrom, SpelledIn, map-at, map-within, map-take-more, by-count, gathered-more, spelled-in}
+use Rattle.recovery.proofs.Gathering.{AddedBy, GatheredFrom, SpelledIn, map-at, map-within, map-take-more, by-count, gathered-none, gathered-more, spelled-in}
+use Rattle.recovery.proofs.MarkedRead.{Ascending, AreRead, none_read, read_more, apart_at, ascending, marked_read}
 use Rattle.recovery.proofs.reading.entries.gather.Goals as goal
 
 abbrev commands_in : Vec Taken Global → List Taken
@@ -53,10 +58,31 @@ loop-segment-preserved c =
     let whole = written new old c.loop-segment.lists.len count len in
     let more : map segment_in (take (i + 1) segments) ≡ map segment_in (take i segments) ++ segment_in item ∷ [] =
     map-take-more segment_in segments i item c.loop-segment-test.true c.segment-item.is in
+    let before = marks_of c.loop-segment.marks in
+    let after = marks_of c.add_bodies.new.marks in
+    let marked : AreBodiesMarked item.number (items_of item.bodies.items) before after =
+    subst (λ (l : List (Vec ℕ Global)). AreBodiesMarked item.number (items_of l) before after) c.deref.ensures.value c.in_ok-add_bodies.ensures.marked in
     record {
       count = ap length whole ∙ (count ∙ c.loop-segment.invariant.count);
       gathered =
           subst (λ (l : List (Vec Taken Global)). GatheredFrom (map segment_in (take (i + 1) segments)) (lists_of l)) (sym whole)
           (subst (λ (s : List Segment). GatheredFrom s (lists_of new)) (sym more)
           (gathered-more (map segment_in (take i segments)) (segment_in item) (lists_of old) (lists_of new) c.loop-segment.invariant.gathered added));
+      marked = λ up. subst (λ (l : List Segment). AreRead l after) (sym more)
+          (read_more (map segment_in (take i segments)) (segment_in item) before after (apart_at segments i item c.loop-segment-test.true (sym c.segment-item.is) up) (c.loop-segment.invariant.marked up) marked);
     }
+
+pub loop-segment-init : goal.loop-segment-init
+loop-segment-init c = record {
+  count = c.in_ok-lists.ensures.count;
+  gathered = gathered-none (lists_of c.in_ok-lists.lists.items) c.in_ok-lists.ensures.empty;
+  marked = λ up. subst (λ (m : List Mark). AreRead [] m) (sym c.new-marks.ensures) none_read;
+}
+
+pub returns-clause-marked : goal.returns-clause-marked
+returns-clause-marked c table differ same =
+    let segments = c.args.segments.now in
+    let up : Ascending 0 (map segment_in segments) = subst (Ascending 0) (sym same) (ascending table differ) in
+    let all : map segment_in (take c.loop-segment.segment-index segments) ≡ segments_of table =
+    ap (λ (l : List RecoveredSegment). map segment_in l) (take_all c.loop-segment.segment-index segments c.loop-segment-test.false) ∙ same in
+    marked_read table (marks_of c.loop-segment.marks) (subst (λ (l : List Segment). AreRead l (marks_of c.loop-segment.marks)) all (c.loop-segment.invariant.marked up))

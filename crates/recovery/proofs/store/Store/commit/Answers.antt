@@ -5,7 +5,7 @@ use Rattle.history.specs.Running.{Runs}
 use Rattle.recovery.specs.Found.{commands_of, limits_of}
 use Rattle.recovery.specs.steps.Appending.{IsDone}
 use Rattle.refusal.specs.declared.Refusal.{Refusal}
-use Rattle.refusal.specs.declared.Refusal.TheVariants.{NoMemory}
+use Rattle.refusal.specs.declared.Refusal.TheVariants.{JournalFull, Stranger, NoMemory}
 use Rattle.disk.specs.Crash.{history_of}
 use Rattle.disk.proofs.CallerLemmas.{begins, leaves_map}
 use Rattle.recovery.proofs.Commits.{found_before, opened_for, with_or_without, parts_after, parts_left, runs_with, limits_with}
@@ -15,7 +15,9 @@ use Rattle.recovery.specs.Marks.{marks_of, IsNoted}
 use Rattle.recovery.specs.Marked.{AreMarked}
 use Rattle.recovery.proofs.Upkeep.{cells_later, marked_with, marked_left}
 use Rattle.recovery.proofs.Folds.{fold-limits}
-use Rattle.recovery.proofs.Refusals.{refusal_or}
+use Rattle.recovery.specs.Open.{kept_jobs}
+use Rattle.recovery.proofs.KeptJobs.{kept_later}
+use Rattle.recovery.proofs.Refusals.{refusal_or, ok≢err, no_stranger}
 use Rattle.recovery.proofs.store.Store.commit.Goals as goal
 
 -- nothing was called
@@ -69,6 +71,7 @@ returns-in-Ok-append_batch-clause-done g c is_open =
       limits = subst (λ (s : State). s.limits ≡ limits_of store.shape) (sym state) (limits_with store is_open commands c.has_room.ensures.is_batch grow);
       runs = subst (Runs (is_open.order ++ commands) is_open.cells (commands_of (is_open.batches ++ commands ∷ []))) (sym state)
           (runs_with store is_open commands c.has_room.ensures.is_batch grow);
+      kept = kept_later is_open.order commands is_open.cells (kept_jobs store) is_open.kept;
     }
 
 -- a slot has as many bytes as the limits say
@@ -106,6 +109,7 @@ returns-in-Err-append_batch-clause-kept g c not_fault is_open =
       marked = subst (AreMarked kept.left) (sym c.make_room.ensures.same) (marked_left store is_open _ kept.left kept.is_left);
       limits = subst (λ (s : State). s.limits ≡ limits_of store.shape) (sym state) is_open.limits;
       runs = subst (Runs is_open.order is_open.cells (commands_of is_open.batches)) (sym state) is_open.runs;
+      kept = is_open.kept;
     }
 
 pub returns-in-Err-clause-unwritten : goal.returns-in-Err-clause-unwritten
@@ -133,3 +137,18 @@ returns-in_err-receipt-clause-any_moment g c unfailed is_open =
 pub returns-in_err-receipt-clause-unwritten : goal.returns-in_err-receipt-clause-unwritten
 returns-in_err-receipt-clause-unwritten g c memory is_open =
     begins (history_of g.D.Disk c.args.self.now.device) is_open.synced (found_before c.args.self.now is_open)
+
+-- the jobs stay
+pub invariant_of-self-in-Ok-append_batch-clause-composable : goal.invariant_of-self-in-Ok-append_batch-clause-composable
+invariant_of-self-in-Ok-append_batch-clause-composable g c = c.args.self.now.composable
+
+-- neither of these is told once the batch is appended
+pub returns-in-Ok-append_batch-clause-untouched : goal.returns-in-Ok-append_batch-clause-untouched
+returns-in-Ok-append_batch-clause-untouched g c told = ⊎_elim (λ full. absurd (ok≢err _ JournalFull full)) (λ stranger. absurd (ok≢err _ Stranger stranger)) told
+
+pub returns-in-Err-append_batch-clause-untouched : goal.returns-in-Err-append_batch-clause-untouched
+returns-in-Err-append_batch-clause-untouched g c told =
+    let fits : c.has_room.result ≡ true = search rules in
+    ⊎_elim
+    (λ full. let both : true ≡ false = sym (sym c.has_room.ensures.room ∙ fits) ∙ c.in-Err-append_batch.ensures.full (ap (λ (r : Refusal). Err r) (ap (refusal_or Stranger) full)) in absurd cc)
+    (λ stranger. absurd (no_stranger c.in-Err-append_batch.refusal c.in-Err-append_batch.ensures.only stranger)) told

@@ -81,6 +81,7 @@ returns-in-Ok-clause-done g c is_open =
             (marked_retired is_open.table after (marks_of store.marks) is_open.fits.holds.differ retired is_open.marked));
         limits = is_open.limits;
         runs = runs_on store is_open oldest.0 c.in-Some.oldest oldest.1 low after retired;
+        kept = is_open.kept;
       };
       same_cells = refl;
       retired = retired;

@@ -1,14 +1,14 @@
 use Rattle.std.proofs.Common.{◌≡◌, false, take}
-use Rattle.session.specs.Replies.{Feeds}
+use Rattle.session.specs.Ahead.{commands_of, Ahead}
 use Rattle.session.specs.Shelf.{Fits}
 use Rattle.session.proofs.session.Session.feed.Given as goal
 
--- what comes of the bytes so far is written, and the shelf fits
+-- what comes of the bytes so far is written, but for what was sent ahead, and the shelf fits
 abbrev pub invariant-loop-byte : goal.invariant-loop-byte
 invariant-loop-byte g l =
     let contents = g.O.Output.contents in
     record {
       works : l.self.ended ≡ false;
       fits : Fits (g.D.Desk.reached l.desk) l.shelf;
-      fed : Feeds g.D.Desk.does l.fn.self (take l.byte-index l.piece) l.self l.fn.desk l.desk (contents l.fn.out) (contents l.out);
+      ahead : Ahead g.D.Desk.does l.fn.self (take l.byte-index l.piece) (commands_of l.sent.items) l.self l.fn.desk l.desk (contents l.fn.out) (contents l.out);
     }

@@ -1,0 +1,2 @@
+-- What follows from the definitions, as the proofs of other crates cite it.
+pub use Rattle.flusher.proofs.Fitting.{fits_slot}

@@ -1,0 +1,74 @@
+-- What a flusher holds, and how it fits the state of its store.
+use Rattle.std.proofs.Common.{◌≡◌, ◌≢◌, ◌↔◌, ◌⊎◌, inl, inr, ℕ, true, false, List, [], ◌∷◌, ◌++◌, Vec, Global, Option, Some, None, refl, sym, ◌∙◌, ap, subst, append_assoc, append-nil}
+use Rattle.std.specs.Prelude.{Result, Ok, Err, OnOk, IfErr, IsErrOf}
+use Rattle.std.specs.Option.{option_map}
+use Rattle.disk.specs.Crash.{LeavesOnly}
+use Rattle.refusal.specs.declared.Refusal.{Refusal}
+use Rattle.refusal.specs.declared.Refusal.TheVariants.{StillNeeded, Fault}
+use Rattle.disk.specs.declared.device.Disk.{Ghosts}
+use Rattle.revision.specs.Command.{Taken}
+use Rattle.revision.specs.State.{State, fold}
+use Rattle.recovery.specs.declared.store.Store.{Store}
+use Rattle.recovery.specs.Found.{commands_of, FoundAs}
+use Rattle.recovery.specs.Open.{IsOpen, IsUnchanged, IsRetiredNow, IsWithOrWithout, device_of, state_of, has_failed}
+use Rattle.recovery.specs.Goes.{Goes}
+use Rattle.recovery.proofs.CallerLemmas.{goes_none, goes_call, open_unchanged, found_as, found_open}
+use Rattle.view.specs.Published.{Published}
+use Rattle.flusher.specs.Flushers.{listed}
+use Rattle.flusher.proofs.Beginnings.{commands-append, fold-append}
+
+abbrev pub held_in : Option (Vec Taken Global) → List (List Taken)
+held_in waiting = listed (option_map (λ v. v.items) waiting)
+
+pub none_of_held : (waiting : Option (Vec Taken Global)) → held_in waiting ≡ [] → waiting ≡ None
+none_of_held None is = refl
+none_of_held (Some v) is = absurd (let no : ⊥ = cc in no)
+
+pub same_batch : (batches : List (List Taken)) (one two : List Taken) → batches ≡ one ∷ [] → batches ≡ two ∷ [] → one ≡ two
+same_batch batches one two first second = cc
+
+module _ {D : Type 0} {disk : Ghosts D} where
+  pub goes_not : (store : Store D disk) (commands : List Taken) → Goes (IsWithOrWithout (state_of store) commands) store store
+  goes_not store commands = goes_none store (λ is_open. inl (found_as _ _ (found_open store is_open)))
+
+  pub goes_batch : (old new : Store D disk) (batch : List Taken) (batches : List (List Taken)) → batches ≡ batch ∷ [] → Goes (IsWithOrWithout (state_of old) batch) old new
+      → Goes (IsWithOrWithout (state_of old) (commands_of batches)) old new
+  goes_batch old new batch batches is goes =
+      subst (λ (c : List Taken). Goes (IsWithOrWithout (state_of old) c) old new) (sym (ap commands_of is ∙ append-nil batch)) goes
+
+module _ {D : Type 0} {disk : Ghosts D} (old new : Store D disk) where
+  -- what a retirement leaves, whatever it answers
+  retire_done : (result : Result (Unit {0}) Refusal) → OnOk result ((is_open : IsOpen old) → IsRetiredNow is_open.cells is_open.table new) → OnOk result (IsOpen old → IsOpen new)
+  retire_done (Ok answer) done = λ is_open. (done is_open).goes_on
+  retire_done (Err refusal) done = tt
+
+  retire_kept : (result : Result (Unit {0}) Refusal) → IfErr result (λ e. (e ≡ StillNeeded) ⊎ (e ≡ Fault)) → (IsErrOf result StillNeeded → IsUnchanged old new)
+      → IfErr result (λ e. e ≢ Fault → IsOpen old → IsOpen new)
+  retire_kept (Ok answer) only untouched = tt
+  retire_kept (Err refusal) (inl needed) untouched = λ no_fault is_open. open_unchanged (untouched (ap (λ (e : Refusal). Err e) needed)) is_open
+  retire_kept (Err refusal) (inr fault) untouched = λ no_fault is_open. absurd (no_fault fault)
+
+  pub goes_retired : (result : Result (Unit {0}) Refusal) → (has_failed old ≡ true → IsErrOf result Fault × IsUnchanged old new)
+      → (has_failed old ≡ false → (has_failed new ≡ true ↔ IsErrOf result Fault))
+      → (has_failed old ≡ false → IsOpen old → LeavesOnly disk (λ content. FoundAs content (state_of old)) (device_of old) (device_of new))
+      → OnOk result ((is_open : IsOpen old) → IsRetiredNow is_open.cells is_open.table new)
+      → IfErr result (λ e. (e ≡ StillNeeded) ⊎ (e ≡ Fault)) → (IsErrOf result StillNeeded → IsUnchanged old new)
+      → Goes (λ content. FoundAs content (state_of old)) old new
+  goes_retired result failed_before fails any_moment done only untouched = goes_call result failed_before fails any_moment (retire_done result done) (retire_kept result only untouched)
+
+-- one batch that is committed more
+pub kept_more : (start old new : State) (before after : Published) (receipt batch : List Taken) → old ≡ fold start (commands_of (before.told ++ before.held)) → before.held ≡ []
+    → after ≡ record before { held = receipt ∷ [] } → receipt ≡ batch → new ≡ fold old batch → new ≡ fold start (commands_of (after.told ++ after.held))
+kept_more start old new before after receipt batch kept none is same grown =
+    grown ∙ ap (λ (s : State). fold s batch) (kept ∙ ap (λ (l : List (List Taken)). fold start (commands_of (before.told ++ l))) none ∙ ap (λ (l : List (List Taken)). fold start (commands_of l)) (append-nil before.told))
+    ∙ sym (fold-append start (commands_of before.told) batch)
+    ∙ ap (λ (c : List Taken). fold start (commands_of before.told ++ c)) (sym (append-nil batch) ∙ ap (λ (b : List Taken). b ++ []) (sym same))
+    ∙ ap (fold start) (sym (commands-append before.told (receipt ∷ [])))
+    ∙ ap (λ (p : Published). fold start (commands_of (p.told ++ p.held))) (sym is)
+
+-- the batch that is held is published: what the store holds is the same
+pub kept_published : (start state : State) (before after : Published) → state ≡ fold start (commands_of (before.told ++ before.held)) → after ≡ record { told = before.told ++ before.held; held = [] }
+    → state ≡ fold start (commands_of (after.told ++ after.held))
+kept_published start state before after kept is =
+    kept ∙ ap (λ (l : List (List Taken)). fold start (commands_of l)) (sym (append-nil (before.told ++ before.held)))
+    ∙ ap (λ (p : Published). fold start (commands_of (p.told ++ p.held))) (sym is)

@@ -1,0 +1,85 @@
+use Rattle.std.proofs.Common.{rules, ◌≡◌, ◌≢◌, [], ◌∷◌, ◌++◌, List, true, false, Some, None, Ok, Err, refl, sym, ◌∙◌, ap, subst, append-nil}
+use Rattle.std.proofs.lemmas.Bool.{false≢true}
+use Rattle.revision.specs.Command.{Taken}
+use Rattle.revision.specs.State.{fold}
+use Rattle.recovery.specs.Found.{commands_of}
+use Rattle.recovery.specs.Open.{has_room}
+use Rattle.recovery.proofs.CallerLemmas.{goes_call}
+use Rattle.view.specs.Published.{Published}
+use Rattle.flusher.specs.Flushers.{listed}
+use Rattle.flusher.proofs.Holdings.{held_in, none_of_held, same_batch, goes_not, goes_batch, kept_more}
+use Rattle.flusher.proofs.flusher.Flusher.commit_held.Goals as goal
+
+pub returns-in-None-clause-goes : goal.returns-in-None-clause-goes
+returns-in-None-clause-goes g c = goes_not c.args.self.now.store (commands_of (held_in c.args.self.now.waiting))
+
+pub returns-in-None-clause-ok : goal.returns-in-None-clause-ok
+returns-in-None-clause-ok g c =
+    let none : c.args.self.now.waiting ≡ None = cc in
+    let empty : held_in c.args.self.now.waiting ≡ [] = ap held_in none in
+    (sym (ap (λ (l : List (List Taken)). c.args.self.now.publisher.held ++ l) empty ∙ append-nil _), ap held_in c.in-None.ensures.after)
+
+pub returns-in-None-clause-state : goal.returns-in-None-clause-state
+returns-in-None-clause-state g c =
+    let none : c.args.self.now.waiting ≡ None = cc in
+    sym (ap (λ (l : List (List Taken)). fold c.args.self.now.store.state (commands_of l)) (ap held_in none))
+
+pub returns-in-None-clause-full : goal.returns-in-None-clause-full
+returns-in-None-clause-full g c works batch is =
+    let none : c.args.self.now.waiting ≡ None = cc in
+    let empty : held_in c.args.self.now.waiting ≡ [] = ap held_in none in
+    absurd (let no : ⊥ = cc in no)
+
+pub returns-in-Ok-clause-goes : goal.returns-in-Ok-clause-goes
+returns-in-Ok-clause-goes g c =
+    let held : c.args.self.now.waiting ≡ Some c.in-Some.batch = cc in
+    let same : c.deref.result.now ≡ c.in-Some.batch.items = cc in
+    let e = c.commit.ensures in
+    goes_batch _ _ c.deref.result.now _ (ap held_in held ∙ ap (λ (b : List Taken). b ∷ []) (sym same))
+    (goes_call c.commit.result e.failed_before e.fails e.any_moment e.done e.kept)
+
+pub returns-in-Ok-clause-ok : goal.returns-in-Ok-clause-ok
+returns-in-Ok-clause-ok g c =
+    let held : c.args.self.now.waiting ≡ Some c.in-Some.batch = cc in
+    let same : c.deref.result.now ≡ c.in-Some.batch.items = cc in
+    let alone = (c.args.self.now.fits c.in-Some.batch held).alone in (
+      ap (λ (p : Published). p.held) c.accept.ensures ∙ ap (λ (b : List Taken). b ∷ []) (c.in-Ok.ensures.receipt ∙ same) ∙ sym (ap held_in held)
+          ∙ sym (ap (λ (l : List (List Taken)). l ++ held_in c.args.self.now.waiting) alone),
+      ap held_in c.in-Some.ensures.after,
+    )
+
+pub returns-in-Ok-clause-state : goal.returns-in-Ok-clause-state
+returns-in-Ok-clause-state g c =
+    let held : c.args.self.now.waiting ≡ Some c.in-Some.batch = cc in
+    let same : c.deref.result.now ≡ c.in-Some.batch.items = cc in
+    c.in-Ok.ensures.state ∙ ap (fold c.args.self.now.store.state) (same ∙ sym (ap commands_of (ap held_in held) ∙ append-nil _))
+
+pub returns-in-Ok-clause-full : goal.returns-in-Ok-clause-full
+returns-in-Ok-clause-full g c works batch is =
+    let held : c.args.self.now.waiting ≡ Some c.in-Some.batch = cc in
+    let same : c.deref.result.now ≡ c.in-Some.batch.items = cc in
+    let one : batch ≡ c.deref.result.now = same_batch _ batch c.deref.result.now is (ap held_in held ∙ ap (λ (b : List Taken). b ∷ []) (sym same)) in (
+      λ no. absurd (let none : ⊥ = cc in none),
+      λ none. absurd (false≢true (sym none ∙ ap (has_room c.args.self.now.store) one ∙ c.in-Ok.ensures.room)),
+    )
+
+pub returns-in-Err-clause-goes : goal.returns-in-Err-clause-goes
+returns-in-Err-clause-goes g c =
+    let held : c.args.self.now.waiting ≡ Some c.in-Some.batch = cc in
+    let same : c.deref.result.now ≡ c.in-Some.batch.items = cc in
+    let e = c.commit.ensures in
+    goes_batch _ _ c.deref.result.now _ (ap held_in held ∙ ap (λ (b : List Taken). b ∷ []) (sym same))
+    (goes_call c.commit.result e.failed_before e.fails e.any_moment e.done e.kept)
+
+pub returns-in-Err-clause-held : goal.returns-in-Err-clause-held
+returns-in-Err-clause-held g c =
+    let held : c.args.self.now.waiting ≡ Some c.in-Some.batch = cc in
+    (refl, sym (ap held_in held))
+
+pub invariant_of-self-in-Ok : goal.invariant_of-self-in-Ok
+invariant_of-self-in-Ok g c =
+    let held : c.args.self.now.waiting ≡ Some c.in-Some.batch = cc in
+    record {
+      kept = kept_more _ _ _ _ _ _ c.deref.result.now c.args.self.now.kept (c.args.self.now.fits c.in-Some.batch held).alone c.accept.ensures c.in-Ok.ensures.receipt c.in-Ok.ensures.state;
+      fits = λ x is. absurd (let none : ⊥ = cc in none);
+    }

@@ -1,0 +1,46 @@
+-- One thread's run: what each call gives, and what the answers say at the end.
+use Rattle.std.specs.Prelude.{◌≡◌, ◌≤◌, ℕ, ◌+◌, true, false, Option, Some, None, List, [], ◌∷◌, ◌++◌, length, slice_get}
+use Rattle.disk.specs.declared.device.Disk.{Ghosts}
+use Rattle.refusal.specs.declared.Refusal.TheVariants.{StillNeeded}
+use Rattle.revision.specs.Command.{Taken}
+use Rattle.revision.specs.Acceptance.{Refuses, answer}
+use Rattle.world.specs.Board.{Board, Ticket, submitted, ticket_of, taken_more, settled_more, can_ack}
+use Rattle.world.specs.World.{Entry, entry_of}
+use Rattle.recovery.specs.Found.{commands_of}
+use Rattle.hub.specs.Runs.{IsLongest, untaken}
+use Rattle.flusher.specs.declared.drive.Call.{Call}
+use Rattle.flusher.specs.declared.drive.Call.TheVariants.{Submit, Turn, Ack, Retire}
+use Rattle.flusher.specs.declared.drive.Answer.{Answer}
+use Rattle.flusher.specs.declared.drive.Answer.TheVariants.{Submitted, Turned, Acked, Retired, Refused}
+
+-- what an acknowledgement gives for a ticket, or for none
+abbrev pub AckGives : Board Entry → Option Ticket → Option (List (List Taken)) → Type 0
+AckGives board None told = told ≡ None
+AckGives board (Some ticket) None = can_ack board ticket ≡ false
+AckGives board (Some ticket) (Some told) = (can_ack board ticket ≡ true) × (ticket.length ≤ length (commands_of told))
+
+module _ {D J : Type 0} where
+  -- What a call gives, and what it makes of the board and of the list of the tickets: each as the world's step of that name says. A turn
+  -- settles the longest run of the next commands whose batch has at most `cap` bytes.
+  abbrev pub Gives : ℕ → Board Entry → List Ticket → Call → Answer D J → Board Entry → List Ticket → Type 0
+  Gives cap board tickets (Submit command) (Submitted at) after out =
+      (after ≡ submitted (entry_of command) board command) × (at ≡ length tickets)
+      × ((ticket : Ticket) × (Some ticket ≡ ticket_of board command) × (out ≡ tickets ++ ticket ∷ []))
+  Gives cap board tickets (Submit command) (Refused refusal) after out = (after ≡ board) × (out ≡ tickets) × (answer board.state command ≡ Refuses refusal)
+  Gives cap board tickets Turn (Turned count) after out = IsLongest cap (untaken board) count × (after ≡ settled_more (taken_more board count) count) × (out ≡ tickets)
+  Gives cap board tickets (Ack at) (Acked told) after out = (after ≡ board) × (out ≡ tickets) × AckGives board (slice_get tickets at) told
+  Gives cap board tickets Retire Retired after out = (after ≡ board) × (out ≡ tickets)
+  Gives cap board tickets Retire (Refused refusal) after out = (after ≡ board) × (out ≡ tickets) × (refusal ≡ StillNeeded)
+  Gives cap board tickets call reply after out = ⊥
+
+  -- Calls that were answered one after another, from a board with no ticket given yet.
+  pub data Answered (cap : ℕ) (start : Board Entry) : List Call → List (Answer D J) → Board Entry → List Ticket → Type 0 where
+    Begins : Answered cap start [] [] start []
+    Follows : (calls : List Call) (answers : List (Answer D J)) (board : Board Entry) (tickets : List Ticket) (call : Call) (reply : Answer D J) (after : Board Entry) (out : List Ticket)
+        → Answered cap start calls answers board tickets → Gives cap board tickets call reply after out
+        → Answered cap start (calls ++ call ∷ []) (answers ++ reply ∷ []) after out
+
+  -- An acknowledgement that named what was published: its ticket's length is settled.
+  abbrev pub IsHeld : ℕ → List Ticket → Call → Answer D J → Type 0
+  IsHeld settled tickets (Ack at) (Acked (Some told)) = (ticket : Ticket) × (slice_get tickets at ≡ Some ticket) × (ticket.length ≤ settled)
+  IsHeld settled tickets call reply = Unit {0}

@@ -1,0 +1,28 @@
+-- What a flusher holds, and what a write makes of it.
+use Rattle.std.specs.Prelude.{◌≡◌, ◌≤◌, ◌<◌, ◌+◌, ◌-◌, ◌^◌, ℕ, min, Option, Some, None, List, [], ◌∷◌, ◌++◌, length}
+use Rattle.revision.specs.Command.{Taken}
+use Rattle.revision.specs.State.{State}
+use Rattle.recovery.specs.Open.{FitsSlot}
+
+-- a batch as a list of batches, and no batch where there is none
+abbrev pub listed : Option (List Taken) → List (List Taken)
+listed None = []
+listed (Some batch) = batch ∷ []
+
+-- A batch that is held has a command, its count has four bytes, and it fits a slot; and nothing else is still to be published.
+pub record MayCommit (state : State) (batch : List Taken) (committed : List (List Taken)) : Type 0 where
+  pub some : 1 ≤ length batch
+  pub short : length batch < 2 ^ 32
+  pub fits : FitsSlot state batch
+  pub alone : committed ≡ []
+
+-- A write published the one batch that was held behind those that were published before, and gave the receipt of it and the token that
+-- ends with it.
+pub record IsWritten (told held after : List (List Taken)) (receipt : List Taken) (token : List (List Taken)) : Type 0 where
+  pub batch : held ≡ receipt ∷ []
+  pub published : after ≡ told ++ held
+  pub token_is : token ≡ after
+
+-- how many bytes a batch may have
+abbrev pub cap_of : State → ℕ
+cap_of state = min (state.limits.width + 4) (2 ^ 32 - 1)

@@ -1,0 +1,24 @@
+-- The parts of a flusher, as contracts name them.
+use Rattle.std.specs.Prelude.{List}
+use Rattle.std.specs.Option.{option_map}
+use Rattle.disk.specs.declared.device.Disk.{Ghosts}
+use Rattle.revision.specs.Command.{Taken}
+use Rattle.recovery.specs.declared.store.Store.{Store}
+use Rattle.flusher.specs.declared.flusher.Flusher.{Flusher}
+use Rattle.flusher.specs.Flushers.{listed}
+
+module _ {D J : Type 0} {disk : Ghosts D} where
+  abbrev pub store_of : Flusher D J disk → Store D disk
+  store_of flusher = flusher.store
+
+  -- the batches that were published, the oldest first
+  abbrev pub told_of : Flusher D J disk → List (List Taken)
+  told_of flusher = flusher.publisher.told
+
+  -- the batch that is committed and not published yet, if there is one
+  abbrev pub committed_of : Flusher D J disk → List (List Taken)
+  committed_of flusher = flusher.publisher.held
+
+  -- the batch that is held and not committed yet, if there is one
+  abbrev pub waiting_of : Flusher D J disk → List (List Taken)
+  waiting_of flusher = listed (option_map (λ v. v.items) flusher.waiting)

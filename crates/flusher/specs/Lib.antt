@@ -1,0 +1,6 @@
+pub mod Batches
+pub mod Standing
+pub mod Flushers
+pub mod Holding
+pub mod Driving
+pub mod Run

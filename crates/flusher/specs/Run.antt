@@ -1,0 +1,16 @@
+-- Where a thread's run stands.
+use Rattle.disk.specs.declared.device.Disk.{Ghosts}
+use Rattle.hub.specs.Legal.{Board}
+use Rattle.flusher.specs.declared.flusher.Flusher.{Flusher}
+use Rattle.flusher.specs.Holding.{store_of, told_of, committed_of, waiting_of}
+use Rattle.flusher.specs.Standing.{Standing}
+
+module _ {D J : Type 0} {disk : Ghosts D} where
+  abbrev pub standing : Board → Flusher D J disk → Standing D disk
+  standing board flusher = record {
+    board = board.board;
+    told = told_of flusher;
+    committed = committed_of flusher;
+    waiting = waiting_of flusher;
+    store = store_of flusher;
+  }

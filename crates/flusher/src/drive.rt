@@ -1,0 +1,34 @@
+//! One thread's run over a board and a flusher.
+ghost use Rattle.std.specs.Prelude.{◌≡◌, ◌≢◌, ◌⊎◌, ◌↔◌, ◌<◌, ◌≤◌, ◌^◌, [], ◌∷◌, ◌++◌, true, false, length, OnOk, OnErr, IfOk, IfErr, IfSome, IfNone, IsErrOf};
+
+use published::{Site, Told};
+use refusal::Refusal;
+use revision::Command;
+
+/// A call of a run.
+#[derive(Drop)]
+pub enum Call {
+    /// Submits a command.
+    Submit(Command),
+    /// Takes off the longest run of commands whose batch fits a slot, writes it, and settles it; nothing more is done where there is none.
+    Turn,
+    /// Acknowledges the ticket of this place, counted from 0 among those that the run was given.
+    Ack(usize),
+    /// Retires the oldest segment.
+    Retire,
+}
+
+/// What a call of a run gave.
+#[derive(Drop)]
+pub enum Answer<D, J: Site> {
+    /// The place of the ticket.
+    Submitted(usize),
+    /// How many commands were settled.
+    Turned(usize),
+    /// The token of what was published, where the ticket is settled; `None` where it isn't, or there is no such ticket.
+    Acked(Option<Told<D, J>>),
+    /// The oldest segment is retired.
+    Retired,
+    /// The call was refused, and changed nothing.
+    Refused(Refusal),
+}

@@ -1,0 +1,189 @@
+//! The flusher.
+ghost use Rattle.std.specs.Prelude.{List, ◌≡◌, ◌≢◌, ◌⊎◌, ◌↔◌, ◌<◌, ◌≤◌, ◌^◌, [], ◌∷◌, ◌++◌, true, false, length, OnOk, OnErr, IfOk, IfErr, IfSome, IfNone, IsErrOf};
+ghost use Rattle.std.specs.Option.{ForSome};
+ghost use Rattle.revision.specs.State.{fold, all_grow};
+ghost use Rattle.recovery.specs.Found.{commands_of};
+ghost use Rattle.recovery.specs.Open.{FitsSlot, state_of};
+ghost use Rattle.flusher.specs.Flushers.{MayCommit};
+
+use crate::begun::Begun;
+use crate::gate::{Gate, Moment};
+use disk::Disk;
+use published::{Opened, Site, Told};
+use recovery::{Receipt, Store};
+use refusal::Refusal;
+use revision::Taken;
+use std::alloc::Global;
+use std::sync::Wait;
+use view::{Publisher, Viewer};
+
+/// The store, what publishes its batches to readers, and at most one batch that is to be written.
+pub struct Flusher<D: Disk, J: Site> {
+    store: Store<D>,
+    publisher: Publisher<D, J>,
+    waiting: Option<Vec<Taken>>,
+    begun: Begun<J>,
+    ghost kept: { state_of store ≡ fold begun (commands_of (publisher.told ++ publisher.held)) },
+    ghost fits: { ForSome waiting (λ batch. MayCommit (state_of store) batch.items publisher.held) },
+}
+
+impl<D: Disk, J: Site> Flusher<D, J> {
+    ghost use Rattle.recovery.specs.Found.{FoundAs};
+    ghost use Rattle.recovery.specs.Marked.{MayRetire};
+    ghost use Rattle.recovery.specs.Open.{IsOpen, IsRetiredNow, IsWithOrWithout, has_failed, has_room};
+    ghost use Rattle.flusher.specs.Flushers.{IsWritten, cap_of};
+    ghost use Rattle.recovery.specs.Goes.{Goes};
+    ghost use Rattle.flusher.specs.Holding.{store_of, told_of, committed_of, waiting_of};
+
+    // A flusher of which nothing was published yet.
+    pub(crate) fn of(store: Store<D>, publisher: Publisher<D, J>, begun: Begun<J>) -> Flusher<D, J>
+        requires nothing { publisher ≡ record { told = []; held = [] } }
+        requires begin { state_of store ≡ begun }
+        ensures store { store_of result ≡ store }
+        ensures nothing { (told_of result ≡ []) × (committed_of result ≡ []) × (waiting_of result ≡ []) }
+    {
+        Flusher {
+            store,
+            publisher,
+            waiting: None,
+            begun,
+        }
+    }
+
+    /// What the store holds is what the batches make of the start that are published, or committed and not published yet.
+    pub fn kept(&self)
+        ensures { state_of (store_of self.now) ≡ fold J.start (commands_of (told_of self.now ++ committed_of self.now)) }
+    {
+        self.begun.is_start();
+    }
+
+    /// Holds a batch, which the next `commit_held` or `write` commits. It takes no memory.
+    pub fn hold(&mut self, batch: Vec<Taken>)
+        requires none { (committed_of self.old ≡ []) × (waiting_of self.old ≡ []) }
+        requires some { 1 ≤ length batch.items }
+        requires short { length batch.items < 2 ^ 32 }
+        requires fits { FitsSlot (state_of (store_of self.old)) batch.items }
+        ensures store { store_of self.new ≡ store_of self.old }
+        ensures told { told_of self.new ≡ told_of self.old }
+        ensures committed { committed_of self.new ≡ committed_of self.old }
+        ensures waiting { waiting_of self.new ≡ batch.items ∷ [] }
+    {
+        self.waiting = Some(batch);
+    }
+
+    /// Commits the batch that is held, if it isn't yet, and keeps the receipt. Refused as `Store::commit` refuses it; the batch is held still then. The
+    /// readers are shown nothing new.
+    pub fn commit_held(&mut self, alloc: Global) -> Result<(), Refusal>
+        // A crash at any moment leaves the state before it, or the one with the batch.
+        ensures goes { Goes (IsWithOrWithout (state_of (store_of self.old)) (commands_of (waiting_of self.old))) (store_of self.old) (store_of self.new) }
+
+        // What each answer leaves.
+        ensures told { told_of self.new ≡ told_of self.old }
+        ensures ok { OnOk result ((committed_of self.new ≡ committed_of self.old ++ waiting_of self.old) × (waiting_of self.new ≡ [])) }
+        ensures held { OnErr result ((committed_of self.new ≡ committed_of self.old) × (waiting_of self.new ≡ waiting_of self.old)) }
+        ensures state { OnOk result (state_of (store_of self.new) ≡ fold (state_of (store_of self.old)) (commands_of (waiting_of self.old))) }
+        ensures same_state { OnErr result (state_of (store_of self.new) ≡ state_of (store_of self.old)) }
+
+        // When each refusal comes.
+        ensures fails { has_failed (store_of self.old) ≡ false → (has_failed (store_of self.new) ≡ true ↔ IsErrOf result Refusal.Fault) }
+        ensures none { waiting_of self.old ≡ [] → OnErr result ⊥ }
+        ensures full { has_failed (store_of self.old) ≡ false → (batch : List Taken) → waiting_of self.old ≡ batch ∷ []
+            → (IsErrOf result Refusal.JournalFull ↔ (has_room (store_of self.old) batch ≡ false)) }
+        ensures stranger { IsErrOf result Refusal.Stranger → all_grow (state_of (store_of self.old)) (commands_of (waiting_of self.old)) ≡ false }
+        ensures only { IfErr result (λ e. ((e ≡ Refusal.JournalFull) ⊎ (e ≡ Refusal.Stranger)) ⊎ ((e ≡ Refusal.NoMemory) ⊎ (e ≡ Refusal.Fault))) }
+    {
+        match self.waiting.take() {
+            None => Ok(()),
+            Some(batch) => match self.store.commit(alloc, &batch) {
+                Ok(receipt) => {
+                    self.publisher.accept(receipt);
+                    Ok(())
+                }
+                Err(refusal) => {
+                    self.waiting = Some(batch);
+                    Err(refusal)
+                }
+            },
+        }
+    }
+
+    /// Commits the batch that is held, if it isn't yet, and publishes it, between the gate's moments: gives the receipt of the commit
+    /// and the token that ends with the batch, or `None` where no batch is held. On a refusal the next call goes on where this one
+    /// stopped: the same batch is committed, or published, by then. Refused as `commit_held`, and then as the publish, for want of memory.
+    pub fn write<R: Wait, G: Gate>(
+        &mut self,
+        rt: &R,
+        alloc: Global,
+        gate: &mut G,
+    ) -> Result<Option<(Receipt<D>, Told<D, J>)>, Refusal>
+        // A crash at any moment leaves the state before it, or the one with the batch.
+        ensures goes { Goes (IsWithOrWithout (state_of (store_of self.old)) (commands_of (waiting_of self.old))) (store_of self.old) (store_of self.new) }
+
+        // What each answer leaves.
+        ensures some { IfOk result (λ answer. IfSome answer (λ both. IsWritten (told_of self.old) (committed_of self.old ++ waiting_of self.old) (told_of self.new) both.0 both.1)) }
+        ensures none { IfOk result (λ answer. IfNone answer ((committed_of self.old ++ waiting_of self.old ≡ []) × (told_of self.new ≡ told_of self.old))) }
+        ensures done { OnOk result ((committed_of self.new ≡ []) × (waiting_of self.new ≡ [])) }
+        ensures told { OnErr result (told_of self.new ≡ told_of self.old) }
+        ensures held { OnErr result (committed_of self.new ++ waiting_of self.new ≡ committed_of self.old ++ waiting_of self.old) }
+
+        // A failure of the device is told as such, and nothing else is.
+        ensures fails { has_failed (store_of self.old) ≡ false → (has_failed (store_of self.new) ≡ true ↔ IsErrOf result Refusal.Fault) }
+    {
+        gate.pass(Moment::BeforeCommit);
+        self.commit_held(alloc)?;
+        gate.pass(Moment::AfterCommit);
+        self.publisher.publish(rt, alloc)
+    }
+
+    /// Whether a batch is held that isn't committed yet, or one is committed that isn't published yet.
+    pub fn holds(&self) -> bool
+        ensures held { result ≡ false → (committed_of self.now ≡ []) × (waiting_of self.now ≡ []) }
+        ensures none { committed_of self.now ++ waiting_of self.now ≡ [] → result ≡ false }
+    {
+        self.publisher.holds() || self.waiting.is_some()
+    }
+
+    /// How many bytes a batch may have: what fits a slot in which nothing stands yet.
+    pub fn cap(&self) -> u32
+        ensures { result ≡ cap_of (state_of (store_of self.now)) }
+    {
+        self.store.state().limits().width().saturating_add(4)
+    }
+
+    /// A reader of what is published, if there is a place for one more. It takes no memory.
+    pub fn viewer(&self) -> Option<Viewer<D, J>>
+        ensures { IfSome result (λ viewer. viewer ≡ told_of self.now) }
+    {
+        self.publisher.viewer()
+    }
+
+    /// Retires the oldest segment of the store, as `Store::retire` does. It takes no memory.
+    pub fn retire(&mut self) -> Result<(), Refusal>
+        ensures goes { Goes (λ content. FoundAs content (state_of (store_of self.old))) (store_of self.old) (store_of self.new) }
+        ensures state { state_of (store_of self.new) ≡ state_of (store_of self.old) }
+        ensures fails { has_failed (store_of self.old) ≡ false → (has_failed (store_of self.new) ≡ true ↔ IsErrOf result Refusal.Fault) }
+        ensures needed { IsErrOf result Refusal.StillNeeded → (is_open : IsOpen (store_of self.old)) → ¬ MayRetire is_open.table is_open.cells }
+        ensures not_needed { OnOk result ((is_open : IsOpen (store_of self.old)) → MayRetire is_open.table is_open.cells) }
+        ensures done { OnOk result ((is_open : IsOpen (store_of self.old)) → IsRetiredNow is_open.cells is_open.table (store_of self.new)) }
+        ensures only { IfErr result (λ e. (e ≡ Refusal.StillNeeded) ⊎ (e ≡ Refusal.Fault)) }
+        ensures told { told_of self.new ≡ told_of self.old }
+        ensures committed { committed_of self.new ≡ committed_of self.old }
+        ensures waiting { waiting_of self.new ≡ waiting_of self.old }
+    {
+        self.store.retire()
+    }
+
+    /// Ends the publishing, and gives the store back.
+    pub fn end<R: Wait>(self, rt: &R) -> Store<D>
+        ensures { result ≡ store_of self }
+    {
+        let Flusher {
+            store,
+            publisher,
+            waiting: _,
+            begun: _,
+        } = self;
+        publisher.end(rt);
+        store
+    }
+}

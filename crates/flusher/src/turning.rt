@@ -1,0 +1,52 @@
+//! A turn of a run: what is taken off is written, published and settled.
+ghost use Rattle.std.specs.Prelude.{◌≡◌, ◌≢◌, ◌⊎◌, ◌↔◌, ◌<◌, ◌≤◌, ◌^◌, [], ◌∷◌, ◌++◌, true, false, length, OnOk, OnErr, IfOk, IfErr, IfSome, IfNone, IsErrOf};
+ghost use Rattle.world.specs.Board.{taken_more, settled_more};
+ghost use Rattle.hub.specs.Runs.{IsLongest, untaken};
+ghost use Rattle.recovery.specs.Open.{state_of, has_failed};
+ghost use Rattle.flusher.specs.Flushers.{cap_of};
+ghost use Rattle.flusher.specs.Holding.{store_of};
+ghost use Rattle.flusher.specs.Standing.{IsCalm, RunGoes};
+ghost use Rattle.flusher.specs.Run.{standing};
+
+use crate::flusher::Flusher;
+use crate::gate::OpenGate;
+use disk::Disk;
+use hub::Board;
+use published::Site;
+use refusal::Refusal;
+use std::alloc::Global;
+use std::sync::Wait;
+
+/// A turn: takes off the longest run of commands whose batch fits a slot, writes it, and settles it. Gives how many commands there are
+/// in it, which are none where nothing was left to take off. At a refusal the run may be committed or not.
+pub fn turn<D: Disk, J: Site, R: Wait>(
+    rt: &R,
+    alloc: Global,
+    flusher: &mut Flusher<D, J>,
+    board: &mut Board<D, J>,
+) -> Result<usize, Refusal>
+    requires calm { IsCalm J.start (standing board.old flusher.old) }
+    requires works { has_failed (store_of flusher.old) ≡ false }
+    ensures goes { RunGoes J.start (standing board.old flusher.old) (standing board.new flusher.new) }
+    ensures calm { OnOk result (IsCalm J.start (standing board.new flusher.new)) }
+    ensures works { OnOk result (has_failed (store_of flusher.new) ≡ false) }
+    ensures run { IfOk result (λ count. IsLongest (cap_of (state_of (store_of flusher.old))) (untaken board.old.board) count) }
+    ensures settled { IfOk result (λ count. board.new.board ≡ settled_more (taken_more board.old.board count) count) }
+    ensures failed { board.new.failed ≡ board.old.failed }
+{
+    let run = board.take(alloc, flusher.cap())?;
+    let count = run.len();
+    if count == 0 {
+        return Ok(0);
+    }
+    flusher.hold(run);
+    match flusher.write(rt, alloc, &mut OpenGate)? {
+        None => Ok(count),
+        Some(both) => {
+            let (receipt, told) = both;
+            board.settle(&receipt, told)?;
+            flusher.kept();
+            Ok(count)
+        }
+    }
+}

@@ -1,0 +1,45 @@
+-- Published batches, of which some begin others, and what they make of a state.
+use Rattle.std.proofs.Common.{◌≡◌, ◌≤◌, ◌++◌, ◌&&◌, Bool, true, false, List, [], ◌∷◌, length, length-append, refl, sym, ap, subst, ◌∙◌, append_assoc, append-nil, arith}
+use mathlib.Core.List.{IsPrefix}
+use Rattle.revision.specs.Command.{Taken}
+use Rattle.revision.specs.State.{State, grows, grown, all_grow, fold}
+use Rattle.recovery.specs.Found.{commands_of}
+use Rattle.session.specs.Shelf.{IsLater}
+
+pub prefix_self : {A : Type 0} (xs : List A) → IsPrefix xs xs
+prefix_self xs = ([], append-nil xs)
+
+pub prefix_trans : {A : Type 0} (xs ys zs : List A) → IsPrefix xs ys → IsPrefix ys zs → IsPrefix xs zs
+prefix_trans xs ys zs (t, is) (u, so) = (t ++ u, sym (append_assoc xs t u) ∙ ap (λ l. l ++ u) is ∙ so)
+
+-- the commands of batches behind others
+commands-joined : (front back : List (List Taken)) → commands_of (front ++ back) ≡ commands_of front ++ commands_of back
+commands-joined [] back = refl
+commands-joined (batch ∷ others) back =
+    ap (λ (l : List Taken). batch ++ l) (commands-joined others back) ∙ sym (append_assoc batch (commands_of others) (commands_of back))
+
+-- what begins others has no more commands
+pub no_more : (old new : List (List Taken)) → IsPrefix old new → length (commands_of old) ≤ length (commands_of new)
+no_more old new (back, is) =
+    subst (λ (l : List (List Taken)). length (commands_of old) ≤ length (commands_of l)) is
+    (let joined = ap (λ (l : List Taken). length l) (commands-joined old back) in
+    let sum = length-append (commands_of old) (commands_of back) in
+    omega (arith, joined, sum))
+
+and_right : (a b : Bool) → (a && b) ≡ true → b ≡ true
+and_right true b h = h
+and_right false b h = cc
+
+-- the commands behind others grow what those make
+grow_behind : (front back : List Taken) (state : State) → all_grow state (front ++ back) ≡ true
+    → (all_grow (fold state front) back ≡ true) × (fold state (front ++ back) ≡ fold (fold state front) back)
+grow_behind [] back state grow = (grow, refl)
+grow_behind (first ∷ others) back state grow = grow_behind others back (grown state first) (and_right (grows state first) (all_grow (grown state first) (others ++ back)) grow)
+
+-- so what longer batches make of a start is later than what a beginning of them makes
+pub later_batches : (start : State) (old new : List (List Taken)) → IsPrefix old new → all_grow start (commands_of new) ≡ true
+    → IsLater (fold start (commands_of old)) (fold start (commands_of new))
+later_batches start old new (back, is) grow =
+    let whole : commands_of new ≡ commands_of old ++ commands_of back = ap commands_of (sym is) ∙ commands-joined old back in
+    let behind = grow_behind (commands_of old) (commands_of back) start (subst (λ (l : List Taken). all_grow start l ≡ true) whole grow) in
+    (commands_of back, behind.0, ap (fold start) whole ∙ behind.1)

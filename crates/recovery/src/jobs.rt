@@ -1,0 +1,56 @@
+//! The jobs of milestones that a store has handed out.
+ghost use Rattle.std.specs.Prelude.{◌≡◌, ◌↔◌, [], not, ◌==◌, filter, Contains, IsTrue, OnOk, OnErr, IsOkUnless};
+ghost use Rattle.recovery.specs.Jobs.{jobs_of, without_job, with_job};
+
+use milestone::Job;
+use refusal::Refusal;
+use std::alloc::Global;
+
+/// Copies of the jobs that were handed out and not put yet, of each document the last one.
+#[derive(Drop)]
+pub struct Jobs {
+    list: Vec<Job>,
+}
+
+impl Jobs {
+    /// None. It takes no memory.
+    pub fn new(alloc: Global) -> Jobs
+        ensures { jobs_of result ≡ [] }
+    {
+        Jobs {
+            list: Vec::new(alloc),
+        }
+    }
+
+    /// Whether this very job is kept. It takes no memory.
+    pub fn is_kept(&self, job: &Job) -> bool
+        ensures { IsTrue result ↔ Contains (jobs_of self.now) job.now }
+    {
+        for kept in &self.list {
+            if kept.is_same(job) {
+                return true;
+            }
+        }
+        false
+    }
+
+    /// Keeps a job, in place of the one that was kept of its document. Refused for want of memory alone.
+    pub fn keep(&mut self, job: Job) -> Result<(), Refusal>
+        ensures ok { OnOk result (jobs_of self.new ≡ with_job job (jobs_of self.old)) }
+        ensures err { OnErr result (jobs_of self.new ≡ jobs_of self.old) }
+        ensures only { IsOkUnless result Refusal.NoMemory }
+    {
+        self.list.reserve(1)?;
+        let document = job.document();
+        self.list.retain(|kept| kept.document() != document);
+        self.list.push(job).unwrap();
+        Ok(())
+    }
+
+    /// Drops the job of a document, where one is kept. It takes no memory.
+    pub fn forget(&mut self, document: u32)
+        ensures { jobs_of self.new ≡ without_job document (jobs_of self.old) }
+    {
+        self.list.retain(|job| job.document() != document);
+    }
+}

@@ -1,0 +1,120 @@
+//! Handing out the jobs of milestones.
+ghost use Rattle.std.specs.Prelude.{◌≡◌, ◌≢◌, ◌≤◌, true, false, Some, None, slice_get, OnOk, OnErr, IfOk, IfErr, IsErrOf, IsOkUnless};
+ghost use Rattle.refusal.specs.declared.Refusal.{Refusal as Why};
+ghost use Rattle.revision.specs.Past.{sources_at};
+ghost use Rattle.revision.specs.Pending.{held};
+ghost use Rattle.revision.specs.State.{are_sources, revision_of};
+ghost use Rattle.history.specs.Cell.{cells_at, cell_of};
+ghost use Rattle.milestone.specs.Job.{cell_of_job};
+ghost use Rattle.recovery.specs.Cells.{highest_known};
+ghost use Rattle.recovery.specs.Jobs.{IsJobTo, KeepsLimits, highest, no_job_of, no_job_for, with_job};
+ghost use Rattle.recovery.specs.Open.{IsOpen, IsUnchanged, device_of, ring_of, state_of, known_cells, has_failed, kept_jobs};
+
+use crate::store::Store;
+use disk::Disk;
+use milestone::{Cells, Job};
+use refusal::Refusal;
+use revision::{DocState, Replay};
+use std::alloc::Global;
+
+impl<D: Disk> Store<D> {
+    /// What a milestone of a document at a revision is made of: the edits up to that revision, with the document's sources there. It
+    /// copies them, and applies none, so that a job can be composed in another thread; the store keeps a copy of it, of each
+    /// document the last one.
+    ///
+    /// `NoDocument` comes where there is none of this number, `Future` where it hasn't reached the revision, and `TooOld` where
+    /// the revision is 0, below the floor, or below that of an open cell of the document. Want of memory is told in place of no
+    /// other refusal. After a refusal the store is as it was.
+    pub fn milestone_job(
+        &mut self,
+        alloc: Global,
+        document: u32,
+        revision: u64,
+    ) -> Result<Job, Refusal>
+        // When each refusal comes.
+        ensures failed_before { has_failed self.old ≡ true → (IsErrOf result Refusal.Fault) × IsUnchanged self.old self.new }
+        ensures refused { has_failed self.old ≡ false → (is_open : IsOpen self.old) → (why : Why)
+            → no_job_for (slice_get (state_of self.old).documents document) (highest (cells_at is_open.cells document)) revision ≡ Some why → IsErrOf result why }
+        ensures refusal { IfErr result (λ e. e ≢ Refusal.NoMemory → has_failed self.old ≡ false → (is_open : IsOpen self.old)
+            → no_job_for (slice_get (state_of self.old).documents document) (highest (cells_at is_open.cells document)) revision ≡ Some e) }
+        ensures works { has_failed self.old ≡ false → ¬ IsErrOf result Refusal.Fault }
+
+        // What it gives.
+        ensures job { IfOk result (λ job. IsJobTo (state_of self.old).documents document revision job) }
+        ensures keeps { IfOk result (λ job. kept_jobs self.new ≡ with_job job (kept_jobs self.old)) }
+
+        // Nothing but the kept jobs changes.
+        ensures untouched { OnErr result (IsUnchanged self.old self.new) }
+        ensures device { device_of self.new ≡ device_of self.old }
+        ensures ring { ring_of self.new ≡ ring_of self.old }
+        ensures state { state_of self.new ≡ state_of self.old }
+        ensures failed { has_failed self.new ≡ has_failed self.old }
+        ensures open { IsOpen self.old → IsOpen self.new }
+    {
+        if self.failed {
+            return Err(Refusal::Fault);
+        }
+        let job = self.job_to(alloc, document, revision)?;
+        let copy = job.copy(alloc)?;
+        self.jobs.keep(copy)?;
+        Ok(job)
+    }
+
+    // The job, or why there is none.
+    fn job_to(&self, alloc: Global, document: u32, revision: u64) -> Result<Job, Refusal>
+        ensures job { IfOk result (λ job. IsJobTo (state_of self.now).documents document revision job) }
+        ensures keeps { IfOk result (λ job. KeepsLimits (state_of self.now).limits job) }
+        ensures given { OnOk result (no_job_for (slice_get (state_of self.now).documents document) (highest_known (known_cells self.now) document) revision ≡ None) }
+        ensures refused { (why : Why) → no_job_for (slice_get (state_of self.now).documents document) (highest_known (known_cells self.now) document) revision ≡ Some why → IsErrOf result why }
+        ensures refusal { IfErr result (λ e. e ≢ Refusal.NoMemory → no_job_for (slice_get (state_of self.now).documents document) (highest_known (known_cells self.now) document) revision ≡ Some e) }
+        ensures no_fault { ¬ IsErrOf result Refusal.Fault }
+    {
+        let _ = self.state.limits();
+        let Some(found) = self.state.documents().get(document as usize) else {
+            return Err(Refusal::NoDocument);
+        };
+        if let Some(refusal) = why_none(found, highest_of(&self.cells, document), revision) {
+            return Err(refusal);
+        }
+        job_of(alloc, document, found, revision)
+    }
+}
+
+// Why a document is given no job to a revision, above the open cells of which this is the highest.
+fn why_none(found: &DocState, highest: u64, revision: u64) -> Option<Refusal>
+    ensures { result ≡ no_job_of (held found.now) highest revision }
+{
+    if found.revision() < revision {
+        Some(Refusal::Future)
+    } else if revision == 0 || revision < found.floor() || revision < highest {
+        Some(Refusal::TooOld)
+    } else {
+        None
+    }
+}
+
+// The highest revision of a document's open cells, 0 where none is open.
+fn highest_of(cells: &[Cells], document: u32) -> u64
+    ensures { result ≡ highest_known cells.now document }
+{
+    match cells.get(document as usize) {
+        Some(known) => known.highest(),
+        None => 0,
+    }
+}
+
+// The job of a document to a revision that it holds. Refused for want of memory alone.
+fn job_of(alloc: Global, document: u32, found: &DocState, revision: u64) -> Result<Job, Refusal>
+    requires first { 1 ≤ revision }
+    requires held { found.now.past.past.floor ≤ revision }
+    requires there { revision ≤ revision_of (held found.now) }
+    requires sources { are_sources revision (sources_at found.now.past.past revision).entries ≡ true }
+    ensures document { IfOk result (λ job. job.document ≡ document) }
+    ensures is { IfOk result (λ job. cell_of_job job ≡ cell_of (held found.now) revision) }
+    ensures only { IsOkUnless result Refusal.NoMemory }
+{
+    let Replay { deltas, sources } = found.replay_to(alloc, revision)?;
+    let name = found.name().copy(alloc)?;
+    let _ = found.revision();
+    Ok(Job::new(document, name, revision, deltas, sources))
+}

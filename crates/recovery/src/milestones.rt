@@ -1,0 +1,70 @@
+//! Putting a milestone.
+ghost use Rattle.std.specs.Prelude.{◌≡◌, ◌≢◌, ◌⊎◌, ◌↔◌, ◌+◌, ◌≤◌, ◌<◌, ℕ, true, false, length, Contains, OnOk, OnErr, IfErr, IsErrOf, Some, slice_get};
+ghost use Rattle.disk.specs.Device.{Rose};
+ghost use Rattle.disk.specs.Crash.{LeavesOnly};
+ghost use Rattle.milestone.specs.Job.{cell_of_job};
+ghost use Rattle.recovery.specs.Found.{FoundAs};
+ghost use Rattle.recovery.specs.Jobs.{without_job};
+ghost use Rattle.recovery.specs.Open.{IsOpen, IsUnchanged, IsPutNow, device_of, state_of, has_failed, kept_jobs};
+
+use crate::store::Store;
+use disk::Disk;
+use milestone::Composed;
+use refusal::Refusal;
+use std::alloc::Global;
+
+impl<D: Disk> Store<D> {
+    /// Puts the milestone that comes of a job into a cell of its document: over the older one where both are open, which is closed
+    /// first. `Stranger` comes just where the job isn't the one that the store keeps of its document, and makes no call of the
+    /// device; nor does `NoMemory`. Once it is Ok, the cell is open, and the kept copy of the job is dropped. After a `Fault` the
+    /// store has failed. The documents stay.
+    pub fn put_milestone(&mut self, alloc: Global, composed: &Composed) -> Result<(), Refusal>
+        // When each refusal comes.
+        ensures failed_before { has_failed self.old ≡ true → (IsErrOf result Refusal.Fault) × IsUnchanged self.old self.new }
+        ensures stranger { has_failed self.old ≡ false → (IsErrOf result Refusal.Stranger ↔ (¬ Contains (kept_jobs self.old) composed.now)) }
+        ensures fault { IsErrOf result Refusal.Fault → has_failed self.old ≡ false
+            → Rose (D.faults (device_of self.old)) (D.faults (device_of self.new)) }
+        ensures only { IfErr result (λ e. (e ≡ Refusal.Stranger) ⊎ ((e ≡ Refusal.NoMemory) ⊎ (e ≡ Refusal.Fault))) }
+
+        // What each answer leaves.
+        ensures state { state_of self.new ≡ state_of self.old }
+        ensures untouched { (IsErrOf result Refusal.Stranger) ⊎ (IsErrOf result Refusal.NoMemory) → IsUnchanged self.old self.new }
+        ensures dropped { OnOk result (kept_jobs self.new ≡ without_job composed.now.document (kept_jobs self.old)) }
+        ensures fails { has_failed self.old ≡ false → (has_failed self.new ≡ true ↔ IsErrOf result Refusal.Fault) }
+        ensures good { OnOk result (D.faults (device_of self.new) ≡ D.faults (device_of self.old)) }
+        ensures no_fault { IfErr result (λ e. e ≢ Refusal.Fault → D.faults (device_of self.new) ≡ D.faults (device_of self.old)) }
+
+        // A crash at any moment leaves the state; once it is Ok, the cell of the job is open.
+        ensures any_moment { has_failed self.old ≡ false → IsOpen self.old
+            → LeavesOnly ⟦<D as Disk>⟧ (λ content. FoundAs content (state_of self.old)) (device_of self.old) (device_of self.new) }
+        ensures done { OnOk result ((is_open : IsOpen self.old) → IsPutNow is_open.cells composed.now self.new) }
+        ensures kept { IfErr result (λ e. e ≢ Refusal.Fault → IsOpen self.old → IsOpen self.new) }
+
+        // Six calls of the device at most.
+        ensures calls { length (D.past (device_of self.new)) ≤ length (D.past (device_of self.old)) + 6 }
+        ensures honest { D.honest (device_of self.new) ↔ D.honest (device_of self.old) }
+    {
+        if self.failed {
+            return Err(Refusal::Fault);
+        }
+        let job = composed.job();
+        if !self.jobs.is_kept(job) {
+            return Err(Refusal::Stranger);
+        }
+        let document = job.document();
+        let milestone = composed.milestone();
+        if let Err(refusal) = milestone.content(alloc) {
+            return Err(refusal);
+        }
+        match self.cells[document as usize].replace_older(alloc, &mut self.device, milestone) {
+            Ok(()) => {
+                self.jobs.forget(document);
+                Ok(())
+            }
+            Err(refusal) => {
+                self.failed = refusal == Refusal::Fault;
+                Err(refusal)
+            }
+        }
+    }
+}

@@ -1,0 +1,293 @@
+-- Lines that were sent ahead.
+use Rattle.std.proofs.Common.{◌≡◌, ◌++◌, List, ℕ, [], ◌∷◌, Option, Some, None, Result, Ok, IfSome, true, refl, sym, ap, subst, ◌∙◌, inl, append_assoc, append-nil, take, drop, set, get_or, length, ◌<◌, ◌+◌, zero, suc, arith}
+use Rattle.std.proofs.lemmas.List.{map-append, take_more, take_more_set, take-append-drop}
+use Rattle.std.proofs.Math.Seq.{map-set_same}
+use Rattle.std.specs.Io.KnownBytes.{Appends}
+use Rattle.refusal.specs.declared.Refusal.{Refusal}
+use Rattle.optext.specs.Answer.{IsAnswer}
+use Rattle.revision.specs.Command.{Command}
+use Rattle.session.specs.declared.reply.Reply.{Reply}
+use Rattle.session.specs.declared.line.Event.TheVariants.{Complete}
+use Rattle.session.specs.declared.request.Request.TheVariants.{Ask}
+use Rattle.session.specs.declared.sent.Sent.{Sent}
+use Rattle.session.specs.Exchange.{Exchange, Answered, AreAnswered}
+use Rattle.session.specs.Line.{Partial, with_byte}
+use Rattle.session.specs.Output.{AppendsFront}
+use Rattle.session.specs.Request.{request_of}
+use Rattle.session.specs.Session.{Session}
+use Rattle.session.specs.Replies.{answer_line, IsLine, Asked, TakesByte, LineEnds, IsAtOnce, Replies, Asks, Feeds, Stops}
+use Rattle.session.specs.Ahead.{command_of, commands_of, exchange_of, exchanges_of, AreReplies, IsSentAhead, Settles, Ahead}
+use Rattle.session.proofs.Feeding.{replies-joined, asks-joined, feeds-joined, feeds-nothing}
+use Rattle.session.proofs.Replying.{due_ok, some_line, pair, one_byte}
+use Rattle.session.proofs.Writes.{appends-both, front-behind, front-longer}
+
+-- nothing was sent ahead
+none_sent : (s : Session) → IsSentAhead s [] [] s
+none_sent s [] text is tell = (refl, refl, tell)
+none_sent s (one ∷ others) text is tell = absurd cc
+
+-- the line goes on
+sent_on : (old mid new : Session) (bytes : List ℕ) (byte : ℕ) (commands : List Command) → IsSentAhead old bytes commands mid
+    → Replies mid (byte ∷ []) [] new [] → IsSentAhead old (bytes ++ byte ∷ []) commands new
+sent_on old mid new bytes byte commands sent more answered text is tell =
+    let joined = replies-joined bytes (byte ∷ []) old mid new (exchanges_of answered) [] text [] (sent answered text is tell) more in
+    subst (λ (l : List Exchange). Replies old (bytes ++ byte ∷ []) l new text) (append-nil (exchanges_of answered))
+    (subst (λ (l : List ℕ). Replies old (bytes ++ byte ∷ []) (exchanges_of answered ++ []) new l) (append-nil text) joined)
+
+-- equal lists have equal heads and equal tails
+cons_same : {X : Type 0} (x y : X) (xs ys : List X) → x ∷ xs ≡ y ∷ ys → (x ≡ y) × (xs ≡ ys)
+cons_same x y xs ys is = (cc, cc)
+
+-- the last of the commands
+last_sent : (commands : List Command) (command : Command) (answered : List Sent) → commands_of answered ≡ commands ++ command ∷ []
+    → (front : List Sent) × (last : Sent) × (answered ≡ front ++ last ∷ []) × (commands_of front ≡ commands) × (last.command ≡ command)
+last_sent [] command [] is = absurd cc
+last_sent [] command (one ∷ []) is = ([], one, refl, refl, cc)
+last_sent [] command (one ∷ other ∷ more) is = absurd cc
+last_sent (first ∷ commands) command [] is = absurd cc
+last_sent (first ∷ commands) command (one ∷ others) is =
+    let both = cons_same one.command first (commands_of others) (commands ++ command ∷ []) is in
+    let r = last_sent commands command others both.1 in (
+      one ∷ r.0,
+      r.1,
+      ap (λ (l : List Sent). one ∷ l) r.2,
+      ap (λ (c : Command). c ∷ commands_of r.0) both.0 ∙ ap (λ (l : List Command). first ∷ l) r.3,
+      r.4,
+    )
+
+-- and its reply
+replies_parted : (front : List Sent) (last : Sent) (text : List ℕ) → AreReplies (front ++ last ∷ []) text
+    → (t : List ℕ) × (u : List ℕ) × AreReplies front t × IsLine (answer_line last.command last.answer) u × (text ≡ t ++ u)
+replies_parted [] last text (line, back, is, none, whole) = ([], line, refl, is, whole ∙ ap (λ (l : List ℕ). line ++ l) none ∙ append-nil line)
+replies_parted (one ∷ others) last text (line, back, is, rest, whole) =
+    let r = replies_parted others last back rest in
+    (line ++ r.0, r.1, (line, r.0, is, r.2, refl), r.3, whole ∙ ap (λ (l : List ℕ). line ++ l) r.4 ∙ sym (append_assoc line r.0 r.1))
+
+-- a further command is sent ahead
+sent_more : (old mid new : Session) (bytes : List ℕ) (byte : ℕ) (commands : List Command) (command : Command) → IsSentAhead old bytes commands mid
+    → ((answer : Result Reply Refusal) (text : List ℕ) → IsLine (answer_line command answer) text → Replies mid (byte ∷ []) (Answered command answer ∷ []) new text)
+    → IsSentAhead old (bytes ++ byte ∷ []) (commands ++ command ∷ []) new
+sent_more old mid new bytes byte commands command sent ends answered text is tell =
+    let s = last_sent commands command answered is in
+    let p = replies_parted s.0 s.1 text (subst (λ (l : List Sent). AreReplies l text) s.2 tell) in
+    let line : IsLine (answer_line command s.1.answer) p.1 = subst (λ (c : Command). IsLine (answer_line c s.1.answer) p.1) s.4 p.3 in
+    let joined = replies-joined bytes (byte ∷ []) old mid new (exchanges_of s.0) (Answered command s.1.answer ∷ []) p.0 p.1 (sent s.0 p.0 s.3 p.2) (ends s.1.answer p.1 line) in
+    let these : exchanges_of answered ≡ exchanges_of s.0 ++ Answered command s.1.answer ∷ [] =
+    ap exchanges_of s.2 ∙ map-append exchange_of s.0 (s.1 ∷ []) ∙ ap (λ (c : Command). exchanges_of s.0 ++ Answered c s.1.answer ∷ []) s.4 in
+    subst (λ (l : List Exchange). Replies old (bytes ++ byte ∷ []) l new text) (sym these)
+    (subst (λ (l : List ℕ). Replies old (bytes ++ byte ∷ []) (exchanges_of s.0 ++ Answered command s.1.answer ∷ []) new l) (sym p.4) joined)
+
+-- the line of a command ends, and whatever is answered to it is replied
+ends_in : (old read new : Session) (byte : ℕ) (command : Command) → with_byte old.line byte ≡ (Complete, read.line) → read ≡ record old { line = read.line }
+    → new ≡ record read { line = Some [] } → (line : Partial) → read.line ≡ line → IfSome line (λ l. IsAnswer (request_of read.peer.source l) (Ok (Ask command)))
+    → (answer : Result Reply Refusal) (text : List ℕ) → IsLine (answer_line command answer) text → Replies old (byte ∷ []) (Answered command answer ∷ []) new text
+ends_in old read new byte command event others next None none due answer text reply = absurd (some_line old.line byte (event ∙ ap (λ (l : Partial). pair l) none))
+ends_in old read new byte command event others next (Some line) is due answer text reply =
+    let new_is : new ≡ record old { line = Some [] } = next ∙ ap (λ (s : Session). record s { line = Some [] }) others in
+    let asks : request_of old.peer.source line ≡ Ok (Ask command) = ap (λ (s : Session). request_of s.peer.source line) (sym others) ∙ due_ok _ _ due in
+    one_byte old new byte (Answered command answer ∷ []) text
+    (subst (λ (n : Session). TakesByte old byte (Answered command answer ∷ []) n text) (sym new_is)
+    (LineEnds line (Answered command answer ∷ []) old.peer text (event ∙ ap (λ (l : Partial). pair l) is) (Asked command answer text asks reply)))
+
+-- commands are asked at once
+all_answered : (sent : List Sent) → AreAnswered (exchanges_of sent)
+all_answered [] = tt
+all_answered (one ∷ others) = all_answered others
+
+-- as commands that are replied
+pub due_replies : (sent : List Sent) → (text : List ℕ) × AreReplies sent text
+due_replies [] = ([], refl)
+due_replies (one ∷ others) =
+    let r = due_replies others in
+    (answer_line one.command one.answer ++ r.0, (answer_line one.command one.answer, r.0, inl refl, r.1, refl))
+
+-- one more is replied
+pub replies_more : (front : List Sent) (last : Sent) (text line : List ℕ) → AreReplies front text → IsLine (answer_line last.command last.answer) line
+    → AreReplies (front ++ last ∷ []) (text ++ line)
+replies_more [] last text line none is = (line, [], is, refl, ap (λ (l : List ℕ). l ++ line) none ∙ sym (append-nil line))
+replies_more (one ∷ others) last text line (first, back, is, rest, whole) reply =
+    (first, back ++ line, is, replies_more others last back line rest reply, ap (λ (l : List ℕ). l ++ line) whole ∙ append_assoc first back line)
+
+-- and all behind it
+pub replies_behind : (front back : List Sent) (t u : List ℕ) → AreReplies front t → AreReplies back u → AreReplies (front ++ back) (t ++ u)
+replies_behind [] back t u none second = subst (λ (l : List ℕ). AreReplies back (l ++ u)) (sym none) second
+replies_behind (one ∷ others) back t u (first, rest, is, more, whole) second =
+    (first, rest ++ u, is, replies_behind others back rest u more second, ap (λ (l : List ℕ). l ++ u) whole ∙ append_assoc first rest u)
+
+-- one more is replied, and of the text some more is written
+pub replied_more : (sent : List Sent) (i : ℕ) (one : Sent) (lines done text bytes text' moved : List ℕ) (a b c : Option (List ℕ)) → i < length sent → one ≡ get_or sent i one
+    → AreReplies (take i sent) lines → lines ≡ done ++ text → Appends a b done → IsLine (answer_line one.command one.answer) bytes
+    → text ++ bytes ≡ moved ++ text' → Appends b c moved
+    → (lines' : List ℕ) × (done' : List ℕ) × AreReplies (take (i + 1) sent) lines' × (lines' ≡ done' ++ text') × Appends a c done'
+replied_more sent i one lines done text bytes text' moved a b c within at tell whole written line rest more = (
+  lines ++ bytes,
+  done ++ moved,
+  subst (λ (l : List Sent). AreReplies l (lines ++ bytes)) (sym (take_more sent i one within ∙ ap (λ (s : Sent). take i sent ++ s ∷ []) (sym at)))
+      (replies_more (take i sent) one lines bytes tell line),
+  ap (λ (l : List ℕ). l ++ bytes) whole ∙ append_assoc done text bytes ∙ ap (λ (l : List ℕ). done ++ l) rest ∙ sym (append_assoc done moved text'),
+  appends-both a b c done moved written more,
+)
+
+-- or a write fails: what is due of the others was not written
+pub replied_front : (sent : List Sent) (i : ℕ) (one : Sent) (lines done text bytes : List ℕ) (a b c : Option (List ℕ)) → i < length sent → one ≡ get_or sent i one
+    → AreReplies (take i sent) lines → lines ≡ done ++ text → Appends a b done → IsLine (answer_line one.command one.answer) bytes
+    → AppendsFront b c (text ++ bytes) → (due : List ℕ) × AreReplies sent due × AppendsFront a c due
+replied_front sent i one lines done text bytes a b c within at tell whole written line front =
+    let others = due_replies (drop (i + 1) sent) in
+    let all : (take i sent ++ one ∷ []) ++ drop (i + 1) sent ≡ sent =
+    ap (λ (l : List Sent). l ++ drop (i + 1) sent) (ap (λ (s : Sent). take i sent ++ s ∷ []) at ∙ sym (take_more sent i one within)) ∙ take-append-drop (i + 1) sent in
+    let text_is : done ++ (text ++ bytes) ≡ lines ++ bytes = sym (append_assoc done text bytes) ∙ ap (λ (l : List ℕ). l ++ bytes) (sym whole) in (
+      (lines ++ bytes) ++ others.0,
+      subst (λ (l : List Sent). AreReplies l ((lines ++ bytes) ++ others.0)) all
+          (replies_behind (take i sent ++ one ∷ []) (drop (i + 1) sent) (lines ++ bytes) others.0 (replies_more (take i sent) one lines bytes tell line) others.1),
+      front-longer a c (lines ++ bytes) others.0 (subst (AppendsFront a c) text_is (front-behind a b c done (text ++ bytes) written front)),
+    )
+
+-- what stands at a place, whatever stands for it beyond the end
+same_item : (sent : List Sent) (i : ℕ) (x y : Sent) → i < length sent → get_or sent i x ≡ get_or sent i y
+same_item [] i x y within = absurd (omega arith)
+same_item (one ∷ others) zero x y within = refl
+same_item (one ∷ others) (suc i) x y within = same_item others i x y (omega arith)
+
+module _ {D : Type 0} (does : D → Exchange → D → Type 0) where
+  -- one more was asked, and its answer noted
+  pub asked_more : (old now new : D) (sent : List Sent) (i : ℕ) (asked item : Sent) (answer : Result Reply Refusal) → i < length sent → asked ≡ get_or sent i asked
+      → item ≡ get_or sent i item → Asks does old (exchanges_of (take i sent)) now → does now (Answered asked.command answer) new
+      → (commands_of (set sent i (record { command = item.command; answer = answer })) ≡ commands_of sent)
+      × Asks does old (exchanges_of (take (i + 1) (set sent i (record { command = item.command; answer = answer })))) new
+  asked_more old now new sent i asked item answer within asked_at item_at before gave =
+      let noted : Sent = record { command = item.command; answer = answer } in
+      let same : asked ≡ item = asked_at ∙ same_item sent i asked item within ∙ sym item_at in
+      let these : exchanges_of (take (i + 1) (set sent i noted)) ≡ exchanges_of (take i sent) ++ Answered item.command answer ∷ [] =
+      ap exchanges_of (take_more_set sent i noted within) ∙ map-append exchange_of (take i sent) (noted ∷ []) in (
+        map-set_same command_of sent i noted item (ap command_of item_at),
+        subst (λ (l : List Exchange). Asks does old l new) (sym these)
+            (asks-joined does (exchanges_of (take i sent)) (Answered item.command answer ∷ []) old now new before
+            (new, subst (λ (s : Sent). does now (Answered s.command answer) new) same gave, refl)),
+      )
+
+  -- what holds of the replies
+  pub settles_map : (commands : List Command) (desk desk' : D) (P Q : List ℕ → Type 0) → ((text : List ℕ) → P text → Q text)
+      → Settles does commands desk desk' P → Settles does commands desk desk' Q
+  settles_map commands desk desk' P Q so s =
+      record { answered = s.answered; these = s.these; asks = s.asks; text = s.text; tell = s.tell; holds = so s.text s.holds }
+
+  -- what was fed has nothing left that was sent ahead
+  pub ahead_of : (old new : Session) (piece : List ℕ) (d e : D) (o p : Option (List ℕ)) → Feeds does old piece new d e o p → Ahead does old piece [] new d e o p
+  ahead_of old new piece d e o p fed = record { front = piece; back = []; whole = sym (append-nil piece); mid = new; fed = fed; sent = none_sent new }
+
+  pub ahead_of_nothing : (s : Session) (d : D) (o : Option (List ℕ)) → Ahead does s [] [] s d d o o
+  ahead_of_nothing s d o = ahead_of s s [] d d o o (feeds-nothing does s d o)
+
+  module _ (first old : Session) (piece : List ℕ) (commands : List Command) (begun desk : D) (clean out : Option (List ℕ))
+      (ahead : Ahead does first piece commands old begun desk clean out) where
+    -- the line goes on
+    pub ahead_on : (new : Session) (byte : ℕ) → Replies old (byte ∷ []) [] new [] → Ahead does first (piece ++ byte ∷ []) commands new begun desk clean out
+    ahead_on new byte more = record {
+      front = ahead.front;
+      back = ahead.back ++ byte ∷ [];
+      whole = ap (λ (l : List ℕ). l ++ byte ∷ []) ahead.whole ∙ append_assoc ahead.front ahead.back (byte ∷ []);
+      mid = ahead.mid;
+      fed = ahead.fed;
+      sent = sent_on ahead.mid old new ahead.back byte commands ahead.sent more;
+    }
+
+    -- a command is sent ahead
+    pub ahead_more : (read new : Session) (byte : ℕ) (command : Command) → with_byte old.line byte ≡ (Complete, read.line) → read ≡ record old { line = read.line }
+        → new ≡ record read { line = Some [] } → IfSome read.line (λ l. IsAnswer (request_of read.peer.source l) (Ok (Ask command)))
+        → Ahead does first (piece ++ byte ∷ []) (commands ++ command ∷ []) new begun desk clean out
+    ahead_more read new byte command event others next due = record {
+      front = ahead.front;
+      back = ahead.back ++ byte ∷ [];
+      whole = ap (λ (l : List ℕ). l ++ byte ∷ []) ahead.whole ∙ append_assoc ahead.front ahead.back (byte ∷ []);
+      mid = ahead.mid;
+      fed = ahead.fed;
+      sent = sent_more ahead.mid old new ahead.back byte commands command ahead.sent (ends_in old read new byte command event others next read.line refl due);
+    }
+
+    -- what was sent ahead is asked and replied
+    pub settled : (desk' : D) (out' : Option (List ℕ)) → Settles does commands desk desk' (λ text. Appends out out' text) → Feeds does first piece old begun desk' clean out'
+    settled desk' out' settles =
+        let part : Feeds does ahead.mid ahead.back old desk desk' out out' =
+        record { asked = exchanges_of settles.answered; text = settles.text; replies = ahead.sent settles.answered settles.text settles.these settles.tell; asks = settles.asks; written = settles.holds } in
+        subst (λ (l : List ℕ). Feeds does first l old begun desk' clean out') (sym ahead.whole)
+        (feeds-joined does ahead.front ahead.back first ahead.mid old begun desk desk' clean out out' ahead.fed part)
+
+    -- or the write fails
+    pub stops_settling : (new : Session) (desk' : D) (out' : Option (List ℕ)) (rest : List ℕ) → Settles does commands desk desk' (λ text. AppendsFront out out' text)
+        → new ≡ record old { ended = true } → Stops does first (piece ++ rest) new begun desk' clean out'
+    stops_settling new desk' out' rest settles ended = record {
+      front = ahead.front;
+      part = ahead.back;
+      rest = rest;
+      whole = ap (λ (l : List ℕ). l ++ rest) ahead.whole ∙ append_assoc ahead.front ahead.back rest;
+      mid = ahead.mid;
+      desk_mid = desk;
+      out_mid = out;
+      fed = ahead.fed;
+      asked = exchanges_of settles.answered;
+      text = settles.text;
+      next = old;
+      replies = ahead.sent settles.answered settles.text settles.these settles.tell;
+      at_once = inl (all_answered settles.answered);
+      asks = settles.asks;
+      written = settles.holds;
+      ended = ended;
+    }
+
+    -- or it fails where a further line has got too long
+    pub stops_overflowing : (read new : Session) (byte : ℕ) (line : List ℕ) (desk' : D) (out' : Option (List ℕ)) → Settles does commands desk desk' (λ text. AppendsFront out out' text)
+        → Replies old (byte ∷ []) [] read line → new ≡ record read { ended = true } → Stops does first (piece ++ byte ∷ []) new begun desk' clean out'
+    stops_overflowing read new byte line desk' out' settles over ended = record {
+      front = ahead.front;
+      part = ahead.back ++ byte ∷ [];
+      rest = [];
+      whole = ap (λ (l : List ℕ). l ++ byte ∷ []) ahead.whole ∙ append_assoc ahead.front ahead.back (byte ∷ [])
+          ∙ ap (λ (l : List ℕ). ahead.front ++ l) (sym (append-nil (ahead.back ++ byte ∷ [])));
+      mid = ahead.mid;
+      desk_mid = desk;
+      out_mid = out;
+      fed = ahead.fed;
+      asked = exchanges_of settles.answered;
+      text = settles.text ++ line;
+      next = read;
+      replies = subst (λ (l : List Exchange). Replies ahead.mid (ahead.back ++ byte ∷ []) l read (settles.text ++ line)) (append-nil (exchanges_of settles.answered))
+          (replies-joined ahead.back (byte ∷ []) ahead.mid old read (exchanges_of settles.answered) [] settles.text line
+          (ahead.sent settles.answered settles.text settles.these settles.tell) over);
+      at_once = inl (all_answered settles.answered);
+      asks = settles.asks;
+      written = front-longer out out' settles.text line settles.holds;
+      ended = ended;
+    }
+
+  -- a byte behind what was fed
+  pub ahead_behind : (first old new : Session) (piece : List ℕ) (byte : ℕ) (begun desk desk' : D) (clean out out' : Option (List ℕ)) (asked : List Exchange) (text : List ℕ)
+      → Feeds does first piece old begun desk clean out → Replies old (byte ∷ []) asked new text → Asks does desk asked desk' → Appends out out' text
+      → Ahead does first (piece ++ byte ∷ []) [] new begun desk' clean out'
+  ahead_behind first old new piece byte begun desk desk' clean out out' asked text fed replies asks written =
+      ahead_of first new (piece ++ byte ∷ []) begun desk' clean out'
+      (feeds-joined does piece (byte ∷ []) first old new begun desk desk' clean out out' fed
+      (record { asked = asked; text = text; replies = replies; asks = asks; written = written }))
+
+  -- and one at which the write fails
+  pub stops_behind : (first old next new : Session) (piece : List ℕ) (byte : ℕ) (begun desk desk' : D) (clean out out' : Option (List ℕ)) (asked : List Exchange) (text : List ℕ)
+      → Feeds does first piece old begun desk clean out → Replies old (byte ∷ []) asked next text → Asks does desk asked desk' → IsAtOnce asked → AppendsFront out out' text
+      → new ≡ record next { ended = true } → Stops does first (piece ++ byte ∷ []) new begun desk' clean out'
+  stops_behind first old next new piece byte begun desk desk' clean out out' asked text fed replies asks at_once written ended = record {
+    front = piece;
+    part = byte ∷ [];
+    rest = [];
+    whole = refl;
+    mid = old;
+    desk_mid = desk;
+    out_mid = out;
+    fed = fed;
+    asked = asked;
+    text = text;
+    next = next;
+    replies = replies;
+    at_once = at_once;
+    asks = asks;
+    written = written;
+    ended = ended;
+  }

@@ -1,0 +1,97 @@
+//! Where connections wait for the thread that serves them.
+ghost use Rattle.std.specs.Prelude.{◌≤◌, length};
+
+use std::alloc::{AllocError, Global};
+use std::collections::VecDeque;
+use std::net::TcpStream;
+use std::sync::atomic::{AtomicBool, Ordering};
+use std::sync::{Condvar, Mutex, Wait};
+
+/// The connections that wait, and how many threads are free to serve one. No more wait than are free.
+#[derive(Drop)]
+struct Places {
+    streams: VecDeque<TcpStream>,
+    free: usize,
+    ended: bool,
+    ghost served: { length streams.items ≤ free },
+}
+
+impl Places {
+    // Lets a connection wait where a thread is free for it, and else closes it.
+    fn offer(&mut self, stream: TcpStream) {
+        if self.streams.len() < self.free {
+            drop(self.streams.push_back(stream));
+        }
+    }
+
+    // Gives the next connection to a thread, which is free no longer.
+    fn take(&mut self) -> Option<TcpStream> {
+        if self.ended {
+            return None;
+        }
+        let stream = self.streams.pop_front()?;
+        self.free -= 1;
+        Some(stream)
+    }
+
+    fn free_one(&mut self) {
+        self.free = self.free.saturating_add(1);
+    }
+}
+
+/// Hands connections to the threads that serve them, each to one that is free. A connection for which none is free is closed without a
+/// byte.
+#[derive(Drop)]
+pub struct Hall {
+    places: Mutex<Places>,
+    changed: Condvar,
+    ended: AtomicBool,
+}
+
+impl Hall {
+    /// A hall without threads. Refused for want of memory alone.
+    pub fn new(alloc: Global, threads: usize) -> Result<Hall, AllocError> {
+        Ok(Hall {
+            places: Mutex::new(Places {
+                streams: VecDeque::with_capacity(alloc, threads)?,
+                free: 0,
+                ended: false,
+            }),
+            changed: Condvar::new(),
+            ended: AtomicBool::new(false),
+        })
+    }
+
+    /// One more thread is free to serve a connection: one that has begun, or one that has served its last connection to the end.
+    pub fn free_one(&self, rt: &impl Wait) {
+        self.places.lock(rt).free_one();
+    }
+
+    /// Hands a connection to a thread that is free, or closes it where none is.
+    pub fn offer(&self, rt: &impl Wait, stream: TcpStream) {
+        self.places.lock(rt).offer(stream);
+        self.changed.notify_one();
+    }
+
+    /// Waits for a connection, which the calling thread then serves. `None` where the hall has ended.
+    pub fn next(&self, rt: &impl Wait) -> Option<TcpStream> {
+        let mut places = self.changed.wait_while(
+            rt,
+            self.places.lock(rt),
+            |places| places.streams.is_empty() && !places.ended,
+        );
+        places.take()
+    }
+
+    /// Ends the hall: no thread gets a further connection, and each ends the one that it serves.
+    pub fn end(&self, rt: &impl Wait) {
+        self.ended.store(true, Ordering::SeqCst);
+        self.places.lock(rt).ended = true;
+        self.changed.notify_all();
+    }
+
+    /// Whether the hall has ended.
+    pub fn has_ended(&self) -> bool {
+        self.ended.load(Ordering::SeqCst)
+    }
+}

@@ -1,0 +1,21 @@
+//! Sessions over TCP: a thread for each desk, which serves one connection after another.
+//!
+//! `serve_desks` takes connections from a listener and hands each to a desk that is free, in the thread of that desk. A connection has a
+//! session of its own: what comes in one read is given to `Session::feed`, the news are told after each read and after each 100
+//! milliseconds in which nothing came, and all that was written then leaves at once. A peer that doesn't read for 10 seconds is closed;
+//! it holds up its own desk alone. When the listener fails each session ends within its next read.
+//!
+//! # What is proved
+//!
+//! What a session answers and writes is the contract of `session` for any desk. This layer adds safety, that no connection waits for a
+//! thread that isn't free (the hall's own invariant), and that a shelf stays right of what its desk shows. Of sockets a contract can say
+//! no more than counts of bytes, so that connections are served, closed and given places again is tested. The listener is a parameter, so
+//! that a test can give one that fails.
+#![tactic(auto)]
+
+mod accepting;
+mod conversation;
+mod hall;
+mod serving;
+
+pub use serving::serve_desks;

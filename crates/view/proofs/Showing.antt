@@ -1,0 +1,61 @@
+-- A batch more is shown.
+use Rattle.std.proofs.Common.{◌≡◌, List, [], ◌∷◌, ◌++◌, fold, refl, ap, ap₂, sym, subst, ◌∙◌, ◌&&◌, Bool, true, append_assoc}
+use Rattle.std.proofs.lemmas.Bool.{and_parts}
+use Rattle.std.proofs.lemmas.List.{append-nil}
+use Rattle.logbook.specs.Pages.{Book}
+use Rattle.revision.specs.Command.{Taken}
+use Rattle.revision.specs.State as state
+use Rattle.recovery.specs.Found.{commands_of}
+use Rattle.view.specs.News.{News}
+use Rattle.view.specs.Shown.{basis_of, after, IsShown}
+use Rattle.view.specs.Stages.{news_of, AreShown}
+use Rattle.published.specs.Batches.{Mark}
+use Rattle.view.specs.declared.shown.Shown.{Shown}
+use Rattle.view.specs.declared.shown.Basis.{Basis}
+
+-- commands in turn make what the later ones make of what the first have made
+fold_join : (s : state.State) (xs ys : List Taken) → state.fold s (xs ++ ys) ≡ state.fold (state.fold s xs) ys
+fold_join s [] ys = refl
+fold_join s (x ∷ xs) ys = fold_join (state.grown s x) xs ys
+
+-- the commands of batches with one more
+commands_more : (told : List (List Taken)) (batch : List Taken) → commands_of (told ++ batch ∷ []) ≡ commands_of told ++ batch
+commands_more [] batch = append-nil batch
+commands_more (first ∷ told) batch = ap (λ l. first ++ l) (commands_more told batch) ∙ sym (append_assoc first (commands_of told) batch)
+
+-- commands in turn continue a state where the first do, and the later ones what those make
+grow_join : (s : state.State) (xs ys : List Taken) → state.all_grow s xs ≡ true → state.all_grow (state.fold s xs) ys ≡ true → state.all_grow s (xs ++ ys) ≡ true
+grow_join s [] ys first later = later
+grow_join s (x ∷ xs) ys first later =
+    let parts : (state.grows s x ≡ true) × (state.all_grow (state.grown s x) xs ≡ true) = search (and_parts, first) in
+    ap₂ (λ a b. a && b) parts.0 (grow_join (state.grown s x) xs ys parts.1 later)
+
+-- what shows these batches and takes in one more shows them all
+pub shows_more : (book : Book) (start : state.State) (told next : List (List Taken)) (batch : List Taken) (old new : Shown) (waiting : List News)
+    → AreShown book start told old → waiting ≡ news_of book batch next ∷ [] → next ≡ told ++ batch ∷ []
+    → basis_of new ≡ fold after (basis_of old) waiting → IsShown book start new
+shows_more book start told next batch old new waiting shows waits more goes =
+    let is : basis_of new ≡ after (basis_of old) (news_of book batch next) = goes ∙ ap (fold after (basis_of old)) waits in
+    let batches : new.mark.batches ≡ told ++ batch ∷ [] = ap (λ b. b.mark.batches) is ∙ more in
+    let commands : commands_of new.mark.batches ≡ commands_of told ++ batch = ap commands_of batches ∙ commands_more told batch in
+    let before : old.state ≡ state.fold start (commands_of told) = shows.0.made ∙ ap (λ l. state.fold start (commands_of l)) shows.1 in
+    let goes_on : new.state ≡ state.fold (state.fold start (commands_of told)) batch = ap (λ b. b.state) is ∙ ap (λ s. state.fold s batch) before in
+    let all : state.fold start (commands_of new.mark.batches) ≡ state.fold (state.fold start (commands_of told)) batch =
+    ap (state.fold start) commands ∙ fold_join start (commands_of told) batch in
+    let first : state.all_grow start (commands_of told) ≡ true = subst (λ (l : List (List Taken)). state.all_grow start (commands_of l) ≡ true) shows.1 shows.0.grew in
+    let later : state.all_grow (state.fold start (commands_of told)) batch ≡ true =
+    subst (λ (s : state.State). state.all_grow s batch ≡ true) before (sym (ap (λ b. b.grew) is)) in
+    record {
+      log = ap (λ b. b.mark.book) is;
+      made = goes_on ∙ sym all;
+      grew = ap (state.all_grow start) commands ∙ grow_join start (commands_of told) batch first later;
+    }
+
+abbrev pub basis : state.State → Mark → Bool → Basis
+basis made mark grew = record { state = made; mark = mark; grew = grew }
+
+-- a copy that has absorbed a batch
+pub absorbs : (before made : state.State) (batch : List Taken) (mark other : Mark) → made ≡ state.fold before batch → state.all_grow before batch ≡ true → other ≡ mark
+    → basis made other true ≡ basis (state.fold before batch) mark (true && state.all_grow before batch)
+absorbs before made batch mark other is grew same =
+    ap₂ (λ (s : state.State) (rest : Mark × Bool). basis s rest.0 rest.1) is (ap₂ (λ (m : Mark) (b : Bool). (m, b)) same (sym grew))

@@ -1,0 +1,4 @@
+pub mod News
+pub mod Shown
+pub mod Published
+pub mod Stages

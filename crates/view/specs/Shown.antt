@@ -1,0 +1,22 @@
+-- What readers are shown.
+use Rattle.std.specs.Prelude.{◌≡◌, ◌&&◌, true}
+use Rattle.logbook.specs.Pages.{Book}
+use Rattle.revision.specs.State.{State, fold, all_grow}
+use Rattle.recovery.specs.Found.{commands_of}
+use Rattle.view.specs.News.{News}
+use Rattle.view.specs.declared.shown.Shown.{Shown}
+use Rattle.view.specs.declared.shown.Basis.{Basis}
+
+-- the state that is shown, with the published batches that made it, each of which continued it
+abbrev pub basis_of : Shown → Basis
+basis_of shown = record { state = shown.state; mark = shown.mark; grew = true }
+
+-- it goes on by a batch
+abbrev pub after : Basis → News → Basis
+after basis news = record { state = fold basis.state news.batch; mark = news.mark; grew = basis.grew && all_grow basis.state news.batch }
+
+-- What is shown is what the batches of this log make of the start, and each of their commands continued what those before had made.
+pub record IsShown (book : Book) (start : State) (shown : Shown) : Type 0 where
+  pub log : shown.mark.book ≡ book
+  pub made : shown.state ≡ fold start (commands_of shown.mark.batches)
+  pub grew : all_grow start (commands_of shown.mark.batches) ≡ true

@@ -1,0 +1,320 @@
+//! The writer of the view.
+ghost use Rattle.std.specs.Prelude.{◌≡◌, ◌⊎◌, ◌∷◌, ◌++◌, [], drop, length, nat_lt, IfOk, IfErr, IfSome, IfNone, OnErr, IsOkUnless};
+ghost use Rattle.view.specs.Published.{Published};
+ghost use Rattle.view.specs.Stages.{AreShown, news_of as to_show};
+
+use crate::shown::{InLog, News, Sees, Shown};
+use crate::viewer::Viewer;
+use core::mem::replace_with;
+use left_right::writer::Writer;
+use published::{Log, Opened, Site, Told};
+use recovery::Receipt;
+use refusal::Refusal;
+use revision::{State, Taken};
+use std::alloc::Global;
+use std::marker::Model;
+use std::sync::Wait;
+
+/// So many viewers there may be at once.
+const VIEWERS: usize = 128;
+
+/// How far the publishing of a batch has come. Each step but the last may find no memory, and the next call goes on there: so the batch
+/// is put into the log once.
+#[derive(Drop)]
+pub enum Stage<D, J: Site> {
+    /// There is none.
+    Idle,
+    /// It was given.
+    Held(Receipt<D>),
+    /// It is in the log.
+    Logged(Receipt<D>, Told<D, J>),
+    /// The writer of the view has it, and doesn't show it yet.
+    Queued(Receipt<D>, Told<D, J>),
+}
+
+/// What publishes committed batches to viewers: it alone puts them into the run's log. Contracts see it as the batches that are
+/// published, and the one that was given to be published next. It isn't `Drop`: end it by `end`.
+pub struct Publisher<D, J: Site> {
+    writer: Writer<Shown, News, (), InLog<J>>,
+    log: Log<D, J>,
+    told: Told<D, J>,
+    stage: Stage<D, J>,
+}
+
+impl<D, J: Site> Model for Publisher<D, J> {
+    ghost use Rattle.std.specs.Prelude.{◌≡◌, drop};
+    ghost use Rattle.view.specs.Published.{Published};
+
+    ghost Value = { Published };
+
+    ghost use Rattle.view.specs.Stages as spec;
+
+    ghost view = { λ p. record { told = p.told; held = spec.held_in p.stage } };
+
+    ghost invariant = { λ p. spec.AreShown J.book J.start p.told p.writer.desk.shown.value
+        × (drop p.writer.behind p.writer.log.items ≡ spec.waiting J.book p.stage) × spec.IsLogged p.told p.stage };
+}
+
+impl<D, J: Site> Publisher<D, J> {
+    /// A publisher of nothing yet, which shows the state that the run's store was opened with, and the token of that start. Refused for
+    /// want of memory alone.
+    pub fn new(
+        alloc: Global,
+        opened: Opened,
+        state: &State,
+    ) -> Result<(Publisher<D, J>, Told<D, J>), Refusal>
+        requires book { opened ≡ J.book }
+        requires start { state.now ≡ J.start }
+        ensures publisher { IfOk result (λ made. made.0 ≡ record { told = []; held = [] }) }
+        ensures told { IfOk result (λ made. made.1 ≡ []) }
+        ensures only { IsOkUnless result Refusal.NoMemory }
+    {
+        let (log, told) = opened.named::<D, J>();
+        let first = Shown {
+            alloc,
+            state: state.copy(alloc)?,
+            mark: told.mark(),
+        };
+        let second = Shown {
+            alloc,
+            state: state.copy(alloc)?,
+            mark: told.mark(),
+        };
+        let writer = Writer::new(alloc, first, second, VIEWERS)?;
+        let start = told.copy();
+        Ok((
+            Publisher {
+                writer,
+                log,
+                told,
+                stage: Stage::Idle,
+            },
+            start,
+        ))
+    }
+
+    /// Takes a batch that was committed, to be published next. It takes no memory.
+    pub fn accept(&mut self, receipt: Receipt<D>)
+        requires { self.old.held ≡ [] }
+        ensures { self.new ≡ record self.old { held = receipt ∷ [] } }
+    {
+        self.stage = Stage::Held(receipt);
+    }
+
+    /// Whether a batch was given that isn't published yet.
+    pub fn holds(&self) -> bool
+        ensures { result ≡ nat_lt 0 (length self.now.held) }
+    {
+        match &self.stage {
+            Stage::Idle => false,
+            Stage::Held(_) => true,
+            Stage::Logged(_, _) => true,
+            Stage::Queued(_, _) => true,
+        }
+    }
+
+    /// The token of what is published.
+    pub fn told(&self) -> &Told<D, J>
+        ensures { result.now ≡ self.now.told }
+    {
+        &self.told
+    }
+
+    /// A viewer, which is told of what is published so far. `None` where 128 of them are there, or come and go while one is looked for.
+    pub fn viewer(&self) -> Option<Viewer<D, J>>
+        ensures { IfSome result (λ viewer. viewer ≡ self.now.told) }
+    {
+        match self.writer.factory().reader() {
+            Ok(reader) => Some(Viewer::new(reader, self.told.copy())),
+            Err(_) => None,
+        }
+    }
+
+    /// Publishes the batch that was given, and gives its receipt with the token that ends with it; `None` where none was given.
+    ///
+    /// Refused with `NoMemory`, and the next call goes on then, with the same batch, which comes into the log once. Refused with
+    /// `StoreFailed` where the log was made longer by somebody else, who can't be, or counts 2^62 batches or commands. Refused, nothing
+    /// is published, and the batch stays given.
+    pub fn publish<R: Wait>(
+        &mut self,
+        rt: &R,
+        alloc: Global,
+    ) -> Result<Option<(Receipt<D>, Told<D, J>)>, Refusal>
+        ensures batch { IfOk result (λ published. IfSome published (λ p. self.old.held ≡ p.0 ∷ [])) }
+        ensures told { IfOk result (λ published. IfSome published (λ p. p.1 ≡ self.old.told ++ p.0 ∷ [])) }
+        ensures shown { IfOk result (λ published. IfSome published (λ p. self.new ≡ record { told = p.1; held = [] })) }
+        ensures none { IfOk result (λ published. IfNone published ((self.old.held ≡ []) × (self.new ≡ self.old))) }
+        ensures unchanged { OnErr result (self.new ≡ self.old) }
+        ensures only { IfErr result (λ e. (e ≡ Refusal.NoMemory) ⊎ (e ≡ Refusal.StoreFailed)) }
+    {
+        replace_with(self, (rt, alloc), published::<D, J, R>)
+    }
+
+    /// Ends the view: readers can't enter it any more. It waits for those that are reading.
+    pub fn end<R: Wait>(self, rt: &R) {
+        let Publisher {
+            writer,
+            log: _log,
+            told: _told,
+            stage: _stage,
+        } = self;
+        writer.take(rt);
+    }
+}
+
+// goes on from where the publishing of the batch has come to
+fn published<D, J: Site, R: Wait>(
+    publisher: Publisher<D, J>,
+    with: (&R, Global),
+) -> (
+    Publisher<D, J>,
+    Result<Option<(Receipt<D>, Told<D, J>)>, Refusal>,
+)
+    ensures batch { IfOk result.1 (λ published. IfSome published (λ p. publisher.held ≡ p.0 ∷ [])) }
+    ensures told { IfOk result.1 (λ published. IfSome published (λ p. p.1 ≡ publisher.told ++ p.0 ∷ [])) }
+    ensures shown { IfOk result.1 (λ published. IfSome published (λ p. result.0 ≡ record { told = p.1; held = [] })) }
+    ensures none { IfOk result.1 (λ published. IfNone published ((publisher.held ≡ []) × (result.0 ≡ publisher))) }
+    ensures unchanged { OnErr result.1 (result.0 ≡ publisher) }
+    ensures only { IfErr result.1 (λ e. (e ≡ Refusal.NoMemory) ⊎ (e ≡ Refusal.StoreFailed)) }
+{
+    let (rt, alloc) = with;
+    let Publisher {
+        writer,
+        log,
+        told,
+        stage,
+    } = publisher;
+    match stage {
+        Stage::Idle => {
+            let idle = Publisher {
+                writer,
+                log,
+                told,
+                stage: Stage::Idle,
+            };
+            (idle, Ok(None))
+        }
+        Stage::Held(receipt) => match told.add(&log, &receipt) {
+            Some(next) => queued(rt, alloc, writer, log, told, receipt, next),
+            None => {
+                let held = Publisher {
+                    writer,
+                    log,
+                    told,
+                    stage: Stage::Held(receipt),
+                };
+                (held, Err(Refusal::StoreFailed))
+            }
+        },
+        Stage::Logged(receipt, next) => queued(rt, alloc, writer, log, told, receipt, next),
+        Stage::Queued(receipt, next) => shown(rt, writer, log, told, receipt, next),
+    }
+}
+
+// gives the batch to the writer, and shows it
+fn queued<D, J: Site, R: Wait>(
+    rt: &R,
+    alloc: Global,
+    mut writer: Writer<Shown, News, (), InLog<J>>,
+    log: Log<D, J>,
+    told: Told<D, J>,
+    receipt: Receipt<D>,
+    next: Told<D, J>,
+) -> (
+    Publisher<D, J>,
+    Result<Option<(Receipt<D>, Told<D, J>)>, Refusal>,
+)
+    requires shown { AreShown J.book J.start told writer.desk.shown.value }
+    requires waiting { drop writer.behind writer.log.items ≡ [] }
+    requires next { next ≡ told ++ receipt ∷ [] }
+    ensures done { IfOk result.1 (λ published. IfSome published (λ p. (p.0 ≡ receipt) × (p.1 ≡ next) × (result.0 ≡ record { told = next; held = [] }))) }
+    ensures some { IfOk result.1 (λ published. IfNone published ⊥) }
+    ensures unchanged { OnErr result.1 (result.0 ≡ record { told = told; held = receipt ∷ [] }) }
+    ensures only { IfErr result.1 (λ e. e ≡ Refusal.NoMemory) }
+{
+    let appended = match news_of(alloc, &receipt, &next) {
+        Ok(news) => writer.append(news).is_ok(),
+        Err(_) => false,
+    };
+    if !appended {
+        let logged = Publisher {
+            writer,
+            log,
+            told,
+            stage: Stage::Logged(receipt, next),
+        };
+        return (logged, Err(Refusal::NoMemory));
+    }
+    shown(rt, writer, log, told, receipt, next)
+}
+
+// shows the batch that the writer has
+fn shown<D, J: Site, R: Wait>(
+    rt: &R,
+    writer: Writer<Shown, News, (), InLog<J>>,
+    log: Log<D, J>,
+    told: Told<D, J>,
+    receipt: Receipt<D>,
+    next: Told<D, J>,
+) -> (
+    Publisher<D, J>,
+    Result<Option<(Receipt<D>, Told<D, J>)>, Refusal>,
+)
+    requires shown { AreShown J.book J.start told writer.desk.shown.value }
+    requires waiting { drop writer.behind writer.log.items ≡ to_show J.book receipt next ∷ [] }
+    requires next { next ≡ told ++ receipt ∷ [] }
+    ensures done { IfOk result.1 (λ published. IfSome published (λ p. (p.0 ≡ receipt) × (p.1 ≡ next) × (result.0 ≡ record { told = next; held = [] }))) }
+    ensures some { IfOk result.1 (λ published. IfNone published ⊥) }
+    ensures unchanged { OnErr result.1 (result.0 ≡ record { told = told; held = receipt ∷ [] }) }
+    ensures only { IfErr result.1 (λ e. e ≡ Refusal.NoMemory) }
+{
+    let (writer, published) = writer.publish_as::<Sees<J>, R>(rt);
+    match published {
+        Ok(()) => {
+            let token = next.copy();
+            let idle = Publisher {
+                writer,
+                log,
+                told: next,
+                stage: Stage::Idle,
+            };
+            (idle, Ok(Some((receipt, token))))
+        }
+        Err(_) => {
+            let queued = Publisher {
+                writer,
+                log,
+                told,
+                stage: Stage::Queued(receipt, next),
+            };
+            (queued, Err(Refusal::NoMemory))
+        }
+    }
+}
+
+// the batch of the receipt, copied, as it is to be shown with what is then published
+fn news_of<D, J: Site>(
+    alloc: Global,
+    receipt: &Receipt<D>,
+    next: &Told<D, J>,
+) -> Result<News, Refusal>
+    ensures news { IfOk result (λ news. news ≡ to_show J.book receipt.now next.now) }
+    ensures only { IsOkUnless result Refusal.NoMemory }
+{
+    Ok(News {
+        batch: copies(alloc, receipt.batch())?,
+        mark: next.mark(),
+    })
+}
+
+// equal commands in the same order, or `NoMemory`
+fn copies(alloc: Global, batch: &[Taken]) -> Result<Vec<Taken>, Refusal>
+    ensures same { IfOk result (λ copies. copies.items ≡ batch.now) }
+    ensures only { IsOkUnless result Refusal.NoMemory }
+{
+    let mut copies = Vec::with_capacity(alloc, batch.len())?;
+    for taken in batch {
+        copies.push(taken.copy(alloc)?)?;
+    }
+    Ok(copies)
+}

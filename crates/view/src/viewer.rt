@@ -1,0 +1,156 @@
+//! A reader of the view.
+ghost use Rattle.std.specs.Prelude.{◌≡◌, ◌⊎◌, true, IfOk, IfErr, OnOk, OnErr};
+ghost use Rattle.std.specs.Fn.{FnOnceReturnsAt};
+ghost use mathlib.Core.List.{IsPrefix};
+ghost use Rattle.revision.specs.State as state;
+ghost use Rattle.revision.specs.Readings.{document_at, taken_since, read_as};
+ghost use Rattle.recovery.specs.Found.{commands_of};
+
+use crate::shown::{InLog, Sees, Shown};
+use delta::Delta;
+use document::Document;
+use left_right::reader::Reader;
+use published::{Site, Told};
+use refusal::Refusal;
+use revision::{Name, State};
+use std::alloc::Global;
+use std::marker::Model;
+
+/// A reader of the view, which never waits. Contracts see it as the published batches that it has seen or was told of.
+#[derive(Drop)]
+pub struct Viewer<D, J: Site> {
+    reader: Option<Reader<Shown, (), InLog<J>>>,
+    told: Told<D, J>,
+}
+
+impl<D, J: Site> Model for Viewer<D, J> {
+    ghost use Rattle.std.specs.Prelude.{List};
+    ghost use Rattle.revision.specs.Command.{Taken};
+
+    ghost Value = { List (List Taken) };
+
+    ghost view = { λ v. v.told };
+}
+
+impl<D, J: Site> Viewer<D, J> {
+    pub(crate) fn new(reader: Reader<Shown, (), InLog<J>>, told: Told<D, J>) -> Viewer<D, J>
+        ensures { result ≡ told }
+    {
+        Viewer {
+            reader: Some(reader),
+            told,
+        }
+    }
+
+    /// The token of what it has seen or was told of. It takes no memory.
+    pub fn told(&self) -> Told<D, J>
+        ensures { result ≡ self.now }
+    {
+        self.told.copy()
+    }
+
+    /// Takes in what was published by a token: from now on no less is read. It takes no memory.
+    pub fn learn(&mut self, told: &Told<D, J>)
+        ensures one { (self.new ≡ self.old) ⊎ (self.new ≡ told.now) }
+        ensures kept { IsPrefix self.old self.new }
+        ensures learned { IsPrefix told.now self.new }
+    {
+        self.told.learn(told);
+    }
+
+    /// Lends the state that is published to a function, and gives its answer. The state is what some list of published batches makes of
+    /// the start of the run, and the list begins with all that this viewer has seen before or was told of; each of their commands continued what those
+    /// before had made. Refused with `StoreFailed`
+    /// alone, where the view has ended; nothing is lent then, and the viewer is as it was. It waits for nobody, and takes no memory.
+    pub fn read<A, F: FnOnce(&State) -> A + Drop>(&mut self, f: F) -> Result<A, Refusal>
+        requires { F.IsAlwaysCallable f }
+        ensures kept { IsPrefix self.old self.new }
+        ensures grows { OnOk result (state.all_grow J.start (commands_of self.new) ≡ true) }
+        ensures answer { IfOk result (λ a. (s : state.State) × (s ≡ state.fold J.start (commands_of self.new)) × FnOnceReturnsAt F.FnOnce f s a) }
+        ensures only { IfErr result (λ e. e ≡ Refusal.StoreFailed) }
+        ensures unchanged { OnErr result (self.new ≡ self.old) }
+    {
+        let reader = match self.reader.take() {
+            Some(reader) => reader,
+            None => return Err(Refusal::StoreFailed),
+        };
+        let reading = match reader.enter_as::<Sees<J>>() {
+            Ok(reading) => reading,
+            Err(reader) => {
+                self.reader = Some(reader);
+                return Err(Refusal::StoreFailed);
+            }
+        };
+        let seen = Told::of_mark(reading.get().mark.copy());
+        if !self.told.begins(&seen) {
+            self.reader = Some(reading.leave());
+            return Err(Refusal::StoreFailed);
+        }
+        let answer = f(&reading.get().state);
+        self.reader = Some(reading.leave());
+        self.told = seen;
+        Ok(answer)
+    }
+
+    /// What stood in a document at a revision, by the state that `read` lends. Refused as `State::at` refuses it on that state, which is
+    /// `NoDocument`, `Future` where the revision is above the newest one, `TooOld` where it is below the floor, or for want of memory; or
+    /// with `StoreFailed`, as `read` is.
+    pub fn at(&mut self, alloc: Global, name: &Name, revision: u64) -> Result<Document, Refusal>
+        ensures kept { IsPrefix self.old self.new }
+        ensures answer { (result ≡ document_at (state.fold J.start (commands_of self.new)) name.now revision) ⊎ (result ≡ Err Refusal.NoMemory)
+            ⊎ ((result ≡ Err Refusal.StoreFailed) × (self.new ≡ self.old)) }
+    {
+        let read = self.read(
+            |state: &State| -> Result<Document, Refusal>
+                ensures { (result ≡ document_at state.now name.entry.now revision) ⊎ (result ≡ Err Refusal.NoMemory) }
+            { state.at(alloc, name, revision) },
+        );
+        match read {
+            Ok(answer) => answer,
+            Err(_) => Err(Refusal::StoreFailed),
+        }
+    }
+
+    /// Copies of the deltas that were taken since a revision of a document, in order, by the state that `read` lends. Refused as `at` is.
+    pub fn since(
+        &mut self,
+        alloc: Global,
+        name: &Name,
+        revision: u64,
+    ) -> Result<Vec<Delta>, Refusal>
+        ensures kept { IsPrefix self.old self.new }
+        ensures answer { (read_as (λ deltas. deltas.items) result ≡ taken_since (state.fold J.start (commands_of self.new)) name.now revision) ⊎ (result ≡ Err Refusal.NoMemory)
+            ⊎ ((result ≡ Err Refusal.StoreFailed) × (self.new ≡ self.old)) }
+    {
+        let read = self.read(
+            |state: &State| -> Result<Vec<Delta>, Refusal>
+                ensures { (read_as (λ deltas. deltas.items) result ≡ taken_since state.now name.entry.now revision) ⊎ (result ≡ Err Refusal.NoMemory) }
+            { since_of(alloc, state, name, revision) },
+        );
+        match read {
+            Ok(answer) => answer,
+            Err(_) => Err(Refusal::StoreFailed),
+        }
+    }
+}
+
+// copies of the deltas that were taken since a revision
+fn since_of(alloc: Global, state: &State, name: &Name, revision: u64) -> Result<Vec<Delta>, Refusal>
+    ensures { (read_as (λ deltas. deltas.items) result ≡ taken_since state.now name.now revision) ⊎ (result ≡ Err Refusal.NoMemory) }
+{
+    match state.since(name, revision) {
+        Ok(deltas) => copied(alloc, deltas),
+        Err(refusal) => Err(refusal),
+    }
+}
+
+// equal deltas in the same order, or `NoMemory`
+fn copied(alloc: Global, deltas: &[Delta]) -> Result<Vec<Delta>, Refusal>
+    ensures { (read_as (λ copies. copies.items) result ≡ Ok deltas.now) ⊎ (result ≡ Err Refusal.NoMemory) }
+{
+    let mut copies = Vec::new(alloc);
+    for delta in deltas {
+        copies.push(delta.copy(alloc)?)?;
+    }
+    Ok(copies)
+}

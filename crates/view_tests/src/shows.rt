@@ -1,0 +1,117 @@
+//! A viewer shows what was published, and nothing else; what it was told of, it shows.
+ghost use Rattle.std.specs.Prelude.{◌≡◌, []};
+
+use crate::made::{SHAPE, new_store, write};
+use disk::MemDisk;
+use published::{Opened, Site, Told};
+use refusal::Refusal;
+use revision::{Name, State};
+use std::marker::Brand;
+use std::process::Abort;
+use std::sync::Wait;
+use view::{Publisher, Viewer};
+
+// the newest revision of the only document, 0 where there is none
+fn newest(state: &State) -> u64 {
+    match state.documents().first() {
+        Some(document) => document.revision(),
+        None => 0,
+    }
+}
+
+fn shows<J: Site, R: Abort>(rt: &R, viewer: &mut Viewer<MemDisk, J>, revision: u64) {
+    assert!(rt; viewer.read(newest) == Ok(revision), "revision {revision}");
+}
+
+// publishes what was given, and gives the token that ends with it
+fn published<J: Site, R: Abort + AllocGlobal + Wait>(
+    rt: &R,
+    publisher: &mut Publisher<MemDisk, J>,
+    length: u64,
+) -> Told<MemDisk, J>
+    ensures { publisher.new.held ≡ [] }
+{
+    match publisher.publish(rt, rt.alloc()) {
+        Ok(Some((receipt, told))) => {
+            assert_eq!(rt; receipt.batch().len(), 1);
+            assert_eq!(rt; told.len(), length);
+            told
+        }
+        Ok(None) => panic!(rt; "nothing was given"),
+        Err(refusal) => panic!(rt; "{refusal}"),
+    }
+}
+
+// what stands at the revisions, and what was taken since
+fn reads_back<J: Site, R: Abort + AllocGlobal>(rt: &R, viewer: &mut Viewer<MemDisk, J>) {
+    let z = Name::doc(rt.alloc(), "z").expect(rt, "a name");
+    let y = Name::doc(rt.alloc(), "y").expect(rt, "a name");
+    assert!(rt; viewer.at(rt.alloc(), &z, 1).expect(rt, "held").len16() == 3);
+    assert!(rt; viewer.at(rt.alloc(), &z, 2).expect(rt, "held").len16() == 5);
+    assert!(rt; viewer.since(rt.alloc(), &z, 1).expect(rt, "held").len() == 1);
+    assert!(rt; viewer.since(rt.alloc(), &z, 0).expect(rt, "held").len() == 2);
+    assert!(rt; matches!(viewer.at(rt.alloc(), &z, 3), Err(Refusal::Future)));
+    assert!(rt; matches!(viewer.since(rt.alloc(), &z, 3), Err(Refusal::Future)));
+    assert!(rt; matches!(viewer.at(rt.alloc(), &y, 1), Err(Refusal::NoDocument)));
+}
+
+// Two batches, with a viewer from the start, one that comes later, and one that is told.
+fn two_batches<J: Site, R: Abort + AllocGlobal + Wait>(rt: &R, opened: Opened, state: State)
+    requires book { opened ≡ J.book }
+    requires start { state ≡ J.start }
+{
+    let mut store = new_store(rt);
+    let (mut publisher, start) = Publisher::<MemDisk, J>::new(rt.alloc(), opened, &state).expect(
+        rt, "memory",
+    );
+    assert_eq!(rt; start.len(), 0);
+    let mut viewer = publisher.viewer().expect(rt, "a place");
+    shows(rt, &mut viewer, 0);
+    assert!(rt; matches!(publisher.publish(rt, rt.alloc()), Ok(None)));
+    publisher.accept(write(rt, &mut store, 1, 3));
+    assert!(rt; publisher.holds());
+    shows(rt, &mut viewer, 0);
+    let first = published(rt, &mut publisher, 1);
+    shows(rt, &mut viewer, 1);
+    publisher.accept(write(rt, &mut store, 2, 2));
+    shows(rt, &mut viewer, 1);
+    let mut late = publisher.viewer().expect(rt, "a place");
+    let second = published(rt, &mut publisher, 2);
+    assert!(rt; !publisher.holds());
+    late.learn(&second);
+    shows(rt, &mut late, 2);
+    late.learn(&first);
+    shows(rt, &mut late, 2);
+    reads_back(rt, &mut late);
+    assert_eq!(rt; late.told().len(), 2);
+    publisher.end(rt);
+    assert!(rt; viewer.read(newest) == Err(Refusal::StoreFailed));
+}
+
+#[test]
+fn a_viewer_shows_what_is_published(rt: HostRuntime) {
+    let state = State::new(rt.alloc(), SHAPE.limits());
+    two_batches::<Brand, _>(&rt, Opened::new(), state);
+}
+
+// Of two tokens the longer is kept, and only the end of the log is added to.
+fn tokens<J: Site, R: Abort + AllocGlobal>(rt: &R, opened: Opened)
+    requires { opened ≡ J.book }
+{
+    let mut store = new_store(rt);
+    let (log, start) = opened.named::<MemDisk, J>();
+    let one = start
+        .add(&log, &write(rt, &mut store, 1, 3))
+        .expect(rt, "the end");
+    let next = write(rt, &mut store, 2, 2);
+    assert!(rt; start.add(&log, &next).is_none());
+    let two = one.add(&log, &next).expect(rt, "the end");
+    assert!(rt; start.begins(&two) && one.begins(&two) && two.begins(&two) && !two.begins(&one));
+    assert_eq!(rt; two.longer(&one).len(), 2);
+    assert_eq!(rt; one.longer(&two).len(), 2);
+}
+
+#[test]
+fn tokens_are_beginnings_of_one_log(rt: HostRuntime) {
+    tokens::<Brand, _>(&rt, Opened::new());
+}

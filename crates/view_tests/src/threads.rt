@@ -1,0 +1,100 @@
+//! Publishing beside a thread that reads.
+ghost use Rattle.std.specs.Prelude.{◌≡◌, []};
+
+use crate::made::{SHAPE, new_store, write};
+use disk::MemDisk;
+use published::{Opened, Site};
+use recovery::Store;
+use revision::State;
+use std::marker::Brand;
+use std::process::Abort;
+use std::sync::Wait;
+use std::thread::{Threads, join, yield_now};
+use view::{Publisher, Viewer};
+
+/// So many batches are published.
+const COUNT: u64 = 40;
+
+// publishes a batch of one command
+fn publish_one<J: Site, R: Abort + AllocGlobal + Wait>(
+    rt: &R,
+    store: &mut Store<MemDisk>,
+    publisher: &mut Publisher<MemDisk, J>,
+    number: u64,
+)
+    requires { publisher.old.held ≡ [] }
+    ensures { publisher.new.held ≡ [] }
+{
+    publisher.accept(write(rt, store, number, 1));
+    match publisher.publish(rt, rt.alloc()) {
+        Ok(Some((_receipt, told))) => assert_eq!(rt; told.len(), number),
+        Ok(None) => panic!(rt; "nothing was given"),
+        Err(refusal) => panic!(rt; "{refusal}"),
+    }
+}
+
+// publishes so many batches
+fn publish_all<J: Site, R: Abort + AllocGlobal + Wait>(
+    rt: &R,
+    store: &mut Store<MemDisk>,
+    publisher: &mut Publisher<MemDisk, J>,
+)
+    requires { publisher.old.held ≡ [] }
+{
+    for number in 1..COUNT + 1 {
+        publish_one(rt, store, publisher, number);
+    }
+}
+
+fn newest(state: &State) -> u64 {
+    match state.documents().first() {
+        Some(document) => document.revision(),
+        None => 0,
+    }
+}
+
+// Reads until the last revision is shown, and gives the last one that it saw. No revision is below the one before.
+fn read_on<J: Site, R: Abort>(rt: &R, viewer: &mut Viewer<MemDisk, J>) -> u64 {
+    let mut last = 0;
+    for _ in 0..100_000_000u64 {
+        let revision = viewer.read(newest).expect(rt, "the view goes on");
+        assert!(rt; last <= revision && revision <= COUNT);
+        last = revision;
+        if last == COUNT {
+            return last;
+        }
+        yield_now();
+    }
+    last
+}
+
+fn beside<J: Site + Send + Sync, R: Threads + Wait + Abort + AllocGlobal + Sync>(
+    rt: &R,
+    opened: Opened,
+    state: State,
+)
+    requires book { opened ≡ J.book }
+    requires start { state ≡ J.start }
+{
+    let mut store = new_store(rt);
+    let (mut publisher, _start) = Publisher::<MemDisk, J>::new(rt.alloc(), opened, &state).expect(
+        rt, "memory",
+    );
+    let mut viewer = publisher.viewer().expect(rt, "a place");
+    let mut other = publisher.viewer().expect(rt, "a place");
+    let (_, last) = join(
+        rt,
+        || publish_all(rt, &mut store, &mut publisher),
+        || read_on(rt, &mut viewer),
+    );
+    assert_eq!(rt; last, COUNT);
+    other.learn(publisher.told());
+    assert!(rt; other.read(newest) == Ok(COUNT));
+    publisher.end(rt);
+}
+
+#[test]
+fn a_reader_goes_on_beside_the_publisher(rt: HostRuntime) {
+    let state = State::new(rt.alloc(), SHAPE.limits());
+    beside::<Brand, _>(&rt, Opened::new(), state);
+}
