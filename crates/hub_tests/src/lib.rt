@@ -9,3 +9,5 @@ pub mod callers;
 mod made;
 #[cfg(test)]
 mod seats;
+#[cfg(test)]
+mod threads;

@@ -1,0 +1,140 @@
+//! A hub between threads: one orders commands and waits for each, another writes what was ordered in batches.
+ghost use Rattle.std.specs.Prelude.{◌≡◌};
+
+use crate::made::{CAP, SHAPE, command, commit, new_store};
+use disk::MemDisk;
+use hub::{Board, Hub};
+use published::{Log, Opened, Site, Told};
+use recovery::Store;
+use refusal::Refusal;
+use revision::State;
+use std::alloc::Global;
+use std::marker::Brand;
+use std::process::Abort;
+use std::sync::Wait;
+use std::sync::ledger::Blank;
+use std::thread::{Threads, join};
+
+// Submits commands of these numbers and lengths, each after the one before was acknowledged, and counts the commands that the last
+// token holds.
+fn submitted<J: Site, R: Wait>(
+    rt: &R,
+    alloc: Global,
+    hub: &Hub<MemDisk, J>,
+    edits: &[(u64, u32)],
+) -> Result<u64, Refusal> {
+    let mut seat = hub.seat(rt)?;
+    let mut held = 0;
+    for (number, count) in edits {
+        let command = command(alloc, *number, *count)?;
+        let ticket = hub.submit(rt, alloc, &mut seat, &command)?;
+        let told = hub.wait_ack(rt, &ticket)?;
+        held = told.len();
+        if held < ticket.length() as u64 {
+            return Err(Refusal::Stranger);
+        }
+        let Some(told) = hub.ack(rt, &ticket)? else {
+            return Err(Refusal::Stranger);
+        };
+        held = told.len();
+    }
+    hub.give_back(rt, seat);
+    Ok(held)
+}
+
+// Submits them, and then ends the hub.
+fn submitted_all<J: Site, R: Wait>(
+    rt: &R,
+    alloc: Global,
+    hub: &Hub<MemDisk, J>,
+    edits: &[(u64, u32)],
+) -> Result<u64, Refusal> {
+    let answer = submitted(rt, alloc, hub, edits);
+    hub.end(rt);
+    answer
+}
+
+// Writes what was ordered until the hub's end, and counts the batches.
+fn written<J: Site, R: Wait>(
+    rt: &R,
+    alloc: Global,
+    hub: &Hub<MemDisk, J>,
+    store: &mut Store<MemDisk>,
+    log: &Log<MemDisk, J>,
+    start: &Told<MemDisk, J>,
+) -> Result<u64, Refusal> {
+    let mut told = start.copy();
+    let mut batches: u64 = 0;
+    for _ in rt.forever() {
+        if !hub.wait_work(rt) {
+            return Ok(batches);
+        }
+        let batch = hub.take(rt, alloc, CAP)?;
+        let receipt = commit(alloc, store, &batch)?;
+        told = told.add(log, &receipt).ok_or(Refusal::Stranger)?;
+        hub.settle(rt, &receipt, told.copy())?;
+        batches = batches.saturating_add(1);
+    }
+    unreachable!()
+}
+
+// And tells the hub where the store failed.
+fn written_or_failed<J: Site, R: Wait>(
+    rt: &R,
+    alloc: Global,
+    hub: &Hub<MemDisk, J>,
+    store: &mut Store<MemDisk>,
+    log: &Log<MemDisk, J>,
+    start: &Told<MemDisk, J>,
+) -> Result<u64, Refusal> {
+    let answer = written(rt, alloc, hub, store, log, start);
+    if answer.is_err() {
+        hub.fail(rt);
+    }
+    answer
+}
+
+fn both<J: Site + Send + Sync, R: Threads + Wait + Abort + AllocGlobal + Sync>(
+    rt: &R,
+    opened: Opened,
+    blank: Blank,
+    state: State,
+    slots: u32,
+    edits: &[(u64, u32)],
+) -> (Result<u64, Refusal>, Result<u64, Refusal>)
+    requires book { opened ≡ J.book }
+    requires name { blank.name ≡ J.name }
+    requires parts { blank.parts ≡ J.parts }
+    requires seats { blank.parts ≡ 65 }
+    requires start { state ≡ J.start }
+{
+    let alloc = rt.alloc();
+    let mut store = new_store(rt, slots);
+    let (log, told) = opened.named::<_, J>();
+    let hub = Hub::new(Board::new(alloc, state, told.copy(), blank, 64));
+    join(
+        rt,
+        || submitted_all(rt, alloc, &hub, edits),
+        || written_or_failed(rt, alloc, &hub, &mut store, &log, &told),
+    )
+}
+
+// Five batches of one command each: an acknowledgement is waited for before the next.
+#[test]
+fn one_submits_while_the_other_writes(rt: HostRuntime) {
+    let state = State::new(rt.alloc(), SHAPE.limits());
+    let edits = [(1, 1), (2, 14), (3, 20), (3, 20), (4, 9)];
+    let (held, batches) = both::<Brand, _>(&rt, Opened::new(), Blank::new(65), state, 8, &edits);
+    assert!(rt; held.expect(&rt, "acknowledged") == 4);
+    assert!(rt; batches.expect(&rt, "written") == 4);
+}
+
+// The journal is full after the second slot: who waits is told that the store failed.
+#[test]
+fn who_waits_is_told_of_a_failure(rt: HostRuntime) {
+    let state = State::new(rt.alloc(), SHAPE.limits());
+    let edits = [(1, 190), (2, 199), (3, 199)];
+    let (held, batches) = both::<Brand, _>(&rt, Opened::new(), Blank::new(65), state, 2, &edits);
+    assert!(rt; matches!(held, Err(Refusal::StoreFailed)));
+    assert!(rt; matches!(batches, Err(Refusal::JournalFull)));
+}
