@@ -13,8 +13,8 @@ use recovery::{Pick, Store};
 use refusal::Refusal;
 use std::process::Abort;
 
-// A store has no job of a document to a revision, for this reason, and has not failed for it.
-fn is_refused<D: Disk>(
+/// A store has no job of a document to a revision, for this reason, and has not failed for it.
+pub fn is_refused<D: Disk>(
     rt: &(impl Abort + AllocGlobal),
     store: &mut Store<D>,
     document: u32,
@@ -27,8 +27,8 @@ fn is_refused<D: Disk>(
     }
 }
 
-// A job that a store has.
-fn job<D: Disk>(rt: &(impl Abort + AllocGlobal), store: &mut Store<D>, revision: u64) -> Job {
+/// A job that a store has.
+pub fn job<D: Disk>(rt: &(impl Abort + AllocGlobal), store: &mut Store<D>, revision: u64) -> Job {
     match store.milestone_job(rt.alloc(), 0, revision) {
         Ok(job) => job,
         Err(refusal) => panic!(rt; "{refusal} to {revision}"),
@@ -70,8 +70,13 @@ fn is_composed_as(rt: &(impl Abort + AllocGlobal), job: Job, revision: u64, text
     }
 }
 
-// The source `a` appends to what it has created as "d": each edit goes in front.
-fn append<D: Disk>(rt: &(impl Abort + AllocGlobal), store: &mut Store<D>, number: u64, text: &str)
+/// The source `a` appends to what it has created as "d": each edit goes in front.
+pub fn append<D: Disk>(
+    rt: &(impl Abort + AllocGlobal),
+    store: &mut Store<D>,
+    number: u64,
+    text: &str,
+)
     requires first { 2 ≤ number }
     requires last { number < 2 ^ 53 }
 {

@@ -18,6 +18,8 @@ mod devices;
 #[cfg(test)]
 mod jobs;
 #[cfg(test)]
+mod milestones;
+#[cfg(test)]
 mod opening;
 #[cfg(test)]
 mod picks;
@@ -33,3 +35,5 @@ mod running;
 mod stopping;
 #[cfg(test)]
 mod stores;
+#[cfg(test)]
+mod upkeep;

@@ -8,7 +8,7 @@ use std::process::Abort;
 
 /// What is left of the unsynced ranges, and whether a gate that was being opened then stands open. Half of one byte is no
 /// byte.
-const LEFT: [(Left, bool); 7] = [
+pub const LEFT: [(Left, bool); 7] = [
     (Left::Nothing, false),
     (Left::All, true),
     (Left::FirstHalf, false),
@@ -18,8 +18,8 @@ const LEFT: [(Left, bool); 7] = [
     (Left::Byte(0xff), false),
 ];
 
-// How many calls it takes to open a device of these bytes.
-fn calls_before(rt: &(impl Abort + AllocGlobal), bytes: &[u8]) -> u64 {
+/// How many calls it takes to open a device of these bytes.
+pub fn calls_before(rt: &(impl Abort + AllocGlobal), bytes: &[u8]) -> u64 {
     open_store(rt, device_of(rt, bytes)).close().calls().len() as u64
 }
 

@@ -1,0 +1,140 @@
+//! Milestones that are put: which bytes a cell then has, which jobs are refused, and what a stop within leaves.
+ghost use Rattle.std.specs.Prelude.{◌≤◌, ◌<◌, ◌^◌};
+
+use crate::jobs::{append, is_refused, job};
+use crate::picks::{FIRST, SECOND, written};
+use crate::stopping::{LEFT, calls_before};
+use crate::stores::{
+    Row, create, device_of, differ_by, has_documents, is_opened_as, open_store, session,
+    small_device,
+};
+use disk::{Disk, FaultDisk, FaultPlan, Left};
+use milestone::{Composed, Job, compose_job};
+use recovery::{Pick, Store};
+use refusal::Refusal;
+use std::process::Abort;
+
+// What comes of a job.
+fn composed(rt: &(impl Abort + AllocGlobal), job: Job) -> Composed {
+    match compose_job(rt.alloc(), job) {
+        Ok(composed) => composed,
+        Err(back) => panic!(rt; "{}", back.refusal),
+    }
+}
+
+// A milestone of document 0 at a revision is put, or refused.
+fn is_put<D: Disk>(
+    rt: &(impl Abort + AllocGlobal),
+    store: &mut Store<D>,
+    revision: u64,
+    wanted: Result<(), Refusal>,
+) {
+    let done = composed(rt, job(rt, store, revision));
+    assert_eq!(rt; store.put_milestone(rt.alloc(), &done), wanted);
+}
+
+const CREATED: [Row; 1] = [("a", "d", "z", "taken 1")];
+
+// A device whose store has created "d" with "z".
+fn created(rt: &(impl Abort + AllocGlobal)) -> Vec<u8> {
+    let disk = session(rt, small_device(rt).bytes(), &CREATED, "d 1 z\n");
+    disk.bytes().to_vec(rt.alloc()).expect(rt, "memory")
+}
+
+#[test]
+fn the_first_cell_is_put(rt: HostRuntime) {
+    let before = created(&rt);
+    let mut store = open_store(&rt, device_of(&rt, &before));
+    is_put(&rt, &mut store, 1, Ok(()));
+    let disk = store.close();
+    differ_by(&rt, disk.bytes(), &before, 64, &FIRST);
+    is_opened_as(&rt, disk.bytes(), "d 1 z\n");
+}
+
+#[test]
+fn a_milestone_of_another_job_is_a_stranger(rt: HostRuntime) {
+    let before = created(&rt);
+    let mut store = open_store(&rt, device_of(&rt, &before));
+    append(&rt, &mut store, 2, "x");
+    let first = composed(&rt, job(&rt, &mut store, 1));
+    let second = composed(&rt, job(&rt, &mut store, 2));
+    let stranger = Err(Refusal::Stranger);
+    assert_eq!(&rt; store.put_milestone(rt.alloc(), &first), stranger);
+    assert_eq!(&rt; store.put_milestone(rt.alloc(), &second), Ok(()));
+    // The kept copy is dropped once it is put.
+    assert_eq!(&rt; store.put_milestone(rt.alloc(), &second), stranger);
+    assert!(&rt; !store.has_failed());
+    has_documents(&rt, store.state(), "d 2 xz\n");
+}
+
+// A device is opened by a pick, with the floor of its only document.
+fn has_floor(rt: &(impl Abort + AllocGlobal), bytes: &[u8], pick: Pick, floor: u64) {
+    match Store::open(rt.alloc(), device_of(rt, bytes), pick) {
+        Ok(store) => {
+            let documents = store.state().documents();
+            assert_eq!(rt; documents.len(), 1);
+            assert_eq!(rt; documents[0].floor(), floor);
+        }
+        Err(fault) => panic!(rt; "{}", fault.refusal),
+    }
+}
+
+// A milestone below the newest revision: the cell has the sources of its own revision, and what is behind it is read again.
+#[test]
+fn a_milestone_of_an_older_revision(rt: HostRuntime) {
+    let before = written(&rt);
+    let mut store = open_store(&rt, device_of(&rt, &before));
+    append(&rt, &mut store, 3, "q");
+    is_put(&rt, &mut store, 2, Ok(()));
+    is_refused(&rt, &mut store, 0, 1, Refusal::TooOld);
+    is_refused(&rt, &mut store, 0, 4, Refusal::Future);
+    let disk = store.close();
+    differ_by(
+        &rt,
+        disk.bytes().get(..1_000).expect(&rt, "cells"),
+        before.get(..1_000).expect(&rt, "cells"),
+        64,
+        &SECOND,
+    );
+    is_opened_as(&rt, disk.bytes(), "d 3 qzx\n");
+    has_floor(&rt, disk.bytes(), Pick::Newer, 2);
+    has_floor(&rt, disk.bytes(), Pick::Older, 2);
+}
+
+// Both cells are open, and the put goes wrong at a call of it, counted from 0.
+fn device_that_stopped(rt: &(impl Abort + AllocGlobal), call: u64, left: Left) -> FaultDisk {
+    let disk = device_of(rt, &written(rt));
+    let call = calls_before(rt, disk.bytes()).saturating_add(call);
+    let plan = FaultPlan {
+        call,
+        stops: true,
+        left,
+    };
+    let mut store = open_store(rt, FaultDisk::new(disk, plan));
+    is_put(rt, &mut store, 2, Err(Refusal::Fault));
+    assert!(rt; store.has_failed());
+    is_refused(rt, &mut store, 0, 2, Refusal::Fault);
+    store.close()
+}
+
+// The calls of the put are, in order:
+// 0 and 1: the older cell is closed at 64, and synced;
+// 2 and 3: the milestone is written behind that gate, and synced;
+// 4 and 5: the gate is opened, and synced.
+// Whichever of them stops, and whatever it leaves, both picks find the document as it was.
+#[test]
+fn a_stop_in_a_put(rt: HostRuntime) {
+    for call in 0..6 {
+        for (left, _) in &LEFT {
+            let disk = device_that_stopped(&rt, call, *left);
+            let after = disk.after_crash(rt.alloc()).expect(&rt, "memory");
+            is_opened_as(&rt, after.bytes(), "d 2 zx\n");
+        }
+    }
+    let before = written(&rt);
+    let mut store = open_store(&rt, device_of(&rt, &before));
+    is_put(&rt, &mut store, 2, Ok(()));
+    let disk = store.close();
+    differ_by(&rt, disk.bytes(), &before, 64, &SECOND);
+    is_opened_as(&rt, disk.bytes(), "d 2 zx\n");
+}
