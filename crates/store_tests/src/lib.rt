@@ -35,3 +35,5 @@ mod running;
 mod stopping;
 #[cfg(test)]
 mod stores;
+#[cfg(test)]
+mod upkeep;

@@ -1,7 +1,7 @@
 //! Runs of a store, one after another.
 ghost use Rattle.std.specs.Prelude.{All, IfOk};
 ghost use Rattle.recovery.specs.Open.{state_of};
-ghost use Rattle.recovery.specs.Run.{CanCommit};
+ghost use Rattle.recovery.specs.Run.{CanTake};
 
 use crate::batches::EDIT;
 use crate::stores::{
@@ -85,7 +85,7 @@ fn many_creations_in_many_runs(rt: HostRuntime) {
 
 // The step that commits the batch which these bytes spell. It fits a slot of the store.
 pub fn step<D: Disk>(rt: &(impl Abort + AllocGlobal), store: &Store<D>, bytes: &[u8]) -> StoreStep
-    ensures { CanCommit (state_of store.now) result }
+    ensures { CanTake (state_of store.now) result }
 {
     let found = decode_batch(rt.alloc(), bytes).expect(rt, "memory");
     let batch = found.expect(rt, "a batch");
@@ -96,7 +96,7 @@ pub fn step<D: Disk>(rt: &(impl Abort + AllocGlobal), store: &Store<D>, bytes: &
 
 // The step that creates the document d so many times.
 fn repeated<D: Disk>(rt: &(impl Abort + AllocGlobal), store: &Store<D>, count: u8) -> StoreStep
-    ensures { CanCommit (state_of store.now) result }
+    ensures { CanTake (state_of store.now) result }
 {
     let mut bytes = [count, 0, 0, 0].to_vec(rt.alloc()).expect(rt, "memory");
     for _ in 0..count {

@@ -1,0 +1,204 @@
+//! Runs that commit, put milestones and retire: a journal whose oldest segment is given up, and a stop within.
+use crate::batches::EDIT;
+use crate::running::step;
+use crate::stopping::LEFT;
+use crate::stores::{SLOT, device_of, has_documents, is_opened_as, open_store, part, small_device};
+use disk::{Disk, FaultDisk, FaultPlan, Left};
+use recovery::{Pick, Stop, Store, StoreStep};
+use refusal::Refusal;
+use revision::Name;
+use std::process::Abort;
+
+// Batch 3 deletes the first unit, by number 3 of the source a.
+const DELETION: [u8; 41] = [
+    1, 0, 0, 0, // one entry
+    2, 0, 0, 0, 0, 3, 0, 0, 0, 0, 0, 0, 0, // a change, document 0, revision 3
+    1, 0, b'a', 3, 0, 0, 0, 0, 0, 0, 0, // source a, its number 3
+    1, 0, 0, 0, 4, 1, 0, 0, 0, 0, 0, 0, 0, // one operation, a delete of 1
+];
+
+// Batch 4 but for its names: it takes five names off the unit that is left.
+const WITHOUT_NAMES: [u8; 45] = [
+    1, 0, 0, 0, //
+    2, 0, 0, 0, 0, 4, 0, 0, 0, 0, 0, 0, 0, //
+    1, 0, b'a', 4, 0, 0, 0, 0, 0, 0, 0, //
+    1, 0, 0, 0, 3, 1, 0, 0, 0, 0, 0, 0, 0, // one operation, a retain of 1
+    5, 0, 0, 0, // five names
+];
+
+// Batch 5 inserts "q" in front.
+const INSERTION: [u8; 42] = [
+    1, 0, 0, 0, //
+    2, 0, 0, 0, 0, 5, 0, 0, 0, 0, 0, 0, 0, //
+    1, 0, b'a', 5, 0, 0, 0, 0, 0, 0, 0, //
+    1, 0, 0, 0, 1, 1, 0, 0, 0, b'q', 0, 0, 0, 0, //
+];
+
+// Batch 4, of 110 bytes. Each name has ten bytes.
+fn removals(rt: &(impl Abort + AllocGlobal)) -> Vec<u8> {
+    let mut bytes = WITHOUT_NAMES.to_vec(rt.alloc()).expect(rt, "memory");
+    for letter in [b'a', b'b', b'c', b'd', b'e'] {
+        bytes.extend_from_slice(&[10, 0]).expect(rt, "memory");
+        bytes.extend_from_slice(&[letter; 10]).expect(rt, "memory");
+        bytes.push(0).expect(rt, "memory");
+    }
+    bytes
+}
+
+// Runs on a device: three batches fill slot 0 to 156 bytes of its area, and the document is put into its first cell. Batch 4 opens
+// slot 1, and the document is put into its second cell. After batch 5 it is put over the first one. Then no open cell is below
+// revision 4, and slot 0, which has the first three, is retired.
+fn run<D: Disk + Drop>(
+    rt: &(impl Abort + AllocGlobal),
+    disk: D,
+    wanted: Result<(), Stop>,
+) -> Store<D> {
+    let mut store = open_store(rt, disk);
+    let steps = [
+        step(rt, &store, &part(rt, &SLOT, 14, 45)),
+        step(rt, &store, &EDIT),
+        step(rt, &store, &DELETION),
+        StoreStep::Milestone(0, 3),
+        step(rt, &store, &removals(rt)),
+        StoreStep::Milestone(0, 4),
+        step(rt, &store, &INSERTION),
+        StoreStep::Milestone(0, 5),
+        StoreStep::Retire,
+    ];
+    assert_eq!(rt; store.run(rt.alloc(), &steps), wanted);
+    store
+}
+
+// By a pick the document's last change is number 5 of its source.
+fn is_last(rt: &(impl Abort + AllocGlobal), bytes: &[u8], pick: Pick) {
+    match Store::open(rt.alloc(), device_of(rt, bytes), pick) {
+        Ok(store) => {
+            has_documents(rt, store.state(), "d 5 qx\n");
+            let source = Name::source(rt.alloc(), "a").expect(rt, "a source");
+            let last = store.state().documents()[0].last(&source);
+            assert_eq!(rt; last.number, 5);
+            assert_eq!(rt; last.revision, 5);
+        }
+        Err(fault) => panic!(rt; "{}", fault.refusal),
+    }
+}
+
+// By each pick a device of these bytes has all that was committed.
+fn is_whole(rt: &(impl Abort + AllocGlobal), bytes: &[u8]) {
+    is_opened_as(rt, bytes, "d 5 qx\n");
+    is_last(rt, bytes, Pick::Newer);
+    is_last(rt, bytes, Pick::Older);
+}
+
+// Which byte stands at a place.
+fn byte_at(rt: &(impl Abort + AllocGlobal), bytes: &[u8], at: usize) -> u8 {
+    *bytes.get(at).expect(rt, "a byte")
+}
+
+#[test]
+fn a_run_gives_up_the_oldest_segment(rt: HostRuntime) {
+    let store = run(&rt, device_of(&rt, small_device(&rt).bytes()), Ok(()));
+    has_documents(&rt, store.state(), "d 5 qx\n");
+    let disk = store.close();
+    is_whole(&rt, disk.bytes());
+    // The first cell is at revision 5, the second at 4.
+    assert_eq!(rt;
+        part(&rt, disk.bytes(), 64, 1).as_slice(),
+        [0xa5].as_slice()
+    );
+    assert_eq!(rt; byte_at(&rt, disk.bytes(), 76), 5);
+    assert_eq!(rt; byte_at(&rt, disk.bytes(), 320), 0xa5);
+    assert_eq!(rt; byte_at(&rt, disk.bytes(), 332), 4);
+    // Slot 0 is closed, and slot 1 open, with segment 2 and its two records.
+    assert_eq!(rt; byte_at(&rt, disk.bytes(), 1_088), 0);
+    assert_eq!(rt;
+        part(&rt, disk.bytes(), 1_344, 14).as_slice(),
+        [0xa5, 2, 0, 0, 0, 0, 0, 0, 0, 0xa5, 110, 0, 0, 0].as_slice()
+    );
+    assert_eq!(rt;
+        part(&rt, disk.bytes(), 1_468, 5).as_slice(),
+        [0xa5, 42, 0, 0, 0].as_slice()
+    );
+}
+
+// The run goes wrong at one of its last calls, counted from the end, in the step of a number. What a crash leaves is whole.
+fn bytes_after_stop(
+    rt: &(impl Abort + AllocGlobal),
+    from_end: u64,
+    at: usize,
+    left: Left,
+) -> Vec<u8> {
+    let device = small_device(rt);
+    let done = run(rt, device_of(rt, device.bytes()), Ok(())).close();
+    let call = (done.calls().len() as u64).saturating_sub(from_end);
+    let plan = FaultPlan::stop(call, left);
+    let refusal = Refusal::Fault;
+    let disk = FaultDisk::new(device_of(rt, device.bytes()), plan);
+    let store = run(rt, disk, Err(Stop { at, refusal }));
+    assert!(rt; store.has_failed());
+    let after = store.close().after_crash(rt.alloc()).expect(rt, "memory");
+    is_whole(rt, after.bytes());
+    after.bytes().to_vec(rt.alloc()).expect(rt, "memory")
+}
+
+// The last put has six calls: its older cell is closed at 64, and synced (8 and 7 from the end); the milestone is written behind that
+// gate, and synced (6 and 5); the gate is opened, and synced (4 and 3). The retirement closes slot 0 at 1,088, and syncs (2 and 1).
+#[test]
+fn a_stop_in_the_last_put_or_in_the_retirement(rt: HostRuntime) {
+    for (left, _) in &LEFT {
+        for from_end in 1..9 {
+            bytes_after_stop(&rt, from_end, if from_end <= 2 { 8 } else { 7 }, *left);
+        }
+    }
+}
+
+// A stop in the write of a gate leaves it with any value.
+#[test]
+fn a_stop_in_the_write_of_a_gate(rt: HostRuntime) {
+    for byte in [0x3c, 0xa5] {
+        let closing = bytes_after_stop(&rt, 8, 7, Left::Byte(byte));
+        assert_eq!(rt; byte_at(&rt, &closing, 64), byte);
+        let opening = bytes_after_stop(&rt, 4, 7, Left::Byte(byte));
+        assert_eq!(rt; byte_at(&rt, &opening, 64), byte);
+        let retiring = bytes_after_stop(&rt, 2, 8, Left::Byte(byte));
+        assert_eq!(rt; byte_at(&rt, &retiring, 1_088), byte);
+    }
+}
+
+// Where the first milestone is put before batch 3, the oldest segment has an entry above that cell.
+#[test]
+fn a_segment_above_a_cell_is_still_needed(rt: HostRuntime) {
+    let mut store = open_store(&rt, small_device(&rt));
+    let steps = [
+        step(&rt, &store, &part(&rt, &SLOT, 14, 45)),
+        step(&rt, &store, &EDIT),
+        StoreStep::Milestone(0, 2),
+        step(&rt, &store, &DELETION),
+        step(&rt, &store, &removals(&rt)),
+        StoreStep::Retire,
+    ];
+    let refusal = Refusal::StillNeeded;
+    assert_eq!(rt; store.run(rt.alloc(), &steps), Err(Stop { at: 5, refusal }));
+    assert!(rt; !store.has_failed());
+    is_opened_as(&rt, store.close().bytes(), "d 4 x\n");
+}
+
+// A run stops at a milestone that can't be.
+fn is_refused(rt: &(impl Abort + AllocGlobal), document: u32, revision: u64, refusal: Refusal) {
+    let mut store = open_store(rt, small_device(rt));
+    let steps = [
+        step(rt, &store, &part(rt, &SLOT, 14, 45)),
+        StoreStep::Milestone(document, revision),
+        StoreStep::Retire,
+    ];
+    assert_eq!(rt; store.run(rt.alloc(), &steps), Err(Stop { at: 1, refusal }));
+    assert!(rt; !store.has_failed());
+    has_documents(rt, store.state(), "d 1 z\n");
+}
+
+#[test]
+fn a_run_stops_at_a_milestone_that_is_refused(rt: HostRuntime) {
+    is_refused(&rt, 1, 1, Refusal::NoDocument);
+    is_refused(&rt, 0, 2, Refusal::Future);
+    is_refused(&rt, 0, 0, Refusal::TooOld);
+}
