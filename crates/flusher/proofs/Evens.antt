@@ -1,6 +1,6 @@
 -- The parts of an order: what is settled of it, and what is taken off beyond that.
-use Rattle.std.proofs.Common.{◌≡◌, ◌≤◌, ℕ, ◌+◌, ◌-◌, List, [], ◌∷◌, ◌++◌, length, take, drop, map, refl, sym, ◌∙◌, ap, subst, arith, append_assoc, append-nil, length-append, length-take, length-drop}
-use Rattle.std.proofs.lemmas.List.{take-append-le, drop-append-le, length-take-le, nil_from_length, length-map, take-map, drop-map}
+use Rattle.std.proofs.Common.{◌≡◌, ◌≤◌, ℕ, ◌+◌, ◌-◌, List, [], ◌∷◌, ◌++◌, length, take, drop, sym, ◌∙◌, ap, arith, append-nil, length-take, length-drop}
+use Rattle.std.proofs.lemmas.List.{take-append-le, drop-append-le, length-take-le, length-map, take-map, drop-map}
 use Rattle.std.proofs.Math.Seq.{take-add}
 use Rattle.revision.specs.Command.{Taken}
 use Rattle.recovery.specs.Found.{commands_of}

@@ -1,26 +1,25 @@
 -- The run that a turn takes off: it fits a slot, and it may be settled once it is published.
-use Rattle.std.proofs.Common.{◌≡◌, ◌≤◌, ◌<◌, ◌⊎◌, inl, inr, ℕ, ◌+◌, ◌-◌, ◌^◌, true, List, [], ◌∷◌, ◌++◌, length, take, drop, refl, sym, ◌∙◌, ap, subst, arith, append-nil, length-append, length-drop}
+use Rattle.std.proofs.Common.{◌≡◌, ◌≤◌, ◌<◌, ◌⊎◌, inl, inr, ℕ, ◌+◌, ◌^◌, true, List, [], ◌∷◌, ◌++◌, length, take, drop, sym, ◌∙◌, ap, subst, arith, append-nil, length-append, length-drop}
 use Rattle.std.specs.List.{fold}
-use Rattle.std.specs.Prelude.{sum_by, min, ◌==◌, nat_lt, nat_le, ◌&&◌}
-use Rattle.std.proofs.lemmas.List.{take-map, length-map}
+use Rattle.std.specs.Prelude.{◌==◌, nat_lt, nat_le, ◌&&◌}
+use Rattle.std.proofs.lemmas.List.{take-map}
 use Rattle.std.proofs.lemmas.Bool.Decides.{nat_tests}
 use Rattle.disk.specs.declared.device.Disk.{Ghosts}
 use Rattle.revision.specs.Command.{Taken, width_of}
 use Rattle.revision.specs.State.{State}
 use Rattle.journal.specs.BatchSpelling.{batch_width}
-use Rattle.world.specs.Board.{Board, next_run, taken_more, can_settle}
+use Rattle.world.specs.Board.{Board, next_run, taken_more}
 use Rattle.world.specs.World.{Entry, takens}
 use Rattle.recovery.specs.Found.{commands_of}
 use Rattle.recovery.specs.declared.store.Store.{Store}
 use Rattle.recovery.specs.Open.{FitsSlot, IsWithOrWithout, state_of}
 use Rattle.recovery.specs.Goes.{Goes}
 use Rattle.hub.specs.Runs.{IsLongest, untaken, MaySettle}
-use Rattle.flusher.specs.Batches.{AreParts}
 use Rattle.flusher.specs.Flushers.{cap_of}
 use Rattle.flusher.specs.Standing.{Standing, IsCalm}
 use Rattle.flusher.proofs.Beginnings.{commands-append}
 use Rattle.flusher.proofs.Evens.{told_length, all_settled, takens_length}
-use Rattle.flusher.proofs.Steps.{Stands, calm_stands}
+use Rattle.flusher.proofs.Steps.{calm_stands}
 
 longer_than : (acc : ℕ) (xs : List Taken) → acc + length xs ≤ fold (λ a x. a + width_of x) acc xs
 longer_than acc [] = omega arith

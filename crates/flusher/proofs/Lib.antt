@@ -5,3 +5,4 @@ pub mod Steps
 pub mod Holdings
 pub mod Fitting
 pub mod CallerLemmas
+pub mod Answering

@@ -1,22 +1,17 @@
 -- How a thread's run goes on from one calm moment to the next.
-use Rattle.std.proofs.Common.{◌≡◌, ◌≤◌, inl, ℕ, ◌+◌, ◌-◌, true, false, List, [], ◌∷◌, ◌++◌, length, take, drop, refl, sym, ◌∙◌, ap, subst, arith, append_assoc, append-nil, length-append}
-use Rattle.std.proofs.lemmas.List.{map-append}
+use Rattle.std.proofs.Common.{◌≡◌, ◌≤◌, inl, false, List, [], ◌++◌, length, refl, sym, ◌∙◌, ap, subst, arith, append_assoc, append-nil}
 use Rattle.disk.specs.declared.device.Disk.{Ghosts}
-use Rattle.disk.specs.Crash.{LeavesOnly, MayLeaveNow}
-use Rattle.revision.specs.Command.{Taken, Command}
-use Rattle.revision.specs.State.{State, fold}
-use Rattle.revision.specs.Acceptance.{Answer, Takes, Repeats, Refuses, answer}
-use Rattle.world.specs.Board.{Board, submitted, submitted_by, next_run, taken_more, settled_more}
-use Rattle.world.specs.World.{Entry, entry_of, takens}
-use Rattle.recovery.specs.declared.store.Store.{Store}
-use Rattle.recovery.specs.Found.{commands_of, FoundAs}
-use Rattle.recovery.specs.Open.{IsOpen, IsWithOrWithout, device_of, state_of, has_failed}
+use Rattle.revision.specs.Command.{Taken}
+use Rattle.revision.specs.State.{State}
+use Rattle.world.specs.World.{takens}
+use Rattle.recovery.specs.Found.{commands_of}
+use Rattle.recovery.specs.Open.{IsWithOrWithout, state_of, has_failed}
 use Rattle.recovery.specs.Goes.{Goes}
 use Rattle.recovery.proofs.CallerLemmas.{goes_none, goes_map, goes_on, found_now, found_as, found_open}
-use Rattle.flusher.specs.Batches.{IsBeginning, IsFirst, AreParts}
+use Rattle.flusher.specs.Batches.{IsBeginning, AreParts}
 use Rattle.flusher.specs.Standing.{Standing, batches_of, IsEven, IsCalm, RunGoes}
-use Rattle.flusher.proofs.Beginnings.{commands-append, fold-append, fewer, longer, these, within_write, is_first}
-use Rattle.flusher.proofs.Evens.{told_length, all_settled, all_batches, parts_longer, parts_taken, parts_settled, run_taken, takens_length}
+use Rattle.flusher.proofs.Beginnings.{fewer, longer, these, within_write}
+use Rattle.flusher.proofs.Evens.{told_length, takens_length}
 
 module _ {D : Type 0} {disk : Ghosts D} where
   -- at a calm moment no fewer commands are published than are settled

@@ -1,20 +1,20 @@
 -- The steps of a thread's run: what each does to a calm moment.
-use Rattle.std.proofs.Common.{◌≡◌, ◌≤◌, inl, inr, ℕ, ◌+◌, ◌-◌, true, false, List, [], ◌∷◌, ◌++◌, length, take, drop, refl, sym, ◌∙◌, ap, subst, arith, append_assoc, append-nil, length-append}
+use Rattle.std.proofs.Common.{◌≡◌, ◌≤◌, inl, ℕ, ◌+◌, false, List, [], ◌∷◌, ◌++◌, length, refl, sym, ◌∙◌, ap, subst, arith, append-nil, length-append}
 use Rattle.std.proofs.lemmas.List.{map-append}
 use Rattle.disk.specs.declared.device.Disk.{Ghosts}
 use Rattle.revision.specs.Command.{Taken, Command}
-use Rattle.revision.specs.State.{State, grown, fold}
+use Rattle.revision.specs.State.{State, fold}
 use Rattle.revision.specs.Acceptance.{Answer, Takes, Repeats, Refuses, answer}
 use Rattle.world.specs.Board.{Board, submitted, submitted_by, next_run, taken_more, settled_more}
 use Rattle.world.specs.World.{Entry, entry_of, takens}
 use Rattle.recovery.specs.declared.store.Store.{Store}
 use Rattle.recovery.specs.Found.{commands_of, FoundAs}
-use Rattle.recovery.specs.Open.{IsOpen, IsWithOrWithout, device_of, state_of, has_failed}
+use Rattle.recovery.specs.Open.{IsWithOrWithout, state_of, has_failed}
 use Rattle.recovery.specs.Goes.{Goes}
 use Rattle.recovery.proofs.CallerLemmas.{goes_none, goes_map, found_as, found_open}
 use Rattle.flusher.specs.Batches.{AreParts}
-use Rattle.flusher.specs.Standing.{Standing, batches_of, IsEven, IsCalm, RunGoes}
-use Rattle.flusher.proofs.Evens.{all_settled, parts_longer, parts_taken, parts_settled, run_taken, takens_length}
+use Rattle.flusher.specs.Standing.{Standing, IsEven, IsCalm, RunGoes}
+use Rattle.flusher.proofs.Evens.{parts_longer, parts_taken, parts_settled, run_taken, takens_length}
 use Rattle.flusher.proofs.Running.{calm_parts, calm_batches, run_step, run_settled_step}
 
 -- a board's counts lie in its order, and its order as far as it is taken off is these batches
@@ -36,7 +36,7 @@ stands_by entry board told rest (Takes taken) is =
 stands_by entry board told rest (Repeats revision) is = is
 stands_by entry board told rest (Refuses refusal) is = is
 
-settled_by : (entry : Taken → Entry) (board : Board Entry) (due : Answer) → (submitted_by entry board due).settled ≡ board.settled
+pub settled_by : (entry : Taken → Entry) (board : Board Entry) (due : Answer) → (submitted_by entry board due).settled ≡ board.settled
 settled_by entry board (Takes taken) = refl
 settled_by entry board (Repeats revision) = refl
 settled_by entry board (Refuses refusal) = refl

@@ -1,17 +1,17 @@
 -- One thread's run: what each call gives, and what the answers say at the end.
-use Rattle.std.specs.Prelude.{◌≡◌, ◌≤◌, ℕ, ◌+◌, true, false, Option, Some, None, List, [], ◌∷◌, ◌++◌, length, slice_get}
-use Rattle.disk.specs.declared.device.Disk.{Ghosts}
-use Rattle.refusal.specs.declared.Refusal.TheVariants.{StillNeeded}
+use Rattle.std.specs.Prelude.{◌≡◌, ◌≤◌, ◌⊎◌, ℕ, true, false, Option, Some, None, List, [], ◌∷◌, ◌++◌, length, take, slice_get}
+use Rattle.refusal.specs.declared.Refusal.{Refusal}
+use Rattle.refusal.specs.declared.Refusal.TheVariants.{StillNeeded, NoMemory, Fault}
 use Rattle.revision.specs.Command.{Taken}
 use Rattle.revision.specs.Acceptance.{Refuses, answer}
 use Rattle.world.specs.Board.{Board, Ticket, submitted, ticket_of, taken_more, settled_more, can_ack}
 use Rattle.world.specs.World.{Entry, entry_of}
 use Rattle.recovery.specs.Found.{commands_of}
 use Rattle.hub.specs.Runs.{IsLongest, untaken}
-use Rattle.flusher.specs.declared.drive.Call.{Call}
-use Rattle.flusher.specs.declared.drive.Call.TheVariants.{Submit, Turn, Ack, Retire}
-use Rattle.flusher.specs.declared.drive.Answer.{Answer}
-use Rattle.flusher.specs.declared.drive.Answer.TheVariants.{Submitted, Turned, Acked, Retired, Refused}
+use Rattle.flusher.specs.declared.calls.Call.{Call}
+use Rattle.flusher.specs.declared.calls.Call.TheVariants.{Submit, Turn, Ack, Retire}
+use Rattle.flusher.specs.declared.calls.Answer.{Answer}
+use Rattle.flusher.specs.declared.calls.Answer.TheVariants.{Submitted, Turned, Acked, Retired, Refused}
 
 -- what an acknowledgement gives for a ticket, or for none
 abbrev pub AckGives : Board Entry → Option Ticket → Option (List (List Taken)) → Type 0
@@ -44,3 +44,22 @@ module _ {D J : Type 0} where
   abbrev pub IsHeld : ℕ → List Ticket → Call → Answer D J → Type 0
   IsHeld settled tickets (Ack at) (Acked (Some told)) = (ticket : Ticket) × (slice_get tickets at ≡ Some ticket) × (ticket.length ≤ settled)
   IsHeld settled tickets call reply = Unit {0}
+
+  -- that of each acknowledgement, where each of these calls has its answer
+  abbrev pub AreHeld : ℕ → List Ticket → List Call → List (Answer D J) → Type 0
+  AreHeld settled tickets [] [] = Unit {0}
+  AreHeld settled tickets (call ∷ calls) (reply ∷ answers) = IsHeld settled tickets call reply × AreHeld settled tickets calls answers
+  AreHeld settled tickets [] (reply ∷ answers) = ⊥
+  AreHeld settled tickets (call ∷ calls) [] = ⊥
+
+  -- The first calls were answered one after another, so many of them as there are answers, and what came behind them, if anything did,
+  -- changed nothing of the order.
+  pub record IsAnswered (cap : ℕ) (start after : Board Entry) (calls : List Call) (answers : List (Answer D J)) (tickets : List Ticket) : Type 0 where
+    pub board : Board Entry
+    pub answered : Answered cap start (take (length answers) calls) answers board tickets
+    pub order : after.order ≡ board.order
+    pub settled : board.settled ≤ after.settled
+
+-- A run stops for want of memory, at a fault of the device, or where a turn was refused: the call behind those that were answered.
+abbrev pub StopsAt : List Call → ℕ → Refusal → Type 0
+StopsAt calls at refusal = ((refusal ≡ NoMemory) ⊎ (refusal ≡ Fault)) ⊎ (slice_get calls at ≡ Some Turn)

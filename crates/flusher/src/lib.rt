@@ -5,20 +5,35 @@
 //! thread, writes it and settles it: specs/Standing.antt says by `RunGoes` which batches a crash at any moment of it leaves. `start`
 //! makes a flusher and its board over an open store.
 //!
+//! # One thread's run
+//!
+//! `drive` makes calls one after another (submit a command, make a turn, acknowledge a ticket, retire a segment) and gives an answer for
+//! each. Its contract says of the whole run:
+//!
+//! - `any_moment`, `holds`: each content that a crash may leave at any moment since the run began is found, whichever cell of a document
+//!   is used, as a state that agrees with the first commands of the board's order up to the end of a batch; once it has returned, with no
+//!   fewer commands than are settled then.
+//! - `acknowledged`: each ticket of which an acknowledgement gave a token asks for no more than is settled then. So a crash loses nothing
+//!   that was acknowledged.
+//! - `answered`, `whole`: each answer is what specs/Driving.antt says by `Gives` of its call, and a run that isn't stopped answers all.
+//! - `stops`: it stops for want of memory, at a fault of the device, and where a turn is refused.
+//!
 //! # What isn't here yet
 //!
-//! A whole run of calls by one thread: `Call` and `Answer` are its types, and no function takes them yet. A full journal is passed on as
-//! the refusal.
+//! A full journal is passed on as the refusal, so a run stops there. A run makes no milestones, and of a retirement its answers say only
+//! that it was made or is still refused.
 #![tactic(auto)]
 
 mod begun;
-mod drive;
+mod calls;
+mod driving;
 mod flusher;
 mod gate;
 mod starting;
 mod turning;
 
-pub use drive::{Answer, Call};
+pub use calls::{Answer, Call};
+pub use driving::{Driven, drive};
 pub use flusher::Flusher;
 pub use gate::{Gate, Moment, OpenGate};
 pub use starting::{StartFault, start};

@@ -3,6 +3,8 @@ ghost use Rattle.std.specs.Prelude.{◌≡◌, ◌+◌, [], false, IfOk, IfErr};
 ghost use Rattle.recovery.specs.Open.{state_of};
 ghost use Rattle.world.specs.Board.{begun_board};
 ghost use Rattle.flusher.specs.Holding.{store_of, told_of, committed_of, waiting_of};
+ghost use Rattle.flusher.specs.Standing.{IsCalm};
+ghost use Rattle.flusher.specs.Run.{standing};
 
 use crate::begun::Begun;
 use crate::flusher::Flusher;
@@ -39,6 +41,7 @@ pub fn start<D: Disk, J: Site>(
     ensures store { IfOk result (λ both. store_of both.0 ≡ store) }
     ensures nothing { IfOk result (λ both. (told_of both.0 ≡ []) × (committed_of both.0 ≡ []) × (waiting_of both.0 ≡ [])) }
     ensures board { IfOk result (λ both. both.1 ≡ record { board = begun_board J.start; failed = false; told = []; left = seats }) }
+    ensures calm { IfOk result (λ both. IsCalm J.start (standing both.1 both.0)) }
     ensures back { IfErr result (λ fault. fault.store ≡ store) }
     ensures only { IfErr result (λ fault. fault.refusal ≡ Refusal.NoMemory) }
 {

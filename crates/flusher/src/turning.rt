@@ -33,6 +33,7 @@ pub fn turn<D: Disk, J: Site, R: Wait>(
     ensures run { IfOk result (λ count. IsLongest (cap_of (state_of (store_of flusher.old))) (untaken board.old.board) count) }
     ensures settled { IfOk result (λ count. board.new.board ≡ settled_more (taken_more board.old.board count) count) }
     ensures failed { board.new.failed ≡ board.old.failed }
+    ensures order { board.new.board.order ≡ board.old.board.order }
 {
     let run = board.take(alloc, flusher.cap())?;
     let count = run.len();

@@ -1,11 +1,10 @@
-use Rattle.std.proofs.Common.{◌≡◌, ◌<◌, ◌≤◌, ℕ, ◌+◌, Bool, true, false, List, [], ◌∷◌, ◌++◌, length, refl, sym, ◌∙◌, ap, subst, arith, append-nil}
+use Rattle.std.proofs.Common.{◌≡◌, ◌<◌, ℕ, Bool, true, false, List, [], ◌∷◌, ◌++◌, length, refl, sym, ◌∙◌, ap, subst, arith, append-nil}
 use Rattle.std.proofs.lemmas.Bool.{false≢true}
 use Rattle.revision.specs.Command.{Taken}
 use Rattle.revision.specs.State.{fold}
 use Rattle.recovery.specs.Found.{commands_of}
 use Rattle.recovery.specs.Open.{state_of, has_failed}
-use Rattle.world.specs.Board.{Board as Inner, taken_more, settled_more}
-use Rattle.world.specs.World.{Entry}
+use Rattle.world.specs.Board.{taken_more, settled_more}
 use Rattle.hub.specs.Legal.{Board}
 use Rattle.hub.specs.Runs.{IsLongest, untaken}
 use Rattle.flusher.specs.Holding.{store_of, told_of, committed_of, waiting_of}

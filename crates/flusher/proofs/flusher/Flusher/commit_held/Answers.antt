@@ -1,4 +1,4 @@
-use Rattle.std.proofs.Common.{rules, ◌≡◌, ◌≢◌, [], ◌∷◌, ◌++◌, List, true, false, Some, None, Ok, Err, refl, sym, ◌∙◌, ap, subst, append-nil}
+use Rattle.std.proofs.Common.{◌≡◌, [], ◌∷◌, ◌++◌, List, Some, None, refl, sym, ◌∙◌, ap, append-nil}
 use Rattle.std.proofs.lemmas.Bool.{false≢true}
 use Rattle.revision.specs.Command.{Taken}
 use Rattle.revision.specs.State.{fold}
@@ -6,8 +6,7 @@ use Rattle.recovery.specs.Found.{commands_of}
 use Rattle.recovery.specs.Open.{has_room}
 use Rattle.recovery.proofs.CallerLemmas.{goes_call}
 use Rattle.view.specs.Published.{Published}
-use Rattle.flusher.specs.Flushers.{listed}
-use Rattle.flusher.proofs.Holdings.{held_in, none_of_held, same_batch, goes_not, goes_batch, kept_more}
+use Rattle.flusher.proofs.Holdings.{held_in, same_batch, goes_not, goes_batch, kept_more}
 use Rattle.flusher.proofs.flusher.Flusher.commit_held.Goals as goal
 
 pub returns-in-None-clause-goes : goal.returns-in-None-clause-goes

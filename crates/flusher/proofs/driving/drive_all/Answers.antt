@@ -1,0 +1,50 @@
+use Rattle.std.proofs.Common.{◌≡◌, ◌+◌, [], ◌∷◌, ◌++◌, length, take, refl, sym, ◌∙◌, ap, subst, arith, length-append}
+use Rattle.std.proofs.lemmas.Result.{err_from_is_err_and}
+use Rattle.flusher.specs.Flushers.{cap_of}
+use Rattle.flusher.specs.Run.{standing}
+use Rattle.flusher.specs.Driving.{Answered, StopsAt}
+use Rattle.flusher.proofs.Running.{run_none, run_on}
+use Rattle.flusher.proofs.Answering.{begins_at, one_more, stops_there, handed_on}
+use Rattle.flusher.proofs.driving.drive_all.Goals as goal
+
+pub loop-call-init : goal.loop-call-init
+loop-call-init g c = record {
+  calm = c.requires.calm;
+  works = c.requires.works;
+  failed = refl;
+  goes = run_none g.J.Site.start (standing c.args.board.now c.args.flusher.now) c.requires.calm;
+  count = ap length c.requires.nothing.0;
+  answered = begins_at (cap_of g.J.Site.start) c.args.board.now.board c.args.answers.now.items c.args.tickets.now.items c.requires.nothing.0 c.requires.nothing.1;
+}
+
+pub returns-in_err-answer-clause-goes : goal.returns-in_err-answer-clause-goes
+returns-in_err-answer-clause-goes g c =
+    let i = c.loop-call.invariant in
+    run_on g.J.Site.start (standing c.args.board.now c.args.flusher.now) (standing c.loop-call.board c.loop-call.flusher) (standing c.call_one.new.board c.call_one.new.flusher)
+    i.goes i.calm i.works c.call_one.ensures.goes
+
+pub returns-in_err-answer-clause-stops : goal.returns-in_err-answer-clause-stops
+returns-in_err-answer-clause-stops g c =
+    let p = err_from_is_err_and c.from_residual-in_err-answer.result c.from_residual-in_err-answer.ensures.1 in
+    handed_on (StopsAt c.args.calls.now (length c.reserve.new.self.items)) c.from_residual-in_err-answer.result p.0 c.in_err-answer.field-0.0 p.1 p.2
+    (stops_there c.args.calls.now c.loop-call.call-index (length c.reserve.new.self.items) c.call-item.result _ c.in_err-answer.field-0.0 c.loop-call-test.true c.call-item.is
+    (ap length c.in_ok-reserve.ensures.items ∙ c.loop-call.invariant.count) c.in_err-answer.ensures.stops)
+
+pub loop-call-preserved : goal.loop-call-preserved
+loop-call-preserved g c =
+    let i = c.loop-call.invariant in
+    let items : c.push.new.self.items ≡ c.loop-call.answers.items ++ c.in_ok-answer.answer ∷ [] =
+    c.in_ok-push.ensures.items ∙ ap (λ l. l ++ c.in_ok-answer.answer ∷ []) c.in_ok-reserve.ensures.items in
+    record {
+      calm = c.in_ok-answer.ensures.calm;
+      works = c.in_ok-answer.ensures.works;
+      failed = c.call_one.ensures.failed ∙ i.failed;
+      goes =
+          run_on g.J.Site.start (standing c.args.board.now c.args.flusher.now) (standing c.loop-call.board c.loop-call.flusher) (standing c.call_one.new.board c.call_one.new.flusher)
+          i.goes i.calm i.works c.call_one.ensures.goes;
+      count = omega (arith, ap length items, length-append c.loop-call.answers.items (c.in_ok-answer.answer ∷ []), i.count);
+      answered =
+          subst (λ l. Answered (cap_of g.J.Site.start) c.args.board.now.board (take (c.loop-call.call-index + 1) c.args.calls.now) l c.call_one.new.board.board c.call_one.new.tickets.items) (sym items)
+          (one_more (cap_of g.J.Site.start) c.args.board.now.board c.args.calls.now c.loop-call.call-index c.call-item.result c.loop-call.answers.items c.loop-call.board.board c.loop-call.tickets.items
+          c.in_ok-answer.answer c.call_one.new.board.board c.call_one.new.tickets.items _ c.loop-call-test.true c.call-item.is i.answered c.in_ok-answer.ensures.gives);
+    }

@@ -1,0 +1,18 @@
+use Rattle.std.proofs.Common.{◌≡◌, false, length, take}
+use Rattle.recovery.specs.Open.{has_failed}
+use Rattle.flusher.specs.Flushers.{cap_of}
+use Rattle.flusher.specs.Holding.{store_of}
+use Rattle.flusher.specs.Standing.{IsCalm, RunGoes}
+use Rattle.flusher.specs.Run.{standing}
+use Rattle.flusher.specs.Driving.{Answered}
+use Rattle.flusher.proofs.driving.drive_all.Given as goal
+
+abbrev pub invariant-loop-call : goal.invariant-loop-call
+invariant-loop-call g l = record {
+  calm : IsCalm g.J.Site.start (standing l.board l.flusher);
+  works : has_failed (store_of l.flusher) ≡ false;
+  failed : l.board.failed ≡ l.fn.board.failed;
+  goes : RunGoes g.J.Site.start (standing l.fn.board l.fn.flusher) (standing l.board l.flusher);
+  count : length l.answers.items ≡ l.call-index;
+  answered : Answered (cap_of g.J.Site.start) l.fn.board.board (take l.call-index l.calls) l.answers.items l.board.board l.tickets.items;
+}

@@ -1,0 +1,229 @@
+//! One thread's run over a board and a flusher: call after call, each with its answer.
+ghost use Rattle.std.specs.Prelude.{List, ℕ, ◌≡◌, ◌≢◌, ◌⊎◌, ◌↔◌, ◌<◌, ◌≤◌, ◌^◌, [], ◌∷◌, ◌++◌, true, false, Some, None, length, slice_get, take, OnOk, OnErr, IfOk, IfErr, IfSome, IfNone, IsErrOf};
+ghost use Rattle.disk.specs.Crash.{LeavesOnly, MayLeaveNow};
+ghost use Rattle.world.specs.Board.{submitted};
+ghost use Rattle.world.specs.World.{entry_of, takens};
+ghost use Rattle.recovery.specs.Found.{FoundAs};
+ghost use Rattle.recovery.specs.Open.{IsOpen, device_of, state_of, has_failed};
+ghost use Rattle.recovery.specs.Goes.{Goes};
+ghost use Rattle.flusher.specs.Batches.{IsFirst};
+ghost use Rattle.flusher.specs.Flushers.{cap_of};
+ghost use Rattle.flusher.specs.Holding.{store_of, told_of, committed_of, waiting_of};
+ghost use Rattle.flusher.specs.Standing.{IsCalm, RunGoes, batches_of};
+ghost use Rattle.flusher.specs.Run.{standing};
+ghost use Rattle.flusher.specs.Driving.{AckGives, Answered, AreHeld, Gives, IsAnswered, StopsAt};
+
+use crate::calls::{Answer, Call};
+use crate::flusher::Flusher;
+use crate::turning::turn;
+use disk::Disk;
+use hub::{Board, Seat, Ticket};
+use published::{Site, Told};
+use refusal::Refusal;
+use revision::Command;
+use std::alloc::Global;
+use std::sync::Wait;
+
+/// What a run gave.
+#[derive(Drop)]
+pub struct Driven<D, J: Site> {
+    /// An answer for each call up to where the run stopped, in order.
+    pub answers: Vec<Answer<D, J>>,
+    /// The tickets of the commands that were submitted and not refused, in order.
+    pub tickets: Vec<Ticket>,
+    /// What stopped the run at the call behind those that were answered, if anything did.
+    pub stopped: Option<Refusal>,
+}
+
+// Submits a command, and keeps its ticket. Stops for want of memory alone; another refusal is an answer.
+fn submit_one<D: Disk, J: Site>(
+    alloc: Global,
+    board: &mut Board<D, J>,
+    seat: &mut Seat<J>,
+    tickets: &mut Vec<Ticket>,
+    command: &Command,
+) -> Result<Answer<D, J>, Refusal>
+    requires works { board.old.failed ≡ false }
+    ensures gives { (cap : ℕ) → IfOk result (λ reply. Gives cap board.old.board tickets.old.items (Call.Submit command.now) reply board.new.board tickets.new.items) }
+    ensures step { OnOk result (board.new.board ≡ submitted (entry_of command.now) board.old.board command.now) }
+    ensures same { OnErr result ((board.new.board ≡ board.old.board) × (tickets.new.items ≡ tickets.old.items)) }
+    ensures failed { board.new.failed ≡ board.old.failed }
+    ensures only { IfErr result (λ e. e ≡ Refusal.NoMemory) }
+{
+    tickets.reserve(1)?;
+    match board.submit(alloc, seat, command) {
+        Ok(ticket) => {
+            let at = tickets.len();
+            tickets.push(ticket)?;
+            Ok(Answer::Submitted(at))
+        }
+        Err(refusal) => {
+            if refusal == Refusal::NoMemory {
+                return Err(refusal);
+            }
+            Ok(Answer::Refused(refusal))
+        }
+    }
+}
+
+// What an acknowledgement gives for the ticket of this place, if there is one.
+fn ack_one<D, J: Site>(board: &Board<D, J>, tickets: &[Ticket], at: usize) -> Option<Told<D, J>>
+    requires works { board.now.failed ≡ false }
+    ensures { AckGives board.now.board (slice_get tickets.now at) result }
+{
+    match tickets.get(at) {
+        None => None,
+        Some(ticket) => match board.ack(ticket) {
+            Ok(told) => told,
+            Err(_) => None,
+        },
+    }
+}
+
+// Retires the oldest segment. Stops at a fault alone; that the segment is still needed is an answer.
+fn retire_one<D: Disk, J: Site>(flusher: &mut Flusher<D, J>) -> Result<Answer<D, J>, Refusal>
+    requires works { has_failed (store_of flusher.old) ≡ false }
+    ensures goes { Goes (λ content. FoundAs content (state_of (store_of flusher.old))) (store_of flusher.old) (store_of flusher.new) }
+    ensures state { state_of (store_of flusher.new) ≡ state_of (store_of flusher.old) }
+    ensures works { OnOk result (has_failed (store_of flusher.new) ≡ false) }
+    ensures answer { IfOk result (λ reply. (reply ≡ Answer.Retired) ⊎ (reply ≡ Answer.Refused Refusal.StillNeeded)) }
+    ensures only { IfErr result (λ e. e ≡ Refusal.Fault) }
+    ensures told { told_of flusher.new ≡ told_of flusher.old }
+    ensures committed { committed_of flusher.new ≡ committed_of flusher.old }
+    ensures waiting { waiting_of flusher.new ≡ waiting_of flusher.old }
+{
+    match flusher.retire() {
+        Ok(()) => Ok(Answer::Retired),
+        Err(refusal) => {
+            if refusal == Refusal::Fault {
+                return Err(refusal);
+            }
+            Ok(Answer::Refused(refusal))
+        }
+    }
+}
+
+// A call of a run.
+fn call_one<D: Disk, J: Site, R: Wait>(
+    rt: &R,
+    alloc: Global,
+    flusher: &mut Flusher<D, J>,
+    board: &mut Board<D, J>,
+    seat: &mut Seat<J>,
+    tickets: &mut Vec<Ticket>,
+    call: &Call,
+) -> Result<Answer<D, J>, Refusal>
+    requires calm { IsCalm J.start (standing board.old flusher.old) }
+    requires works { has_failed (store_of flusher.old) ≡ false }
+    requires board_works { board.old.failed ≡ false }
+    ensures goes { RunGoes J.start (standing board.old flusher.old) (standing board.new flusher.new) }
+    ensures calm { OnOk result (IsCalm J.start (standing board.new flusher.new)) }
+    ensures works { OnOk result (has_failed (store_of flusher.new) ≡ false) }
+    ensures gives { IfOk result (λ reply. Gives (cap_of J.start) board.old.board tickets.old.items call.now reply board.new.board tickets.new.items) }
+    ensures same { OnErr result (tickets.new.items ≡ tickets.old.items) }
+    ensures order { OnErr result (board.new.board.order ≡ board.old.board.order) }
+    ensures failed { board.new.failed ≡ board.old.failed }
+    ensures stops { IfErr result (λ e. ((e ≡ Refusal.NoMemory) ⊎ (e ≡ Refusal.Fault)) ⊎ (call.now ≡ Call.Turn)) }
+{
+    match call {
+        Call::Submit(command) => submit_one(alloc, board, seat, tickets, command),
+        Call::Turn => {
+            let count = turn(rt, alloc, flusher, board)?;
+            Ok(Answer::Turned(count))
+        }
+        Call::Ack(at) => Ok(Answer::Acked(ack_one(board, tickets, *at))),
+        Call::Retire => retire_one(flusher),
+    }
+}
+
+// The calls of a run, one after another, up to where it stops.
+fn drive_all<D: Disk, J: Site, R: Wait>(
+    rt: &R,
+    alloc: Global,
+    flusher: &mut Flusher<D, J>,
+    board: &mut Board<D, J>,
+    seat: &mut Seat<J>,
+    answers: &mut Vec<Answer<D, J>>,
+    tickets: &mut Vec<Ticket>,
+    calls: &[Call],
+) -> Result<(), Refusal>
+    requires calm { IsCalm J.start (standing board.old flusher.old) }
+    requires works { has_failed (store_of flusher.old) ≡ false }
+    requires board_works { board.old.failed ≡ false }
+    requires nothing { (answers.old.items ≡ []) × (tickets.old.items ≡ []) }
+    ensures goes { RunGoes J.start (standing board.old flusher.old) (standing board.new flusher.new) }
+    ensures calm { OnOk result (IsCalm J.start (standing board.new flusher.new)) }
+    ensures works { OnOk result (has_failed (store_of flusher.new) ≡ false) }
+    ensures answered { IsAnswered (cap_of J.start) board.old.board board.new.board calls.now answers.new.items tickets.new.items }
+    ensures whole { OnOk result ((length answers.new.items ≡ length calls.now) × Answered (cap_of J.start) board.old.board calls.now answers.new.items board.new.board tickets.new.items) }
+    ensures failed { board.new.failed ≡ board.old.failed }
+    ensures stops { IfErr result (λ e. StopsAt calls.now (length answers.new.items) e) }
+{
+    for call in calls {
+        answers.reserve(1)?;
+        let answer = call_one(rt, alloc, flusher, board, seat, tickets, call)?;
+        answers.push(answer)?;
+    }
+    Ok(())
+}
+
+/// One thread's run: makes the calls in order, each with its answer, over a flusher that has nothing under way and its board, where
+/// neither the store nor the board has failed. It makes room for each answer before its call. It stops for want of memory, at a fault
+/// of the device, and where a turn is refused; any other refusal is an answer.
+///
+/// A crash at any moment of the run leaves the first commands of the board's order up to the end of a batch, and one after its return
+/// no fewer than are settled then, so no fewer than the ticket asks for of which an `Ack` gave a token.
+pub fn drive<D: Disk, J: Site, R: Wait>(
+    rt: &R,
+    alloc: Global,
+    flusher: &mut Flusher<D, J>,
+    board: &mut Board<D, J>,
+    seat: &mut Seat<J>,
+    calls: &[Call],
+) -> Driven<D, J>
+    requires calm { IsCalm J.start (standing board.old flusher.old) }
+    requires works { has_failed (store_of flusher.old) ≡ false }
+    requires board_works { board.old.failed ≡ false }
+
+    // What a crash leaves: at any moment of the run, and after its return.
+    ensures goes { RunGoes J.start (standing board.old flusher.old) (standing board.new flusher.new) }
+    ensures any_moment { IsOpen (store_of flusher.old)
+        → LeavesOnly ⟦<D as Disk>⟧ (IsFirst board.old.board.settled J.start (takens board.new.board.order) (batches_of (standing board.new flusher.new)))
+        (device_of (store_of flusher.old)) (device_of (store_of flusher.new)) }
+    ensures holds { IsOpen (store_of flusher.old) → (content : List ℕ) → MayLeaveNow ⟦<D as Disk>⟧ (device_of (store_of flusher.new)) content
+        → IsFirst board.new.board.settled J.start (takens board.new.board.order) (batches_of (standing board.new flusher.new)) content }
+    ensures acknowledged { AreHeld board.new.board.settled result.tickets.items (take (length result.answers.items) calls.now) result.answers.items }
+
+    // What the calls gave.
+    ensures answered { IsAnswered (cap_of J.start) board.old.board board.new.board calls.now result.answers.items result.tickets.items }
+    ensures whole { result.stopped ≡ None → (length result.answers.items ≡ length calls.now)
+        × Answered (cap_of J.start) board.old.board calls.now result.answers.items board.new.board result.tickets.items }
+    ensures stops { IfSome result.stopped (λ refusal. StopsAt calls.now (length result.answers.items) refusal) }
+
+    // The next run may go on from there.
+    ensures calm { result.stopped ≡ None → IsCalm J.start (standing board.new flusher.new) }
+    ensures works { result.stopped ≡ None → has_failed (store_of flusher.new) ≡ false }
+    ensures failed { board.new.failed ≡ board.old.failed }
+{
+    let mut answers = Vec::new(alloc);
+    let mut tickets = Vec::new(alloc);
+    let ended = drive_all(
+        rt,
+        alloc,
+        flusher,
+        board,
+        seat,
+        &mut answers,
+        &mut tickets,
+        calls,
+    );
+    let stopped = match ended {
+        Ok(()) => None,
+        Err(refusal) => Some(refusal),
+    };
+    Driven {
+        answers,
+        tickets,
+        stopped,
+    }
+}
