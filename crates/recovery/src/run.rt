@@ -6,7 +6,7 @@ ghost use Rattle.refusal.specs.declared.Refusal.TheVariants.{JournalFull, Strang
 ghost use Rattle.revision.specs.State.{all_grow, fold};
 ghost use Rattle.recovery.specs.Found.{FoundAs};
 ghost use Rattle.recovery.specs.Open.{IsOpen, IsUnchanged, IsWithOrWithout, device_of, state_of, has_failed, has_room};
-ghost use Rattle.recovery.specs.Run.{CanTake, IsOfStep, IsAfterSome, state_after, batch_of, batch_at};
+ghost use Rattle.recovery.specs.Run.{CanTake, IsOfStep, IsTaken, AreTaken, IsPutAt, IsAfterSome, state_after, batch_of, batch_at};
 
 use crate::store::Store;
 use disk::Disk;
@@ -41,6 +41,7 @@ impl<D: Disk> Store<D> {
         // How far it came, and what the store then holds.
         ensures state { OnOk result (state_of self.new ≡ state_after (state_of self.old) steps.now) }
         ensures stopped { IfErr result (λ stop. (stop.at < length steps.now) × (state_of self.new ≡ state_after (state_of self.old) (take stop.at steps.now))) }
+        ensures taken { OnOk result (AreTaken steps.now self.old self.new) }
         ensures done { OnOk result (IsOpen self.old → IsOpen self.new) }
         ensures kept { IfErr result (λ stop. stop.refusal ≢ Fault → IsOpen self.old → IsOpen self.new) }
 
@@ -88,6 +89,7 @@ impl<D: Disk> Store<D> {
         ensures fault { IsErrOf result Fault → has_failed self.old ≡ false → Rose (D.faults (device_of self.old)) (D.faults (device_of self.new)) }
         ensures only { IfErr result (λ e. IsOfStep e) }
 
+        ensures taken { OnOk result (IsTaken step.now self.old self.new) }
         ensures state { OnOk result (state_of self.new ≡ fold (state_of self.old) (batch_of step.now)) }
         ensures same_state { OnErr result (state_of self.new ≡ state_of self.old) }
         ensures fails { has_failed self.old ≡ false → (has_failed self.new ≡ true ↔ IsErrOf result Fault) }
@@ -121,6 +123,7 @@ impl<D: Disk> Store<D> {
         ensures fault { IsErrOf result Fault → has_failed self.old ≡ false → Rose (D.faults (device_of self.old)) (D.faults (device_of self.new)) }
         ensures only { IfErr result (λ e. ((e ≡ NoDocument) ⊎ ((e ≡ Future) ⊎ (e ≡ TooOld))) ⊎ ((e ≡ NoMemory) ⊎ (e ≡ Fault))) }
 
+        ensures put { OnOk result ((is_open : IsOpen self.old) → IsPutAt document revision self.old is_open self.new) }
         ensures state { state_of self.new ≡ state_of self.old }
         ensures fails { has_failed self.old ≡ false → (has_failed self.new ≡ true ↔ IsErrOf result Fault) }
         ensures works { OnOk result (has_failed self.new ≡ false) }

@@ -4,7 +4,7 @@ use Rattle.refusal.specs.declared.Refusal.{Refusal}
 use Rattle.refusal.specs.declared.Refusal.TheVariants.{Fault}
 use Rattle.recovery.specs.Open.{has_failed, kept_jobs}
 use Rattle.recovery.proofs.Refusals.{ok≢err}
-use Rattle.recovery.proofs.PutAtOnce.{keeps_it, had_not_failed, has_not_failed, still, from_there}
+use Rattle.recovery.proofs.PutAtOnce.{keeps_it, had_not_failed, has_not_failed, still, from_there, put_at}
 use Rattle.recovery.proofs.store.Store.put_document.Goals as goal
 
 -- no call of the device came before the put
@@ -56,3 +56,10 @@ pub returns-clause-any_moment : goal.returns-clause-any_moment
 returns-clause-any_moment g c unfailed is_open =
     from_there c.args.self.now c.milestone_job.new.self c.put_milestone.new.self c.milestone_job.ensures.device c.milestone_job.ensures.state
     (c.put_milestone.ensures.any_moment (c.milestone_job.ensures.failed ∙ unfailed) (c.milestone_job.ensures.open is_open))
+
+-- the cell of the job that was handed out is open
+pub returns-clause-put : goal.returns-clause-put
+returns-clause-put g c is_open =
+    let still = c.in-Ok.ensures.stays is_open in
+    put_at c.args.self.now c.put_milestone.new.self c.args.document c.args.revision is_open c.in-Ok.job c.in-Ok-compose_job.composed still.goes_on.cells still.same_cells
+    c.in-Ok-compose_job.ensures.done c.in-Ok.ensures.job (c.in_default.ensures.done still.goes_on)
