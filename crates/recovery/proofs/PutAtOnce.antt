@@ -6,7 +6,7 @@ use Rattle.std.proofs.lemmas.List.Elements.{Contains-push}
 use Rattle.disk.specs.declared.device.Disk.{Ghosts}
 use Rattle.disk.specs.Crash.{LeavesOnly}
 use Rattle.refusal.specs.declared.Refusal.{Refusal}
-use Rattle.refusal.specs.declared.Refusal.TheVariants.{StillNeeded, Fault}
+use Rattle.refusal.specs.declared.Refusal.TheVariants.{StillNeeded, NoMemory, Fault}
 use Rattle.revision.specs.State.{State}
 use Rattle.history.specs.Cell.{Pair}
 use Rattle.milestone.specs.Job.{Job}
@@ -17,8 +17,8 @@ use Rattle.recovery.specs.Found.{FoundAs}
 use Rattle.recovery.specs.Jobs.{with_job, without_job, IsJobTo}
 use Rattle.recovery.specs.Marked.{MayRetire}
 use Rattle.recovery.specs.Open.{IsOpen, IsUnchanged, IsRetiredNow, IsPutNow, device_of, state_of, has_failed}
-use Rattle.recovery.specs.Run.{IsPutAt, IsTaken, AreTaken}
-use Rattle.recovery.proofs.Refusals.{ok≢err}
+use Rattle.recovery.specs.Run.{IsPutAt, IsTaken, AreTaken, IsWhy}
+use Rattle.recovery.proofs.Refusals.{refusal_or, ok≢err}
 use Rattle.recovery.proofs.Runs.{found_as, found_open}
 use Rattle.recovery.proofs.Going.{goes_still, open_unchanged}
 
@@ -102,3 +102,16 @@ module _ {D : Type 0} {disk : Ghosts D} where
   taken_more steps i step inside is old mid new before taken =
       subst (λ (l : List StoreStep). AreTaken l old new) (sym (take_more steps i step inside))
       (pushed (take i steps) (get_or steps i step) old mid new before (subst (λ (s : StoreStep). IsTaken s mid new) is taken))
+
+  -- a refusal that isn't told of a failed device is one of a store that hadn't failed
+  pub refused_unfailed : {A : Type 0} (old new : Store D disk) (refusal : Refusal)
+      → (has_failed old ≡ true → IsErrOf {T = A} {E = Refusal} (Err refusal) Fault × IsUnchanged old new) → refusal ≢ Fault → has_failed old ≡ false
+  refused_unfailed {A} old new refusal before other = is_false (has_failed old) (λ failed. other (ap (refusal_or {T = A} Fault) (before failed).0))
+
+  -- why a retirement was refused
+  pub retire_why : {A : Type 0} (old new : Store D disk) (result : Result A Refusal) → IfErr result (λ e. (e ≡ StillNeeded) ⊎ (e ≡ Fault))
+      → (IsErrOf result StillNeeded → (is_open : IsOpen old) → ¬ MayRetire is_open.table is_open.cells)
+      → IfErr result (λ e. e ≢ NoMemory → e ≢ Fault → IsWhy Retire e old)
+  retire_why old new (Ok answer) only needed = tt
+  retire_why old new (Err refusal) (inl is) needed = λ memory fault. (is, needed (ap (λ (r : Refusal). Err r) is))
+  retire_why old new (Err refusal) (inr is) needed = λ memory fault. absurd (fault is)

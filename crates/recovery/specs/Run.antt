@@ -1,18 +1,19 @@
 -- Runs of steps, and what a crash within one leaves.
-use Rattle.std.specs.Prelude.{◌≡◌, ◌⊎◌, true, ◌≤◌, ◌<◌, ◌^◌, ℕ, List, [], ◌∷◌, length, take, map, get_or}
+use Rattle.std.specs.Prelude.{◌≡◌, ◌≢◌, ◌⊎◌, true, false, Some, slice_get, ◌≤◌, ◌<◌, ◌^◌, ℕ, List, [], ◌∷◌, length, take, map, get_or}
 use Rattle.disk.specs.declared.device.Disk.{Ghosts}
 use Rattle.refusal.specs.declared.Refusal.{Refusal}
 use Rattle.refusal.specs.declared.Refusal.TheVariants.{JournalFull, Stranger, NoDocument, Future, TooOld, StillNeeded, NoMemory, Fault}
 use Rattle.revision.specs.Command.{Taken}
 use Rattle.revision.specs.State.{State, fold, all_grow}
+use Rattle.history.specs.Cell.{cells_at}
 use Rattle.milestone.specs.Job.{Job}
 use Rattle.recovery.specs.declared.store.Store.{Store}
 use Rattle.recovery.specs.declared.run.StoreStep.{StoreStep}
 use Rattle.recovery.specs.declared.run.StoreStep.TheVariants.{Commit, Milestone, Retire}
 use Rattle.recovery.specs.Found.{FoundAs}
-use Rattle.recovery.specs.Jobs.{IsJobTo}
+use Rattle.recovery.specs.Jobs.{IsJobTo, no_job_for, highest}
 use Rattle.recovery.specs.Marked.{MayRetire}
-use Rattle.recovery.specs.Open.{FitsSlot, IsOpen, IsPutNow, IsRetiredNow, state_of}
+use Rattle.recovery.specs.Open.{FitsSlot, IsOpen, IsPutNow, IsRetiredNow, state_of, has_room}
 
 -- the batch of a step, empty where it commits none
 abbrev pub batch_of : StoreStep → List Taken
@@ -76,3 +77,17 @@ module _ {D : Type 0} {disk : Ghosts D} where
   abbrev pub AreTaken : List StoreStep → Store D disk → Store D disk → Type 0
   AreTaken [] old new = new ≡ old
   AreTaken (step ∷ steps) old new = (mid : Store D disk) × IsTaken step old mid × AreTaken steps mid new
+
+  -- Why a store refuses a step, where neither its device failed nor memory ran out.
+  abbrev pub IsWhy : StoreStep → Refusal → Store D disk → Type 0
+  IsWhy (Commit batch) refusal store =
+      ((refusal ≡ JournalFull) × (has_room store batch.items ≡ false)) ⊎ ((refusal ≡ Stranger) × (all_grow (state_of store) batch.items ≡ false))
+  IsWhy (Milestone document revision) refusal store =
+      (is_open : IsOpen store) → no_job_for (slice_get (state_of store).documents document) (highest (cells_at is_open.cells document)) revision ≡ Some refusal
+  IsWhy Retire refusal store = (refusal ≡ StillNeeded) × ((is_open : IsOpen store) → ¬ MayRetire is_open.table is_open.cells)
+
+  -- A run stopped at a step: those before it were taken, and the store that they led to refused it for this reason.
+  pub record IsStopped (steps : List StoreStep) (at : ℕ) (refusal : Refusal) (old : Store D disk) : Type 0 where
+    pub last : Store D disk
+    pub taken : AreTaken (take at steps) old last
+    pub why : refusal ≢ NoMemory → refusal ≢ Fault → IsWhy (get_or steps at Retire) refusal last

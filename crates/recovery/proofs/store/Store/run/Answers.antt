@@ -3,11 +3,12 @@ use Rattle.disk.specs.Crash.{history_of}
 use Rattle.disk.proofs.CallerLemmas.{synced_leaves, begins, leaves_map, goes_on_run}
 use Rattle.revision.specs.State.{State, fold}
 use Rattle.recovery.specs.declared.run.StoreStep.{StoreStep}
+use Rattle.recovery.specs.declared.run.StoreStep.TheVariants.{Retire}
 use Rattle.std.proofs.lemmas.Bool.{false≢true}
 use Rattle.refusal.specs.declared.Refusal.TheVariants.{Fault}
-use Rattle.std.proofs.lemmas.List.{at_drop_more, take_all}
+use Rattle.std.proofs.lemmas.List.{at_drop_more, take_all, get_or_default}
 use Rattle.recovery.specs.Found.{FoundAs}
-use Rattle.recovery.specs.Run.{AreTaken, batch_of, state_after}
+use Rattle.recovery.specs.Run.{AreTaken, IsWhy, batch_of, state_after}
 use Rattle.recovery.proofs.PutAtOnce.{taken_more}
 use Rattle.recovery.proofs.Folds.{fold-limits}
 use Rattle.recovery.proofs.Refusals.{refusal_or}
@@ -93,3 +94,16 @@ returns-in-Err-clause-failed_before g c failed =
 pub returns-clause-taken : goal.returns-clause-taken
 returns-clause-taken g c =
     subst (λ (l : List StoreStep). AreTaken l c.args.self.now c.loop-at.self) (take_all c.loop-at.at c.args.steps.now (omega arith)) c.loop-at.invariant.taken
+
+pub returns-in-Err-clause-refused : goal.returns-in-Err-clause-refused
+returns-in-Err-clause-refused g c =
+    let steps = c.args.steps.now in
+    let at = c.loop-at.at in
+    let step = c.index-steps-at.result in
+    record {
+      last = c.loop-at.self;
+      taken = c.loop-at.invariant.taken;
+      why = λ memory fault.
+          subst (λ (s : StoreStep). IsWhy s c.in-Err.refusal c.loop-at.self) (c.index-steps-at.is ∙ get_or_default steps at step Retire c.loop-at-test.true)
+          (c.in-Err.ensures.refused memory fault);
+    }
