@@ -1,18 +1,24 @@
 -- A step of a run that commits no batch: a milestone, whose job is handed out, composed and put at once, and a retirement.
-use Rattle.std.proofs.Common.{◌≡◌, ◌≢◌, ◌⊎◌, ◌↔◌, inl, inr, Bool, true, false, List, refl, sym, ap, subst}
+use Rattle.std.proofs.Common.{◌≡◌, ◌≢◌, ◌⊎◌, ◌↔◌, inl, inr, ℕ, ◌+◌, ◌<◌, Bool, true, false, List, [], ◌∷◌, ◌++◌, length, take, get_or, refl, sym, ap, subst}
 use Rattle.std.specs.Prelude.{Result, Ok, Err, Contains, OnOk, IfErr, IsErrOf}
+use Rattle.std.proofs.lemmas.List.{take_more}
 use Rattle.std.proofs.lemmas.List.Elements.{Contains-push}
 use Rattle.disk.specs.declared.device.Disk.{Ghosts}
 use Rattle.disk.specs.Crash.{LeavesOnly}
 use Rattle.refusal.specs.declared.Refusal.{Refusal}
-use Rattle.refusal.specs.declared.Refusal.TheVariants.{StillNeeded, Fault}
+use Rattle.refusal.specs.declared.Refusal.TheVariants.{StillNeeded, NoMemory, Fault}
 use Rattle.revision.specs.State.{State}
+use Rattle.history.specs.Cell.{Pair}
 use Rattle.milestone.specs.Job.{Job}
+use Rattle.recovery.specs.declared.run.StoreStep.{StoreStep}
+use Rattle.recovery.specs.declared.run.StoreStep.TheVariants.{Milestone, Retire}
 use Rattle.recovery.specs.declared.store.Store.{Store}
 use Rattle.recovery.specs.Found.{FoundAs}
-use Rattle.recovery.specs.Jobs.{with_job, without_job}
-use Rattle.recovery.specs.Open.{IsOpen, IsUnchanged, IsRetiredNow, device_of, state_of, has_failed}
-use Rattle.recovery.proofs.Refusals.{ok≢err}
+use Rattle.recovery.specs.Jobs.{with_job, without_job, IsJobTo}
+use Rattle.recovery.specs.Marked.{MayRetire}
+use Rattle.recovery.specs.Open.{IsOpen, IsUnchanged, IsRetiredNow, IsPutNow, device_of, state_of, has_failed}
+use Rattle.recovery.specs.Run.{IsPutAt, IsTaken, AreTaken, IsWhy}
+use Rattle.recovery.proofs.Refusals.{refusal_or, ok≢err}
 use Rattle.recovery.proofs.Runs.{found_as, found_open}
 use Rattle.recovery.proofs.Going.{goes_still, open_unchanged}
 
@@ -63,3 +69,49 @@ module _ {D : Type 0} {disk : Ghosts D} where
   goes_on_needed old new (Ok answer) only untouched = tt
   goes_on_needed old new (Err refusal) (inl needed) untouched = λ other is_open. open_unchanged (untouched (ap (λ (r : Refusal). Err r) needed)) is_open
   goes_on_needed old new (Err refusal) (inr fault) untouched = λ other is_open. absurd (other fault)
+
+  -- what was put is the cell of the job that was handed out
+  pub put_at : (old new : Store D disk) (document revision : ℕ) (is_open : IsOpen old) (job composed : Job) (cells : List Pair) → cells ≡ is_open.cells → composed ≡ job
+      → IsJobTo (state_of old).documents document revision job → IsPutNow cells composed new → IsPutAt document revision old is_open new
+  put_at old new document revision is_open job composed cells same is to put = record {
+    job = job;
+    to = to;
+    put = subst (λ (l : List Pair). IsPutNow l job new) same (subst (λ (j : Job). IsPutNow cells j new) is put);
+  }
+
+  -- a milestone that was Ok
+  pub put_taken : {A : Type 0} (old new : Store D disk) (document revision : ℕ) (result : Result A Refusal) → state_of new ≡ state_of old
+      → OnOk result ((is_open : IsOpen old) → IsPutAt document revision old is_open new) → OnOk result (IsTaken (Milestone document revision) old new)
+  put_taken old new document revision (Ok answer) state put = (state, put)
+  put_taken old new document revision (Err refusal) state put = tt
+
+  -- a retirement that was Ok
+  pub given_up : {A : Type 0} (old new : Store D disk) (result : Result A Refusal) → state_of new ≡ state_of old
+      → OnOk result ((is_open : IsOpen old) → MayRetire is_open.table is_open.cells)
+      → OnOk result ((is_open : IsOpen old) → IsRetiredNow is_open.cells is_open.table new) → OnOk result (IsTaken Retire old new)
+  given_up old new (Ok answer) state may done = (state, λ is_open. record { may = may is_open; retired = done is_open })
+  given_up old new (Err refusal) state may done = tt
+
+  -- one step more was taken
+  pushed : (first : List StoreStep) (step : StoreStep) (old mid new : Store D disk) → AreTaken first old mid → IsTaken step mid new → AreTaken (first ++ step ∷ []) old new
+  pushed [] step old mid new same taken = (new, subst (λ (s : Store D disk). IsTaken step s new) same taken, refl)
+  pushed (one ∷ first) step old mid new before taken = (before.0, before.1, pushed first step before.0 mid new before.2 taken)
+
+  pub taken_more : (steps : List StoreStep) (i : ℕ) (step : StoreStep) → i < length steps → step ≡ get_or steps i step → (old mid new : Store D disk)
+      → AreTaken (take i steps) old mid → IsTaken step mid new → AreTaken (take (i + 1) steps) old new
+  taken_more steps i step inside is old mid new before taken =
+      subst (λ (l : List StoreStep). AreTaken l old new) (sym (take_more steps i step inside))
+      (pushed (take i steps) (get_or steps i step) old mid new before (subst (λ (s : StoreStep). IsTaken s mid new) is taken))
+
+  -- a refusal that isn't told of a failed device is one of a store that hadn't failed
+  pub refused_unfailed : {A : Type 0} (old new : Store D disk) (refusal : Refusal)
+      → (has_failed old ≡ true → IsErrOf {T = A} {E = Refusal} (Err refusal) Fault × IsUnchanged old new) → refusal ≢ Fault → has_failed old ≡ false
+  refused_unfailed {A} old new refusal before other = is_false (has_failed old) (λ failed. other (ap (refusal_or {T = A} Fault) (before failed).0))
+
+  -- why a retirement was refused
+  pub retire_why : {A : Type 0} (old new : Store D disk) (result : Result A Refusal) → IfErr result (λ e. (e ≡ StillNeeded) ⊎ (e ≡ Fault))
+      → (IsErrOf result StillNeeded → (is_open : IsOpen old) → ¬ MayRetire is_open.table is_open.cells)
+      → IfErr result (λ e. e ≢ NoMemory → e ≢ Fault → IsWhy Retire e old)
+  retire_why old new (Ok answer) only needed = tt
+  retire_why old new (Err refusal) (inl is) needed = λ memory fault. (is, needed (ap (λ (r : Refusal). Err r) is))
+  retire_why old new (Err refusal) (inr is) needed = λ memory fault. absurd (fault is)

@@ -107,3 +107,9 @@ module _ {D : Type 0} {disk : Ghosts D} where
   pub record IsPutNow (cells : List Pair) (job : Job) (store : Store D disk) : Type 0 where
     pub goes_on : IsOpen store
     pub put : goes_on.cells ≡ with_pair job.document (with_cell (cell_of_job job) (freed (cells_at cells job.document))) cells
+
+  -- After a job was handed out: the store goes on over the same cells and slots.
+  pub record IsStillOver (cells : List Pair) (table : List (Option Segment)) (store : Store D disk) : Type 0 where
+    pub goes_on : IsOpen store
+    pub same_cells : goes_on.cells ≡ cells
+    pub same_table : goes_on.table ≡ table

@@ -1,13 +1,19 @@
 -- Runs of steps, and what a crash within one leaves.
-use Rattle.std.specs.Prelude.{◌≡◌, ◌⊎◌, ◌≤◌, ◌<◌, ◌^◌, ℕ, List, [], ◌∷◌, length, take, map, get_or}
+use Rattle.std.specs.Prelude.{◌≡◌, ◌≢◌, ◌⊎◌, true, false, Some, slice_get, ◌≤◌, ◌<◌, ◌^◌, ℕ, List, [], ◌∷◌, length, take, map, get_or}
+use Rattle.disk.specs.declared.device.Disk.{Ghosts}
 use Rattle.refusal.specs.declared.Refusal.{Refusal}
 use Rattle.refusal.specs.declared.Refusal.TheVariants.{JournalFull, Stranger, NoDocument, Future, TooOld, StillNeeded, NoMemory, Fault}
 use Rattle.revision.specs.Command.{Taken}
-use Rattle.revision.specs.State.{State, fold}
+use Rattle.revision.specs.State.{State, fold, all_grow}
+use Rattle.history.specs.Cell.{cells_at}
+use Rattle.milestone.specs.Job.{Job}
+use Rattle.recovery.specs.declared.store.Store.{Store}
 use Rattle.recovery.specs.declared.run.StoreStep.{StoreStep}
 use Rattle.recovery.specs.declared.run.StoreStep.TheVariants.{Commit, Milestone, Retire}
 use Rattle.recovery.specs.Found.{FoundAs}
-use Rattle.recovery.specs.Open.{FitsSlot}
+use Rattle.recovery.specs.Jobs.{IsJobTo, no_job_for, highest}
+use Rattle.recovery.specs.Marked.{MayRetire}
+use Rattle.recovery.specs.Open.{FitsSlot, IsOpen, IsPutNow, IsRetiredNow, state_of, has_room}
 
 -- the batch of a step, empty where it commits none
 abbrev pub batch_of : StoreStep → List Taken
@@ -48,3 +54,40 @@ CanTake state Retire = Unit {0}
 abbrev pub IsOfStep : Refusal → Type 0
 IsOfStep e =
     ((e ≡ JournalFull) ⊎ (e ≡ Stranger)) ⊎ (((e ≡ NoDocument) ⊎ ((e ≡ Future) ⊎ (e ≡ TooOld))) ⊎ ((e ≡ StillNeeded) ⊎ ((e ≡ NoMemory) ⊎ (e ≡ Fault))))
+
+module _ {D : Type 0} {disk : Ghosts D} where
+  -- A milestone of a document at a revision was put: the cell that comes of a job to that revision is open.
+  pub record IsPutAt (document revision : ℕ) (old : Store D disk) (is_open : IsOpen old) (new : Store D disk) : Type 0 where
+    pub job : Job
+    pub to : IsJobTo (state_of old).documents document revision job
+    pub put : IsPutNow is_open.cells job new
+
+  -- The oldest segment could be retired, and was.
+  pub record IsGivenUp (old : Store D disk) (is_open : IsOpen old) (new : Store D disk) : Type 0 where
+    pub may : MayRetire is_open.table is_open.cells
+    pub retired : IsRetiredNow is_open.cells is_open.table new
+
+  -- A step was taken: its batch was committed, or its milestone put, or the oldest segment retired.
+  abbrev pub IsTaken : StoreStep → Store D disk → Store D disk → Type 0
+  IsTaken (Commit batch) old new = (all_grow (state_of old) batch.items ≡ true) × (state_of new ≡ fold (state_of old) batch.items)
+  IsTaken (Milestone document revision) old new = (state_of new ≡ state_of old) × ((is_open : IsOpen old) → IsPutAt document revision old is_open new)
+  IsTaken Retire old new = (state_of new ≡ state_of old) × ((is_open : IsOpen old) → IsGivenUp old is_open new)
+
+  -- steps were taken, one behind the other
+  abbrev pub AreTaken : List StoreStep → Store D disk → Store D disk → Type 0
+  AreTaken [] old new = new ≡ old
+  AreTaken (step ∷ steps) old new = (mid : Store D disk) × IsTaken step old mid × AreTaken steps mid new
+
+  -- Why a store refuses a step, where neither its device failed nor memory ran out.
+  abbrev pub IsWhy : StoreStep → Refusal → Store D disk → Type 0
+  IsWhy (Commit batch) refusal store =
+      ((refusal ≡ JournalFull) × (has_room store batch.items ≡ false)) ⊎ ((refusal ≡ Stranger) × (all_grow (state_of store) batch.items ≡ false))
+  IsWhy (Milestone document revision) refusal store =
+      (is_open : IsOpen store) → no_job_for (slice_get (state_of store).documents document) (highest (cells_at is_open.cells document)) revision ≡ Some refusal
+  IsWhy Retire refusal store = (refusal ≡ StillNeeded) × ((is_open : IsOpen store) → ¬ MayRetire is_open.table is_open.cells)
+
+  -- A run stopped at a step: those before it were taken, and the store that they led to refused it for this reason.
+  pub record IsStopped (steps : List StoreStep) (at : ℕ) (refusal : Refusal) (old : Store D disk) : Type 0 where
+    pub last : Store D disk
+    pub taken : AreTaken (take at steps) old last
+    pub why : refusal ≢ NoMemory → refusal ≢ Fault → IsWhy (get_or steps at Retire) refusal last

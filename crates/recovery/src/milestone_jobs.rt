@@ -8,7 +8,7 @@ ghost use Rattle.history.specs.Cell.{cells_at, cell_of};
 ghost use Rattle.milestone.specs.Job.{cell_of_job};
 ghost use Rattle.recovery.specs.Cells.{highest_known};
 ghost use Rattle.recovery.specs.Jobs.{IsJobTo, KeepsLimits, highest, no_job_of, no_job_for, with_job};
-ghost use Rattle.recovery.specs.Open.{IsOpen, IsUnchanged, device_of, ring_of, state_of, known_cells, has_failed, kept_jobs};
+ghost use Rattle.recovery.specs.Open.{IsOpen, IsUnchanged, IsStillOver, device_of, ring_of, state_of, known_cells, has_failed, kept_jobs};
 
 use crate::store::Store;
 use disk::Disk;
@@ -51,6 +51,7 @@ impl<D: Disk> Store<D> {
         ensures state { state_of self.new ≡ state_of self.old }
         ensures failed { has_failed self.new ≡ has_failed self.old }
         ensures open { IsOpen self.old → IsOpen self.new }
+        ensures stays { OnOk result ((is_open : IsOpen self.old) → IsStillOver is_open.cells is_open.table self.new) }
     {
         if self.failed {
             return Err(Refusal::Fault);

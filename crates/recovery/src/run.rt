@@ -4,9 +4,10 @@ ghost use Rattle.disk.specs.Device.{Rose};
 ghost use Rattle.disk.specs.Crash.{LeavesOnly, MayLeaveNow};
 ghost use Rattle.refusal.specs.declared.Refusal.TheVariants.{JournalFull, Stranger, NoDocument, Future, TooOld, NoMemory, Fault};
 ghost use Rattle.revision.specs.State.{all_grow, fold};
+ghost use Rattle.recovery.specs.declared.run.StoreStep.TheVariants.{Milestone};
 ghost use Rattle.recovery.specs.Found.{FoundAs};
 ghost use Rattle.recovery.specs.Open.{IsOpen, IsUnchanged, IsWithOrWithout, device_of, state_of, has_failed, has_room};
-ghost use Rattle.recovery.specs.Run.{CanTake, IsOfStep, IsAfterSome, state_after, batch_of, batch_at};
+ghost use Rattle.recovery.specs.Run.{CanTake, IsOfStep, IsTaken, AreTaken, IsPutAt, IsWhy, IsStopped, IsAfterSome, state_after, batch_of, batch_at};
 
 use crate::store::Store;
 use disk::Disk;
@@ -41,6 +42,7 @@ impl<D: Disk> Store<D> {
         // How far it came, and what the store then holds.
         ensures state { OnOk result (state_of self.new ≡ state_after (state_of self.old) steps.now) }
         ensures stopped { IfErr result (λ stop. (stop.at < length steps.now) × (state_of self.new ≡ state_after (state_of self.old) (take stop.at steps.now))) }
+        ensures taken { OnOk result (AreTaken steps.now self.old self.new) }
         ensures done { OnOk result (IsOpen self.old → IsOpen self.new) }
         ensures kept { IfErr result (λ stop. stop.refusal ≢ Fault → IsOpen self.old → IsOpen self.new) }
 
@@ -48,7 +50,8 @@ impl<D: Disk> Store<D> {
         ensures failed_before { has_failed self.old ≡ true → OnOk result (steps.now ≡ [])
             × IfErr result (λ stop. (stop.at ≡ 0) × (stop.refusal ≡ Fault)) × IsUnchanged self.old self.new }
 
-        // Why it stopped, by the store that it left.
+        // Why it stopped: by the store that the steps before led to, and by the one that it left.
+        ensures refused { IfErr result (λ stop. IsStopped steps.now stop.at stop.refusal self.old) }
         ensures full { IfErr result (λ stop. stop.refusal ≡ JournalFull → has_room self.new (batch_at steps.now stop.at) ≡ false) }
         ensures stranger { IfErr result (λ stop. stop.refusal ≡ Stranger → all_grow (state_of self.new) (batch_at steps.now stop.at) ≡ false) }
         ensures fault { IfErr result (λ stop. stop.refusal ≡ Fault → has_failed self.old ≡ false
@@ -87,7 +90,9 @@ impl<D: Disk> Store<D> {
         ensures stranger { IsErrOf result Stranger → all_grow (state_of self.new) (batch_of step.now) ≡ false }
         ensures fault { IsErrOf result Fault → has_failed self.old ≡ false → Rose (D.faults (device_of self.old)) (D.faults (device_of self.new)) }
         ensures only { IfErr result (λ e. IsOfStep e) }
+        ensures refused { IfErr result (λ e. e ≢ NoMemory → e ≢ Fault → IsWhy step.now e self.old) }
 
+        ensures taken { OnOk result (IsTaken step.now self.old self.new) }
         ensures state { OnOk result (state_of self.new ≡ fold (state_of self.old) (batch_of step.now)) }
         ensures same_state { OnErr result (state_of self.new ≡ state_of self.old) }
         ensures fails { has_failed self.old ≡ false → (has_failed self.new ≡ true ↔ IsErrOf result Fault) }
@@ -120,7 +125,9 @@ impl<D: Disk> Store<D> {
         ensures failed_before { has_failed self.old ≡ true → (IsErrOf result Fault) × IsUnchanged self.old self.new }
         ensures fault { IsErrOf result Fault → has_failed self.old ≡ false → Rose (D.faults (device_of self.old)) (D.faults (device_of self.new)) }
         ensures only { IfErr result (λ e. ((e ≡ NoDocument) ⊎ ((e ≡ Future) ⊎ (e ≡ TooOld))) ⊎ ((e ≡ NoMemory) ⊎ (e ≡ Fault))) }
+        ensures refused { IfErr result (λ e. e ≢ NoMemory → e ≢ Fault → IsWhy (Milestone document revision) e self.old) }
 
+        ensures put { OnOk result ((is_open : IsOpen self.old) → IsPutAt document revision self.old is_open self.new) }
         ensures state { state_of self.new ≡ state_of self.old }
         ensures fails { has_failed self.old ≡ false → (has_failed self.new ≡ true ↔ IsErrOf result Fault) }
         ensures works { OnOk result (has_failed self.new ≡ false) }

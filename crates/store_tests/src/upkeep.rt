@@ -75,7 +75,9 @@ fn is_last(rt: &(impl Abort + AllocGlobal), bytes: &[u8], pick: Pick) {
         Ok(store) => {
             has_documents(rt, store.state(), "d 5 qx\n");
             let source = Name::source(rt.alloc(), "a").expect(rt, "a source");
-            let last = store.state().documents()[0].last(&source);
+            let documents = store.state().documents();
+            assert_eq!(rt; documents.len(), 1);
+            let last = documents[0].last(&source);
             assert_eq!(rt; last.number, 5);
             assert_eq!(rt; last.revision, 5);
         }

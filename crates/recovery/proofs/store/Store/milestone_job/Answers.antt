@@ -1,4 +1,4 @@
-use Rattle.std.proofs.Common.{◌≡◌, ◌≢◌, ◌∙◌, Option, Some, None, Err, false, List, rules, sym, ap, subst}
+use Rattle.std.proofs.Common.{◌≡◌, ◌≢◌, ◌∙◌, Option, Some, None, Err, false, List, rules, refl, sym, ap, subst}
 use Rattle.std.specs.Prelude.{IsErrOf, slice_get}
 use Rattle.revision.specs.State.{Limits, DocumentRecord}
 use Rattle.refusal.specs.declared.Refusal.{Refusal}
@@ -92,3 +92,7 @@ returns-clause-open g c is_open =
       runs = is_open.runs;
       kept = subst (λ (l : List Job). AreKept is_open.order is_open.cells l) (sym now) kept;
     }
+
+pub returns-clause-stays : goal.returns-clause-stays
+unfolding returns-clause-open
+returns-clause-stays g c is_open = record { goes_on = returns-clause-open g c is_open; same_cells = refl; same_table = refl }

@@ -1,10 +1,11 @@
 use Rattle.std.proofs.Common.{◌≡◌, ◌∙◌, ⊎_elim, inr, false, ap}
 use Rattle.std.specs.Prelude.{Err}
 use Rattle.refusal.specs.declared.Refusal.{Refusal}
+use Rattle.milestone.specs.Job.{Job}
 use Rattle.refusal.specs.declared.Refusal.TheVariants.{Fault}
 use Rattle.recovery.specs.Open.{has_failed, kept_jobs}
 use Rattle.recovery.proofs.Refusals.{ok≢err}
-use Rattle.recovery.proofs.PutAtOnce.{keeps_it, had_not_failed, has_not_failed, still, from_there}
+use Rattle.recovery.proofs.PutAtOnce.{keeps_it, had_not_failed, has_not_failed, still, from_there, put_at, refused_unfailed}
 use Rattle.recovery.proofs.store.Store.put_document.Goals as goal
 
 -- no call of the device came before the put
@@ -56,3 +57,28 @@ pub returns-clause-any_moment : goal.returns-clause-any_moment
 returns-clause-any_moment g c unfailed is_open =
     from_there c.args.self.now c.milestone_job.new.self c.put_milestone.new.self c.milestone_job.ensures.device c.milestone_job.ensures.state
     (c.put_milestone.ensures.any_moment (c.milestone_job.ensures.failed ∙ unfailed) (c.milestone_job.ensures.open is_open))
+
+-- the cell of the job that was handed out is open
+pub returns-clause-put : goal.returns-clause-put
+returns-clause-put g c is_open =
+    let still = c.in-Ok.ensures.stays is_open in
+    put_at c.args.self.now c.put_milestone.new.self c.args.document c.args.revision is_open c.in-Ok.job c.in-Ok-compose_job.composed still.goes_on.cells still.same_cells
+    c.in-Ok-compose_job.ensures.done c.in-Ok.ensures.job (c.in_default.ensures.done still.goes_on)
+
+-- why the job was refused; the put itself has no such reason
+pub returns-in-Err-clause-refused : goal.returns-in-Err-clause-refused
+returns-in-Err-clause-refused g c memory fault =
+    c.in-Err.ensures.refusal memory (refused_unfailed {A = Job} c.args.self.now c.milestone_job.new.self c.in-Err.refusal c.in-Err.ensures.failed_before fault)
+
+pub returns-in-Err-compose_job-clause-refused : goal.returns-in-Err-compose_job-clause-refused
+returns-in-Err-compose_job-clause-refused g c memory fault = absurd (memory c.in-Err-compose_job.ensures.only)
+
+pub returns-in-Err-put_milestone-clause-refused : goal.returns-in-Err-put_milestone-clause-refused
+returns-in-Err-put_milestone-clause-refused g c memory fault =
+    let store = c.args.self.now in
+    let mid = c.milestone_job.new.self in
+    let works : has_failed mid ≡ false = c.milestone_job.ensures.failed ∙ had_not_failed c.in-Ok.job c.in-Ok.ensures.failed_before in
+    ⊎_elim
+    (λ stranger. absurd ((c.in-Err-put_milestone.ensures.stranger works).0 (ap (λ (r : Refusal). Err r) stranger)
+    (keeps_it c.in-Ok.job c.in-Ok-compose_job.composed (kept_jobs store) (kept_jobs mid) c.in-Ok.ensures.keeps c.in-Ok-compose_job.ensures.done)))
+    (⊎_elim (λ is. absurd (memory is)) (λ is. absurd (fault is))) c.in-Err-put_milestone.ensures.only

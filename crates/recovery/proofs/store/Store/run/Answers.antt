@@ -3,11 +3,13 @@ use Rattle.disk.specs.Crash.{history_of}
 use Rattle.disk.proofs.CallerLemmas.{synced_leaves, begins, leaves_map, goes_on_run}
 use Rattle.revision.specs.State.{State, fold}
 use Rattle.recovery.specs.declared.run.StoreStep.{StoreStep}
+use Rattle.recovery.specs.declared.run.StoreStep.TheVariants.{Retire}
 use Rattle.std.proofs.lemmas.Bool.{false≢true}
 use Rattle.refusal.specs.declared.Refusal.TheVariants.{Fault}
-use Rattle.std.proofs.lemmas.List.{at_drop_more, take_all}
+use Rattle.std.proofs.lemmas.List.{at_drop_more, take_all, get_or_default}
 use Rattle.recovery.specs.Found.{FoundAs}
-use Rattle.recovery.specs.Run.{batch_of, state_after}
+use Rattle.recovery.specs.Run.{AreTaken, IsWhy, batch_of, state_after}
+use Rattle.recovery.proofs.PutAtOnce.{taken_more}
 use Rattle.recovery.proofs.Folds.{fold-limits}
 use Rattle.recovery.proofs.Refusals.{refusal_or}
 use Rattle.recovery.proofs.Runs.{unchanged, unchanged_twice, found_open, found_as, state_after-more, within_step, some_of, before_all, after_all}
@@ -21,6 +23,7 @@ loop-at-init g c = record {
   unfailed = λ u. u;
   faults = refl;
   honest = (λ h. h, λ h. h);
+  taken = refl;
   is_open = λ o. o;
   failed_before = λ failed. (refl, unchanged c.args.self.now);
   moments = λ u o. begins (history_of g.D.Disk c.args.self.now.device) o.synced (before_all c.args.self.now.state c.args.steps.now _ (found_as _ _ (found_open c.args.self.now o)));
@@ -61,6 +64,7 @@ loop-at-preserved g c =
       faults = c.in_default.ensures.good ∙ c.loop-at.invariant.faults;
       unfailed = λ unfailed. c.in_default.ensures.works;
       honest = (λ h. c.loop-at.invariant.honest.0 (c.take_step.ensures.honest.0 h), λ h. c.take_step.ensures.honest.1 (c.loop-at.invariant.honest.1 h));
+      taken = taken_more steps at step c.loop-at-test.true c.index-steps-at.is c.args.self.now c.loop-at.self c.take_step.new.self c.loop-at.invariant.taken c.in_default.ensures.taken;
       is_open = λ is_open. c.in_default.ensures.done (c.loop-at.invariant.is_open is_open);
       failed_before = λ failed.
           let before = (c.loop-at.invariant.failed_before failed).1 in
@@ -86,3 +90,20 @@ returns-in-Err-clause-failed_before g c failed =
     let before = c.loop-at.invariant.failed_before failed in
     let now = c.take_step.ensures.failed_before (before.1.failed ∙ failed) in
     (tt, (before.0, ap (refusal_or Fault) (sym c.in-Err.is ∙ now.0)), unchanged_twice before.1 now.1)
+
+pub returns-clause-taken : goal.returns-clause-taken
+returns-clause-taken g c =
+    subst (λ (l : List StoreStep). AreTaken l c.args.self.now c.loop-at.self) (take_all c.loop-at.at c.args.steps.now (omega arith)) c.loop-at.invariant.taken
+
+pub returns-in-Err-clause-refused : goal.returns-in-Err-clause-refused
+returns-in-Err-clause-refused g c =
+    let steps = c.args.steps.now in
+    let at = c.loop-at.at in
+    let step = c.index-steps-at.result in
+    record {
+      last = c.loop-at.self;
+      taken = c.loop-at.invariant.taken;
+      why = λ memory fault.
+          subst (λ (s : StoreStep). IsWhy s c.in-Err.refusal c.loop-at.self) (c.index-steps-at.is ∙ get_or_default steps at step Retire c.loop-at-test.true)
+          (c.in-Err.ensures.refused memory fault);
+    }

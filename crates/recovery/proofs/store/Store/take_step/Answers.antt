@@ -1,6 +1,10 @@
-use Rattle.std.proofs.Common.{inl}
+use Rattle.std.proofs.Common.{◌≢◌, inl, sym, subst}
+use Rattle.std.specs.Prelude.{OnOk, IfErr}
 use Rattle.disk.proofs.CallerLemmas.{leaves_map}
-use Rattle.recovery.proofs.PutAtOnce.{goes_on_retired, goes_on_needed}
+use Rattle.refusal.specs.declared.Refusal.TheVariants.{NoMemory, Fault}
+use Rattle.recovery.specs.declared.run.StoreStep.{StoreStep}
+use Rattle.recovery.specs.Run.{IsTaken, IsWhy}
+use Rattle.recovery.proofs.PutAtOnce.{put_taken, given_up, retire_why, goes_on_retired, goes_on_needed}
 use Rattle.recovery.proofs.store.Store.take_step.Goals as goal
 
 -- without a batch the state stays
@@ -15,3 +19,24 @@ returns-in-Retire-clause-done g c = goes_on_retired c.args.self.now c.retire.new
 
 pub returns-in-Retire-clause-kept : goal.returns-in-Retire-clause-kept
 returns-in-Retire-clause-kept g c = goes_on_needed c.args.self.now c.retire.new.self c.retire.result c.retire.ensures.only c.retire.ensures.untouched
+
+-- what the step was
+pub returns-in-Milestone-clause-taken : goal.returns-in-Milestone-clause-taken
+returns-in-Milestone-clause-taken g c =
+    subst (λ (s : StoreStep). OnOk c.put_document.result (IsTaken s c.args.self.now c.put_document.new.self)) (sym c.in-Milestone.is)
+    (put_taken c.args.self.now c.put_document.new.self c.in-Milestone.document c.in-Milestone.revision c.put_document.result c.put_document.ensures.state c.put_document.ensures.put)
+
+pub returns-in-Retire-clause-taken : goal.returns-in-Retire-clause-taken
+returns-in-Retire-clause-taken g c =
+    subst (λ (s : StoreStep). OnOk c.retire.result (IsTaken s c.args.self.now c.retire.new.self)) (sym c.in-Retire.is)
+    (given_up c.args.self.now c.retire.new.self c.retire.result c.retire.ensures.state c.retire.ensures.not_needed c.retire.ensures.done)
+
+-- why it was refused
+pub returns-in-Milestone-clause-refused : goal.returns-in-Milestone-clause-refused
+returns-in-Milestone-clause-refused g c =
+    subst (λ (s : StoreStep). IfErr c.put_document.result (λ e. e ≢ NoMemory → e ≢ Fault → IsWhy s e c.args.self.now)) (sym c.in-Milestone.is) c.put_document.ensures.refused
+
+pub returns-in-Retire-clause-refused : goal.returns-in-Retire-clause-refused
+returns-in-Retire-clause-refused g c =
+    subst (λ (s : StoreStep). IfErr c.retire.result (λ e. e ≢ NoMemory → e ≢ Fault → IsWhy s e c.args.self.now)) (sym c.in-Retire.is)
+    (retire_why c.args.self.now c.retire.new.self c.retire.result c.retire.ensures.only c.retire.ensures.needed)
