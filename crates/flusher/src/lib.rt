@@ -18,6 +18,9 @@
 //! - `answered`, `whole`: each answer is what specs/Driving.antt says by `Gives` of its call, and a run that isn't stopped answers all.
 //! - `stops`: it stops for want of memory, at a fault of the device, and where a turn is refused.
 //!
+//! What a crash leaves is said of a store that is open as `IsOpen` of recovery says, which `Store::open` gives for an honest device. A
+//! turn that publishes a batch before its commit can't be written: a publish shows what was accepted by the receipt of its commit.
+//!
 //! # What isn't here yet
 //!
 //! A full journal is passed on as the refusal, so a run stops there. A run makes no milestones, and of a retirement its answers say only

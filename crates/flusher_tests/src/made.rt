@@ -1,0 +1,56 @@
+//! Commands, and a store in memory.
+ghost use Rattle.std.specs.Prelude.{◌≡◌, false};
+ghost use Rattle.recovery.specs.Open.{has_failed};
+
+use attributes::Attrs;
+use delta::{Builder, Delta, Op};
+use disk::MemDisk;
+use recovery::{Pick, Shape, Store, format_device};
+use revision::{Command, Name};
+use std::process::Abort;
+
+/// A device of 1,600 bytes.
+pub const SHAPE: Shape = Shape {
+    slots: 2,
+    slot: 256,
+    docs: 2,
+    cell: 256,
+    sources: 4,
+    keep: 2,
+};
+
+// so many letters
+fn letters(rt: &(impl Abort + AllocGlobal), count: u32) -> Delta {
+    let mut text = String::new(rt.alloc());
+    for _ in 0..count {
+        assert!(rt; text.push('x').is_ok());
+    }
+    let mut builder = Builder::new(rt.alloc());
+    assert!(rt; builder.push(Op::text(text, Attrs::new(rt.alloc()))).is_ok());
+    builder.finish()
+}
+
+/// Source a's first command creates document z with one letter, and each other adds so many to the revision before.
+pub fn command(rt: &(impl Abort + AllocGlobal), number: u64, count: u32) -> Command {
+    assert!(rt; 1 <= number && number < 1 << 53);
+    let name = Name::doc(rt.alloc(), "z").expect(rt, "a document");
+    let source = Name::source(rt.alloc(), "a").expect(rt, "a source");
+    let delta = letters(rt, count);
+    let made = match number {
+        1 => Command::create(name, source, number, delta),
+        _ => Command::edit(name, source, number, number - 1, delta),
+    };
+    made.expect(rt, "a command")
+}
+
+/// A store of the shape that was just formatted.
+pub fn new_store(rt: &(impl Abort + AllocGlobal)) -> Store<MemDisk>
+    ensures { has_failed result ≡ false }
+{
+    let mut disk = MemDisk::new(rt.alloc(), 1_600).expect(rt, "memory");
+    assert_eq!(rt; format_device(rt.alloc(), &mut disk, SHAPE), Ok(()));
+    match Store::open(rt.alloc(), disk, Pick::Newer) {
+        Ok(store) => store,
+        Err(fault) => panic!(rt; "{}", fault.refusal),
+    }
+}
