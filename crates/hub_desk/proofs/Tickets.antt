@@ -1,5 +1,5 @@
 -- Submissions one after another, and what they count.
-use Rattle.std.proofs.Common.{◌≡◌, ◌<◌, ◌≤◌, ◌+◌, ◌++◌, ℕ, zero, suc, List, [], ◌∷◌, length, take, drop, set, get_or, Result, Ok, Err, refl, sym, ap, subst, ◌∙◌, inl, add-one, arith}
+use Rattle.std.proofs.Common.{◌≡◌, ◌<◌, ◌≤◌, ◌+◌, ◌++◌, ℕ, zero, suc, List, [], ◌∷◌, length, take, drop, set, get_or, Result, Err, refl, sym, ap, subst, ◌∙◌, inl, add-one, arith}
 use Rattle.std.proofs.Math.Seq.{map-set_same}
 use Rattle.refusal.specs.declared.Refusal.{Refusal}
 use Rattle.revision.specs.Command.{Command}

@@ -78,6 +78,13 @@ impl<'a, D, J: Site, R> HubDesk<'a, D, J, R> {
         } = self;
         (seat, viewer)
     }
+
+    // Whether what the viewer was told of holds a ticket's length.
+    fn holds(&self, ticket: &Ticket) -> bool
+        ensures { IsTrue result ↔ (ticket.now.length ≤ length (commands_of self.now.told)) }
+    {
+        ticket.length() as u64 <= self.viewer.told().len()
+    }
 }
 
 impl<D, J: Site, R: Wait> HubDesk<'_, D, J, R> {
@@ -142,13 +149,6 @@ impl<D, J: Site, R: Wait> HubDesk<'_, D, J, R> {
             return Ok(());
         }
         self.await_ticket(ticket)
-    }
-
-    // Whether what the viewer was told of holds a ticket's length.
-    fn holds(&self, ticket: &Ticket) -> bool
-        ensures { IsTrue result ↔ (ticket.now.length ≤ length (commands_of self.now.told)) }
-    {
-        ticket.length() as u64 <= self.viewer.told().len()
     }
 
     // What is answered by a submission: its ticket's reply, once the ticket is settled, or why it was refused.

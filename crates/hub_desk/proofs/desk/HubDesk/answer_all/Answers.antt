@@ -4,7 +4,7 @@ use Rattle.revision.specs.Command.{Command}
 use Rattle.world.specs.Board.{Ticket}
 use Rattle.session.specs.declared.sent.Sent.{Sent}
 use Rattle.session.specs.Replies.{Asks}
-use Rattle.session.specs.Ahead.{commands_of, exchanges_of}
+use Rattle.session.specs.Ahead.{exchanges_of}
 use Rattle.hub_desk.specs.AtHub.{Desk, PassesAtHub}
 use Rattle.hub_desk.specs.Tickets.{AreOf, counted_all, with_count}
 use Rattle.hub_desk.proofs.Tickets.{answered_more, commands_same, take_whole}
