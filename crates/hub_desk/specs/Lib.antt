@@ -1,1 +1,2 @@
 pub mod AtHub
+pub mod Tickets

@@ -1,14 +1,21 @@
 //! A desk at a hub.
-ghost use Rattle.std.specs.Prelude.{◌≡◌, ◌≤◌, length, Ok, IfErr, OnOk, OnErr};
+ghost use Rattle.std.specs.Prelude.{◌≡◌, ◌≤◌, ◌↔◌, ℕ, IsTrue, ◌<◌, ◌+◌, ◌++◌, [], ◌∷◌, length, Ok, IfErr, IfOk, OnOk, OnErr};
+ghost use Rattle.std.specs.Vec.{vec_len, vec_capacity};
 ghost use mathlib.Core.List.{IsPrefix};
 ghost use Rattle.recovery.specs.Found.{commands_of};
+ghost use Rattle.revision.specs.State as state;
 ghost use Rattle.session.specs.Alone.{answered};
+ghost use Rattle.session.specs.Ahead as ahead;
+ghost use Rattle.session.specs.Replies.{Asks};
+ghost use Rattle.hub_desk.specs.AtHub as at_hub;
+ghost use Rattle.hub_desk.specs.AtHub.{PassesAtHub};
+ghost use Rattle.hub_desk.specs.Tickets.{AreOf, IsOf, AnswersFor, counted_by, counted_all, last_by, last_of, with_count};
 
 use hub::{Hub, Seat, Ticket};
 use published::{Site, Told};
 use refusal::Refusal;
 use revision::{Command, State};
-use session::{Desk, Reply};
+use session::{Desk, Reply, Sent};
 use std::alloc::Global;
 use std::marker::Model;
 use std::sync::Wait;
@@ -71,6 +78,13 @@ impl<'a, D, J: Site, R> HubDesk<'a, D, J, R> {
         } = self;
         (seat, viewer)
     }
+
+    // Whether what the viewer was told of holds a ticket's length.
+    fn holds(&self, ticket: &Ticket) -> bool
+        ensures { IsTrue result ↔ (ticket.now.length ≤ length (commands_of self.now.told)) }
+    {
+        ticket.length() as u64 <= self.viewer.told().len()
+    }
 }
 
 impl<D, J: Site, R: Wait> HubDesk<'_, D, J, R> {
@@ -84,6 +98,91 @@ impl<D, J: Site, R: Wait> HubDesk<'_, D, J, R> {
         let told = self.hub.wait_ack(self.rt, ticket)?;
         self.viewer.learn(&told);
         Ok(())
+    }
+
+    // Submits a command, and waits for nothing but the board.
+    fn submit(&mut self, alloc: Global, command: &Command) -> Result<Ticket, Refusal>
+        ensures of_command { IsOf command.now result }
+        ensures counts { self.new ≡ with_count self.old (counted_by self.old.counted result) }
+    {
+        self.hub.submit(self.rt, alloc, &mut self.seat, command)
+    }
+
+    // Submits commands one after another, before any of them is waited for: the seat counts each by its answer. For want of memory
+    // for the list nothing is submitted.
+    fn submit_all(
+        &mut self,
+        alloc: Global,
+        sent: &[Sent],
+    ) -> Result<Vec<Result<Ticket, Refusal>>, Refusal>
+        ensures of_these { IfOk result (λ tickets. AreOf (ahead.commands_of sent.now) tickets.items) }
+        ensures as_many { IfOk result (λ tickets. vec_len tickets ≡ length sent.now) }
+        ensures counts { IfOk result (λ tickets. self.new ≡ with_count self.old (counted_all self.old.counted tickets.items)) }
+        ensures unchanged { OnErr result (self.new ≡ self.old) }
+    {
+        let mut tickets = Vec::with_capacity(alloc, sent.len())?;
+        for i in 0..sent.len() {
+            let answer = self.submit(alloc, &sent[i].command);
+            push_in_room(&mut tickets, answer);
+        }
+        Ok(tickets)
+    }
+
+    // Waits until a ticket is settled, unless the viewer was told of that: for the last of the tickets that were submitted with it,
+    // whose settlement settles all of them. Where the store failed before that, the ticket is asked for by itself, and that waits no
+    // more. Refused with `StoreFailed` alone.
+    fn await_among(
+        &mut self,
+        ticket: &Ticket,
+        tickets: &[Result<Ticket, Refusal>],
+    ) -> Result<(), Refusal>
+        ensures kept { IsPrefix self.old.told self.new.told }
+        ensures others { self.new ≡ record self.old { told = self.new.told } }
+        ensures holds { OnOk result (ticket.now.length ≤ length (commands_of self.new.told)) }
+        ensures only { IfErr result (λ e. e ≡ Refusal.StoreFailed) }
+    {
+        if self.holds(ticket) {
+            return Ok(());
+        }
+        let _settled = self.await_ticket(last_ticket(ticket, tickets));
+        if self.holds(ticket) {
+            return Ok(());
+        }
+        self.await_ticket(ticket)
+    }
+
+    // What is answered by a submission: its ticket's reply, once the ticket is settled, or why it was refused.
+    fn answer_by(
+        &mut self,
+        submitted: &Result<Ticket, Refusal>,
+        tickets: &[Result<Ticket, Refusal>],
+    ) -> Result<Reply, Refusal>
+        ensures others { self.new ≡ record self.old { told = self.new.told } }
+        ensures answer { AnswersFor J.start self.old submitted.now result self.new }
+    {
+        match submitted {
+            Ok(ticket) => {
+                self.await_among(ticket, tickets)?;
+                Ok(reply_of(ticket))
+            }
+            Err(refusal) => Err(*refusal),
+        }
+    }
+
+    // Answers commands in order by their submissions. The seat has counted all of them already, and by the answers it counts them
+    // one after another.
+    fn answer_all(&mut self, sent: &mut Vec<Sent>, tickets: &[Result<Ticket, Refusal>])
+        requires of_these { AreOf (ahead.commands_of sent.old.items) tickets.now }
+        requires as_many { length tickets.now ≡ vec_len sent.old }
+        ensures commands { ahead.commands_of sent.new.items ≡ ahead.commands_of sent.old.items }
+        ensures others { self.new ≡ record self.old { told = self.new.told } }
+        ensures answered { (count : ℕ) → Asks (PassesAtHub J.start) (with_count self.old count) (ahead.exchanges_of sent.new.items)
+            (with_count self.new (counted_all count tickets.now)) }
+    {
+        for i in 0..sent.len() {
+            let answer = self.answer_by(&tickets[i], tickets);
+            sent[i].answer = answer;
+        }
     }
 }
 
@@ -102,6 +201,13 @@ impl<D, J: Site, R: Wait> Desk for HubDesk<'_, D, J, R> {
         Ok(reply_of(&ticket))
     }
 
+    fn ask_all(&mut self, alloc: Global, sent: &mut Vec<Sent>) {
+        match self.submit_all(alloc, sent) {
+            Ok(tickets) => self.answer_all(sent, &tickets),
+            Err(refusal) => refuse_all(sent, refusal),
+        }
+    }
+
     fn view<A, F: Drop + FnOnce(&State) -> A>(&mut self, read: F) -> Result<A, Refusal> {
         let answer = self.viewer.read(read)?;
         self.shown = self.viewer.told();
@@ -116,5 +222,48 @@ fn reply_of(ticket: &Ticket) -> Reply
     match ticket.reply() {
         revision::Reply::Taken { rev } => Reply::Taken { rev },
         revision::Reply::Again { rev } => Reply::Again { rev },
+    }
+}
+
+// The last of tickets that were submitted one after another, or the first one where there is no further one.
+fn last_ticket<'t>(first: &'t Ticket, tickets: &'t [Result<Ticket, Refusal>]) -> &'t Ticket
+    ensures { result.now ≡ last_of first.now tickets.now }
+{
+    let mut last = first;
+    for submitted in tickets {
+        last = later_ticket(last, submitted);
+    }
+    last
+}
+
+// The ticket of a submission, or the one before where it was refused.
+fn later_ticket<'t>(last: &'t Ticket, submitted: &'t Result<Ticket, Refusal>) -> &'t Ticket
+    ensures { result.now ≡ last_by last.now submitted.now }
+{
+    match submitted {
+        Ok(ticket) => ticket,
+        Err(_) => last,
+    }
+}
+
+// Puts a submission behind others, for which there is room.
+fn push_in_room(tickets: &mut Vec<Result<Ticket, Refusal>>, submitted: Result<Ticket, Refusal>)
+    requires { vec_len tickets.old < vec_capacity tickets.old }
+    ensures items { tickets.new.items ≡ tickets.old.items ++ submitted ∷ [] }
+    ensures len { vec_len tickets.new ≡ vec_len tickets.old + 1 }
+    ensures room { vec_capacity tickets.old ≤ vec_capacity tickets.new }
+{
+    if let Err(_) = tickets.push(submitted) {
+        unreachable!()
+    }
+}
+
+// Answers each command with a refusal, which leaves a desk as it is.
+fn refuse_all(sent: &mut Vec<Sent>, refusal: Refusal)
+    ensures commands { ahead.commands_of sent.new.items ≡ ahead.commands_of sent.old.items }
+    ensures refused { (start : state.State) (desk : at_hub.Desk) → Asks (PassesAtHub start) desk (ahead.exchanges_of sent.new.items) desk }
+{
+    for i in 0..sent.len() {
+        sent[i].answer = Err(refusal);
     }
 }

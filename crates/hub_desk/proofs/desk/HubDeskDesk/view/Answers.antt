@@ -1,7 +1,7 @@
 use Rattle.std.proofs.Common.{◌≡◌, List, Some, ap, sym, subst, ◌∙◌}
 use mathlib.Core.List.{IsPrefix}
 use Rattle.revision.specs.Command.{Taken}
-use Rattle.revision.specs.State.{State, fold}
+use Rattle.revision.specs.State.{fold}
 use Rattle.recovery.specs.Found.{commands_of}
 use Rattle.session.specs.Shelf.{IsLater}
 use Rattle.hub_desk.specs.AtHub.{Desk}

@@ -1,0 +1,50 @@
+-- Commands that were submitted one after another, each with its ticket or why it was refused.
+use Rattle.std.specs.Prelude.{◌≡◌, ℕ, List, [], ◌∷◌, Result, Ok, Err}
+use Rattle.refusal.specs.declared.Refusal.{Refusal}
+use Rattle.revision.specs.Command.{Command}
+use Rattle.revision.specs.State.{State}
+use Rattle.world.specs.Board.{Ticket}
+use Rattle.hub.specs.Legal.{counted}
+use Rattle.session.specs.declared.reply.Reply.{Reply}
+use Rattle.session.specs.Exchange.{Answered}
+use Rattle.hub_desk.specs.AtHub.{Desk, PassesAtHub}
+
+-- how many commands a seat has counted after a submission
+abbrev pub counted_by : ℕ → Result Ticket Refusal → ℕ
+counted_by count (Ok ticket) = counted count ticket.reply
+counted_by count (Err refusal) = count
+
+abbrev pub counted_all : ℕ → List (Result Ticket Refusal) → ℕ
+counted_all count [] = count
+counted_all count (first ∷ others) = counted_all (counted_by count first) others
+
+-- a ticket is of this command
+abbrev pub IsOf : Command → Result Ticket Refusal → Type 0
+IsOf command (Ok ticket) = ticket.command ≡ command
+IsOf command (Err refusal) = Unit {0}
+
+-- a submission for each of these commands, in order
+abbrev pub AreOf : List Command → List (Result Ticket Refusal) → Type 0
+AreOf [] [] = Unit {0}
+AreOf [] (first ∷ others) = ⊥
+AreOf (command ∷ commands) [] = ⊥
+AreOf (command ∷ commands) (first ∷ others) = IsOf command first × AreOf commands others
+
+-- the last ticket of them, or this one where there is none
+abbrev pub last_by : Ticket → Result Ticket Refusal → Ticket
+last_by ticket (Ok next) = next
+last_by ticket (Err refusal) = ticket
+
+abbrev pub last_of : Ticket → List (Result Ticket Refusal) → Ticket
+last_of ticket [] = ticket
+last_of ticket (first ∷ others) = last_of (last_by ticket first) others
+
+-- a desk whose seat has counted so many commands
+abbrev pub with_count : Desk → ℕ → Desk
+with_count desk count = record desk { counted = count }
+
+-- What is answered by a submission, whichever command it was of, and however many commands the seat had counted before it.
+abbrev pub AnswersFor : State → Desk → Result Ticket Refusal → Result Reply Refusal → Desk → Type 0
+AnswersFor start old submitted result new =
+    (command : Command) (count : ℕ) → IsOf command submitted
+    → PassesAtHub start (with_count old count) (Answered command result) (with_count new (counted_by count submitted))
