@@ -1,4 +1,4 @@
-use Rattle.std.proofs.Common.{◌≡◌, ◌+◌, [], ◌∷◌, ◌++◌, length, take, refl, sym, ◌∙◌, ap, subst, arith, length-append}
+use Rattle.std.proofs.Common.{◌≡◌, ℕ, ◌+◌, [], ◌∷◌, ◌++◌, length, take, refl, sym, ◌∙◌, ap, subst, arith, length-append}
 use Rattle.std.proofs.lemmas.Result.{err_from_is_err_and}
 use Rattle.flusher.specs.Flushers.{cap_of}
 use Rattle.flusher.specs.Run.{standing}
@@ -47,4 +47,19 @@ loop-call-preserved g c =
           subst (λ l. Answered (cap_of g.J.Site.start) c.args.board.now.board (take (c.loop-call.call-index + 1) c.args.calls.now) l c.call_one.new.board.board c.call_one.new.tickets.items) (sym items)
           (one_more (cap_of g.J.Site.start) c.args.board.now.board c.args.calls.now c.loop-call.call-index c.call-item.result c.loop-call.answers.items c.loop-call.board.board c.loop-call.tickets.items
           c.in_ok-answer.answer c.call_one.new.board.board c.call_one.new.tickets.items _ c.loop-call-test.true c.call-item.is i.answered c.in_ok-answer.ensures.gives);
+    }
+
+pub returns-in_err-answer-clause-answered : goal.returns-in_err-answer-clause-answered
+returns-in_err-answer-clause-answered g c =
+    let i = c.loop-call.invariant in
+    let cap : ℕ = cap_of g.J.Site.start in
+    record {
+      board = c.loop-call.board.board;
+      answered =
+          subst (λ l. Answered cap c.args.board.now.board (take (length l) c.args.calls.now) l c.loop-call.board.board c.call_one.new.tickets.items) (sym c.in_ok-reserve.ensures.items)
+          (subst (λ n. Answered cap c.args.board.now.board (take n c.args.calls.now) c.loop-call.answers.items c.loop-call.board.board c.call_one.new.tickets.items) (sym i.count)
+          (subst (λ t. Answered cap c.args.board.now.board (take c.loop-call.call-index c.args.calls.now) c.loop-call.answers.items c.loop-call.board.board t) (sym c.in_err-answer.ensures.same)
+          i.answered));
+      order = c.in_err-answer.ensures.order;
+      settled = c.call_one.ensures.goes.settled;
     }
