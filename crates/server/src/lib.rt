@@ -54,4 +54,5 @@ mod program;
 pub mod serve;
 
 pub use failure::Failure;
+pub use listening::serve_on;
 pub use program::run;

@@ -11,9 +11,12 @@ mod usage;
 use server::run;
 use std::fs::File;
 use std::io::{self, Read};
+use std::net::{Net, TcpListener, TcpStream};
 use std::process::Abort;
 use std::rt::Files;
+use std::sync::Wait;
 use std::test::Fail;
+use std::thread::Threads;
 use std::{env, process};
 
 const HELLO: &str = "{\"do\":\"hello\",\"source\":\"a\"}\n";
@@ -31,7 +34,7 @@ struct Outcome {
 }
 
 /// A run of the program over these words and this input.
-fn call<R: Files<File = File> + AllocGlobal, I: Read>(
+fn call<R: Files<File = File> + AllocGlobal + Net<Listener = TcpListener, Stream = TcpStream> + Threads + Wait + Sync, I: Read>(
     rt: &R,
     words: &[&str],
     input: &mut I,
@@ -47,7 +50,7 @@ fn call<R: Files<File = File> + AllocGlobal, I: Read>(
 }
 
 /// Runs the program, which is to end with this status, output and errors.
-fn runs<R: Files<File = File> + AllocGlobal + Abort, I: Read>(
+fn runs<R: Files<File = File> + AllocGlobal + Net<Listener = TcpListener, Stream = TcpStream> + Threads + Wait + Sync + Abort, I: Read>(
     rt: &R,
     words: &[&str],
     input: &mut I,
@@ -69,7 +72,7 @@ fn path(rt: &HostRuntime, name: &str) -> io::Result<String> {
 }
 
 /// Makes a store of two slots of 256 bytes, two documents, cells of 256 bytes, four sources and two revisions.
-fn format_small<R: Files<File = File> + AllocGlobal + Abort>(
+fn format_small<R: Files<File = File> + AllocGlobal + Net<Listener = TcpListener, Stream = TcpStream> + Threads + Wait + Sync + Abort>(
     rt: &R,
     path: &str,
 ) -> Result<(), Fail> {

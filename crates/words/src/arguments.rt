@@ -28,6 +28,21 @@ pub fn with_number<'a>(
     command.arg(number)
 }
 
+/// The command with an option that takes a text.
+pub fn with_text<'a>(
+    alloc: Global,
+    command: Command<'a>,
+    name: &'a str,
+    value_name: &'a str,
+    help: &'a str,
+) -> Result<Command<'a>, AllocError> {
+    let text = Arg::new(alloc, name)
+        .long(name)
+        .value_name(value_name)
+        .help(help);
+    command.arg(text)
+}
+
 /// The command with an option that takes nothing.
 pub fn with_flag<'a>(
     alloc: Global,

@@ -14,8 +14,12 @@ const VERSION: &str = "0.1.0";
 pub enum Invocation<'a> {
     /// To make a store in this file.
     Format { path: &'a str, shape: ShapeOptions },
-    /// To serve a session over the store in this file.
-    Serve { path: &'a str },
+    /// To serve the store in this file: to those who connect to an address where one is given, else to one session over
+    /// standard input and output.
+    Serve {
+        path: &'a str,
+        listen: Option<&'a str>,
+    },
     /// To print the documents of the store in this file. Where a document has two milestones, its reading begins with the newer
     /// one, or with the older one where that is asked for.
     Dump { path: &'a str, older: bool },
@@ -44,6 +48,7 @@ impl<'a> Invocation<'a> {
             },
             Some(("serve", given)) => Invocation::Serve {
                 path: store::path_in(given),
+                listen: store::listen_in(given),
             },
             Some((_, given)) => Invocation::Dump {
                 path: store::path_in(given),

@@ -1,5 +1,5 @@
 //! The words of the commands on a store: `format`, `serve` and `dump`.
-use crate::arguments::{with_choice, with_number, with_word};
+use crate::arguments::{with_choice, with_number, with_text, with_word};
 use clap::{ArgMatches, Command};
 use std::alloc::{AllocError, Global};
 
@@ -41,9 +41,11 @@ pub fn format<'a>(alloc: Global) -> Result<Command<'a>, AllocError> {
 /// Serves a store.
 pub fn serve<'a>(alloc: Global) -> Result<Command<'a>, AllocError> {
     let serve = Command::new(alloc, "serve").about(
-        "Serves a session over standard input and output",
+        "Serves a session over standard input and output, or many over TCP",
     );
-    with_path(alloc, serve)
+    let serve = with_path(alloc, serve)?;
+    let help = "The address to serve at, as 127.0.0.1:7000; port 0 takes a free one";
+    with_text(alloc, serve, "listen", "ADDR", help)
 }
 
 /// Prints a store.
@@ -57,6 +59,11 @@ pub fn dump<'a>(alloc: Global) -> Result<Command<'a>, AllocError> {
 /// The file that was given.
 pub fn path_in<'a>(given: &ArgMatches<'a>) -> &'a str {
     given.get_str("PATH").unwrap_or("")
+}
+
+/// The address that was given to `serve`.
+pub fn listen_in<'a>(given: &ArgMatches<'a>) -> Option<&'a str> {
+    given.get_str("listen")
 }
 
 /// Whether the older milestones were asked for.

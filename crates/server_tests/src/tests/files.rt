@@ -1,9 +1,12 @@
 use super::{CREATE, GREETED, HELLO, call, format_small, path, runs};
 use std::fs::{self, File};
 use std::io::{self, Read};
+use std::net::{Net, TcpListener, TcpStream};
 use std::process::Abort;
 use std::rt::Files;
+use std::sync::Wait;
 use std::test::Fail;
+use std::thread::Threads;
 
 /// Hello and the creation of `d` by source `a`, and the same with other names, one run after another over a store of two
 /// documents: what comes behind the greeting.
@@ -81,7 +84,7 @@ fn a_document_is_made_and_printed(rt: HostRuntime) -> Result<(), Fail> {
     Ok(())
 }
 
-fn slot_is_written<R: Files<File = File> + AllocGlobal + Abort>(
+fn slot_is_written<R: Files<File = File> + AllocGlobal + Net<Listener = TcpListener, Stream = TcpStream> + Threads + Wait + Sync + Abort>(
     rt: &R,
     path: &str,
 ) -> Result<(), Fail> {
@@ -146,7 +149,7 @@ fn faults_have_their_statuses(rt: HostRuntime) -> Result<(), Fail> {
     Ok(())
 }
 
-fn command_runs<R: Files<File = File> + AllocGlobal + Abort>(
+fn command_runs<R: Files<File = File> + AllocGlobal + Net<Listener = TcpListener, Stream = TcpStream> + Threads + Wait + Sync + Abort>(
     rt: &R,
     command: &str,
     path: &str,
@@ -168,7 +171,7 @@ fn a_file_in_no_folder_is_a_fault(rt: HostRuntime) -> Result<(), Fail> {
 }
 
 /// A run of one source, which makes one document and sends the creation once more. The answer is the document's line.
-fn made<R: Files<File = File> + AllocGlobal + Abort>(
+fn made<R: Files<File = File> + AllocGlobal + Net<Listener = TcpListener, Stream = TcpStream> + Threads + Wait + Sync + Abort>(
     rt: &R,
     path: &str,
     k: u32,

@@ -8,7 +8,7 @@ const FAULTS: [(&str, &str); 13] = [
     ("richd serve", "--help"),
     ("richd format p --docs 4294967296", "--help"),
     ("richd format p --docs two", "--help"),
-    ("richd serve p --listen 127.0.0.1:0", "--help"),
+    ("richd serve p --listen", "--help"),
     ("richd serve p --every 1", "--help"),
     ("richd dump p --pick best", "--help"),
     ("richd delta", "Usage: richd delta"),
