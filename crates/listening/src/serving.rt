@@ -82,6 +82,7 @@ fn serve_board<
 }
 
 // Writes in this thread, beside those of the sessions, until they have ended and all that was ordered is settled.
+#[tactic(auto, using(crate::proofs::Crossing::hub_sync))]
 fn serve_hub<
     J: Site + Sync + Send,
     R: Threads + Wait + Sync,
@@ -104,6 +105,7 @@ fn serve_hub<
     served
 }
 
+#[tactic(auto, using(crate::proofs::Crossing::hub_sync))]
 fn serve_all<
     J: Site + Sync + Send,
     R: Threads + Wait + Sync,
