@@ -57,7 +57,7 @@ fn invoke<R: Files<File = File> + AllocGlobal, I: Read, O: Write>(
             Ok(())
         }
         Invocation::Serve { path } => {
-            let mut desk = StoreDesk::new(open(rt, path, Pick::Newer)?);
+            let mut desk = StoreDesk::new(open(rt, path, Pick::Newer)?, 256);
             let mut stream = Stream::new(output);
             serve(rt.alloc(), &mut desk, input, &mut stream)
         }
