@@ -129,7 +129,7 @@ module _ {D : Type 0} (disk : Ghosts D) (old next new : StoreDesk D disk) (comma
 
   module _ (result : Result Reply Refusal) (commits : Commits old command result next) where
     added : with_command state command ≡ fold state (commits.taken ∷ [])
-    added = ap (λ (a : Answer). fold state (added_by a)) commits.due
+    added = ap (λ (a : Answer). fold state (added_by a)) commits.planned
 
     -- a crash within the commit
     within : LeavesOnly disk (MayHold state (Answered command result ∷ others)) (device_of (store_of old)) (device_of (store_of next))

@@ -23,18 +23,23 @@ pub struct StoreDesk<D: Disk> {
 }
 
 impl<D: Disk> StoreDesk<D> {
-    ghost use Rattle.std.specs.Prelude.{◌≡◌, ◌↔◌, ◌≤◌, [], ◌∷◌, true, false, Err, OnOk, OnErr};
+    ghost use Rattle.std.specs.Prelude.{◌≡◌, ◌⊎◌, ◌↔◌, ◌≤◌, ℕ, max, [], ◌∷◌, true, false, Some, None, Err, OnOk, OnErr};
+    ghost use Rattle.disk.specs.Device.{Rose};
     ghost use Rattle.disk.specs.Crash.{LeavesOnly};
+    ghost use Rattle.recovery.specs.Found.{FoundAs};
+    ghost use Rattle.recovery.specs.Goes.{Goes};
     ghost use Rattle.revision.specs.State.{grows, fold};
     ghost use Rattle.recovery.specs.Open.{IsOpen, IsWithOrWithout, device_of, state_of, has_failed as store_has_failed};
     ghost use Rattle.session.specs.Shelf.{IsLater};
-    ghost use Rattle.server.specs.Desk.{AnswersNow, IsToldOf, IsFullFor, IsKeptUp, FailsCommit, store_of, has_failed};
+    ghost use Rattle.server.specs.Desk.{AnswersNow, IsToldOf, IsFullFor, IsUpToDate, FailsCommit, store_of, has_failed, due_of, spacing_of};
 
-    /// A desk of an opened store, which puts a milestone of a document at each revision that is a multiple of `every`, once a
-    /// command was committed there. 0 counts as 1.
+    /// A desk of an opened store. It puts a milestone of a document where a command took it to a multiple of `every` revisions, or
+    /// past one. 0 counts as 1.
     pub fn new(store: Store<D>, every: u32) -> StoreDesk<D>
         ensures store { store_of result ≡ store }
         ensures works { has_failed result ≡ false }
+        ensures spacing { spacing_of result ≡ max 1 every }
+        ensures none_due { due_of result ≡ None }
     {
         StoreDesk {
             store,
@@ -66,7 +71,18 @@ impl<D: Disk> StoreDesk<D> {
 
     // Puts what is due of the document that was committed last. Where memory runs out it stays due; a fault fails the desk.
     fn keep_up(&mut self, alloc: Global)
-        ensures { IsKeptUp self.old self.new }
+        ensures done { (due_of self.new ≡ due_of self.old)
+            ⊎ ((document : ℕ) → due_of self.old ≡ Some document → (is_open : IsOpen (store_of self.old))
+            → IsUpToDate (spacing_of self.old) document (store_of self.old) is_open (store_of self.new)) }
+        ensures spacing { spacing_of self.new ≡ spacing_of self.old }
+        ensures state { state_of (store_of self.new) ≡ state_of (store_of self.old) }
+        ensures goes { Goes (λ content. FoundAs content (state_of (store_of self.old))) (store_of self.old) (store_of self.new) }
+        ensures store_works { has_failed self.new ≡ false → store_has_failed (store_of self.old) ≡ false
+            → store_has_failed (store_of self.new) ≡ false }
+        ensures cause { has_failed self.new ≡ true → has_failed self.old ≡ false → store_has_failed (store_of self.old) ≡ false
+            → Rose (D.faults (device_of (store_of self.old))) (D.faults (device_of (store_of self.new))) }
+        ensures rests { has_failed self.old ≡ true → self.new ≡ self.old }
+        ensures honest { D.honest (device_of (store_of self.new)) ↔ D.honest (device_of (store_of self.old)) }
     {
         if self.failed {
             return;
@@ -104,6 +120,8 @@ impl<D: Disk> StoreDesk<D> {
             ≡ fold (state_of (store_of self.old)) (taken ∷ [])) }
         ensures same_state { OnErr result (state_of (store_of self.new) ≡ state_of (store_of self.old)) }
         ensures works { OnOk result (store_has_failed (store_of self.new) ≡ false) }
+        ensures due { OnOk result (due_of self.new ≡ Some taken.document) }
+        ensures spacing { spacing_of self.new ≡ spacing_of self.old }
         ensures store_works { has_failed self.new ≡ false → store_has_failed (store_of self.old) ≡ false
             → store_has_failed (store_of self.new) ≡ false }
         ensures fails { (has_failed self.new ≡ true) ↔ (result ≡ Err Refusal.StoreFailed) }
@@ -133,6 +151,8 @@ impl<D: Disk> StoreDesk<D> {
     fn fail(&mut self)
         ensures failed { has_failed self.new ≡ true }
         ensures store { store_of self.new ≡ store_of self.old }
+        ensures due { due_of self.new ≡ due_of self.old }
+        ensures spacing { spacing_of self.new ≡ spacing_of self.old }
     {
         self.failed = true;
     }

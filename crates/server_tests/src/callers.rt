@@ -35,7 +35,7 @@ pub fn line_of(alloc: Global, text: &str) -> Result<String, Refusal>
 pub fn file_in<'a>(alloc: Global, words: &'a [&'a str]) -> Result<Option<&'a str>, clap::Error> {
     Ok(match Invocation::parse(alloc, words)? {
         Invocation::Format { path, shape: _ } => Some(path),
-        Invocation::Serve { path } | Invocation::Dump { path, older: _ } => Some(path),
+        Invocation::Serve { path, .. } | Invocation::Dump { path, older: _ } => Some(path),
         Invocation::Delta(_) => None,
     })
 }

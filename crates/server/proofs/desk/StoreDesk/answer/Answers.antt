@@ -17,16 +17,18 @@ planned_due plan due taken h is = rw is at h
 pub returns-in-Taken-clause-answered : goal.returns-in-Taken-clause-answered
 returns-in-Taken-clause-answered g c =
     let e = c.commit.ensures in
-    let due = planned_due _ _ c.in-Taken.taken c.in_ok-taken.ensures.due c.in-Taken.is in
+    let planned = planned_due _ _ c.in-Taken.taken c.in_ok-taken.ensures.due c.in-Taken.is in
     inr (
       c.if-self.false,
       inr (record {
         taken = c.in-Taken.taken;
-        due = ap (λ s. answer s c.args.command.now) (sym c.state.ensures) ∙ due;
+        planned = ap (λ s. answer s c.args.command.now) (sym c.state.ensures) ∙ planned;
         told = e.told;
         state = e.state;
         same_state = e.same_state;
         works = e.works;
+        due = e.due;
+        spacing = e.spacing;
         store_works = e.store_works;
         fails = e.fails;
         cause = e.cause;

@@ -6,7 +6,13 @@ use Rattle.server.specs.Desk.{store_of}
 use Rattle.server.proofs.desk.StoreDeskDesk.ask.Goals as goal
 
 pub returns-clause-answered : goal.returns-clause-answered
-returns-clause-answered g c = (c.keep_up.new.self, c.keep_up.ensures, c.answer.ensures.answered)
+returns-clause-answered g c =
+    let e = c.keep_up.ensures in
+    (
+      c.keep_up.new.self,
+      record { done = e.done; spacing = e.spacing; state = e.state; goes = e.goes; store_works = e.store_works; cause = e.cause; rests = e.rests; honest = e.honest },
+      c.answer.ensures.answered,
+    )
 
 pub returns-clause-later : goal.returns-clause-later
 returns-clause-later g c =
