@@ -166,7 +166,7 @@ module _ {D : Type 0} (disk : Ghosts D) (old mid new : StoreDesk D disk) (before
   after_upkeep command result others rest = record {
     state = rest.state ∙ ap (λ (s : State). state_after s (Answered command result ∷ others)) kept.state;
     any_moment = goes_on_run
-        (leaves_map {_} {MayHold (state_of (store_of old)) (Answered command result ∷ others)} (λ content left. inl left) (kept.goes.any_moment before.store_works before.is_open))
+        (leaves_map {Q = MayHold (state_of (store_of old)) (Answered command result ∷ others)} (λ content left. inl left) (kept.goes.any_moment before.store_works before.is_open))
         (subst (λ (s : State). LeavesOnly disk (MayHold s (Answered command result ∷ others)) (device_of (store_of mid)) (device_of (store_of new))) kept.state rest.any_moment);
     after = λ content left. subst (λ (s : State). Holds s (Answered command result ∷ others) content) kept.state (rest.after content left);
   }
@@ -176,7 +176,7 @@ module _ {D : Type 0} (disk : Ghosts D) (old mid new : StoreDesk D disk) (before
   failed_upkeep command refusal others rests = record {
     state = ap (λ (d : StoreDesk D disk). state_of (store_of d)) rests.same ∙ kept.state ∙ sym (rests.after (state_of (store_of old)));
     any_moment = subst (λ (d : StoreDesk D disk). LeavesOnly disk (MayHold (state_of (store_of old)) (Answered command (Err refusal) ∷ others)) (device_of (store_of old)) (device_of (store_of d))) (sym rests.same)
-        (leaves_map {_} {MayHold (state_of (store_of old)) (Answered command (Err refusal) ∷ others)} (λ content left. inl left) (kept.goes.any_moment before.store_works before.is_open));
+        (leaves_map {Q = MayHold (state_of (store_of old)) (Answered command (Err refusal) ∷ others)} (λ content left. inl left) (kept.goes.any_moment before.store_works before.is_open));
     after = λ content left. inl (rests.holds (state_of (store_of old)) content
         ((kept.goes.any_moment before.store_works before.is_open).last content (subst (λ (d : StoreDesk D disk). MayLeaveNow disk (device_of (store_of d)) content) rests.same left)));
   }

@@ -1,4 +1,6 @@
 //! A desk that answers from a store.
+ghost use Rattle.std.specs.Prelude.{◌≤◌};
+
 use disk::Disk;
 use recovery::Store;
 use refusal::Refusal;
@@ -90,10 +92,12 @@ impl<D: Disk> StoreDesk<D> {
         let Some(document) = self.due else {
             return;
         };
-        match self.store.put_due(alloc, document, self.every) {
-            Ok(_) => self.due = None,
-            Err(Refusal::NoMemory) => {}
-            Err(_) => self.fail(),
+        let Err(refusal) = self.store.put_due(alloc, document, self.every) else {
+            self.due = None;
+            return;
+        };
+        if refusal != Refusal::NoMemory {
+            self.fail();
         }
     }
 
