@@ -1,5 +1,5 @@
 -- A desk that answers from a store: what it answers a command, and what that leaves.
-use Rattle.std.specs.Prelude.{◌≡◌, ◌⊎◌, ◌↔◌, ◌<◌, ℕ, Bool, true, false, [], ◌∷◌, Option, Some, None, slice_get, Result, Ok, Err, OnOk, OnErr}
+use Rattle.std.specs.Prelude.{◌≡◌, ◌⊎◌, ◌↔◌, ◌<◌, ◌≤◌, ◌-◌, ◌^◌, ℕ, Bool, true, false, [], ◌∷◌, Option, Some, None, slice_get, Result, Ok, Err, OnOk, OnErr}
 use Rattle.disk.specs.declared.device.Disk.{Ghosts}
 use Rattle.disk.specs.Device.{Rose}
 use Rattle.disk.specs.Crash.{LeavesOnly}
@@ -9,7 +9,7 @@ use Rattle.revision.specs.Command.{Command, Taken}
 use Rattle.revision.specs.State.{fold}
 use Rattle.revision.specs.Acceptance.{Answer, Takes, Repeats, Refuses, answer}
 use Rattle.recovery.specs.declared.store.Store.{Store}
-use Rattle.segments.specs.Numbers.{open_count}
+use Rattle.segments.specs.Numbers.{newest_number, open_count}
 use Rattle.segments.specs.Ring.{known_numbers}
 use Rattle.history.specs.Cell.{cells_at}
 use Rattle.recovery.specs.Due.{due_for, IsPutDue}
@@ -80,10 +80,16 @@ module _ {D : Type 0} {disk : Ghosts D} where
     pub rests : has_failed old ≡ true → new ≡ old
     pub honest : disk.honest (device_of (store_of new)) ↔ disk.honest (device_of (store_of old))
 
-  -- Why a commit fails the desk: the command doesn't fit behind what is there, or the device was or is at fault.
+  -- A command doesn't fit behind what is there, and no slot can be opened behind the newest one, which has the highest number there
+  -- is.
+  pub record IsUsedUpFor (store : Store D disk) (taken : Taken) : Type 0 where
+    pub no_room : has_room store (taken ∷ []) ≡ false
+    pub last : IsOpen store → 2 ^ 64 - 1 ≤ newest_number (known_numbers (ring_of store))
+
+  -- Why a commit fails the desk: the store is used up, or the device was or is at fault.
   abbrev pub FailsCommit : StoreDesk D disk → Taken → StoreDesk D disk → Type 0
   FailsCommit old taken new =
-      (has_room (store_of old) (taken ∷ []) ≡ false)
+      IsUsedUpFor (store_of old) taken
       ⊎ ((store_has_failed (store_of old) ≡ true)
       ⊎ Rose (disk.faults (device_of (store_of old))) (disk.faults (device_of (store_of new))))
 
