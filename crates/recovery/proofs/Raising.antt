@@ -1,5 +1,5 @@
 -- A store whose oldest segment is being covered by milestones.
-use Rattle.std.proofs.Common.{◌≡◌, ◌≢◌, ◌⊎◌, inl, inr, ℕ, ◌≤◌, ◌<◌, min, true, false, Bool, Option, Some, None, List, length, refl, sym, ◌∙◌, ap, subst, arith}
+use Rattle.std.proofs.Common.{◌≡◌, ◌≢◌, ◌⊎◌, inl, inr, ℕ, ◌≤◌, ◌<◌, min, true, false, Bool, Option, Some, None, List, length, get_or, refl, sym, ◌∙◌, ap, subst, arith}
 use Rattle.std.specs.Prelude.{nat_lt, cond, slice_get}
 use Rattle.std.proofs.lemmas.Bool.{cases_eq}
 use Rattle.std.proofs.lemmas.Option.{slice_get_within}
@@ -10,15 +10,20 @@ use Rattle.history.specs.Cell.{Cell, Pair, cells_at, lowest, freed, with_pair}
 use Rattle.milestone.specs.Cells.{with_cell}
 use Rattle.milestone.specs.Job.{Job, cell_of_job}
 use Rattle.segments.specs.Slot.{Segment}
+use Rattle.segments.specs.Numbers.{IsOldest}
+use Rattle.segments.specs.Ring.{known_numbers}
+use Rattle.recovery.specs.declared.marks.Mark.{Mark}
 use Rattle.recovery.specs.declared.store.Store.{Store}
 use Rattle.recovery.specs.Cells.{lowest_known, highest_known}
+use Rattle.recovery.specs.Marks.{marks_of}
 use Rattle.recovery.specs.Jobs.{IsJobTo, highest, no_job_of, no_job_for}
 use Rattle.recovery.specs.Open.{IsOpen, state_of}
 use Rattle.recovery.specs.Run.{IsPutAt}
-use Rattle.recovery.specs.steps.Freeing.{reached, reached_in, IsOverSlots, NoneLower, IsRaised, IsCoveredTo}
+use Rattle.recovery.specs.steps.Freeing.{reached, reached_in, MayReach, KeepsSegments, IsOverSlots, NoneLower, IsRaised, IsMarkCovered}
 use Rattle.recovery.proofs.PutCells.{pair_own, pair_other}
 use Rattle.recovery.proofs.Retirement.{known, known_highest}
-use Rattle.recovery.proofs.Reaching.{cells_reached}
+use Rattle.recovery.proofs.Reaching.{cells_reached, marks_reached}
+use Rattle.recovery.proofs.Marking.{marked_member}
 
 -- the lower open cell is no higher than the higher one
 lowest_highest : (pair : Pair) → lowest pair ≤ highest pair
@@ -66,6 +71,9 @@ none_against state document revision high found there is above first =
     none = grind (arith, nat_tests)
 
 module _ {D : Type 0} {disk : Ghosts D} where
+  pub keeps_on : {old mid new : Store D disk} → KeepsSegments old mid → KeepsSegments mid new → KeepsSegments old new
+  keeps_on first second = record { state = second.state ∙ first.state; ring = second.ring ∙ first.ring; marks = second.marks ∙ first.marks }
+
   pub still_over : (store : Store D disk) (is_open : IsOpen store) → IsOverSlots is_open.table store
   still_over store is_open = record { goes_on = is_open; same_table = refl }
 
@@ -92,13 +100,13 @@ module _ {D : Type 0} {disk : Ghosts D} where
     lower = λ high. omega (arith, known new now document, ap lowest own, raised_lowest cell before, at_present, enough, high, known_highest old is_open document);
   }
     where
-      abbrev now : IsOpen new
+      now : IsOpen new
       now = put.put.goes_on
 
-      abbrev cell : Cell
+      cell : Cell
       cell = cell_of_job put.job
 
-      abbrev before : Pair
+      before : Pair
       before = cells_at is_open.cells document
 
       at_present : cell.revision ≡ present
@@ -124,10 +132,21 @@ module _ {D : Type 0} {disk : Ghosts D} where
       ]
 
   -- raised twice
-  pub covered_twice : (old mid new : Store D disk) (is_open : IsOpen old) (document revision : ℕ) (first : IsRaised document revision is_open.table old mid)
-      → IsRaised document revision first.over.goes_on.table mid new → IsCoveredTo document revision is_open.table old new
-  covered_twice old mid new is_open document revision first second = record {
+  pub covered_twice : (old mid new : Store D disk) (is_open : IsOpen old) (segment : ℕ) (mark : Mark)
+      (first : IsRaised mark.document mark.revision is_open.table old mid) → IsRaised mark.document mark.revision first.over.goes_on.table mid new
+      → IsMarkCovered segment mark is_open.table old new
+  covered_twice old mid new is_open segment mark first second = record {
     over = over_then old mid new is_open first.over second.over;
     none_lower = λ number. omega (arith, first.none_lower number, second.none_lower number);
-    covers = second.lower first.higher;
+    covers = inr (second.lower first.higher);
   }
+
+  pub covered_elsewhere : (store : Store D disk) (is_open : IsOpen store) (segment : ℕ) (mark : Mark) → mark.segment ≢ segment
+      → IsMarkCovered segment mark is_open.table store store
+  covered_elsewhere store is_open segment mark other = record { over = still_over store is_open; none_lower = λ number. omega arith; covers = inl other }
+
+  -- each document has reached what is marked of it in the oldest segment
+  pub may_reach : (store : Store D disk) (is_open : IsOpen store) (slot segment : ℕ) → IsOldest (known_numbers store.ring) slot segment
+      → (place : ℕ) (mark : Mark) → place < length (marks_of store.marks) → get_or (marks_of store.marks) place mark ≡ mark → MayReach segment mark store.state
+  may_reach store is_open slot segment oldest place mark inside is same =
+      omega (arith, marked_member segment (marks_of store.marks) place mark inside is same, marks_reached store is_open slot segment oldest mark.document)
