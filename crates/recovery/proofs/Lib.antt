@@ -7,6 +7,7 @@ pub mod Refusals
 pub mod Commits
 pub mod Runs
 pub mod Going
+pub mod Faults
 pub mod KeptJobs
 pub mod HandedOut
 pub mod Marking
@@ -15,6 +16,9 @@ pub mod Splitting
 pub mod MarkedRead
 pub mod KnownCells
 pub mod Retirement
+pub mod Reaching
+pub mod Raising
+pub mod Rooms
 pub mod PutCells
 pub mod Putting
 pub mod PutAtOnce
