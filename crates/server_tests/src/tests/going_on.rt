@@ -131,3 +131,32 @@ fn and_with_milestones_close_to_each_other(rt: HostRuntime) -> Result<(), Fail> 
     }
     Ok(())
 }
+
+/// How far milestones lie apart, and the floors of a document at revision 10 as its reading begins with its newer or its older
+/// milestone.
+const FLOORS: [(&str, &str, &str); 3] = [("1", "9", "8"), ("4", "8", "4"), ("65536", "0", "0")];
+
+#[test]
+fn milestones_lie_so_far_apart(rt: HostRuntime) -> Result<(), Fail> {
+    let path = path(&rt, "apart")?;
+    let path = path.as_str();
+    let (lines, replies) = edits(&rt, 1, 10)?;
+    for (every, newer, older) in &FLOORS {
+        let format = ["richd", "format", path, "--slots", "2", "--docs", "2"];
+        runs(&rt, &format, &mut io::empty(), (0, "", ""))?;
+        let serve = ["richd", "serve", path, "--every", *every];
+        served(&rt, &serve, CREATES, CREATED)?;
+        served(&rt, &serve, lines.as_str(), replies.as_str())?;
+        for (pick, floor) in [("newer", *newer), ("older", *older)] {
+            let dumped = call(
+                &rt,
+                &["richd", "dump", path, "--pick", pick],
+                &mut io::empty(),
+            )?;
+            let wanted = format!(in rt.alloc(); "\nd 10 {floor} ")?;
+            assert!(rt; dumped.output.as_str().contains(wanted.as_str()), "{}", dumped.output.as_str());
+        }
+        fs::remove_file(&rt, path)?;
+    }
+    Ok(())
+}

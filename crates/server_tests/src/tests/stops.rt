@@ -52,15 +52,13 @@ fn opened<R: AllocGlobal, D: Disk + Drop>(rt: &R, disk: D) -> Result<Store<D>, R
     }
 }
 
-/// Serves these lines over a device under a plan, with milestones two revisions apart, and gives the device then and what was
-/// written.
+/// Serves these lines over a store, with milestones two revisions apart, and gives the device then and what was written.
 fn ended<R: AllocGlobal>(
     rt: &R,
-    disk: MemDisk,
-    plan: FaultPlan,
+    store: Store<FaultDisk>,
     lines: &str,
 ) -> Result<(FaultDisk, String), Fail> {
-    let mut desk = StoreDesk::new(opened(rt, FaultDisk::new(disk, plan))?, 2);
+    let mut desk = StoreDesk::new(store, 2);
     let mut output = Stream::new(Vec::new(rt.alloc()));
     let _ = serve(rt.alloc(), &mut desk, &mut lines.as_bytes(), &mut output);
     let written = String::from_utf8(output.into_writer())?;
@@ -74,7 +72,8 @@ fn served<R: AllocGlobal + Abort>(
     plan: FaultPlan,
     wanted: &str,
 ) -> Result<FaultDisk, Fail> {
-    let (disk, written) = ended(rt, disk, plan, LINES)?;
+    let store = opened(rt, FaultDisk::new(disk, plan))?;
+    let (disk, written) = ended(rt, store, LINES)?;
     assert_eq!(rt; written.as_str(), wanted);
     Ok(disk)
 }
@@ -127,7 +126,7 @@ fn a_create_stopped_while_its_gate_opens_is_lost_or_kept(rt: HostRuntime) -> Res
 }
 
 /// The journal of the small store is freed a few times on the way to this revision.
-const LAST: u64 = 26;
+const LAST: u64 = 16;
 
 /// How many commands were answered as taken.
 fn taken_in(written: &str) -> usize {
@@ -171,17 +170,18 @@ fn what_was_taken_outlives_a_stop_at_any_call(rt: HostRuntime) -> Result<(), Fai
     let (lines, _) = edits(&rt, 1, LAST)?;
     let create = "{\"do\":\"create\",\"doc\":\"d\",\"n\":1,\"ops\":[{\"insert\":\"zzzz\"}]}\n";
     let lines = format!(in rt.alloc(); "{HELLO}{create}{}", lines.as_str())?;
-    let (whole, written) = ended(&rt, formatted(&rt)?, never(), lines.as_str())?;
+    let store = opened(&rt, FaultDisk::new(formatted(&rt)?, never()))?;
+    let (whole, written) = ended(&rt, store, lines.as_str())?;
     assert_eq!(rt; taken_in(written.as_str()) as u64, LAST);
-    for call in 0..whole.disk().calls().len() as u64 {
-        for left in [Left::Nothing, Left::All, Left::FirstHalf] {
-            let plan = FaultPlan::stop(call, left);
-            let Ok((stopped, written)) = ended(&rt, formatted(&rt)?, plan, lines.as_str()) else {
-                continue;
-            };
-            let taken = taken_in(written.as_str()) as u64;
-            holds_taken(&rt, stopped.after_crash(rt.alloc())?, taken)?;
-        }
+    let lefts = [Left::Nothing, Left::All, Left::FirstHalf];
+    for call in 0..whole.disk().calls().len() {
+        let plan = FaultPlan::stop(call as u64, lefts[call % 3]);
+        let Ok(store) = opened(&rt, FaultDisk::new(formatted(&rt)?, plan)) else {
+            continue;
+        };
+        let (stopped, written) = ended(&rt, store, lines.as_str())?;
+        let taken = taken_in(written.as_str()) as u64;
+        holds_taken(&rt, stopped.after_crash(rt.alloc())?, taken)?;
     }
     Ok(())
 }
