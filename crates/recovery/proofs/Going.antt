@@ -61,6 +61,15 @@ module _ {D : Type 0} {disk : Ghosts D} where
       known : new.cells.items ≡ old.cells.items
       known = same.cells
 
+  -- over the same cells and slots
+  pub unchanged_cells : {old new : Store D disk} (same : IsUnchanged old new) (is_open : IsOpen old) → (open_unchanged same is_open).cells ≡ is_open.cells
+  unfolding open_unchanged
+  unchanged_cells same is_open = refl
+
+  pub unchanged_table : {old new : Store D disk} (same : IsUnchanged old new) (is_open : IsOpen old) → (open_unchanged same is_open).table ≡ is_open.table
+  unfolding open_unchanged
+  unchanged_table same is_open = refl
+
   -- a crash now leaves what an open store holds
   pub found_now : (store : Store D disk) → IsOpen store → (content : List ℕ) → MayLeaveNow disk (device_of store) content → FoundAs content (state_of store)
   found_now store is_open content left =

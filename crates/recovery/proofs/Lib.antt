@@ -7,7 +7,6 @@ pub mod Refusals
 pub mod Commits
 pub mod Runs
 pub mod Going
-pub mod Faults
 pub mod KeptJobs
 pub mod HandedOut
 pub mod Marking
@@ -22,6 +21,7 @@ pub mod Rooms
 pub mod PutCells
 pub mod Putting
 pub mod PutAtOnce
+pub mod Faults
 pub mod Upkeep
 pub mod Named
 pub mod Gathering

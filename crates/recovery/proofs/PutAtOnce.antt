@@ -24,7 +24,7 @@ use Rattle.recovery.proofs.Runs.{found_as, found_open}
 use Rattle.recovery.proofs.Going.{goes_still, open_unchanged}
 
 -- what is not true is false
-is_false : (b : Bool) → (b ≡ true → ⊥) → b ≡ false
+pub is_false : (b : Bool) → (b ≡ true → ⊥) → b ≡ false
 is_false true not_true = absurd (not_true refl)
 is_false false not_true = refl
 

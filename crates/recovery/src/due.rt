@@ -65,7 +65,9 @@ impl<D: Disk> Store<D> {
         if let Err(refusal) = self.put_document(alloc, document, revision) {
             return Err(refusal);
         }
-        self.retire_covered()?;
+        if let Err(refusal) = self.retire_covered() {
+            return Err(refusal);
+        }
         Ok(true)
     }
 
@@ -80,10 +82,9 @@ impl<D: Disk> Store<D> {
         ensures slots { OnOk result ((is_open : IsOpen self.old) → IsOverFewer is_open.cells is_open.table self.new) }
         ensures honest { D.honest (device_of self.new) ↔ D.honest (device_of self.old) }
     {
-        if let Err(refusal) = self.retire() {
-            if refusal == Refusal::Fault {
-                return Err(refusal);
-            }
+        let retired = self.retire();
+        if matches!(retired, Err(Refusal::Fault)) {
+            return retired;
         }
         Ok(())
     }

@@ -1,14 +1,14 @@
 //! Making room in a journal that is full.
-ghost use Rattle.std.specs.Prelude.{◌≡◌, ◌≢◌, ◌⊎◌, ◌↔◌, ◌<◌, ◌≤◌, ◌-◌, ◌^◌, ℕ, true, false, Some, None, length, slice_get, OnOk, OnErr, IfOk, IfErr, IfSome, IsErrOf};
+ghost use Rattle.std.specs.Prelude.{◌≡◌, ◌≢◌, ◌⊎◌, ◌↔◌, ◌<◌, ◌≤◌, ◌+◌, ◌-◌, ◌^◌, ℕ, true, false, length, get_or, OnOk, OnErr, IfOk, IfErr, IsErrOf};
 ghost use Rattle.disk.specs.Calls.{CountsFaultsAs};
 ghost use Rattle.disk.specs.Device.{Rose};
 ghost use Rattle.disk.specs.Crash.{LeavesOnly};
-ghost use Rattle.revision.specs.State.{DocumentRecord, revision_of, fold, all_grow};
+ghost use Rattle.revision.specs.State.{fold, all_grow};
 ghost use Rattle.segments.specs.Numbers.{IsOldest, newest_number, open_count};
 ghost use Rattle.segments.specs.Ring.{known_numbers};
 ghost use Rattle.recovery.specs.Found.{FoundAs};
 ghost use Rattle.recovery.specs.Goes.{Goes};
-ghost use Rattle.recovery.specs.Open.{FitsSlot, IsOpen, IsUnchanged, IsFreedNow, IsWithOrWithout, device_of, ring_of, state_of, has_failed, has_room};
+ghost use Rattle.recovery.specs.Open.{FitsSlot, IsOpen, IsUnchanged, IsFreedNow, IsWithOrWithout, device_of, ring_of, state_of, known_marks, kept_jobs, has_failed, has_room};
 ghost use Rattle.recovery.specs.steps.Freeing.{reached_in, MayReach, KeepsSegments, IsRaised, IsMarkCovered, IsNeededByNone};
 
 use crate::marks::Mark;
@@ -63,9 +63,9 @@ impl<D: Disk> Store<D> {
         self.retire()
     }
 
-    /// Commits a batch as `commit` does; where the journal is full, it frees the oldest segment as `free_oldest` does, and commits
-    /// once more. So in an open store neither `JournalFull` nor `StillNeeded` comes before the segments' numbers are used up, of
-    /// which 2^64 - 1 is the last one. Whatever was freed for it, no refusal changes the documents.
+    /// Commits a batch as `commit` does; where it finds no room for it, it frees the oldest segment first, as `free_oldest` does. So
+    /// in an open store neither `JournalFull` nor `StillNeeded` comes before the segments' numbers are used up, of which 2^64 - 1 is
+    /// the last one. Whatever was freed for it, no refusal changes the documents.
     pub fn commit_freeing(&mut self, alloc: Global, batch: &[Taken]) -> Result<Receipt<D>, Refusal>
         requires some { 1 ≤ length batch.now }
         requires short { length batch.now < 2 ^ 32 }
@@ -95,6 +95,7 @@ impl<D: Disk> Store<D> {
         // What each answer leaves.
         ensures state { OnOk result (state_of self.new ≡ fold (state_of self.old) batch.now) }
         ensures same_state { OnErr result (state_of self.new ≡ state_of self.old) }
+        ensures jobs { has_room self.old batch.now ≡ true → kept_jobs self.new ≡ kept_jobs self.old }
         ensures fails { has_failed self.old ≡ false → (has_failed self.new ≡ true ↔ IsErrOf result Refusal.Fault) }
         ensures works { OnOk result (has_failed self.new ≡ false) }
         ensures good { OnOk result (D.faults (device_of self.new) ≡ D.faults (device_of self.old)) }
@@ -107,11 +108,13 @@ impl<D: Disk> Store<D> {
         // Once it is Ok, the device is synced and stands for the state with the batch.
         ensures done { OnOk result (IsOpen self.old → IsOpen self.new) }
         ensures kept { IfErr result (λ e. e ≢ Refusal.Fault → IsOpen self.old → IsOpen self.new) }
+
+        // Where it has room, it makes eight calls of the device at most.
+        ensures calls { has_room self.old batch.now ≡ true → length (D.past (device_of self.new)) ≤ length (D.past (device_of self.old)) + 8 }
         ensures honest { D.honest (device_of self.new) ↔ D.honest (device_of self.old) }
     {
-        let first = self.commit(alloc, batch);
-        if !matches!(first, Err(Refusal::JournalFull)) {
-            return first;
+        if self.has_room(batch) {
+            return self.commit(alloc, batch);
         }
         if let Err(refusal) = self.free_oldest(alloc) {
             return Err(refusal);
@@ -134,8 +137,8 @@ impl<D: Disk> Store<D> {
         ensures goes { Goes (λ content. FoundAs content (state_of self.old)) self.old self.new }
         ensures honest { D.honest (device_of self.new) ↔ D.honest (device_of self.old) }
     {
-        for place in 0..self.marks.all().len() {
-            let mark = self.marks.all()[place];
+        for place in 0..self.mark_count() {
+            let mark = self.mark_at(place);
             if let Err(refusal) = self.cover_mark(alloc, segment, mark) {
                 return Err(refusal);
             }
@@ -184,25 +187,39 @@ impl<D: Disk> Store<D> {
         if revision <= lowest_of(&self.cells, document) {
             return Ok(());
         }
-        let Some(newest) = self.newest_of(document) else {
+        let newest = self.newest_of(document);
+        if newest < revision {
             return Err(Refusal::StillNeeded);
-        };
+        }
         if let Err(refusal) = self.put_document(alloc, document, newest) {
             return Err(or_needed(refusal));
         }
         Ok(())
     }
 
-    // The newest revision of a document, None where there is none of this number.
-    fn newest_of(&self, document: u32) -> Option<u64>
-        ensures there { IfSome result (λ revision. (found : DocumentRecord)
-            × (slice_get (state_of self.now).documents document ≡ Some found) × (revision ≡ revision_of found)) }
-        ensures none { result ≡ None → slice_get (state_of self.now).documents document ≡ None }
+    // The newest revision of a document, 0 where there is none of this number.
+    fn newest_of(&self, document: u32) -> u64
+        ensures { result ≡ reached_in (state_of self.now) document }
     {
         match self.state.documents().get(document as usize) {
-            Some(found) => Some(found.revision()),
-            None => None,
+            Some(found) => found.revision(),
+            None => 0,
         }
+    }
+
+    // How many marks there are.
+    fn mark_count(&self) -> usize
+        ensures { result ≡ length (known_marks self.now) }
+    {
+        self.marks.all().len()
+    }
+
+    // The mark at a place.
+    fn mark_at(&self, place: usize) -> Mark
+        requires { place < length (known_marks self.now) }
+        ensures { get_or (known_marks self.now) place result ≡ result }
+    {
+        self.marks.all()[place]
     }
 }
 
@@ -210,6 +227,10 @@ impl<D: Disk> Store<D> {
 fn or_needed(refusal: Refusal) -> Refusal
     ensures same { (refusal ≡ Refusal.NoMemory) ⊎ (refusal ≡ Refusal.Fault) → result ≡ refusal }
     ensures other { refusal ≢ Refusal.NoMemory → refusal ≢ Refusal.Fault → result ≡ Refusal.StillNeeded }
+    ensures needed { result ≡ Refusal.StillNeeded → refusal ≢ Refusal.NoMemory }
+    ensures fault { result ≡ Refusal.StillNeeded → refusal ≢ Refusal.Fault }
+    ensures only { (refusal ≢ Refusal.Fault) ⊎ (result ≡ Refusal.Fault) }
+    ensures no_fault { refusal ≢ Refusal.Fault → result ≢ Refusal.Fault }
 {
     if refusal == Refusal::NoMemory || refusal == Refusal::Fault {
         refusal

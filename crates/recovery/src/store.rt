@@ -248,7 +248,7 @@ impl<D: Disk> Store<D> {
     }
 
     // Whether the batch fits behind what is there.
-    fn has_room(&self, batch: &[Taken]) -> bool
+    pub(crate) fn has_room(&self, batch: &[Taken]) -> bool
         requires some { 1 ≤ length batch.now }
         requires short { length batch.now < 2 ^ 32 }
         requires fits { FitsSlot (state_of self.now) batch.now }
