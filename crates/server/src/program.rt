@@ -81,9 +81,9 @@ fn invoke<R: Files<File = File>
         Invocation::Serve {
             path,
             listen: None,
-            every: _,
+            every,
         } => {
-            let mut desk = StoreDesk::new(open(rt, path, Pick::Newer)?);
+            let mut desk = StoreDesk::new(open(rt, path, Pick::Newer)?, every);
             let mut stream = Stream::new(output);
             serve(rt.alloc(), &mut desk, input, &mut stream)
         }
