@@ -24,7 +24,7 @@ use Rattle.recovery.proofs.Runs.{found_as, found_open}
 use Rattle.recovery.proofs.Going.{goes_still, open_unchanged}
 
 -- what is not true is false
-is_false : (b : Bool) → (b ≡ true → ⊥) → b ≡ false
+pub is_false : (b : Bool) → (b ≡ true → ⊥) → b ≡ false
 is_false true not_true = absurd (not_true refl)
 is_false false not_true = refl
 
@@ -83,17 +83,20 @@ module _ {D : Type 0} {disk : Ghosts D} where
   }
 
   -- a milestone that was Ok
-  pub put_taken : {A : Type 0} (old new : Store D disk) (document revision : ℕ) (result : Result A Refusal) → state_of new ≡ state_of old
-      → OnOk result ((is_open : IsOpen old) → IsPutAt document revision old is_open new) → OnOk result (IsTaken (Milestone document revision) old new)
-  put_taken old new document revision (Ok answer) state put = (state, put)
-  put_taken old new document revision (Err refusal) state put = tt
+  pub put_taken : {A : Type 0} (old new : Store D disk) (document revision : ℕ) (result : Result A Refusal) → OnOk result (has_failed new ≡ false)
+      → state_of new ≡ state_of old → OnOk result ((is_open : IsOpen old) → IsPutAt document revision old is_open new)
+      → OnOk result (IsTaken (Milestone document revision) old new)
+  put_taken old new document revision (Ok answer) works state put = (works, state, put)
+  put_taken old new document revision (Err refusal) works state put = tt
 
   -- a retirement that was Ok
-  pub given_up : {A : Type 0} (old new : Store D disk) (result : Result A Refusal) → state_of new ≡ state_of old
-      → OnOk result ((is_open : IsOpen old) → MayRetire is_open.table is_open.cells)
+  pub given_up : {A : Type 0} (old new : Store D disk) (result : Result A Refusal)
+      → (has_failed old ≡ true → IsErrOf result Fault × IsUnchanged old new) → (has_failed old ≡ false → (has_failed new ≡ true ↔ IsErrOf result Fault))
+      → state_of new ≡ state_of old → OnOk result ((is_open : IsOpen old) → MayRetire is_open.table is_open.cells)
       → OnOk result ((is_open : IsOpen old) → IsRetiredNow is_open.cells is_open.table new) → OnOk result (IsTaken Retire old new)
-  given_up old new (Ok answer) state may done = (state, λ is_open. record { may = may is_open; retired = done is_open })
-  given_up old new (Err refusal) state may done = tt
+  given_up old new (Ok answer) before fails state may done =
+      (has_not_failed old new answer fails (had_not_failed answer before), state, λ is_open. record { may = may is_open; retired = done is_open })
+  given_up old new (Err refusal) before fails state may done = tt
 
   -- one step more was taken
   pushed : (first : List StoreStep) (step : StoreStep) (old mid new : Store D disk) → AreTaken first old mid → IsTaken step mid new → AreTaken (first ++ step ∷ []) old new

@@ -7,12 +7,12 @@ use Rattle.std.proofs.lemmas.List.{length-drop, length-append, length-map}
 use Rattle.std.proofs.lemmas.List.Concat.{flat_map-append}
 use Rattle.disk.specs.declared.device.Disk.{Ghosts}
 use Rattle.revision.specs.Command.{Taken}
-use Rattle.revision.specs.Past.{Past, Change, newest, empty_past, with_change}
+use Rattle.revision.specs.Past.{Past, Change, newest, empty_past, from_floor, with_change}
 use Rattle.revision.specs.Sources.{last_of}
 use Rattle.revision.specs.State.{Limits, DocumentRecord, revision_of, sources_of, units_of, last_of_all, has_place, keeps, change_of, continues, continues_by_name, record_by_name, record_after, all_continue}
 use Rattle.history.specs.Entries.{of_document, greatest}
 use Rattle.history.specs.Cell.{Cell, Pair, cells_at, OfBoth}
-use Rattle.history.specs.Shown.{RecordShows}
+use Rattle.history.specs.Shown.{RecordShows, past_of}
 use Rattle.history.specs.Running.{IsCellOf, Runs}
 use Rattle.segments.specs.Slot.{Segment}
 use Rattle.segments.specs.Numbers.{IsOldest}
@@ -45,7 +45,7 @@ next_reached : (limits : Limits) (found : Option DocumentRecord) (taken : Taken)
 next_reached limits None taken None is = absurd cc
 next_reached limits None taken (Some name) is =
     let last = and_parts ((taken.revision == 1) && (taken.number == 1)) _ is in
-    eqb-true _ _ (and_parts (taken.revision == 1) (taken.number == 1) last.0).0
+    omega (arith, eqb-true _ _ (and_parts (taken.revision == 1) (taken.number == 1) last.0).0)
 next_reached limits (Some found) taken None is =
     let kept = and_parts ((taken.revision == revision_of found + 1) && not (revision_of found == last_of_all)
     && (taken.number == (last_of taken.source (sources_of found)).number + 1) && nat_le taken.number last_of_all
@@ -61,14 +61,18 @@ next_reached limits (Some found) taken (Some name) is = absurd cc
 -- the commands of a document reach no further than there are of them
 pub greatest_reached : (limits : Limits) (number : ℕ) (order : List Taken) (found : Option DocumentRecord) → all_continue limits found (of_document number order) ≡ true
     → greatest number order ≤ reached found + length (of_document number order)
-greatest_reached limits number [] found goes_on = omega arith
+greatest_reached limits number [] found = λ goes_on. omega arith
 greatest_reached limits number (first ∷ others) found = elim (cases_eq first.document number) [
   | inl same ↦
       let test : (first.document == number) ≡ true = grind (arith, nat_tests) in
       rw test (λ goes_on.
       let parts = and_parts (continues limits found first) (all_continue limits (record_after limits.keep found first) (of_document number others)) goes_on in
-      omega (arith, next_reached limits found first first.name parts.0, reached_with limits.keep found first first.name,
-      greatest_reached limits number others (record_after limits.keep found first) parts.1))
+      omega (
+        arith,
+        next_reached limits found first first.name parts.0,
+        reached_with limits.keep found first first.name,
+        greatest_reached limits number others (record_after limits.keep found first) parts.1,
+      ))
   | inr apart ↦
       let test : (first.document == number) ≡ false = grind (arith, nat_tests) in
       rw test (greatest_reached limits number others found)
@@ -89,12 +93,13 @@ greatest_last number (taken ∷ more) others = elim (cases_eq taken.document num
   | inr apart ↦ let test : (taken.document == number) ≡ false = grind (arith, nat_tests) in rw test (greatest_last number more others)
 ]
 
+newest_shown : (commands : List Taken) (floor : ℕ) → floor ≤ length commands → newest (from_floor (past_of commands) floor) ≡ length commands
+newest_shown commands floor below = omega (arith, below, length-drop (floor - 0) (map change_of commands), length-map commands change_of)
+
 -- a document that shows its commands has reached as many revisions
 shown_reached : (commands : List Taken) (found : Option DocumentRecord) → RecordShows commands found → length commands ≡ reached found
 shown_reached commands None shows = ap (λ (l : List Taken). length l) shows
-shown_reached commands (Some found) shows =
-    let changes : List Change = map change_of commands in
-    omega (arith, ap newest shows.past, shows.floor, length-drop found.past.floor changes, length-map change_of commands)
+shown_reached commands (Some found) shows = sym (ap newest shows.past ∙ newest_shown commands found.past.floor shows.floor)
 
 -- open cells of it reach no further
 cells_within : (commands : List Taken) (pair : Pair) → OfBoth (IsCellOf commands) pair → highest pair ≤ length commands
@@ -110,8 +115,12 @@ module _ {D : Type 0} {disk : Ghosts D} (store : Store D disk) (is_open : IsOpen
   -- no open cell of a document is above its revision
   pub cells_reached : (document : ℕ) → highest_known store.cells.items document ≤ reached_in store.state document
   cells_reached document =
-      omega (arith, known_highest store is_open document, document_reached document,
-      cells_within (of_document document is_open.order) (cells_at is_open.cells document) (is_open.runs.cells_are document))
+      omega (
+        arith,
+        known_highest store is_open document,
+        document_reached document,
+        cells_within (of_document document is_open.order) (cells_at is_open.cells document) (is_open.runs.cells_are document),
+      )
 
   -- and no mark of the oldest segment
   pub marks_reached : (slot number : ℕ) → IsOldest (known_numbers store.ring) slot number → (document : ℕ)
@@ -127,7 +136,14 @@ module _ {D : Type 0} {disk : Ghosts D} (store : Store D disk) (is_open : IsOpen
       let marked = is_open.marked.each slot segment held.1 parts.gone spell document in
       let entries : commands_of is_open.batches ≡ commands_of parts.gone ++ commands_of parts.left =
       ap commands_of parts.both ∙ flat_map-append (λ (c : List Taken). c) parts.gone parts.left in
-      omega (arith, ap (λ n. greatest_marked n document (marks_of store.marks)) held.2, marked,
-      greatest_first document (commands_of parts.gone) (commands_of parts.left), ap (greatest document) entries,
-      greatest_last document is_open.runs.retired (commands_of is_open.batches), ap (greatest document) is_open.runs.held,
-      greatest_reached store.state.limits document is_open.order None (is_open.runs.is_order document), document_reached document)
+      omega (
+        arith,
+        ap (λ n. greatest_marked n document (marks_of store.marks)) held.2,
+        marked,
+        greatest_first document (commands_of parts.gone) (commands_of parts.left),
+        ap (greatest document) entries,
+        greatest_last document is_open.runs.retired (commands_of is_open.batches),
+        ap (greatest document) is_open.runs.held,
+        greatest_reached store.state.limits document is_open.order None (is_open.runs.is_order document),
+        document_reached document,
+      )

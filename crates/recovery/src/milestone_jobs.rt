@@ -101,7 +101,7 @@ fn why_none(found: &DocState, highest: u64, revision: u64) -> Option<Refusal>
 }
 
 // The highest revision of a document's open cells, 0 where none is open.
-fn highest_of(cells: &[Cells], document: u32) -> u64
+pub(crate) fn highest_of(cells: &[Cells], document: u32) -> u64
     ensures { result ≡ highest_known cells.now document }
 {
     match cells.get(document as usize) {

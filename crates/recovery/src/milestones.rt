@@ -12,7 +12,7 @@ ghost use Rattle.recovery.specs.Run.{IsPutAt};
 
 use crate::store::Store;
 use disk::Disk;
-use milestone::{compose_job, Composed};
+use milestone::{Composed, compose_job};
 use refusal::Refusal;
 use std::alloc::Global;
 
