@@ -84,7 +84,6 @@ fn serve_board<
 }
 
 // Writes in this thread, beside those of the sessions, until they have ended and all that was ordered is settled.
-#[tactic(auto, using(crate::proofs::Crossing::desk_send))]
 fn serve_hub<
     J: Site + Sync + Send,
     R: Threads + Wait + Sync,
@@ -108,7 +107,6 @@ fn serve_hub<
     served
 }
 
-#[tactic(auto, using(crate::proofs::Crossing::desk_send))]
 fn serve_all<
     J: Site + Sync + Send,
     R: Threads + Wait + Sync,
