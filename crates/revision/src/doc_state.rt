@@ -238,7 +238,7 @@ impl DocState {
     }
 
     /// What leads from the empty document to a revision that is held: deltas in turn, and the sources there. It copies, and applies
-    /// no delta. Refused for want of memory alone.
+    /// no delta. To the newest revision it is one delta, the document's own. Refused for want of memory alone.
     pub fn replay_to(&self, alloc: Global, revision: u64) -> Result<Replay, Refusal>
         requires held { self.now.past.past.floor ≤ revision }
         requires there { revision ≤ newest self.now.past.past }
@@ -247,6 +247,11 @@ impl DocState {
         ensures sources { IfOk result (λ replay. replay.sources ≡ sources_at self.now.past.past revision) }
         ensures only { IsOkUnless result Refusal.NoMemory }
     {
+        if revision == self.revision() {
+            return self
+                .past
+                .replay_at(alloc, revision, self.document(), self.sources());
+        }
         self.past.replay_to(alloc, revision)
     }
 
