@@ -2,6 +2,7 @@
 use Rattle.std.proofs.Common.{◌≡◌, ℕ, zero, suc, ◌+◌, Bool, true, false, cond, List, [], ◌∷◌, length, drop, Option, Some, None, Result, Ok, Err, ◌++◌, refl, sym, ap, ◌∙◌}
 use Rattle.std.specs.Prelude.{◌||◌, is_some}
 use Rattle.std.specs.Result.{OnOk, OnErr}
+use Rattle.std.specs.Cmp.{eq_by_cmp_equiv}
 use Rattle.std.specs.Cmp.Lexicographic.{nat_list_cmp_total}
 use Rattle.std.specs.FinMap.Entries.{length-put}
 use Rattle.attributes.specs.Map.{by_bytes, get, insert}
@@ -51,6 +52,20 @@ same_here false one other first name is further = further refl
 neither : (a b : Bool) → a ≡ false → b ≡ false → (a || b) ≡ false
 neither false b p q = q
 neither true b p q = cc
+
+-- one that was noted is there, and is as it was once it's given what it had
+pub there-noted : (source : List ℕ) (last : LastTaken) (sources after : Sources) → after ≡ insert sources source last → is_some (get after source) ≡ true
+there-noted source last sources after is =
+    ap (λ (m : Sources). is_some (get m source)) is
+    ∙ ap is_some (get-insert sources source last source ∙ ap (λ b. cond b (Some last) (get sources source)) ((eq_by_cmp_equiv nat_list_cmp_total).refl source))
+
+pub put-back : (source : List ℕ) (last : LastTaken) (sources after : Sources) → after ≡ insert sources source last → with_entry source (get sources source) after ≡ sources
+put-back source last sources after is =
+    same_map _ _ (λ name. get-entry source (get sources source) after name
+    ∙ (ap (λ (m : Sources). cond (is_name name source) (get sources source) (get m name)) is
+    ∙ (ap (cond (is_name name source) (get sources source)) (get-insert sources source last name)
+    ∙ (chosen_twice (is_name name source) (Some last) (get sources source) (get sources name)
+    ∙ sym (same_here (is_name name source) sources sources source name refl (λ differs. refl))))))
 
 -- one of them made equal
 pub but-rest : (first : List ℕ) (others : List (List ℕ)) (one other : Sources) → EqualBut (first ∷ others) one other

@@ -380,8 +380,12 @@ fn document_after(
     Ok(document)
 }
 
-// applies a delta that was taken on the document
-fn apply_taken(alloc: Global, document: &mut Document, taken: &Delta) -> Result<(), Refusal>
+/// Applies a delta that was taken on the document. Refused for want of memory alone, and then the document is as it was.
+pub(crate) fn apply_taken(
+    alloc: Global,
+    document: &mut Document,
+    taken: &Delta,
+) -> Result<(), Refusal>
     requires { IsAccepted document.old (counted taken.now) }
     ensures document { OnOk result (document.new ≡ apply document.old (counted taken.now)) }
     ensures unchanged { OnErr result (document.new ≡ document.old) }

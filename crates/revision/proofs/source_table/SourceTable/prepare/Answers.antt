@@ -1,6 +1,5 @@
 use Rattle.std.proofs.Common.{◌≡◌, List, ℕ, ◌∷◌, [], ◌++◌, sym, ap, subst, ◌∙◌}
-use Rattle.revision.specs.Sources.{EqualBut, with_last}
-use Rattle.std.specs.Result.{OnOk}
+use Rattle.revision.specs.Sources.{EqualBut}
 use Rattle.revision.proofs.Noted.{but-noted, but-same}
 use Rattle.revision.proofs.source_table.SourceTable.prepare.Goals.{then-not-self+in_ok-align_all, else-not-self}
 use Rattle.revision.proofs.source_table.SourceTable.prepare.Goals as goal
@@ -15,6 +14,6 @@ invariant_of-self-2 c =
     ] in
     let items : c.push.new.self.items ≡ inside.changed.items ++ c.args.source.now ∷ [] =
     c.in_ok-push.ensures.items ∙ ap (λ (n : List ℕ). inside.changed.items ++ n ∷ []) c.in_ok-copy.ensures.ok in
-    subst (λ (l : List (List ℕ)). EqualBut l inside.held c.set.new.self) (sym items)
-    (but-noted c.args.source.now (record { number = c.args.number; revision = c.args.revision }) inside.changed.items inside.held inside.ahead c.set.new.self c.set.result
-    (subst (λ (n : List ℕ). OnOk c.set.result (c.set.new.self ≡ with_last n c.args.number c.args.revision inside.ahead)) c.in_ok-name.ensures.ok c.set.ensures.ok) c.set.ensures.unchanged before)
+    subst (λ (l : List (List ℕ)). EqualBut l inside.held c.note.new.self) (sym items)
+    (but-noted c.args.source.now (record { number = c.args.number; revision = c.args.revision }) inside.changed.items inside.held inside.ahead c.note.new.self c.note.result
+    c.note.ensures.ok c.note.ensures.unchanged before)
