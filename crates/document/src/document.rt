@@ -133,7 +133,8 @@ impl Document {
 
     /// Applies a delta. It is refused as PastEnd where the delta reaches past the end, else as CutsPair where it parts a
     /// surrogate pair, else as BadOps where the document would have more than 2^48 code units, and as NoMemory; the
-    /// document is then as it was. Linear in the runs and the operations, and no text is copied more than once.
+    /// document is then as it was. Linear in the runs and the operations, and no text is copied more than once. Where it only
+    /// puts a text behind the whole document, no other text is copied.
     pub fn apply(&mut self, alloc: Global, delta: &Delta) -> Result<(), Refusal>
         ensures ok { OnOk result (self.new ≡ apply self.old (counted delta.now)) }
         ensures well_formed { OnOk result (IsWellFormed self.new) }

@@ -1,15 +1,15 @@
 //! The sources of a document, with what is prepared of them.
-ghost use Rattle.std.specs.Prelude.{◌≡◌, ℕ, true, IfOk, OnOk, OnErr, IsOkUnless};
+ghost use Rattle.std.specs.Prelude.{◌≡◌, ◌↔◌, ℕ, List, [], ◌∷◌, true, false, IsTrue, IfOk, OnOk, OnErr, IsOkUnless};
 ghost use Rattle.attributes.specs.Map.{empty};
 ghost use Rattle.delta.specs.Gaps.{counted, apply};
 ghost use Rattle.document.specs.Outcome.{IsAccepted};
 ghost use Rattle.revision.specs.Name.{is_source_name};
-ghost use Rattle.revision.specs.Sources.{with_last, with_entry, EqualBut};
+ghost use Rattle.revision.specs.Sources.{with_last, with_entry, is_among, EqualBut};
 ghost use Rattle.attributes.specs.Map.{get};
 
 use crate::name::Name;
 use crate::past::apply_taken;
-use crate::sources::Sources;
+use crate::sources::{LastTaken, Sources};
 use crate::taken::Taken;
 use document::Document;
 use refusal::Refusal;
@@ -108,7 +108,7 @@ impl SourceTable {
             self.changed.clear();
             self.prepared = true;
         }
-        self.changed.push(source.copy(alloc)?)?;
+        mark(alloc, &mut self.changed, &self.held, &self.ahead, source)?;
         self.ahead.note(alloc, source, number, revision)
     }
 
@@ -131,7 +131,13 @@ impl SourceTable {
             self.changed.clear();
             self.prepared = true;
         }
-        self.changed.push(taken.source().copy(alloc)?)?;
+        mark(
+            alloc,
+            &mut self.changed,
+            &self.held,
+            &self.ahead,
+            taken.source(),
+        )?;
         note_with(alloc, &mut self.ahead, taken, document)
     }
 
@@ -151,6 +157,33 @@ impl SourceTable {
     {
         self.prepared = false;
     }
+}
+
+// Adds a source to those in which two lists may differ. Where they differ in it already it is one of them. Refused for want of
+// memory alone, and then none is added.
+fn mark(
+    alloc: Global,
+    changed: &mut Vec<Name>,
+    held: &Sources,
+    ahead: &Sources,
+    source: &Name,
+) -> Result<(), Refusal>
+    requires { EqualBut changed.old.items held.now ahead.now }
+    ensures ok { OnOk result ((name : List ℕ) → is_among name changed.new.items ≡ false
+        → (is_among name (source.now ∷ []) ≡ false) × (get held.now name ≡ get ahead.now name)) }
+    ensures unchanged { OnErr result (changed.new.items ≡ changed.old.items) }
+    ensures only { IsOkUnless result Refusal.NoMemory }
+{
+    if is_same(held.find(source), ahead.find(source)) {
+        changed.push(source.copy(alloc)?)?;
+    }
+    Ok(())
+}
+
+fn is_same(one: Option<LastTaken>, other: Option<LastTaken>) -> bool
+    ensures { IsTrue result ↔ (one ≡ other) }
+{
+    one == other
 }
 
 // Notes a command that was taken, and applies its delta to a document: both, or neither. Refused for want of memory alone.
