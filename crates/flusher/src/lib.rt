@@ -32,6 +32,7 @@ mod calls;
 mod driving;
 mod flusher;
 mod gate;
+pub mod laws;
 mod starting;
 mod turning;
 
