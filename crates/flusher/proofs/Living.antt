@@ -1,5 +1,5 @@
 -- What every life keeps of all that was before it.
-use Rattle.std.proofs.Common.{◌≡◌, ℕ, suc, ◌+◌, ◌≤◌, Bool, true, false, cond, List, [], ◌∷◌, ◌++◌, length, take, get_or, refl, sym, ap, ◌∙◌, subst, arith, inl, inr}
+use Rattle.std.proofs.Common.{◌≡◌, ℕ, suc, ◌+◌, ◌≤◌, zero, Bool, true, false, cond, List, [], ◌∷◌, ◌++◌, length, take, get_or, refl, sym, ap, ◌∙◌, subst, arith, inl, inr}
 use Rattle.std.specs.Prelude.{◌<◌, All, min, max, map, slice_get, ◌==◌}
 use Rattle.std.proofs.lemmas.Bool.{or_left, eq-eqb}
 use Rattle.std.proofs.lemmas.List.{take-append-le, length-take, get_or-take, length-append, length-take-le, length-map, map-append, take-map}
@@ -13,8 +13,11 @@ use Rattle.world.specs.World.{Entry, takens, is_of, last_sent}
 use Rattle.world.specs.Shown.{Shown, shown, all_shown}
 use Rattle.world.specs.Law.{IsSent, revision_named, last_found, last_held, IsKept}
 use Rattle.flusher.specs.Batches.{IsFirst}
-use Rattle.flusher.specs.Schedule.{at_rest, schedule, IsAllSettled}
-use Rattle.flusher.specs.Lives.{counted_from, Life, Opens, Drives, Lives, First, Crashed, IsPromised, AllLives, OneLife, LivesGoOn}
+use Rattle.flusher.specs.declared.calls.Call.{Call}
+use Rattle.flusher.specs.declared.calls.Answer.{Answer}
+use Rattle.flusher.specs.Driving.{Between, Answered}
+use Rattle.flusher.specs.Schedule.{at_rest, schedule, acked, commands_in, AreNumbered, IsAllSettled}
+use Rattle.flusher.specs.Lives.{counted_from, Life, Opens, Drives, LifeGoesOn, Lives, First, Crashed, IsPromised, AllLives, OneLife, LivesGoOn}
 use Rattle.world.proofs.Showing.{grown_shown, shown-fold, fold_shown, fold_shown-append}
 use Rattle.world.proofs.Numbers.{last_in}
 use Rattle.world.proofs.Histories.{AllPlaced, after, placed-take}
@@ -32,8 +35,13 @@ kept_again : (start : State) (order : List Entry) (n : ℕ) (a b : Command) (rev
 kept_again start order n a b revision same (inl there) =
     let both : there.0 < min n (length order) = subst (λ (l : ℕ). there.0 < l) (length-take n order) there.2 in
     let made = there.4 in
-    inl (there.0, there.1, omega (arith, both), sym (get_or-take n order there.0 there.1 (omega (arith, both))) ∙ there.3,
-        ((sym same.0 ∙ made.0.0, sym same.1 ∙ made.0.1, sym same.2 ∙ made.0.2), made.1))
+    inl (
+      there.0,
+      there.1,
+      omega (arith, both),
+      sym (get_or-take n order there.0 there.1 (omega (arith, both))) ∙ there.3,
+      ((sym same.0 ∙ made.0.0, sym same.1 ∙ made.0.1, sym same.2 ∙ made.0.2), made.1),
+    )
 kept_again start order n a b revision same (inr held) =
     let alike : last_held start a ≡ last_held start b = λ i. last_found (same.1 i) (find (same.0 i) 0 start.documents) in
     inr (sym alike ∙ (held ∙ (λ i. record { number = same.2 i; revision = revision })))
@@ -243,10 +251,32 @@ one_life D J disk start board given asked life =
 pub lives_go_on : (D J : Type 0) (disk : Ghosts D) → LivesGoOn D J disk
 lives_go_on D J disk start now next stand acks sent board given asked heard least batches content lives life enough first opened =
     let within : first.count ≤ length board.order = omega (arith, first.within, length-map board.order (λ (e : Entry). e.taken)) in
-    let agrees = subst (λ (l : List Taken). Agree next (fold now l)) (take-map (λ (e : Entry). e.taken) first.count board.order) (opened (fold now (take first.count (takens board.order))) first.found) in
-    (
+    let agrees = subst (λ (l : List Taken). Agree next (fold now l)) (take-map (λ (e : Entry). e.taken) first.count board.order) (opened (fold now (take first.count (takens board.order))) first.found) in (
       first.count,
       first.enough,
       Crashed stand acks sent now board given asked heard first.count next lives life within
           (All-weaker (λ (ack : Ticket). ack.length ≤ least) (λ (ack : Ticket). ack.length ≤ first.count) (λ t le. omega (arith, le, first.enough)) (take heard given) enough) agrees,
     )
+
+numbered-take : (n : ℕ) (calls : List Call) → AreNumbered calls → AreNumbered (take n calls)
+numbered-take zero calls numbered = tt
+numbered-take (suc n) [] numbered = tt
+numbered-take (suc n) (call ∷ calls) numbered = (numbered.0, numbered-take n calls numbered.1)
+
+-- a run that was answered, whole or in part, goes on the life that came to its board
+module _ {D J : Type 0} {disk : Ghosts D} (start : State) (cap : ℕ) (begin : Between D disk) (calls : List Call) (answers : List (Answer D J)) (none : begin.tickets ≡ []) (numbered : AreNumbered calls)
+    (acks : List Ticket) (sent : List Command) (life : Life D J disk start begin.board.board acks sent) where
+  pub life_whole : (here : Between D disk) → Answered cap begin calls answers here → Life D J disk start here.board.board (acks ++ acked here.tickets calls answers) (sent ++ commands_in calls)
+  life_whole here answered = Drives begin.board.board acks sent cap begin here calls answers life refl none numbered answered
+
+pub life_continued : {D J : Type 0} {disk : Ghosts D} (start : State) (cap : ℕ) (begin last : Between D disk) (after : Board Entry) (tickets : List Ticket) (calls : List Call) (answers : List (Answer D J))
+    → begin.tickets ≡ [] → AreNumbered calls → Answered cap begin (take (length answers) calls) answers last → tickets ≡ last.tickets → after.order ≡ last.board.board.order → last.board.board.settled ≤ after.settled
+    → (acks : List Ticket) (sent : List Command) → Life D J disk start begin.board.board acks sent
+    → LifeGoesOn D J disk start after (acks ++ acked tickets (take (length answers) calls) answers) (sent ++ commands_in (take (length answers) calls))
+life_continued {D} {J} {disk} start cap begin last after tickets calls answers none numbered answered same order settled acks sent life = record {
+  last = last.board.board;
+  life = subst (λ (t : List Ticket). Life D J disk start last.board.board (acks ++ acked t (take (length answers) calls) answers) (sent ++ commands_in (take (length answers) calls))) (sym same)
+      (life_whole start cap begin (take (length answers) calls) answers none (numbered-take (length answers) calls numbered) acks sent life last answered);
+  order = order;
+  settled = settled;
+}

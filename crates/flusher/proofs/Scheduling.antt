@@ -107,9 +107,12 @@ module _ {D J : Type 0} where
     tickets_more = ([], t ∙ sym (append-nil tickets));
     acks = acks out ∙ sym (acks tickets);
     found = found out;
-    goes = λ earlier a s c. (c, ap (run (at_rest board (earlier ++ tickets) a s c)) (events (length earlier))
-        ∙ same_rest board after (earlier ++ tickets) (earlier ++ out) a (a ++ acked_by tickets call reply) s (s ++ command_of call) c (sym b) (ap (λ (l : List Ticket). earlier ++ l) (sym t))
-        (sym (append-nil a) ∙ ap (λ (l : List Ticket). a ++ l) (sym (acks tickets))) (sym (append-nil s) ∙ ap (λ (l : List Command). s ++ l) (sym sends)));
+    goes = λ earlier a s c. (
+      c,
+      ap (run (at_rest board (earlier ++ tickets) a s c)) (events (length earlier))
+          ∙ same_rest board after (earlier ++ tickets) (earlier ++ out) a (a ++ acked_by tickets call reply) s (s ++ command_of call) c (sym b) (ap (λ (l : List Ticket). earlier ++ l) (sym t))
+          (sym (append-nil a) ∙ ap (λ (l : List Ticket). a ++ l) (sym (acks tickets))) (sym (append-nil s) ∙ ap (λ (l : List Command). s ++ l) (sym sends)),
+    );
   }
 
   submit_case : (board after : Board Entry) (tickets out : List Ticket) (command : Command) (reply : Answer D J) → is_numbered command ≡ true → IsAllSettled board
@@ -121,9 +124,12 @@ module _ {D J : Type 0} where
     tickets_more = (option_to_list (ticket_of board command), t);
     acks = refl;
     found = tt;
-    goes = λ earlier a s c. (c, submit_rests board (earlier ++ tickets) a s c command numbered rest.within
-        ∙ same_rest (submitted (entry_of command) board command) after ((earlier ++ tickets) ++ option_to_list (ticket_of board command)) (earlier ++ out) a (a ++ []) (s ++ command ∷ []) (s ++ command ∷ []) c
-        (sym b) (append_assoc earlier tickets (option_to_list (ticket_of board command)) ∙ ap (λ (l : List Ticket). earlier ++ l) (sym t)) (sym (append-nil a)) refl);
+    goes = λ earlier a s c. (
+      c,
+      submit_rests board (earlier ++ tickets) a s c command numbered rest.within
+          ∙ same_rest (submitted (entry_of command) board command) after ((earlier ++ tickets) ++ option_to_list (ticket_of board command)) (earlier ++ out) a (a ++ []) (s ++ command ∷ []) (s ++ command ∷ []) c
+          (sym b) (append_assoc earlier tickets (option_to_list (ticket_of board command)) ∙ ap (λ (l : List Ticket). earlier ++ l) (sym t)) (sym (append-nil a)) refl,
+    );
   }
 
   turn_case : (cap : ℕ) (board after : Board Entry) (tickets out : List Ticket) (count : ℕ) → IsAllSettled board → IsLongest cap (untaken board) count
@@ -139,9 +145,12 @@ module _ {D J : Type 0} where
     tickets_more = ([], t ∙ sym (append-nil tickets));
     acks = refl;
     found = tt;
-    goes = λ earlier a s c. (c, turn_rests board (earlier ++ tickets) a s c (suc n) (omega arith) rest.taken (long_enough cap board (suc n) rest longest)
-        ∙ same_rest (settled_more (taken_more board (suc n)) (suc n)) after (earlier ++ tickets) (earlier ++ out) a (a ++ []) s (s ++ []) c
-        (sym b) (ap (λ (l : List Ticket). earlier ++ l) (sym t)) (sym (append-nil a)) (sym (append-nil s)));
+    goes = λ earlier a s c. (
+      c,
+      turn_rests board (earlier ++ tickets) a s c (suc n) (omega arith) rest.taken (long_enough cap board (suc n) rest longest)
+          ∙ same_rest (settled_more (taken_more board (suc n)) (suc n)) after (earlier ++ tickets) (earlier ++ out) a (a ++ []) s (s ++ []) c
+          (sym b) (ap (λ (l : List Ticket). earlier ++ l) (sym t)) (sym (append-nil a)) (sym (append-nil s)),
+    );
   }
 
   ack_case : (here : Behind) (after : Board Entry) (tickets out : List Ticket) (at : ℕ) (told : Option (List (List Taken))) → IsAllSettled here.board → after ≡ here.board → out ≡ tickets
@@ -152,9 +161,12 @@ module _ {D J : Type 0} where
     tickets_more = ([], t ∙ sym (append-nil tickets));
     acks = ap (λ (l : List Ticket). acked_by {D = D} {J = J} l (Ack at) (Acked told)) t;
     found = ack_found D J here tickets out at (slice_get tickets at) told refl gives t;
-    goes = λ earlier a s c. (c, ack_world D J here tickets at (slice_get tickets at) told refl gives earlier a s c
-        ∙ same_rest here.board after (earlier ++ tickets) (earlier ++ out) (a ++ acked_by {D = D} {J = J} tickets (Ack at) (Acked told)) (a ++ acked_by {D = D} {J = J} tickets (Ack at) (Acked told)) s (s ++ []) c
-        (sym b) (ap (λ (l : List Ticket). earlier ++ l) (sym t)) refl (sym (append-nil s)));
+    goes = λ earlier a s c. (
+      c,
+      ack_world D J here tickets at (slice_get tickets at) told refl gives earlier a s c
+          ∙ same_rest here.board after (earlier ++ tickets) (earlier ++ out) (a ++ acked_by {D = D} {J = J} tickets (Ack at) (Acked told)) (a ++ acked_by {D = D} {J = J} tickets (Ack at) (Acked told)) s (s ++ []) c
+          (sym b) (ap (λ (l : List Ticket). earlier ++ l) (sym t)) refl (sym (append-nil s)),
+    );
   }
 
   put_case : (board after : Board Entry) (tickets out : List Ticket) (document revision : ℕ) → IsAllSettled board → after ≡ board → out ≡ tickets
@@ -271,8 +283,11 @@ module _ {D J : Type 0} {disk : Ghosts D} where
     is = record {
       start = refl;
       settled = rest;
-      goes = λ earlier a s c. (c, same_rest begin.board.board begin.board.board earlier (earlier ++ begin.tickets) a (a ++ []) s (s ++ []) c refl
-          (sym (append-nil earlier) ∙ ap (λ (l : List Ticket). earlier ++ l) (sym none)) (sym (append-nil a)) (sym (append-nil s)));
+      goes = λ earlier a s c. (
+        c,
+        same_rest begin.board.board begin.board.board earlier (earlier ++ begin.tickets) a (a ++ []) s (s ++ []) c refl
+            (sym (append-nil earlier) ∙ ap (λ (l : List Ticket). earlier ++ l) (sym none)) (sym (append-nil a)) (sym (append-nil s)),
+      );
     };
   }
   run_rests cap begin _ _ _ rest none numbered (Follows calls answers here call reply after before gives works opens) =
@@ -290,18 +305,17 @@ module _ {D J : Type 0} {disk : Ghosts D} where
           settled = one.settled;
           goes = λ earlier a s c.
               let first = so_far.is.goes earlier a s c in
-              let second = one.goes earlier (a ++ acked here.tickets calls answers) (s ++ commands_in calls) first.0 in
-              (
+              let second = one.goes earlier (a ++ acked here.tickets calls answers) (s ++ commands_in calls) first.0 in (
                 second.0,
                 ap (run (at_rest begin.board.board earlier a s c)) (schedule-push (length earlier) calls answers call reply same)
-                ∙ (run-append (at_rest begin.board.board earlier a s c) (schedule (length earlier) calls answers) (events_of (length earlier) call reply)
-                ∙ (ap (λ (w : World). run w (events_of (length earlier) call reply)) first.1
-                ∙ (second.1
-                ∙ same_rest after.board.board after.board.board (earlier ++ after.tickets) (earlier ++ after.tickets)
-                ((a ++ acked here.tickets calls answers) ++ acked_by here.tickets call reply) (a ++ acked after.tickets (calls ++ call ∷ []) (answers ++ reply ∷ []))
-                ((s ++ commands_in calls) ++ command_of call) (s ++ commands_in (calls ++ call ∷ [])) second.0 refl refl
-                (append_assoc a (acked here.tickets calls answers) (acked_by here.tickets call reply) ∙ ap (λ (l : List Ticket). a ++ l) acks)
-                (append_assoc s (commands_in calls) (command_of call) ∙ ap (λ (l : List Command). s ++ l) (sym (commands-push calls call)))))),
+                    ∙ (run-append (at_rest begin.board.board earlier a s c) (schedule (length earlier) calls answers) (events_of (length earlier) call reply)
+                    ∙ (ap (λ (w : World). run w (events_of (length earlier) call reply)) first.1
+                    ∙ (second.1
+                    ∙ same_rest after.board.board after.board.board (earlier ++ after.tickets) (earlier ++ after.tickets)
+                    ((a ++ acked here.tickets calls answers) ++ acked_by here.tickets call reply) (a ++ acked after.tickets (calls ++ call ∷ []) (answers ++ reply ∷ []))
+                    ((s ++ commands_in calls) ++ command_of call) (s ++ commands_in (calls ++ call ∷ [])) second.0 refl refl
+                    (append_assoc a (acked here.tickets calls answers) (acked_by here.tickets call reply) ∙ ap (λ (l : List Ticket). a ++ l) acks)
+                    (append_assoc s (commands_in calls) (command_of call) ∙ ap (λ (l : List Command). s ++ l) (sym (commands-push calls call)))))),
               );
         };
       }
