@@ -15,6 +15,8 @@ pub mod Splitting
 pub mod MarkedRead
 pub mod KnownCells
 pub mod Retirement
+pub mod Reaching
+pub mod Raising
 pub mod PutCells
 pub mod Putting
 pub mod PutAtOnce

@@ -1,5 +1,5 @@
 -- A step of a run that commits no batch: a milestone, whose job is handed out, composed and put at once, and a retirement.
-use Rattle.std.proofs.Common.{◌≡◌, ◌≢◌, ◌⊎◌, ◌↔◌, inl, inr, ℕ, ◌+◌, ◌<◌, Bool, true, false, List, [], ◌∷◌, ◌++◌, length, take, get_or, refl, sym, ap, subst}
+use Rattle.std.proofs.Common.{◌≡◌, ◌≢◌, ◌⊎◌, ◌↔◌, inl, inr, ℕ, ◌+◌, ◌<◌, Bool, true, false, Option, List, [], ◌∷◌, ◌++◌, length, take, get_or, refl, sym, ap, subst}
 use Rattle.std.specs.Prelude.{Result, Ok, Err, Contains, OnOk, IfErr, IsErrOf}
 use Rattle.std.proofs.lemmas.List.{take_more}
 use Rattle.std.proofs.lemmas.List.Elements.{Contains-push}
@@ -10,6 +10,7 @@ use Rattle.refusal.specs.declared.Refusal.TheVariants.{StillNeeded, NoMemory, Fa
 use Rattle.revision.specs.State.{State}
 use Rattle.history.specs.Cell.{Pair}
 use Rattle.milestone.specs.Job.{Job}
+use Rattle.segments.specs.Slot.{Segment}
 use Rattle.recovery.specs.declared.run.StoreStep.{StoreStep}
 use Rattle.recovery.specs.declared.run.StoreStep.TheVariants.{Milestone, Retire}
 use Rattle.recovery.specs.declared.store.Store.{Store}
@@ -71,12 +72,14 @@ module _ {D : Type 0} {disk : Ghosts D} where
   goes_on_needed old new (Err refusal) (inr fault) untouched = λ other is_open. absurd (other fault)
 
   -- what was put is the cell of the job that was handed out
-  pub put_at : (old new : Store D disk) (document revision : ℕ) (is_open : IsOpen old) (job composed : Job) (cells : List Pair) → cells ≡ is_open.cells → composed ≡ job
-      → IsJobTo (state_of old).documents document revision job → IsPutNow cells composed new → IsPutAt document revision old is_open new
-  put_at old new document revision is_open job composed cells same is to put = record {
+  pub put_at : (old new : Store D disk) (document revision : ℕ) (is_open : IsOpen old) (job composed : Job) (cells : List Pair) (table : List (Option Segment)) → cells ≡ is_open.cells
+      → table ≡ is_open.table → composed ≡ job → IsJobTo (state_of old).documents document revision job → IsPutNow cells table composed new
+      → IsPutAt document revision old is_open new
+  put_at old new document revision is_open job composed cells table same same_table is to put = record {
     job = job;
     to = to;
-    put = subst (λ (l : List Pair). IsPutNow l job new) same (subst (λ (j : Job). IsPutNow cells j new) is put);
+    put = subst (λ (l : List Pair). IsPutNow l is_open.table job new) same
+        (subst (λ (t : List (Option Segment)). IsPutNow cells t job new) same_table (subst (λ (j : Job). IsPutNow cells table j new) is put));
   }
 
   -- a milestone that was Ok

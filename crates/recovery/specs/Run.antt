@@ -60,7 +60,7 @@ module _ {D : Type 0} {disk : Ghosts D} where
   pub record IsPutAt (document revision : ℕ) (old : Store D disk) (is_open : IsOpen old) (new : Store D disk) : Type 0 where
     pub job : Job
     pub to : IsJobTo (state_of old).documents document revision job
-    pub put : IsPutNow is_open.cells job new
+    pub put : IsPutNow is_open.cells is_open.table job new
 
   -- The oldest segment could be retired, and was.
   pub record IsGivenUp (old : Store D disk) (is_open : IsOpen old) (new : Store D disk) : Type 0 where
