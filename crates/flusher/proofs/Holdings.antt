@@ -10,12 +10,22 @@ use Rattle.revision.specs.Command.{Taken}
 use Rattle.revision.specs.State.{State, fold}
 use Rattle.recovery.specs.declared.store.Store.{Store}
 use Rattle.recovery.specs.Found.{commands_of, FoundAs}
-use Rattle.recovery.specs.Open.{IsOpen, IsUnchanged, IsRetiredNow, IsWithOrWithout, device_of, state_of, has_failed}
+use Rattle.milestone.specs.Job.{Job}
+use Rattle.recovery.specs.Open.{IsOpen, IsUnchanged, IsPutNow, IsRetiredNow, IsWithOrWithout, device_of, state_of, has_failed}
 use Rattle.recovery.specs.Goes.{Goes}
 use Rattle.recovery.proofs.CallerLemmas.{goes_none, goes_call, open_unchanged, found_as, found_open}
 use Rattle.view.specs.Published.{Published}
 use Rattle.flusher.specs.Flushers.{listed}
 use Rattle.flusher.proofs.Beginnings.{commands-append, fold-append}
+
+-- the refusal of an answer, or this one where there is none
+abbrev pub refusal_in : {T : Type 0} → Refusal → Result T Refusal → Refusal
+refusal_in none (Ok answer) = none
+refusal_in none (Err refusal) = refusal
+
+-- a refusal that is known of one answer is known of another one of the same
+pub same_refusal : {S T : Type 0} (one : Refusal) (two : Refusal) → IsErrOf {T = S} (Err one) two → IsErrOf {T = T} (Err one) two
+same_refusal one two is = ap (λ (e : Refusal). Err e) (ap (refusal_in one) is)
 
 abbrev pub held_in : Option (Vec Taken Global) → List (List Taken)
 held_in waiting = listed (option_map (λ v. v.items) waiting)
@@ -55,6 +65,19 @@ module _ {D : Type 0} {disk : Ghosts D} (old new : Store D disk) where
       → IfErr result (λ e. (e ≡ StillNeeded) ⊎ (e ≡ Fault)) → (IsErrOf result StillNeeded → IsUnchanged old new)
       → Goes (λ content. FoundAs content (state_of old)) old new
   goes_retired result failed_before fails any_moment done only untouched = goes_call result failed_before fails any_moment (retire_done result done) (retire_kept result only untouched)
+
+  -- what a milestone of a job leaves
+  put_done : (job : Job) (result : Result (Unit {0}) Refusal) → OnOk result ((is_open : IsOpen old) → IsPutNow is_open.cells is_open.table job new) → OnOk result (IsOpen old → IsOpen new)
+  put_done job (Ok answer) done = λ is_open. (done is_open).goes_on
+  put_done job (Err refusal) done = tt
+
+  pub goes_put : (job : Job) (result : Result (Unit {0}) Refusal) → (has_failed old ≡ true → IsErrOf result Fault × IsUnchanged old new)
+      → (has_failed old ≡ false → (has_failed new ≡ true ↔ IsErrOf result Fault))
+      → (has_failed old ≡ false → IsOpen old → LeavesOnly disk (λ content. FoundAs content (state_of old)) (device_of old) (device_of new))
+      → OnOk result ((is_open : IsOpen old) → IsPutNow is_open.cells is_open.table job new)
+      → IfErr result (λ e. e ≢ Fault → IsOpen old → IsOpen new)
+      → Goes (λ content. FoundAs content (state_of old)) old new
+  goes_put job result failed_before fails any_moment done kept = goes_call result failed_before fails any_moment (put_done job result done) kept
 
 -- one batch that is committed more
 pub kept_more : (start old new : State) (before after : Published) (receipt batch : List Taken) → old ≡ fold start (commands_of (before.told ++ before.held)) → before.held ≡ []

@@ -1,0 +1,7 @@
+use Rattle.recovery.proofs.CallerLemmas.{goes_call}
+use Rattle.flusher.proofs.flusher.Flusher.put_document.Goals as goal
+
+pub returns-clause-goes : goal.returns-clause-goes
+returns-clause-goes g c =
+    let e = c.put_document.ensures in
+    goes_call c.put_document.result e.failed_before e.fails e.any_moment e.done e.kept
