@@ -15,7 +15,7 @@ use Rattle.world.specs.Law.{IsSent, revision_named, last_found, last_held, IsKep
 use Rattle.flusher.specs.Batches.{IsFirst}
 use Rattle.flusher.specs.declared.calls.Call.{Call}
 use Rattle.flusher.specs.Schedule.{at_rest, schedule, acked, commands_in, AreNumbered, IsAllSettled}
-use Rattle.flusher.specs.Lives.{counted_from, Life, Opens, Drives, LifeGoesOn, Lives, First, Crashed, IsPromised, AllLives, OneLife, LivesGoOn, RunGoesOn}
+use Rattle.flusher.specs.Lives.{counted_from, Life, Opens, Drives, Lives, First, Crashed, IsPromised, AllLives, OneLife, LivesGoOn, RunGoesOn}
 use Rattle.world.proofs.Showing.{grown_shown, shown-fold, fold_shown, fold_shown-append}
 use Rattle.world.proofs.Numbers.{last_in}
 use Rattle.world.proofs.Histories.{AllPlaced, after, placed-take}
