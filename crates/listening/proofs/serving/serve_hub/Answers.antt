@@ -1,6 +1,5 @@
 use denote.Param.{param}
 use denote.Param.Send.{sendable}
-use denote.Ref.{NamedLft}
 use Rattle.std.proofs.Crossing.{crosses}
 use Rattle.listening.proofs.Crossing.{desk_send, hub_sync}
 use Rattle.listening.proofs.serving.serve_hub.Goals as goal
