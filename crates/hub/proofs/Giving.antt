@@ -8,7 +8,7 @@ use Rattle.revision.specs.State.{State}
 use Rattle.revision.specs.Acceptance.{Refuses, answer}
 use Rattle.world.specs.Board.{Board, Ticket, ticket_of}
 use Rattle.world.specs.World.{Entry}
-use Rattle.hub.specs.Legal.{IsHistory, IsOfRun, WasGiven}
+use Rattle.hub.specs.Legal.{IsHistory, WasGiven}
 
 pub given_by : (start : State) (board : Board Entry) (failed : Bool) (command : Command) (result : Result Ticket Refusal) → board.start ≡ start → IsHistory board
     → IfOk result (λ ticket. Some ticket ≡ ticket_of board command) → (failed ≡ true → IsErrOf result StoreFailed)

@@ -1,4 +1,4 @@
-use Rattle.std.proofs.Common.{◌≡◌, ◌<◌, ◌≤◌, ◌+◌, arith, false}
+use Rattle.std.proofs.Common.{◌≡◌, ◌+◌, arith, false}
 use Rattle.std.specs.Prelude.{replicate}
 use Rattle.hub.specs.Waiting.{is_covered, still_awaited}
 use Rattle.hub.proofs.Waking.{made, woken_here, waits_here}
