@@ -175,7 +175,7 @@ def two_hundred():
 
 
 def never_reads():
-    """A peer that sends ahead and never reads is closed after 10 to 40 seconds, while others are answered."""
+    """A peer that sends ahead and never reads is closed within a minute, while others are answered."""
     with session_soon() as stream, session_soon() as other:
         stream.settimeout(1)
         begin = time.monotonic()

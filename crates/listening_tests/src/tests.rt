@@ -22,12 +22,15 @@ const PATIENCE: u64 = 20_000;
 
 const SHAPE: Shape = Shape {
     slots: 4,
-    slot: 65_536,
+    slot: 4_096,
     docs: 4,
-    cell: 65_536,
+    cell: 16_384,
     sources: 80,
     keep: 1_000,
 };
+
+/// The bytes of a device of this shape.
+const DEVICE: usize = 147_520;
 
 /// How far milestones lie apart: with 2 some are put while a test runs.
 const EVERY: u32 = 2;
@@ -64,7 +67,7 @@ impl<'a, R: Clock> OpenListener for Until<'a, R> {
 /// A device with a store without documents.
 fn formatted<R: AllocGlobal>(rt: &R) -> Result<MemDisk, Fail> {
     let alloc = rt.alloc();
-    let mut disk = MemDisk::new(alloc, SHAPE.device_len())?;
+    let mut disk = MemDisk::new(alloc, DEVICE)?;
     format_device(alloc, &mut disk, SHAPE)?;
     Ok(MemDisk::holding(alloc, disk.bytes().to_vec(alloc)?))
 }
