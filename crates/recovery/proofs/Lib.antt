@@ -22,6 +22,7 @@ pub mod PutCells
 pub mod Putting
 pub mod PutAtOnce
 pub mod Faults
+pub mod Freed
 pub mod Upkeep
 pub mod Named
 pub mod Gathering

@@ -84,7 +84,7 @@ impl<D: Disk> Store<D> {
     {
         let retired = self.retire();
         if matches!(retired, Err(Refusal::Fault)) {
-            return retired;
+            return Err(Refusal::Fault);
         }
         Ok(())
     }
