@@ -23,6 +23,13 @@
 //! What a crash leaves is said of a store that is open as `IsOpen` of recovery says, which `Store::open` gives for an honest device. A
 //! turn that publishes a batch before its commit can't be written: a publish shows what was accepted by the receipt of its commit.
 //!
+//! # Over all lives
+//!
+//! A run is a list of a world's events: specs/Schedule.antt says which, and `laws::run_is_a_schedule` that they make just the run's board,
+//! tickets and acknowledgements. specs/Lives.antt says what a life is (runs of `drive` over a store that was opened once), how a crash ends
+//! it, and how the next one begins; `laws::lives` promises of all of them that no acknowledged edit is missing, none is taken twice, none
+//! changes its revision, and that what was acknowledged and comes again is answered as a retry.
+//!
 //! # Upkeep
 //!
 //! Where the journal is full, a commit frees its oldest segment first, by milestones of that segment's documents. Milestones that are due
@@ -34,6 +41,7 @@ mod calls;
 mod driving;
 mod flusher;
 mod gate;
+pub mod laws;
 mod starting;
 mod turning;
 mod upkeep;
