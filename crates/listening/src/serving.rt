@@ -31,7 +31,13 @@ pub fn serve_on<
     R: Threads + Wait + Sync,
     N: OpenListener<Stream = TcpStream> + Sync,
     D: Disk + Send + Sync + Drop,
->(rt: &R, alloc: Global, store: Store<D>, listener: &N, every: u32) -> (Store<D>, Result<(), Refusal>) {
+>(
+    rt: &R,
+    alloc: Global,
+    store: Store<D>,
+    listener: &N,
+    every: u32,
+) -> (Store<D>, Result<(), Refusal>) {
     let opened = Opened::new();
     let blank = Blank::new(PARTS);
     serve_run::<Brand, R, N, D>(rt, alloc, store, opened, blank, listener, every)

@@ -27,18 +27,18 @@ use words::{Invocation, ShapeOptions};
 ///
 /// A refusal is told on `errors` as `error 7 Exists`, a usage fault there in a text of its own; help that is asked for
 /// goes to `output`. Faults are found in the order words, file, store, address.
-pub fn run<R: Files<File = File>
+pub fn run<
+    R: Files<File = File>
         + AllocGlobal
         + Net<Listener = TcpListener, Stream = TcpStream>
         + Threads
         + Wait
-        + Sync, S: AsStr, I: Read, O: Write, E: Write>(
-    rt: &R,
-    words: &[S],
-    input: &mut I,
-    output: &mut O,
-    errors: &mut E,
-) -> u8
+        + Sync,
+    S: AsStr,
+    I: Read,
+    O: Write,
+    E: Write,
+>(rt: &R, words: &[S], input: &mut I, output: &mut O, errors: &mut E) -> u8
     ensures { result ≤ 2 }
 {
     let invocation = match Invocation::parse(rt.alloc(), words) {
@@ -52,17 +52,16 @@ pub fn run<R: Files<File = File>
     }
 }
 
-fn invoke<R: Files<File = File>
+fn invoke<
+    R: Files<File = File>
         + AllocGlobal
         + Net<Listener = TcpListener, Stream = TcpStream>
         + Threads
         + Wait
-        + Sync, I: Read, O: Write>(
-    rt: &R,
-    invocation: Invocation<'_>,
-    input: &mut I,
-    output: &mut O,
-) -> Result<(), Failure> {
+        + Sync,
+    I: Read,
+    O: Write,
+>(rt: &R, invocation: Invocation<'_>, input: &mut I, output: &mut O) -> Result<(), Failure> {
     match invocation {
         Invocation::Format { path, shape } => {
             let shape = shape_of(shape);
@@ -133,7 +132,10 @@ fn pick_of(older: bool) -> Pick {
 
 // Serves the store to those who connect to the address, once it has told where it listens. It ends where the listener fails. An address
 // that can't be had is a fault.
-fn listen<R: AllocGlobal + Net<Listener = TcpListener, Stream = TcpStream> + Threads + Wait + Sync, O: Write>(
+fn listen<
+    R: AllocGlobal + Net<Listener = TcpListener, Stream = TcpStream> + Threads + Wait + Sync,
+    O: Write,
+>(
     rt: &R,
     store: Store<FileDisk>,
     address: &str,
@@ -151,7 +153,10 @@ fn listen<R: AllocGlobal + Net<Listener = TcpListener, Stream = TcpStream> + Thr
     Err(Failure::Refused(Refusal::Fault))
 }
 
-fn bind<R: Net<Listener = TcpListener, Stream = TcpStream>>(rt: &R, address: &str) -> Result<TcpListener, Fault> {
+fn bind<R: Net<Listener = TcpListener, Stream = TcpStream>>(
+    rt: &R,
+    address: &str,
+) -> Result<TcpListener, Fault> {
     TcpListener::bind(rt, address).map_err(|_| Fault)
 }
 

@@ -7,8 +7,7 @@ use Rattle.server.proofs.desk.StoreDeskDesk.ask.Goals as goal
 
 pub returns-clause-answered : goal.returns-clause-answered
 returns-clause-answered g c =
-    let e = c.keep_up.ensures in
-    (
+    let e = c.keep_up.ensures in (
       c.keep_up.new.self,
       record { done = e.done; spacing = e.spacing; state = e.state; goes = e.goes; store_works = e.store_works; cause = e.cause; rests = e.rests; honest = e.honest },
       c.answer.ensures.answered,
