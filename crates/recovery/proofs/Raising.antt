@@ -93,15 +93,10 @@ module _ {D : Type 0} {disk : Ghosts D} where
   pub over_then : (old mid new : Store D disk) (is_open : IsOpen old) (over : IsOverSlots is_open.table mid) → IsOverSlots over.goes_on.table new → IsOverSlots is_open.table new
   over_then old mid new is_open over later = record { goes_on = later.goes_on; same_table = later.same_table ∙ over.same_table }
 
-  -- the lower open cell has the revision already
-  pub raised_already : (store : Store D disk) (is_open : IsOpen store) (document revision : ℕ) → revision ≤ lowest_known store.cells.items document
-      → IsRaised document revision is_open.table store store
-  raised_already store is_open document revision low = record {
-    over = still_over store is_open;
-    none_lower = λ number. omega arith;
-    higher = omega (arith, low, known store is_open document, known_highest store is_open document, lowest_highest (cells_at is_open.cells document));
-    lower = λ high. low;
-  }
+  -- no open cell is below the mark already
+  pub covered_already : (store : Store D disk) (is_open : IsOpen store) (segment : ℕ) (mark : Mark) → mark.revision ≤ lowest_known store.cells.items mark.document
+      → IsMarkCovered segment mark is_open.table store store
+  covered_already store is_open segment mark low = record { over = still_over store is_open; none_lower = λ number. omega arith; covers = inr low }
 
   -- a milestone was put at the document's revision
   pub raised_by : (old new : Store D disk) (is_open : IsOpen old) (document present revision : ℕ) → revision ≤ present → highest_known old.cells.items document ≤ present

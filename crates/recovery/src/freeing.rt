@@ -146,8 +146,8 @@ impl<D: Disk> Store<D> {
         Ok(())
     }
 
-    // Puts milestones of the document of a mark of this segment until no open cell of it is below the mark: two at most, since each
-    // takes the place of the lower one.
+    // Where an open cell of a document is below its mark of this segment, or none is open, puts two milestones of it: both cells then
+    // stand at its newest revision, since each takes the place of the lower one.
     fn cover_mark(&mut self, alloc: Global, segment: u64, mark: Mark) -> Result<(), Refusal>
         requires working { has_failed self.old ≡ false }
 
@@ -164,15 +164,19 @@ impl<D: Disk> Store<D> {
         if mark.segment != segment {
             return Ok(());
         }
+        if mark.revision <= lowest_of(&self.cells, mark.document) {
+            return Ok(());
+        }
         if let Err(refusal) = self.raise(alloc, mark.document, mark.revision) {
             return Err(refusal);
         }
         self.raise(alloc, mark.document, mark.revision)
     }
 
-    // Puts a milestone of a document at its newest revision, where its lowest open cell is below another one.
+    // Puts a milestone of a document at its newest revision, which is no lower than this one.
     fn raise(&mut self, alloc: Global, document: u32, revision: u64) -> Result<(), Refusal>
         requires working { has_failed self.old ≡ false }
+        requires some { 1 ≤ revision }
 
         ensures only { IfErr result (λ e. (e ≡ Refusal.StillNeeded) ⊎ ((e ≡ Refusal.NoMemory) ⊎ (e ≡ Refusal.Fault))) }
         ensures needed { IsErrOf result Refusal.StillNeeded → IsOpen self.old → reached_in (state_of self.old) document < revision }
@@ -184,9 +188,6 @@ impl<D: Disk> Store<D> {
         ensures goes { Goes (λ content. FoundAs content (state_of self.old)) self.old self.new }
         ensures honest { D.honest (device_of self.new) ↔ D.honest (device_of self.old) }
     {
-        if revision <= lowest_of(&self.cells, document) {
-            return Ok(());
-        }
         let newest = self.newest_of(document);
         if newest < revision {
             return Err(Refusal::StillNeeded);

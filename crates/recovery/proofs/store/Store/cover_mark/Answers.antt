@@ -1,10 +1,12 @@
-use Rattle.std.proofs.Common.{◌≡◌, ◌≢◌, ap, arith, rules}
+use Rattle.std.proofs.Common.{◌≡◌, ◌≢◌, ◌∙◌, List, ap, arith, rules}
+use Rattle.milestone.specs.declared.cells.Cells.{Cells}
+use Rattle.recovery.specs.Cells.{lowest_known}
 use Rattle.recovery.specs.Open.{IsOpen}
 use Rattle.recovery.specs.steps.Freeing.{reached_in}
 use Rattle.revision.specs.State.{State}
 use Rattle.recovery.proofs.Going.{goes_nowhere, goes_same}
 use Rattle.recovery.proofs.Faults.{counts_on, works_now}
-use Rattle.recovery.proofs.Raising.{covered_elsewhere, covered_by}
+use Rattle.recovery.proofs.Raising.{covered_elsewhere, covered_already, covered_by}
 use Rattle.recovery.proofs.store.Store.cover_mark.Goals as goal
 
 pub returns-then-mark-segment-clause-covered : goal.returns-then-mark-segment-clause-covered
@@ -32,3 +34,12 @@ returns-clause-faults g c = counts_on c.in_default.ensures.faults.good c.raise-2
 
 pub returns-clause-goes : goal.returns-clause-goes
 returns-clause-goes g c = goes_same c.raise.ensures.keeps.state c.raise.ensures.goes c.raise-2.ensures.goes
+
+pub returns-then-mark-lowest_of-clause-covered : goal.returns-then-mark-lowest_of-clause-covered
+returns-then-mark-lowest_of-clause-covered g c is_open reach =
+    let store = c.args.self.now in
+    let lowest : c.lowest_of.result ≡ lowest_known store.cells.items c.args.mark.document = c.lowest_of.ensures ∙ ap (λ (l : List Cells). lowest_known l c.args.mark.document) c.deref.ensures.value in
+    covered_already store is_open c.args.segment c.args.mark (omega (arith, c.if-mark-lowest_of.true, lowest))
+
+pub returns-then-mark-lowest_of-clause-goes : goal.returns-then-mark-lowest_of-clause-goes
+returns-then-mark-lowest_of-clause-goes g c = goes_nowhere c.args.self.now
