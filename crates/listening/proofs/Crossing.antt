@@ -21,14 +21,14 @@ told_send D T s l a = search (seen.the_send, sendable, crosses) depth 60 fits 20
 pub seat_send : (T : RattleType) (s : site.Ghosts T.Denot) (l : ledger.Ghosts T.Denot) → IsSend T → IsSend (seat.the_row T s l)
 seat_send T s l a = search (share.the_send, sendable, crosses) depth 60 fits 20000
 
-pub hub_sync : (D T : RattleType) (s : site.Ghosts T.Denot) (l : ledger.Ghosts T.Denot) → IsSend D → IsSync D → IsSend T → IsSync T → IsSync (hub.the_row D T s l)
-hub_sync D T s l a b c d = search (board_send, book.the_send, share.the_send, seen.the_send, sendable, crosses) depth 60 fits 20000
+pub hub_sync : (D T : RattleType) (s : site.Ghosts T.Denot) (l : ledger.Ghosts T.Denot) → IsSend T → IsSync T → IsSync (hub.the_row D T s l)
+hub_sync D T s l a b = search (board_send, book.the_send, share.the_send, seen.the_send, sendable, crosses) depth 60 fits 20000
 
-pub desk_send : (k : NamedLft) (D T R : RattleType) (s : site.Ghosts T.Denot) (l : ledger.Ghosts T.Denot) → IsSend D → IsSync D → IsSend T → IsSync T → IsSync R
+pub desk_send : (k : NamedLft) (D T R : RattleType) (s : site.Ghosts T.Denot) (l : ledger.Ghosts T.Denot) → IsSend T → IsSync T → IsSync R
     → IsSend (desk.the_row k D T R s l)
-desk_send k D T R s l a b c d e =
-    let hub = hub_sync D T s l a b c d in
-    let seat = seat_send T s l c in
-    let viewer = viewer_send D T s l c d in
-    let told = told_send D T s l c in
+desk_send k D T R s l a b c =
+    let hub = hub_sync D T s l a b in
+    let seat = seat_send T s l a in
+    let viewer = viewer_send D T s l a b in
+    let told = told_send D T s l a in
     search (sendable, crosses) depth 60 fits 20000

@@ -30,7 +30,7 @@ const PARTS: u64 = 65;
 pub fn serve_on<
     R: Threads + Wait + Sync,
     N: OpenListener<Stream = TcpStream> + Sync,
-    D: Disk + Send + Sync + Drop,
+    D: Disk + Send + Drop,
 >(
     rt: &R,
     alloc: Global,
@@ -48,7 +48,7 @@ fn serve_run<
     J: Site + Sync + Send,
     R: Threads + Wait + Sync,
     N: OpenListener<Stream = TcpStream> + Sync,
-    D: Disk + Send + Sync + Drop,
+    D: Disk + Send + Drop,
 >(
     rt: &R,
     alloc: Global,
@@ -74,7 +74,7 @@ fn serve_board<
     J: Site + Sync + Send,
     R: Threads + Wait + Sync,
     N: OpenListener<Stream = TcpStream> + Sync,
-    D: Disk + Send + Sync + Drop,
+    D: Disk + Send + Drop,
 >(
     rt: &R,
     alloc: Global,
@@ -94,7 +94,7 @@ fn serve_hub<
     J: Site + Sync + Send,
     R: Threads + Wait + Sync,
     N: OpenListener<Stream = TcpStream> + Sync,
-    D: Disk + Send + Sync + Drop,
+    D: Disk + Send + Drop,
 >(
     rt: &R,
     alloc: Global,
@@ -117,7 +117,7 @@ fn serve_all<
     J: Site + Sync + Send,
     R: Threads + Wait + Sync,
     N: OpenListener<Stream = TcpStream> + Sync,
-    D: Send + Sync + Drop,
+    D: Send + Drop,
 >(
     rt: &R,
     alloc: Global,

@@ -8,7 +8,6 @@ use Rattle.listening.proofs.serving.serve_hub.Goals as goal
 pub join-served-requires-send-F : goal.join-served-requires-send-F
 join-served-requires-send-F g c κs within =
     let sj = c.type_bounds.send-J in let yj = c.type_bounds.sync-J in
-    let sd = c.type_bounds.send-D in let yd = c.type_bounds.sync-D in
     let yr = c.type_bounds.sync-R in let yn = c.type_bounds.sync-N in
-    let hub = hub_sync (param 3 g.row.D) (param 0 g.row.J) g.J.Site g.J.Ledger sd yd sj yj in
+    let hub = hub_sync (param 3 g.row.D) (param 0 g.row.J) g.J.Site g.J.Ledger sj yj in
     search (desk_send, sendable, crosses) depth 60 fits 20000
