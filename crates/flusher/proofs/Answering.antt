@@ -347,3 +347,11 @@ module _ {D J : Type 0} {disk : Ghosts D} where
     turns = ap (slice_get calls) same ∙ slice_get-get_or calls at d inside ∙ ap Some (sym is ∙ turns.0);
     refused = turns.1;
   })
+
+module _ {D : Type 0} {disk : Ghosts D} where
+  -- a turn that is refused as the state of its store says is so by the start's
+  pub stops_turn : (cap other : ℕ) (board : Outer) (store : Store D disk) (call : Call) (refusal : Refusal) → call ≡ Turn → cap ≡ other
+      → ((refusal ≡ NoMemory) ⊎ (refusal ≡ Fault)) ⊎ IsTurnRefused cap board store refusal
+      → ((refusal ≡ NoMemory) ⊎ (refusal ≡ Fault)) ⊎ ((call ≡ Turn) × IsTurnRefused other board store refusal)
+  stops_turn cap other board store call refusal is same (inl known) = inl known
+  stops_turn cap other board store call refusal is same (inr why) = inr (is, subst (λ (n : ℕ). IsTurnRefused n board store refusal) same why)

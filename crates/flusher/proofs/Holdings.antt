@@ -14,7 +14,7 @@ use Rattle.milestone.specs.Job.{Job}
 use Rattle.recovery.specs.Open.{IsOpen, IsUnchanged, IsPutNow, IsRetiredNow, IsWithOrWithout, device_of, state_of, has_failed}
 use Rattle.recovery.specs.declared.run.StoreStep.TheVariants.{Milestone as PutsMilestone, Retire as Retires}
 use Rattle.recovery.specs.Marked.{MayRetire}
-use Rattle.recovery.specs.Run.{IsPutAt, IsTaken}
+use Rattle.recovery.specs.Run.{IsPutAt, IsTaken, IsWhy}
 use Rattle.recovery.specs.Goes.{Goes}
 use Rattle.recovery.proofs.CallerLemmas.{goes_none, goes_call, open_unchanged, found_as, found_open}
 use Rattle.view.specs.Published.{Published}
@@ -50,7 +50,7 @@ module _ {D : Type 0} {disk : Ghosts D} where
       subst (λ (c : List Taken). Goes (IsWithOrWithout (state_of old) c) old new) (sym (ap commands_of is ∙ append-nil batch)) goes
 
 -- an Ok is no refusal
-no_error : {A : Type 0} (answer : A) (refusal : Refusal) → IsErrOf (Ok answer) refusal → ⊥
+pub no_error : {A : Type 0} (answer : A) (refusal : Refusal) → IsErrOf (Ok answer) refusal → ⊥
 no_error answer refusal is = cc
 
 -- a truth value is one or the other
@@ -101,6 +101,13 @@ module _ {D : Type 0} {disk : Ghosts D} (old new : Store D disk) where
       → OnOk result ((is_open : IsOpen old) → MayRetire is_open.table is_open.cells) → OnOk result ((is_open : IsOpen old) → IsRetiredNow is_open.cells is_open.table new)
       → OnOk result (IsTaken Retires old new)
   retired_now result failed_before fails state may retired = taken_now result (works_after result failed_before fails) state may retired
+
+  -- why it was refused
+  pub retire_why : (result : Result (Unit {0}) Refusal) → IfErr result (λ e. (e ≡ StillNeeded) ⊎ (e ≡ Fault))
+      → (IsErrOf result StillNeeded → (is_open : IsOpen old) → ¬ MayRetire is_open.table is_open.cells) → IfErr result (λ e. e ≢ Fault → IsWhy Retires e old)
+  retire_why (Ok answer) only needed = tt
+  retire_why (Err refusal) (inl is) needed = λ no_fault. (is, needed (ap (λ (e : Refusal). Err e) is))
+  retire_why (Err refusal) (inr fault) needed = λ no_fault. absurd (no_fault fault)
 
   -- a milestone was put
   pub put_now : (document revision : ℕ) (result : Result (Unit {0}) Refusal) → OnOk result (has_failed new ≡ false) → state_of new ≡ state_of old

@@ -9,3 +9,4 @@ pub mod Answering
 pub mod Resting
 pub mod Scheduling
 pub mod Living
+pub mod Refusing

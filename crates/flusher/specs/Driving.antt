@@ -1,5 +1,5 @@
 -- One thread's run: what each call gives, and what the answers say at the end.
-use Rattle.std.specs.Prelude.{◌≡◌, ◌≤◌, ◌⊎◌, ℕ, true, false, Option, Some, None, List, [], ◌∷◌, ◌++◌, length, take, slice_get}
+use Rattle.std.specs.Prelude.{◌≡◌, ◌≤◌, ◌⊎◌, ℕ, true, false, Option, Some, None, Result, Ok, Err, List, [], ◌∷◌, ◌++◌, length, take, slice_get}
 use Rattle.disk.specs.declared.device.Disk.{Ghosts}
 use Rattle.refusal.specs.declared.Refusal.{Refusal}
 use Rattle.refusal.specs.declared.Refusal.TheVariants.{JournalFull, Stranger, StillNeeded, StoreFailed, NoMemory, Fault}
@@ -96,6 +96,11 @@ module _ {D J : Type 0} where
   AreHeld settled tickets (call ∷ calls) (reply ∷ answers) = IsHeld settled tickets call reply × AreHeld settled tickets calls answers
   AreHeld settled tickets [] (reply ∷ answers) = ⊥
   AreHeld settled tickets (call ∷ calls) [] = ⊥
+
+-- what stopped a run, if anything did
+abbrev pub stop_of : Result (Unit {0}) Refusal → Option Refusal
+stop_of (Ok done) = None
+stop_of (Err refusal) = Some refusal
 
 module _ {D : Type 0} {disk : Ghosts D} where
   -- Why a turn is refused, where neither the device failed nor memory ran out: its run finds no room in the journal, which can't be freed

@@ -15,7 +15,7 @@ ghost use Rattle.flusher.specs.Flushers.{cap_of};
 ghost use Rattle.flusher.specs.Holding.{store_of, told_of, committed_of, waiting_of};
 ghost use Rattle.flusher.specs.Standing.{IsCalm, RunGoes, batches_of};
 ghost use Rattle.flusher.specs.Run.{standing, between};
-ghost use Rattle.flusher.specs.Driving.{AckGives, Answered, AreHeld, Gives, IsAnswered, IsTurnRefused, Stops};
+ghost use Rattle.flusher.specs.Driving.{AckGives, Answered, AreHeld, Gives, IsAnswered, IsTurnRefused, Stops, stop_of};
 
 use crate::calls::{Answer, Call};
 use crate::flusher::Flusher;
@@ -86,6 +86,20 @@ fn ack_one<D, J: Site>(board: &Board<D, J>, tickets: &[Ticket], at: usize) -> Op
     }
 }
 
+// What a refusal answers: itself, but for want of memory and a fault, at which a run stops.
+fn answered<D, J: Site>(refusal: Refusal) -> Result<Answer<D, J>, Refusal>
+    ensures answer { IfOk result (λ reply. (reply ≡ Answer.Refused refusal) × (refusal ≢ Refusal.NoMemory) × (refusal ≢ Refusal.Fault)) }
+    ensures stops { IfErr result (λ e. (e ≡ refusal) × ((e ≡ Refusal.NoMemory) ⊎ (e ≡ Refusal.Fault))) }
+{
+    if refusal == Refusal::NoMemory {
+        return Err(refusal);
+    }
+    if refusal == Refusal::Fault {
+        return Err(refusal);
+    }
+    Ok(Answer::Refused(refusal))
+}
+
 // Puts a milestone. Stops for want of memory and at a fault; another refusal is an answer.
 fn put_one<D: Disk, J: Site>(
     alloc: Global,
@@ -99,6 +113,7 @@ fn put_one<D: Disk, J: Site>(
     ensures works { OnOk result (has_failed (store_of flusher.new) ≡ false) }
     ensures answer { IfOk result (λ reply. ((reply ≡ Answer.Put) × IsTaken (PutsMilestone document revision) (store_of flusher.old) (store_of flusher.new))
         ⊎ ((refusal : Why) × (reply ≡ Answer.Refused refusal) × IsWhy (PutsMilestone document revision) refusal (store_of flusher.old))) }
+    ensures fails { has_failed (store_of flusher.new) ≡ true ↔ IsErrOf result Refusal.Fault }
     ensures only { IfErr result (λ e. (e ≡ Refusal.NoMemory) ⊎ (e ≡ Refusal.Fault)) }
     ensures told { told_of flusher.new ≡ told_of flusher.old }
     ensures committed { committed_of flusher.new ≡ committed_of flusher.old }
@@ -106,12 +121,7 @@ fn put_one<D: Disk, J: Site>(
 {
     match flusher.put_document(alloc, document, revision) {
         Ok(()) => Ok(Answer::Put),
-        Err(refusal) => {
-            if refusal == Refusal::NoMemory || refusal == Refusal::Fault {
-                return Err(refusal);
-            }
-            Ok(Answer::Refused(refusal))
-        }
+        Err(refusal) => answered(refusal),
     }
 }
 
@@ -123,6 +133,7 @@ fn retire_one<D: Disk, J: Site>(flusher: &mut Flusher<D, J>) -> Result<Answer<D,
     ensures works { OnOk result (has_failed (store_of flusher.new) ≡ false) }
     ensures answer { IfOk result (λ reply. ((reply ≡ Answer.Retired) × IsTaken Retires (store_of flusher.old) (store_of flusher.new))
         ⊎ ((refusal : Why) × (reply ≡ Answer.Refused refusal) × IsUnchanged (store_of flusher.old) (store_of flusher.new) × IsWhy Retires refusal (store_of flusher.old))) }
+    ensures fails { has_failed (store_of flusher.new) ≡ true ↔ IsErrOf result Refusal.Fault }
     ensures only { IfErr result (λ e. e ≡ Refusal.Fault) }
     ensures told { told_of flusher.new ≡ told_of flusher.old }
     ensures committed { committed_of flusher.new ≡ committed_of flusher.old }
@@ -130,12 +141,7 @@ fn retire_one<D: Disk, J: Site>(flusher: &mut Flusher<D, J>) -> Result<Answer<D,
 {
     match flusher.retire() {
         Ok(()) => Ok(Answer::Retired),
-        Err(refusal) => {
-            if refusal == Refusal::Fault {
-                return Err(refusal);
-            }
-            Ok(Answer::Refused(refusal))
-        }
+        Err(refusal) => answered(refusal),
     }
 }
 
@@ -208,6 +214,16 @@ fn drive_all<D: Disk, J: Site, R: Wait>(
     Ok(())
 }
 
+// What stopped a run, if anything did.
+fn stopped_by(ended: Result<(), Refusal>) -> Option<Refusal>
+    ensures { result ≡ stop_of ended }
+{
+    match ended {
+        Ok(()) => None,
+        Err(refusal) => Some(refusal),
+    }
+}
+
 /// One thread's run: makes the calls in order, each with its answer, over a flusher that has nothing under way and its board, where
 /// neither the store nor the board has failed. It makes room for each answer before its call. It stops for want of memory, at a fault
 /// of the device, and where a turn is refused; any other refusal is an answer.
@@ -259,13 +275,9 @@ pub fn drive<D: Disk, J: Site, R: Wait>(
         &mut tickets,
         calls,
     );
-    let stopped = match ended {
-        Ok(()) => None,
-        Err(refusal) => Some(refusal),
-    };
     Driven {
         answers,
         tickets,
-        stopped,
+        stopped: stopped_by(ended),
     }
 }

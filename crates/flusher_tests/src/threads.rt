@@ -9,7 +9,6 @@ use hub::{Board, Hub};
 use published::{Opened, Site};
 use recovery::Store;
 use refusal::Refusal;
-use revision::Command;
 use std::alloc::Global;
 use std::marker::Brand;
 use std::process::Abort;
@@ -60,38 +59,35 @@ fn wait_for(reached: &AtomicBool) -> bool {
 
 // Submits the first command, and by another seat the second one, once the flusher is at the gate with the first. Both are acknowledged
 // then; the last token's commands are counted.
-fn submitted<J: Site, R: Wait>(
+fn submitted<J: Site, R: Wait + Abort + AllocGlobal>(
     rt: &R,
-    alloc: Global,
     hub: &Hub<MemDisk, J>,
     reached: &AtomicBool,
-    first: &Command,
-    second: &Command,
-) -> Result<u64, Refusal> {
-    let mut one = hub.seat(rt)?;
-    let mut other = hub.seat(rt)?;
-    let ticket = hub.submit(rt, alloc, &mut one, first)?;
-    if !wait_for(reached) {
-        return Err(Refusal::Stranger);
-    }
-    let last = hub.submit(rt, alloc, &mut other, second)?;
-    let _ = hub.wait_ack(rt, &ticket)?;
-    let told = hub.wait_ack(rt, &last)?;
-    Ok(told.len())
+) -> u64 {
+    let alloc = rt.alloc();
+    let mut one = hub.seat(rt).expect(rt, "a seat");
+    let mut other = hub.seat(rt).expect(rt, "a seat");
+    let first = command(rt, 1, 1);
+    let ticket = hub.submit(rt, alloc, &mut one, &first).expect(rt, "taken");
+    assert!(rt; wait_for(reached));
+    let second = command(rt, 2, 1);
+    let last = hub
+        .submit(rt, alloc, &mut other, &second)
+        .expect(rt, "taken");
+    let _ = hub.wait_ack(rt, &ticket).expect(rt, "acknowledged");
+    let told = hub.wait_ack(rt, &last).expect(rt, "acknowledged");
+    told.len()
 }
 
 // Submits both, and then ends the hub.
-fn submitted_all<J: Site, R: Wait>(
+fn submitted_all<J: Site, R: Wait + Abort + AllocGlobal>(
     rt: &R,
-    alloc: Global,
     hub: &Hub<MemDisk, J>,
     reached: &AtomicBool,
-    first: &Command,
-    second: &Command,
-) -> Result<u64, Refusal> {
-    let answer = submitted(rt, alloc, hub, reached, first, second);
+) -> u64 {
+    let held = submitted(rt, hub, reached);
     hub.end(rt);
-    answer
+    held
 }
 
 // Writes all that is ordered, and a milestone at each revision between; whether the order had a second command while the first was
@@ -144,18 +140,16 @@ fn beside<J: Site + Send + Sync, R: Threads + Wait + Abort + AllocGlobal + Sync>
     requires begin { state_of store ≡ J.start }
 {
     let alloc = rt.alloc();
-    let first = command(rt, 1, 1);
-    let second = command(rt, 2, 1);
     let (mut flusher, board) = started::<J, R>(rt, store, opened, blank);
     let hub = Hub::new(board);
     let reached = AtomicBool::new(false);
     let (held, saw) = join(
         rt,
-        || submitted_all(rt, alloc, &hub, &reached, &first, &second),
+        || submitted_all(rt, &hub, &reached),
         || flushed(rt, alloc, &mut flusher, &hub, &reached),
     );
     let store = flusher.end(rt);
-    assert!(rt; matches!(held, Ok(2)));
+    assert_eq!(rt; held, 2);
     assert!(rt; matches!(saw, Ok(true)));
     let disk = store.close();
     assert!(rt; disk.bytes().len() == 1_600 && disk.bytes()[64] == 0xa5);

@@ -1,5 +1,7 @@
-use Rattle.std.proofs.Common.{◌≡◌, ℕ, List, refl, sym, ap, subst}
+use Rattle.std.proofs.Common.{◌≡◌, ◌⊎◌, ℕ, List, refl, sym, ap, subst}
 use Rattle.std.specs.Prelude.{slice_get}
+use Rattle.std.proofs.lemmas.Result.{err_from_is_err_and}
+use Rattle.refusal.specs.declared.Refusal.TheVariants.{NoMemory, Fault}
 use Rattle.world.specs.Board.{Ticket}
 use Rattle.flusher.specs.declared.calls.Call.TheVariants.{Submit, Turn, Ack, Milestone, Retire}
 use Rattle.flusher.specs.declared.calls.Answer.TheVariants.{Turned, Acked}
@@ -9,9 +11,10 @@ use Rattle.recovery.specs.Open.{state_of}
 use Rattle.flusher.specs.Flushers.{cap_of}
 use Rattle.flusher.specs.Holding.{store_of, told_of, committed_of, waiting_of}
 use Rattle.flusher.specs.Run.{standing, between}
-use Rattle.flusher.specs.Driving.{AckGives}
+use Rattle.flusher.specs.Driving.{AckGives, IsTurnRefused}
 use Rattle.flusher.proofs.Running.{run_none}
-use Rattle.flusher.proofs.Answering.{same_cap, submit_goes, submit_calm, run_store_by, gives_of, gives_one, puts, retires, on_ok}
+use Rattle.flusher.proofs.Answering.{same_cap, submit_goes, submit_calm, run_store_by, gives_of, gives_one, puts, retires, on_ok, stops_turn, handed_on}
+use Rattle.flusher.proofs.Refusing.{fails_not}
 use Rattle.flusher.proofs.driving.call_one.Goals as goal
 
 pub returns-in-Submit-clause-goes : goal.returns-in-Submit-clause-goes
@@ -85,3 +88,21 @@ returns-in-Retire-clause-gives g c =
     gives_of (cap_of g.J.Site.start) (between c.args.board.now c.args.tickets.now.items c.args.flusher.now) c.args.call.now Retire c.retire_one.result
     (between c.args.board.now c.args.tickets.now.items c.retire_one.new.flusher) c.in-Retire.is
     (retires (cap_of g.J.Site.start) (between c.args.board.now c.args.tickets.now.items c.args.flusher.now) c.retire_one.result (store_of c.retire_one.new.flusher) c.retire_one.ensures.answer)
+
+pub returns-in-Submit-clause-fails : goal.returns-in-Submit-clause-fails
+returns-in-Submit-clause-fails g c = fails_not (store_of c.args.flusher.now) c.submit_one.result c.requires.works c.submit_one.ensures.only
+
+pub returns-in_err-count-in-Turn-clause-stops : goal.returns-in_err-count-in-Turn-clause-stops
+returns-in_err-count-in-Turn-clause-stops g c =
+    let store = store_of c.args.flusher.now in
+    let cap : ℕ = cap_of g.J.Site.start in
+    let p = err_from_is_err_and c.from_residual.result c.from_residual.ensures.1 in
+    handed_on (λ r. ((r ≡ NoMemory) ⊎ (r ≡ Fault)) ⊎ ((c.args.call.now ≡ Turn) × IsTurnRefused cap c.args.board.now store r)) c.from_residual.result p.0 c.in_err-count-in-Turn.field-0.0 p.1 p.2
+    (stops_turn (cap_of (state_of store)) cap c.args.board.now store c.args.call.now c.in_err-count-in-Turn.field-0.0 c.in-Turn.is
+    (same_cap g.J.Site.start (state_of store) (commands_of (told_of c.args.flusher.now)) c.requires.calm.state) c.in_err-count-in-Turn.ensures.refused)
+
+pub returns-in-Milestone-clause-fails : goal.returns-in-Milestone-clause-fails
+returns-in-Milestone-clause-fails g c = c.put_one.ensures.fails
+
+pub returns-in-Retire-clause-fails : goal.returns-in-Retire-clause-fails
+returns-in-Retire-clause-fails g c = c.retire_one.ensures.fails

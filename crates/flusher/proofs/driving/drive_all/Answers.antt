@@ -74,3 +74,33 @@ returns-in_err-answer-clause-answered g c =
       order = c.in_err-answer.ensures.order;
       settled = c.call_one.ensures.goes.settled;
     }
+
+pub returns-in_err-reserve-clause-answered : goal.returns-in_err-reserve-clause-answered
+returns-in_err-reserve-clause-answered g c =
+    let i = c.loop-call.invariant in
+    let cap : ℕ = cap_of g.J.Site.start in
+    let first = between c.args.board.now [] c.args.flusher.now in
+    let last = between c.loop-call.board c.loop-call.tickets.items c.loop-call.flusher in
+    record {
+      last = last;
+      answered =
+          subst (λ l. Answered cap first (take (length l) c.args.calls.now) l last) (sym c.in_err-reserve.ensures.items)
+          (subst (λ n. Answered cap first (take n c.args.calls.now) c.loop-call.answers.items last) (sym i.count) i.answered);
+      tickets = refl;
+      order = refl;
+      settled = omega arith;
+    }
+
+pub returns-clause-answered : goal.returns-clause-answered
+returns-clause-answered g c =
+    let i = c.loop-call.invariant in
+    let cap : ℕ = cap_of g.J.Site.start in
+    let first = between c.args.board.now [] c.args.flusher.now in
+    let last = between c.loop-call.board c.loop-call.tickets.items c.loop-call.flusher in
+    record {
+      last = last;
+      answered = subst (λ n. Answered cap first (take n c.args.calls.now) c.loop-call.answers.items last) (sym i.count) i.answered;
+      tickets = refl;
+      order = refl;
+      settled = omega arith;
+    }

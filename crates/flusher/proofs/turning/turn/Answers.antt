@@ -1,4 +1,4 @@
-use Rattle.std.proofs.Common.{◌≡◌, ◌<◌, ℕ, Bool, true, false, List, [], ◌∷◌, ◌++◌, length, refl, sym, ◌∙◌, ap, subst, arith, append-nil}
+use Rattle.std.proofs.Common.{◌≡◌, ◌<◌, ◌⊎◌, Err, ℕ, Bool, true, false, List, [], ◌∷◌, ◌++◌, length, refl, sym, ◌∙◌, ap, subst, arith, append-nil}
 use Rattle.std.proofs.lemmas.Bool.{false≢true}
 use Rattle.std.proofs.lemmas.Result.{err_from_is_err_and}
 use Rattle.revision.specs.Command.{Taken}
@@ -12,7 +12,10 @@ use Rattle.hub.specs.Runs.{IsLongest, untaken}
 use Rattle.flusher.specs.Holding.{store_of, told_of, committed_of, waiting_of}
 use Rattle.flusher.specs.Standing.{RunGoes}
 use Rattle.flusher.specs.Run.{standing}
-use Rattle.flusher.specs.Driving.{turned}
+use Rattle.flusher.specs.Driving.{turned, IsTurnRefused}
+use Rattle.flusher.specs.Flushers.{cap_of}
+use Rattle.refusal.specs.declared.Refusal.{Refusal}
+use Rattle.refusal.specs.declared.Refusal.TheVariants.{NoMemory, Fault}
 use Rattle.flusher.proofs.Running.{run_none}
 use Rattle.flusher.proofs.Steps.{run_of_none, run_refused_by, run_settled}
 use Rattle.flusher.proofs.Fitting.{fits_slot, run_fits, run_within, may_settle, goes_held}
@@ -146,3 +149,28 @@ returns-in_ok-settle-in-Some-clause-state g c =
     c.in_ok-write.ensures.state ∙ ap (λ s. fold (state_of s) (commands_of (waiting_of c.hold.new.self))) c.hold.ensures.store
     ∙ ap (λ (l : List (List Taken)). fold (state_of (store_of c.args.flusher.now)) (commands_of l)) c.hold.ensures.waiting
     ∙ ap (fold (state_of (store_of c.args.flusher.now))) (append-nil c.in_ok-run.run'.items ∙ c.in_ok-run.ensures.run ∙ ap (λ (n : ℕ). takens (next_run c.args.board.now.board n)) count)
+
+pub returns-in_err-write-clause-refused : goal.returns-in_err-write-clause-refused
+returns-in_err-write-clause-refused g c =
+    let run = c.in_ok-run.run'.items in
+    let store = store_of c.args.flusher.now in
+    let cap : ℕ = cap_of (state_of store) in
+    let e = c.in_err-write.ensures in
+    let longest = subst (λ (n : ℕ). IsLongest n (untaken c.args.board.now.board) (length run)) c.cap.ensures c.in_ok-run.ensures.longest in
+    let p = err_from_is_err_and c.from_residual-in_err-write.result c.from_residual-in_err-write.ensures.1 in
+    handed_on (λ r. ((r ≡ NoMemory) ⊎ (r ≡ Fault)) ⊎ IsTurnRefused cap c.args.board.now store r) c.from_residual-in_err-write.result p.0 c.in_err-write.field-0.0 p.1 p.2
+    (turn_refused cap c.args.board.now store (store_of c.hold.new.self) (store_of c.write.new.self) (waiting_of c.hold.new.self) run c.in_err-write.field-0.0 c.hold.ensures.waiting
+    c.hold.ensures.store c.in_ok-run.ensures.run longest (λ is. e.full (ap (λ (r : Refusal). Err r) is)) (λ is. e.needed (ap (λ (r : Refusal). Err r) is))
+    (λ is. e.stranger (ap (λ (r : Refusal). Err r) is)) e.only)
+
+pub returns-in_err-settle-in-Some-clause-refused : goal.returns-in_err-settle-in-Some-clause-refused
+returns-in_err-settle-in-Some-clause-refused g c =
+    let run = c.in_ok-run.run'.items in
+    let some : 0 < length run = omega arith in
+    let held = ap (λ (l : List (List Taken)). l ++ waiting_of c.hold.new.self) (c.hold.ensures.committed ∙ c.requires.calm.committed) ∙ c.hold.ensures.waiting in
+    let written = rw c.in-Some.is at c.in_ok-write.ensures.some in
+    let same = same_batch _ c.in-Some.both.0 run written.batch held in
+    let tells = written.token_is ∙ written.published ∙ ap (λ (l : List (List Taken)). told_of c.hold.new.self ++ l) held ∙ ap (λ (l : List (List Taken)). l ++ run ∷ []) c.hold.ensures.told in
+    absurd (false≢true (c.in_err-settle-in-Some.ensures.stranger
+    (may_settle g.J.Site.start (standing c.args.board.now c.args.flusher.now) c.take.new.self.board run c.in-Some.both.0 c.in-Some.both.1 c.requires.calm c.in_ok-run.ensures.run
+    (ap (λ (b : Board). b.board) c.in_ok-run.ensures.board) some same tells)))
