@@ -31,7 +31,7 @@ rounds = int(sys.argv[1]) if len(sys.argv) > 1 else 50
 sessions = int(sys.argv[2]) if len(sys.argv) > 2 else 16
 
 SHARED = "all"
-MOST_EDITS = 400  # of one session on one document, so that the shared document stays within its weight
+MOST_EDITS = 4_800 // sessions  # of one session on one document, so that the shared document stays within its weight
 PATIENCE = 60  # seconds
 
 # Two kinds of stores and servers, in turn: the options of `format`, and those of `serve`.
@@ -160,7 +160,7 @@ def once(folder, number):
     """One round. Gives how many edits were acknowledged, and how many on their way were taken and how many weren't."""
     shape, options = KINDS[number % len(KINDS)]
     store = os.path.join(folder, "store")
-    subprocess.run([richd, "format", store, "--cell", "1048576", *shape], check=True)
+    subprocess.run([richd, "format", store, "--docs", str(sessions + 1), "--cell", "524288", *shape], check=True)
     server, address = start(store, options)
     clients = [Client(i) for i in range(sessions)]
     for client in clients:

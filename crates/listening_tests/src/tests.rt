@@ -89,11 +89,7 @@ fn served<
         + Sync,
     D: Disk + Send + Sync + Drop,
     F: FnOnce(SocketAddr) -> Result<(), Fail> + Send,
->(
-    rt: &R,
-    store: Store<D>,
-    clients: F,
-) -> Result<(Store<D>, Result<(), Refusal>), Fail> {
+>(rt: &R, store: Store<D>, clients: F) -> Result<(Store<D>, Result<(), Refusal>), Fail> {
     let listener = TcpListener::bind(rt, "127.0.0.1:0")?;
     listener.set_nonblocking(true)?;
     let address = listener.local_addr()?;

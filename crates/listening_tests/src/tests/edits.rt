@@ -5,7 +5,8 @@ const CREATE: &str = "{\"do\":\"create\",\"doc\":\"d\",\"n\":1,\"ops\":[{\"inser
 
 const TAKEN_1: &str = "{\"doc\":\"d\",\"n\":1,\"ok\":\"taken\",\"rev\":1}";
 
-const EDIT: &str = "{\"base\":1,\"do\":\"edit\",\"doc\":\"d\",\"n\":1,\"ops\":[{\"insert\":\"q\"}]}";
+const EDIT: &str =
+    "{\"base\":1,\"do\":\"edit\",\"doc\":\"d\",\"n\":1,\"ops\":[{\"insert\":\"q\"}]}";
 
 const TAKEN_2: &str = "{\"doc\":\"d\",\"n\":1,\"ok\":\"taken\",\"rev\":2}";
 
@@ -58,7 +59,9 @@ fn a_subscriber_sees_every_revision_once_in_order(rt: HostRuntime) -> Result<(),
         let subscribed = ask(&rt, &bob, subscribe)?;
         assert!(&rt; subscribed.as_str().contains("subscribed"));
         for number in 2..40u64 {
-            let edit = format!(in rt.alloc(); "{{\"base\":1,\"do\":\"edit\",\"doc\":\"d\",\"n\":{number},\"ops\":[{{\"insert\":\"q\"}}]}}")?;
+            let edit = format!(in rt.alloc();
+                "{{\"base\":1,\"do\":\"edit\",\"doc\":\"d\",\"n\":{number},\"ops\":[{{\"insert\":\"q\"}}]}}"
+            )?;
             ask(&rt, &ann, edit.as_str())?;
         }
         for revision in 2..40u64 {
