@@ -4,7 +4,8 @@
 usage: bench/turns.py [COUNT] [LETTERS] [ROUNDS]     (default: 4,096 edits a row, 8,192 letters, the best of 3 rounds)
 
 Each row is a new store, and each edit puts a letter in place of another one, alone in its batch, with two syncs of the file. Once
-8 documents are edited in turn, once there is one. Milestones lie 16, 256 (the default) and 65,536 revisions apart, where the last
+8 documents are edited in turn, once there is one. Each row has the best time, and the least processor time of an edit, which
+depends less on what else the machine does. Milestones lie 16, 256 (the default) and 65,536 revisions apart, where the last
 means none. In the last rows the journal is that of two small slots, which is freed again and again.
 
 Run ./demo first, which builds crates/richd/out/richd. The store lies in a temporary folder (TMPDIR); the time depends on how
@@ -12,6 +13,7 @@ long that disk takes to sync. With TMPDIR=/dev/shm its syncs cost next to nothin
 """
 import json
 import os
+import resource
 import subprocess
 import sys
 import tempfile
@@ -50,30 +52,39 @@ def edits(documents):
 
 def serve(store, messages, spacing):
     text = spelled([{"do": "hello", "source": "bench"}] + list(messages))
+    before = processor_time()
     start = time.monotonic()
     served = subprocess.run([richd, "serve", store, "--every", spacing], input=text, capture_output=True, text=True)
     took = time.monotonic() - start
-    return took, served.stdout.count('"ok":"taken"')
+    return took, processor_time() - before, served.stdout.count('"ok":"taken"')
 
 
-def edits_a_second(folder, documents, slot, spacing):
+def processor_time():
+    used = resource.getrusage(resource.RUSAGE_CHILDREN)
+    return used.ru_utime + used.ru_stime
+
+
+def measured(folder, documents, slot, spacing):
     store = os.path.join(folder, "store")
     cell = 12 * letters + 1_024
     words = ["--docs", str(documents), "--cell", str(cell), "--slots", "2", "--slot", str(slot)]
     subprocess.run([richd, "format", store] + words, check=True)
-    alone, made = serve(store, creations(documents), spacing)
-    took, taken = serve(store, edits(documents), spacing)
+    _, _, made = serve(store, creations(documents), spacing)
+    took, used, taken = serve(store, edits(documents), spacing)
     os.remove(store)
     if (made, taken) != (documents, count):
         sys.exit(f"{taken} of {count} edits were taken, {made} of {documents} creations")
-    return taken / took
+    return took, used
 
 
 with tempfile.TemporaryDirectory() as folder:
     for documents, slot in rows:
         print(f"{documents} of {letters} letters, two slots of {slot} bytes:")
-        without = 0
+        without = None
         for spacing, name in spacings:
-            best = max(edits_a_second(folder, documents, slot, spacing) for _ in range(rounds))
-            without = without or best
-            print(f"  milestones: {name}: {best:.0f} edits a second, {100 * (without - best) / without:.0f} % less")
+            runs = [measured(folder, documents, slot, spacing) for _ in range(rounds)]
+            best = count / min(took for took, _ in runs)
+            least = min(used for _, used in runs) / count * 1e6
+            without = without or least
+            more = 100 * (least - without) / without
+            print(f"  milestones: {name}: {best:.0f} edits a second, {least:.1f} us of a processor each, {more:+.0f} %")

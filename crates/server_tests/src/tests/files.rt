@@ -1,9 +1,12 @@
 use super::{CREATE, GREETED, HELLO, call, format_small, path, runs};
 use std::fs::{self, File};
 use std::io::{self, Read};
+use std::net::{Net, TcpListener, TcpStream};
 use std::process::Abort;
 use std::rt::Files;
+use std::sync::Wait;
 use std::test::Fail;
+use std::thread::Threads;
 
 /// Hello and the creation of `d` by source `a`, and the same with other names, one run after another over a store of two
 /// documents: what comes behind the greeting.
@@ -91,10 +94,15 @@ fn a_document_is_made_and_printed(rt: HostRuntime) -> Result<(), Fail> {
     Ok(())
 }
 
-fn slot_is_written<R: Files<File = File> + AllocGlobal + Abort>(
-    rt: &R,
-    path: &str,
-) -> Result<(), Fail> {
+fn slot_is_written<
+    R: Files<File = File>
+        + AllocGlobal
+        + Net<Listener = TcpListener, Stream = TcpStream>
+        + Threads
+        + Wait
+        + Sync
+        + Abort,
+>(rt: &R, path: &str) -> Result<(), Fail> {
     let bytes = fs::read(rt, path)?;
     assert_eq!(rt; bytes.len(), 1600);
     assert_eq!(rt; &bytes[1088..1148], SLOT);
@@ -175,12 +183,15 @@ fn faults_have_their_statuses(rt: HostRuntime) -> Result<(), Fail> {
     Ok(())
 }
 
-fn command_runs<R: Files<File = File> + AllocGlobal + Abort>(
-    rt: &R,
-    command: &str,
-    path: &str,
-    wanted: (u8, &str, &str),
-) -> Result<(), Fail> {
+fn command_runs<
+    R: Files<File = File>
+        + AllocGlobal
+        + Net<Listener = TcpListener, Stream = TcpStream>
+        + Threads
+        + Wait
+        + Sync
+        + Abort,
+>(rt: &R, command: &str, path: &str, wanted: (u8, &str, &str)) -> Result<(), Fail> {
     runs(rt, &["richd", command, path], &mut io::empty(), wanted)
 }
 
@@ -197,11 +208,15 @@ fn a_file_in_no_folder_is_a_fault(rt: HostRuntime) -> Result<(), Fail> {
 }
 
 /// A run of one source, which makes one document and sends the creation once more. The answer is the document's line.
-fn made<R: Files<File = File> + AllocGlobal + Abort>(
-    rt: &R,
-    path: &str,
-    k: u32,
-) -> Result<String, Fail> {
+fn made<
+    R: Files<File = File>
+        + AllocGlobal
+        + Net<Listener = TcpListener, Stream = TcpStream>
+        + Threads
+        + Wait
+        + Sync
+        + Abort,
+>(rt: &R, path: &str, k: u32) -> Result<String, Fail> {
     let create = format!(in rt.alloc();
         "{{\"do\":\"create\",\"doc\":\"d{k}\",\"n\":1,\"ops\":[{{\"insert\":\"text {k}\"}}]}}\n"
     )?;

@@ -1,9 +1,12 @@
 use super::{GREETED, HELLO, call, format_small, path, runs};
 use std::fs::{self, File};
 use std::io;
+use std::net::{Net, TcpListener, TcpStream};
 use std::process::Abort;
 use std::rt::Files;
+use std::sync::Wait;
 use std::test::Fail;
+use std::thread::Threads;
 
 /// The two slots of a small store hold some nine edits of this kind.
 const EDITS: u64 = 200;
@@ -12,7 +15,8 @@ const EDITS: u64 = 200;
 const CREATES: &str = "{\"do\":\"create\",\"doc\":\"e\",\"n\":1,\"ops\":[{\"insert\":\"e\"}]}\n\
     {\"do\":\"create\",\"doc\":\"d\",\"n\":1,\"ops\":[{\"insert\":\"zzzz\"}]}\n";
 
-const CREATED: &str = "{\"doc\":\"e\",\"n\":1,\"ok\":\"taken\",\"rev\":1}\n{\"doc\":\"d\",\"n\":1,\"ok\":\"taken\",\"rev\":1}\n";
+const CREATED: &str =
+    "{\"doc\":\"e\",\"n\":1,\"ok\":\"taken\",\"rev\":1}\n{\"doc\":\"d\",\"n\":1,\"ok\":\"taken\",\"rev\":1}\n";
 
 /// The letter that an edit puts in front of the other ones. The last of these goes.
 pub fn letter(revision: u64) -> char {
@@ -39,12 +43,15 @@ pub fn edits<R: AllocGlobal>(rt: &R, above: u64, last: u64) -> Result<(String, S
 }
 
 /// Serves these lines behind hello, and nothing but these replies comes.
-fn served<R: Files<File = File> + AllocGlobal + Abort>(
-    rt: &R,
-    words: &[&str],
-    lines: &str,
-    replies: &str,
-) -> Result<(), Fail> {
+fn served<
+    R: Files<File = File>
+        + AllocGlobal
+        + Net<Listener = TcpListener, Stream = TcpStream>
+        + Threads
+        + Wait
+        + Sync
+        + Abort,
+>(rt: &R, words: &[&str], lines: &str, replies: &str) -> Result<(), Fail> {
     let input = format!(in rt.alloc(); "{HELLO}{lines}")?;
     let wanted = format!(in rt.alloc(); "{GREETED}{replies}")?;
     runs(rt, words, &mut input.as_bytes(), (0, wanted.as_str(), ""))
@@ -52,11 +59,15 @@ fn served<R: Files<File = File> + AllocGlobal + Abort>(
 
 /// By a pick of the milestones the store holds both documents, the second with the letters of its last four edits. The floor
 /// is that of the milestone, or two revisions back.
-fn holds<R: Files<File = File> + AllocGlobal + Abort>(
-    rt: &R,
-    path: &str,
-    pick: &str,
-) -> Result<(), Fail> {
+fn holds<
+    R: Files<File = File>
+        + AllocGlobal
+        + Net<Listener = TcpListener, Stream = TcpStream>
+        + Threads
+        + Wait
+        + Sync
+        + Abort,
+>(rt: &R, path: &str, pick: &str) -> Result<(), Fail> {
     let dumped = call(
         rt,
         &["richd", "dump", path, "--pick", pick],
@@ -83,12 +94,15 @@ fn holds<R: Files<File = File> + AllocGlobal + Abort>(
 }
 
 /// A store takes twenty times what its journal holds, and each edit is acknowledged; where it is parted, in two runs.
-fn goes_on<R: Files<File = File> + AllocGlobal + Abort>(
-    rt: &R,
-    path: &str,
-    spacing: &[&str],
-    parted: u64,
-) -> Result<(), Fail> {
+fn goes_on<
+    R: Files<File = File>
+        + AllocGlobal
+        + Net<Listener = TcpListener, Stream = TcpStream>
+        + Threads
+        + Wait
+        + Sync
+        + Abort,
+>(rt: &R, path: &str, spacing: &[&str], parted: u64) -> Result<(), Fail> {
     format_small(rt, path)?;
     let mut words = Vec::new(rt.alloc());
     words.extend_from_slice(&["richd", "serve", path])?;
@@ -154,7 +168,11 @@ fn milestones_lie_so_far_apart(rt: HostRuntime) -> Result<(), Fail> {
                 &mut io::empty(),
             )?;
             let wanted = format!(in rt.alloc(); "\nd 10 {floor} ")?;
-            assert!(rt; dumped.output.as_str().contains(wanted.as_str()), "{}", dumped.output.as_str());
+            assert!(rt;
+                dumped.output.as_str().contains(wanted.as_str()),
+                "{}",
+                dumped.output.as_str()
+            );
         }
         fs::remove_file(&rt, path)?;
     }

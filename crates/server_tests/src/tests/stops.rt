@@ -157,10 +157,17 @@ fn holds_taken<R: AllocGlobal + Abort>(rt: &R, disk: MemDisk, taken: u64) -> Res
         Some(document) => document.revision(),
         None => 0,
     };
-    assert!(rt; revision == taken || revision == taken + 1, "{revision} after {taken}");
+    assert!(rt;
+        revision == taken || revision == taken + 1,
+        "{revision} after {taken}"
+    );
     if revision > 0 {
         let content = content_at(rt, revision)?;
-        assert!(rt; dumped.as_str().ends_with(content.as_str()), "{}", dumped.as_str());
+        assert!(rt;
+            dumped.as_str().ends_with(content.as_str()),
+            "{}",
+            dumped.as_str()
+        );
     }
     Ok(())
 }
