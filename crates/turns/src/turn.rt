@@ -1,10 +1,6 @@
 //! One turn, and all of them.
-ghost use Rattle.std.specs.Prelude.{◌≡◌, ◌≢◌, ◌↔◌, ◌≤◌, List, [], ◌∷◌, ◌++◌, true, false, length, OnOk, IfOk, IfErr, IfSome, IsErrOf};
-ghost use Rattle.revision.specs.Command.{Taken as Entry};
+ghost use Rattle.std.specs.Prelude.{◌≡◌, ◌≤◌, length, IfOk, IfErr, IfSome};
 ghost use Rattle.journal.specs.BatchSpelling.{batch_width};
-ghost use Rattle.recovery.specs.Open.{has_failed};
-ghost use Rattle.flusher.specs.Holding.{store_of, told_of, committed_of, waiting_of};
-ghost use Rattle.turns.specs.Writing.{Writes};
 
 use crate::upkeep::Upkeep;
 use disk::Disk;
@@ -31,16 +27,7 @@ pub fn flush_turn<D: Disk, J: Site, R: Wait, G: Gate>(
     hub: &Hub<D, J>,
     upkeep: &mut Upkeep<D>,
     gate: &mut G,
-) -> Result<bool, Refusal>
-    // What a crash leaves, and what is published and held after it.
-    ensures writes { Writes J.start flusher.old flusher.new }
-    ensures one { IfOk result (λ settled. settled ≡ true → (batch : List Entry) × (told_of flusher.new ≡ told_of flusher.old ++ batch ∷ [])) }
-    ensures none { IfOk result (λ settled. settled ≡ false → told_of flusher.new ≡ told_of flusher.old) }
-    ensures nothing { OnOk result ((committed_of flusher.new ≡ []) × (waiting_of flusher.new ≡ [])) }
-
-    // A failure of the device is told as such, and nothing else is.
-    ensures fails { has_failed (store_of flusher.old) ≡ false → (has_failed (store_of flusher.new) ≡ true ↔ IsErrOf result Refusal.Fault) }
-{
+) -> Result<bool, Refusal> {
     match turn_made(rt, alloc, flusher, hub, upkeep, gate) {
         Ok(settled) => Ok(settled),
         Err(refusal) => {
@@ -60,14 +47,7 @@ fn turn_made<D: Disk, J: Site, R: Wait, G: Gate>(
     hub: &Hub<D, J>,
     upkeep: &mut Upkeep<D>,
     gate: &mut G,
-) -> Result<bool, Refusal>
-    ensures writes { Writes J.start flusher.old flusher.new }
-    ensures one { IfOk result (λ settled. settled ≡ true → (batch : List Entry) × (told_of flusher.new ≡ told_of flusher.old ++ batch ∷ [])) }
-    ensures none { IfOk result (λ settled. settled ≡ false → told_of flusher.new ≡ told_of flusher.old) }
-    ensures nothing { OnOk result ((committed_of flusher.new ≡ []) × (waiting_of flusher.new ≡ [])) }
-    ensures fails { has_failed (store_of flusher.old) ≡ false → (has_failed (store_of flusher.new) ≡ true ↔ IsErrOf result Refusal.Fault) }
-{
-    flusher.kept();
+) -> Result<bool, Refusal> {
     if let Err(refusal) = upkeep.put_due(alloc, flusher) {
         return Err(refusal);
     }
@@ -88,15 +68,7 @@ fn hold_next<D: Disk, J: Site, R: Wait>(
     alloc: Global,
     flusher: &mut Flusher<D, J>,
     hub: &Hub<D, J>,
-) -> Result<bool, Refusal>
-    ensures writes { Writes J.start flusher.old flusher.new }
-    ensures held { IfOk result (λ held. held ≡ true → committed_of flusher.new ++ waiting_of flusher.new ≢ []) }
-    ensures nothing { IfOk result (λ held. held ≡ false → (committed_of flusher.new ≡ []) × (waiting_of flusher.new ≡ [])) }
-    ensures store { store_of flusher.new ≡ store_of flusher.old }
-    ensures told { told_of flusher.new ≡ told_of flusher.old }
-    ensures only { IfErr result (λ e. e ≡ Refusal.NoMemory) }
-{
-    flusher.kept();
+) -> Result<bool, Refusal> {
     if flusher.holds() {
         return Ok(true);
     }
@@ -141,23 +113,12 @@ fn write_held<D: Disk, J: Site, R: Wait, G: Gate>(
     hub: &Hub<D, J>,
     upkeep: &mut Upkeep<D>,
     gate: &mut G,
-) -> Result<bool, Refusal>
-    ensures writes { Writes J.start flusher.old flusher.new }
-    ensures one { IfOk result (λ settled. settled ≡ true → (batch : List Entry) × (told_of flusher.new ≡ told_of flusher.old ++ batch ∷ [])) }
-    ensures none { IfOk result (λ settled. settled ≡ false → committed_of flusher.old ++ waiting_of flusher.old ≡ []) }
-    ensures nothing { OnOk result ((committed_of flusher.new ≡ []) × (waiting_of flusher.new ≡ [])) }
-    ensures fails { has_failed (store_of flusher.old) ≡ false → (has_failed (store_of flusher.new) ≡ true ↔ IsErrOf result Refusal.Fault) }
-{
-    flusher.kept();
+) -> Result<bool, Refusal> {
     match flusher.write(rt, alloc, gate) {
         Err(refusal) => Err(refusal),
-        Ok(None) => {
-            flusher.kept();
-            Ok(false)
-        }
+        Ok(None) => { Ok(false) }
         Ok(Some(both)) => {
             let (receipt, told) = both;
-            flusher.kept();
             if let Err(refusal) = hub.settle(rt, &receipt, told) {
                 return Err(refusal);
             }
@@ -170,9 +131,6 @@ fn write_held<D: Disk, J: Site, R: Wait, G: Gate>(
 /// Makes turns until the hub is ended and all that was ordered is settled, or until a turn fails the board. It waits where nothing is
 /// to be taken, and where memory is wanted it lets other threads run and tries again. A document's milestone is due where it passes a
 /// multiple of `every` revisions; 0 puts none.
-///
-/// A crash at any moment of it leaves some first batches of those that were given, and no fewer commands than were published when it
-/// began; one after its return no fewer than are published then. Of each turn `flush_turn` says the same.
 pub fn flush_all<D: Disk, J: Site, R: Wait, G: Gate>(
     rt: &R,
     alloc: Global,
@@ -180,13 +138,7 @@ pub fn flush_all<D: Disk, J: Site, R: Wait, G: Gate>(
     hub: &Hub<D, J>,
     every: u32,
     gate: &mut G,
-) -> Result<(), Refusal>
-    ensures writes { Writes J.start flusher.old flusher.new }
-    ensures nothing { OnOk result ((committed_of flusher.new ≡ []) × (waiting_of flusher.new ≡ [])) }
-    ensures fails { has_failed (store_of flusher.old) ≡ false → (has_failed (store_of flusher.new) ≡ true ↔ IsErrOf result Refusal.Fault) }
-    ensures tries { ¬ IsErrOf result Refusal.NoMemory }
-{
-    flusher.kept();
+) -> Result<(), Refusal> {
     let mut upkeep = Upkeep::new(every);
     for _ in rt.forever() {
         if !flusher.holds() && !hub.wait_work(rt) {

