@@ -1,7 +1,6 @@
 mod deltas;
 mod edits;
 mod files;
-mod going_on;
 mod lines;
 mod news;
 mod refusals;

@@ -47,15 +47,6 @@ const FREED_REPLIES: &str = "{\"ok\":\"hello\"}\n\
     {\"code\":7,\"error\":\"Exists\"}\n\
     {\"doc\":\"d\",\"ok\":\"doc\",\"ops\":[{\"insert\":\"z\"}],\"rev\":3}\n";
 
-/// The one slot that is open is the last one that can be: its number is the highest there is. What is there can be read.
-const LAST_REPLIES: &str = "{\"ok\":\"hello\"}\n\
-    {\"doc\":\"d\",\"n\":1,\"ok\":\"again\",\"rev\":1}\n\
-    {\"code\":17,\"error\":\"TooWide\"}\n\
-    {\"code\":21,\"error\":\"StoreFailed\"}\n\
-    {\"code\":21,\"error\":\"StoreFailed\"}\n\
-    {\"code\":21,\"error\":\"StoreFailed\"}\n\
-    {\"doc\":\"d\",\"ok\":\"doc\",\"ops\":[{\"insert\":\"z\"}],\"rev\":1}\n";
-
 /// Commands on one file in turn, which is missing at first, each with its status and its error.
 const COMMANDS: [(&str, u8, &str); 6] = [
     ("serve", 1, "error 34 Fault\n"),
@@ -133,25 +124,6 @@ fn a_full_journal_is_freed(rt: HostRuntime) -> Result<(), Fail> {
     format_small(&rt, path)?;
     let serve = ["richd", "serve", path];
     runs(&rt, &serve, &mut FULL.as_bytes(), (0, FREED_REPLIES, ""))?;
-    fs::remove_file(&rt, path)?;
-    Ok(())
-}
-
-#[test]
-fn a_full_journal_that_cannot_be_freed_fails_the_store(rt: HostRuntime) -> Result<(), Fail> {
-    let path = path(&rt, "last")?;
-    let path = path.as_str();
-    format_small(&rt, path)?;
-    let serve = ["richd", "serve", path];
-    let mut input = HELLO.as_bytes().chain(CREATE.as_bytes());
-    let taken = "{\"ok\":\"hello\"}\n{\"doc\":\"d\",\"n\":1,\"ok\":\"taken\",\"rev\":1}\n";
-    runs(&rt, &serve, &mut input, (0, taken, ""))?;
-    let mut bytes = fs::read(&rt, path)?;
-    // The number of the first slot's segment.
-    bytes[1089..1097].fill(0xff);
-    fs::write(&rt, path, bytes.as_slice())?;
-    let wanted = (1, LAST_REPLIES, "error 21 StoreFailed\n");
-    runs(&rt, &serve, &mut FULL.as_bytes(), wanted)?;
     fs::remove_file(&rt, path)?;
     Ok(())
 }
