@@ -8,6 +8,8 @@ pub mod callers;
 #[cfg(test)]
 mod cells;
 #[cfg(test)]
+mod crashes;
+#[cfg(test)]
 mod creating;
 #[cfg(test)]
 mod damage;
@@ -31,6 +33,8 @@ mod retiring;
 mod rings;
 #[cfg(test)]
 mod running;
+#[cfg(test)]
+mod scripts;
 #[cfg(test)]
 mod stopping;
 #[cfg(test)]
