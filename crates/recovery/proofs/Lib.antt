@@ -15,9 +15,14 @@ pub mod Splitting
 pub mod MarkedRead
 pub mod KnownCells
 pub mod Retirement
+pub mod Reaching
+pub mod Raising
+pub mod Rooms
 pub mod PutCells
 pub mod Putting
 pub mod PutAtOnce
+pub mod Faults
+pub mod Freed
 pub mod Upkeep
 pub mod Named
 pub mod Gathering

@@ -62,7 +62,7 @@ returns-clause-any_moment g c unfailed is_open =
 pub returns-clause-put : goal.returns-clause-put
 returns-clause-put g c is_open =
     let still = c.in-Ok.ensures.stays is_open in
-    put_at c.args.self.now c.put_milestone.new.self c.args.document c.args.revision is_open c.in-Ok.job c.in-Ok-compose_job.composed still.goes_on.cells still.same_cells
+    put_at c.args.self.now c.put_milestone.new.self c.args.document c.args.revision is_open c.in-Ok.job c.in-Ok-compose_job.composed still.goes_on.cells still.goes_on.table still.same_cells still.same_table
     c.in-Ok-compose_job.ensures.done c.in-Ok.ensures.job (c.in_default.ensures.done still.goes_on)
 
 -- why the job was refused; the put itself has no such reason
@@ -75,6 +75,20 @@ returns-in-Err-compose_job-clause-refused g c memory fault = absurd (memory c.in
 
 pub returns-in-Err-put_milestone-clause-refused : goal.returns-in-Err-put_milestone-clause-refused
 returns-in-Err-put_milestone-clause-refused g c memory fault =
+    let store = c.args.self.now in
+    let mid = c.milestone_job.new.self in
+    let works : has_failed mid ≡ false = c.milestone_job.ensures.failed ∙ had_not_failed c.in-Ok.job c.in-Ok.ensures.failed_before in
+    ⊎_elim
+    (λ stranger. absurd ((c.in-Err-put_milestone.ensures.stranger works).0 (ap (λ (r : Refusal). Err r) stranger)
+    (keeps_it c.in-Ok.job c.in-Ok-compose_job.composed (kept_jobs store) (kept_jobs mid) c.in-Ok.ensures.keeps c.in-Ok-compose_job.ensures.done)))
+    (⊎_elim (λ is. absurd (memory is)) (λ is. absurd (fault is))) c.in-Err-put_milestone.ensures.only
+
+-- the same by the cells that are known in memory
+pub returns-in-Err-compose_job-clause-refused_by : goal.returns-in-Err-compose_job-clause-refused_by
+returns-in-Err-compose_job-clause-refused_by g c memory fault = absurd (memory c.in-Err-compose_job.ensures.only)
+
+pub returns-in-Err-put_milestone-clause-refused_by : goal.returns-in-Err-put_milestone-clause-refused_by
+returns-in-Err-put_milestone-clause-refused_by g c memory fault =
     let store = c.args.self.now in
     let mid = c.milestone_job.new.self in
     let works : has_failed mid ≡ false = c.milestone_job.ensures.failed ∙ had_not_failed c.in-Ok.job c.in-Ok.ensures.failed_before in
