@@ -18,6 +18,8 @@ mod deltas;
 #[cfg(test)]
 mod devices;
 #[cfg(test)]
+mod freeing;
+#[cfg(test)]
 mod jobs;
 #[cfg(test)]
 mod milestones;
