@@ -12,5 +12,6 @@ pub mod Deciding
 pub mod Weighing
 pub mod Inserting
 pub mod Making
+pub mod Behind
 pub mod Changing
 pub mod Measured

@@ -11,8 +11,10 @@ ghost use Rattle.document.specs.Places.{Cuts};
 ghost use Rattle.document.specs.Making.{document_from};
 ghost use Rattle.document.specs.Outcome.{IsAccepted, IsTooLong, IsRefused};
 
+use crate::appending::text_behind;
 use crate::applying::{applied, parts_pair};
 use crate::run::{Piece, Run};
+use crate::runs::put_text;
 use crate::weights::{runs_weight, weighed};
 use delta::{Builder, Delta, MAX_LEN, Op};
 use refusal::Refusal;
@@ -131,7 +133,8 @@ impl Document {
 
     /// Applies a delta. It is refused as PastEnd where the delta reaches past the end, else as CutsPair where it parts a
     /// surrogate pair, else as BadOps where the document would have more than 2^48 code units, and as NoMemory; the
-    /// document is then as it was. Linear in the runs and the operations, and no text is copied more than once.
+    /// document is then as it was. Linear in the runs and the operations, and no text is copied more than once. Where it only
+    /// puts a text behind the whole document, no other text is copied.
     pub fn apply(&mut self, alloc: Global, delta: &Delta) -> Result<(), Refusal>
         ensures ok { OnOk result (self.new ≡ apply self.old (counted delta.now)) }
         ensures well_formed { OnOk result (IsWellFormed self.new) }
@@ -141,11 +144,18 @@ impl Document {
         ensures bad { (result ≡ Err Refusal.BadOps) ↔ IsTooLong self.old (counted delta.now) }
         ensures only { IfErr result (IsRefused self.old (counted delta.now)) }
     {
-        let after = match self.after(alloc, delta) {
-            Ok(after) => after,
+        let behind = match self.behind(delta) {
+            Ok(behind) => behind,
             Err(refused) => return Err(refused),
         };
-        *self = after;
+        if behind == 0
+            && let Some((text, units, attrs)) = text_behind(delta.ops())
+        {
+            let attrs = attrs.copy(alloc)?;
+            put_text(alloc, &mut self.runs, text, units, attrs)?;
+            return Ok(());
+        }
+        self.runs = applied(alloc, self.runs.as_slice(), delta.ops(), behind)?;
         Ok(())
     }
 

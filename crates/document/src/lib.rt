@@ -31,6 +31,7 @@
 //! ```
 #![tactic(auto)]
 
+mod appending;
 mod applying;
 mod cursor;
 mod document;

@@ -2,6 +2,7 @@
 use Rattle.std.proofs.Common.{◌≡◌, ℕ, zero, suc, ◌+◌, Bool, true, false, cond, List, [], ◌∷◌, length, drop, Option, Some, None, Result, Ok, Err, ◌++◌, refl, sym, ap, ◌∙◌}
 use Rattle.std.specs.Prelude.{◌||◌, is_some}
 use Rattle.std.specs.Result.{OnOk, OnErr}
+use Rattle.std.specs.Cmp.{eq_by_cmp_equiv}
 use Rattle.std.specs.Cmp.Lexicographic.{nat_list_cmp_total}
 use Rattle.std.specs.FinMap.Entries.{length-put}
 use Rattle.attributes.specs.Map.{by_bytes, get, insert}
@@ -52,6 +53,20 @@ neither : (a b : Bool) → a ≡ false → b ≡ false → (a || b) ≡ false
 neither false b p q = q
 neither true b p q = cc
 
+-- one that was noted is there, and is as it was once it's given what it had
+pub there-noted : (source : List ℕ) (last : LastTaken) (sources after : Sources) → after ≡ insert sources source last → is_some (get after source) ≡ true
+there-noted source last sources after is =
+    ap (λ (m : Sources). is_some (get m source)) is
+    ∙ ap is_some (get-insert sources source last source ∙ ap (λ b. cond b (Some last) (get sources source)) ((eq_by_cmp_equiv nat_list_cmp_total).refl source))
+
+pub put-back : (source : List ℕ) (last : LastTaken) (sources after : Sources) → after ≡ insert sources source last → with_entry source (get sources source) after ≡ sources
+put-back source last sources after is =
+    same_map _ _ (λ name. get-entry source (get sources source) after name
+    ∙ (ap (λ (m : Sources). cond (is_name name source) (get sources source) (get m name)) is
+    ∙ (ap (cond (is_name name source) (get sources source)) (get-insert sources source last name)
+    ∙ (chosen_twice (is_name name source) (Some last) (get sources source) (get sources name)
+    ∙ sym (same_here (is_name name source) sources sources source name refl (λ differs. refl))))))
+
 -- one of them made equal
 pub but-rest : (first : List ℕ) (others : List (List ℕ)) (one other : Sources) → EqualBut (first ∷ others) one other
     → EqualBut others one (with_entry first (get one first) other)
@@ -87,20 +102,42 @@ among-more name (first ∷ others) source absent =
     let here = first_of_both (is_name name first) (is_among name (others ++ source ∷ [])) absent in
     (neither (is_name name first) (is_among name others) here rest.0, rest.1)
 
--- the same but for one more, which was noted or wasn't
-pub but-noted : {E : Type 0} (source : List ℕ) (last : LastTaken) (names : List (List ℕ)) (one other after : Sources) (done : Result (Unit {0}) E)
-    → OnOk done (after ≡ insert other source last) → OnErr done (after ≡ other) → EqualBut names one other → EqualBut (names ++ source ∷ []) one after
-but-noted source last names one other after (Ok _) taken left but = λ name absent.
-    let parts = among-more name names source absent in
-    but name parts.0
-    ∙ (sym (ap (λ b. cond b (Some last) (get other name)) parts.1)
-    ∙ (sym (get-insert other source last name) ∙ ap (λ (m : Sources). get m name) (sym taken)))
-but-noted source last names one other after (Err _) taken left but = λ name absent.
-    but name (among-more name names source absent).0 ∙ ap (λ (m : Sources). get m name) (sym left)
-
 -- the other way round
 pub but-turned : (names : List (List ℕ)) (one other : Sources) → EqualBut names one other → EqualBut names other one
 but-turned names one other but name absent = sym (but name absent)
 
 pub but-same : (names : List (List ℕ)) (one other : Sources) → other ≡ one → EqualBut names one other
 but-same names one other same = λ name absent. ap (λ (m : Sources). get m name) (sym same)
+
+-- one that is added to those in which they may differ
+pub but-added : (source : List ℕ) (names added : List (List ℕ)) (one other : Sources) → added ≡ names ++ source ∷ [] → EqualBut names one other
+    → (name : List ℕ) → is_among name added ≡ false → (is_among name (source ∷ []) ≡ false) × (get one name ≡ get other name)
+but-added source names added one other is but name absent =
+    let parts = among-more name names source (sym (ap (is_among name) is) ∙ absent) in
+    (neither (is_name name source) false parts.1 refl, but name parts.0)
+
+among_not : (name source : List ℕ) (names : List (List ℕ)) (one other : Sources) (b : Bool) → is_name name source ≡ b → EqualBut names one other
+    → ¬ (get one source ≡ get other source) → is_among name names ≡ false → b ≡ false
+among_not name source names one other false is but differ absent = refl
+among_not name source names one other true is but differ absent =
+    absurd (differ (but source (sym (ap (λ n. is_among n names) (same_name_from name source is)) ∙ absent)))
+
+-- one in which they differ already
+pub but-there : (source : List ℕ) (names : List (List ℕ)) (one other : Sources) → EqualBut names one other → ¬ (get one source ≡ get other source)
+    → (name : List ℕ) → is_among name names ≡ false → (is_among name (source ∷ []) ≡ false) × (get one name ≡ get other name)
+but-there source names one other but differ name absent = (
+  neither (is_name name source) false (among_not name source names one other (is_name name source) refl but differ absent) refl,
+  but name absent,
+)
+
+-- the same but for those once one of them was noted or wasn't
+pub but-once_noted : {E : Type 0} (source : List ℕ) (last : LastTaken) (names : List (List ℕ)) (one other after : Sources) (done : Result (Unit {0}) E)
+    → OnOk done (after ≡ insert other source last) → OnErr done (after ≡ other)
+    → ((name : List ℕ) → is_among name names ≡ false → (is_among name (source ∷ []) ≡ false) × (get one name ≡ get other name)) → EqualBut names one after
+but-once_noted source last names one other after (Ok _) taken left but = λ name absent.
+    let parts = but name absent in
+    parts.1
+    ∙ (sym (ap (λ b. cond b (Some last) (get other name)) (first_of_both (is_name name source) false parts.0))
+    ∙ (sym (get-insert other source last name) ∙ ap (λ (m : Sources). get m name) (sym taken)))
+but-once_noted source last names one other after (Err _) taken left but = λ name absent.
+    (but name absent).1 ∙ ap (λ (m : Sources). get m name) (sym left)

@@ -5,13 +5,14 @@ use Rattle.delta.specs.Element.{Element}
 use Rattle.delta.specs.Operation.{Operation, base_of}
 use Rattle.delta.specs.Gaps.{counted, apply}
 use Rattle.delta.proofs.CallerLemmas.{units_below-counted}
+use Rattle.compose.specs.Many.{applied}
 use Rattle.revision.specs.Sources.{Sources, with_last}
 use Rattle.revision.specs.declared.taker.Taker.{Taker}
-use Rattle.revision.specs.Past.{Past, Prepared, Parts, AreParts, StandInTurn, newest, sources_at, sources_after, changes_by, whole_past, seen}
+use Rattle.revision.specs.Past.{Past, Prepared, Parts, AreParts, StandInTurn, newest, content_at, sources_at, sources_after, changes_by, whole_past, seen}
 use Rattle.revision.proofs.Floors.{from-from}
-use Rattle.revision.proofs.Kept.{short-first}
+use Rattle.revision.proofs.Kept.{short-first, short-drop}
 use Rattle.revision.proofs.LettingGo.{sources-here}
-use Rattle.revision.proofs.Parts.{changes-take, above_floor, below_newest}
+use Rattle.revision.proofs.Parts.{changes-take, above_floor, below_newest, document_is}
 use Rattle.revision.proofs.Replays.{stand-take}
 
 at_itself : (i : ℕ) (deltas : List (List Operation)) → i < length deltas → get_or deltas i [] ≡ get_or deltas i (get_or deltas i [])
@@ -50,6 +51,13 @@ module _ (parts : Parts) (is : AreParts parts) (now : Prepared) (same : seen par
 
   pub replay_short : length parts.units ≤ 2 ^ 29
   replay_short = short-first parts.units parts.deltas is.short
+
+  -- what stands there is short
+  pub short_there : length (content_at now.past revision).units ≤ 2 ^ 29
+  short_there =
+      subst (λ (units : List Element). length units ≤ 2 ^ 29) (document_is parts is now same revision held there parts.deltas refl)
+      (short-first (applied parts.units (take (revision - parts.start) parts.deltas)) (drop (revision - parts.start) parts.deltas)
+      (short-drop (revision - parts.start) parts.units parts.deltas is.short))
 
   pub replay_same : length (take (revision - parts.start) parts.takers) ≡ length (take (revision - parts.start) parts.deltas)
   unfolding count

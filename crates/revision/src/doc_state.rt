@@ -108,9 +108,15 @@ impl DocState {
         if !self.is_followed(limits, taken) {
             return Err(Refusal::Stranger);
         }
-        let after = after_taken(alloc, self.ahead(), taken.delta())?;
-        note(alloc, &mut self.past, &mut self.sources, taken)?;
-        self.next = Some(after);
+        match self.next.as_mut() {
+            // no document is made anew for a second change
+            Some(next) => note_on(alloc, &mut self.past, &mut self.sources, next, taken)?,
+            None => {
+                let after = after_taken(alloc, &self.document, taken.delta())?;
+                note(alloc, &mut self.past, &mut self.sources, taken)?;
+                self.next = Some(after);
+            }
+        }
         Ok(())
     }
 
@@ -238,7 +244,7 @@ impl DocState {
     }
 
     /// What leads from the empty document to a revision that is held: deltas in turn, and the sources there. It copies, and applies
-    /// no delta. Refused for want of memory alone.
+    /// no delta. To the newest revision it is one delta, the document's own. Refused for want of memory alone.
     pub fn replay_to(&self, alloc: Global, revision: u64) -> Result<Replay, Refusal>
         requires held { self.now.past.past.floor ≤ revision }
         requires there { revision ≤ newest self.now.past.past }
@@ -247,6 +253,11 @@ impl DocState {
         ensures sources { IfOk result (λ replay. replay.sources ≡ sources_at self.now.past.past revision) }
         ensures only { IsOkUnless result Refusal.NoMemory }
     {
+        if revision == self.revision() {
+            return self
+                .past
+                .replay_at(alloc, revision, self.document(), self.sources());
+        }
         self.past.replay_to(alloc, revision)
     }
 
@@ -336,6 +347,37 @@ fn note(
     let delta = taken.delta().copy(alloc)?;
     past.prepare(source, taken.number(), delta)?;
     let noted = sources.prepare(alloc, taken.source(), taken.number(), taken.revision());
+    if noted.is_err() {
+        past.take_back();
+    }
+    noted
+}
+
+// Prepares a change as `note` does, and in the document that comes of all that is prepared: refused, that is unchanged too.
+fn note_on(
+    alloc: Global,
+    past: &mut Past,
+    sources: &mut SourceTable,
+    next: &mut Document,
+    taken: &Taken,
+) -> Result<(), Refusal>
+    requires next { next.old ≡ prepared_units past.old }
+    requires accepted { IsAccepted (prepared_units past.old) (counted taken.now.delta) }
+    requires short { length (apply (prepared_units past.old) (counted taken.now.delta)) ≤ 2 ^ 29 }
+    requires revision { prepared_revision past.old + 1 < 2 ^ 53 }
+    ensures next { OnOk result (next.new ≡ apply next.old (counted taken.now.delta)) }
+    ensures past { OnOk result (past.new ≡ record past.old { next = past.old.next ++ change_of taken.now ∷ [] }) }
+    ensures sources { OnOk result (sources.new ≡ record sources.old { prepared = with_last taken.now.source taken.now.number taken.now.revision sources.old.prepared }) }
+    ensures next_unchanged { OnErr result (next.new ≡ next.old) }
+    ensures past_unchanged { OnErr result (past.new ≡ past.old) }
+    ensures sources_unchanged { OnErr result (sources.new ≡ sources.old) }
+    ensures only { IsOkUnless result Refusal.NoMemory }
+{
+    past.let_go(alloc);
+    let source = taken.source().copy(alloc)?;
+    let delta = taken.delta().copy(alloc)?;
+    past.prepare(source, taken.number(), delta)?;
+    let noted = sources.prepare_with(alloc, taken, next);
     if noted.is_err() {
         past.take_back();
     }

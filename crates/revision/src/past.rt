@@ -135,6 +135,30 @@ impl Past {
         Ok(Replay { deltas, sources })
     }
 
+    /// The same where what stands at the revision is at hand, with its sources: the document as one delta. Refused for want of memory
+    /// alone.
+    pub fn replay_at(
+        &self,
+        alloc: Global,
+        revision: u64,
+        document: &Document,
+        sources: &Sources,
+    ) -> Result<Replay, Refusal>
+        requires held { self.now.past.floor ≤ revision }
+        requires there { revision ≤ newest self.now.past }
+        requires document { document.now ≡ (content_at self.now.past revision).units }
+        requires sources { sources.now ≡ sources_at self.now.past revision }
+        ensures stand { IfOk result (λ replay. StandInTurn [] replay.deltas.items) }
+        ensures units { IfOk result (λ replay. applied [] replay.deltas.items ≡ (content_at self.now.past revision).units) }
+        ensures sources { IfOk result (λ replay. replay.sources ≡ sources_at self.now.past revision) }
+        ensures only { IsOkUnless result Refusal.NoMemory }
+    {
+        let _ = &self.start;
+        let sources = sources.copy(alloc)?;
+        let deltas = deltas_from_empty(alloc, document, &[])?;
+        Ok(Replay { deltas, sources })
+    }
+
     /// An edit that was made on a revision that is held, late past what was taken since. Its lengths are those of a
     /// command's delta, at most 2^44 each. Refused for want of memory alone.
     pub fn late(&self, alloc: Global, edit: &Delta, revision: u64) -> Result<Delta, Refusal>
@@ -356,8 +380,12 @@ fn document_after(
     Ok(document)
 }
 
-// applies a delta that was taken on the document
-fn apply_taken(alloc: Global, document: &mut Document, taken: &Delta) -> Result<(), Refusal>
+/// Applies a delta that was taken on the document. Refused for want of memory alone, and then the document is as it was.
+pub(crate) fn apply_taken(
+    alloc: Global,
+    document: &mut Document,
+    taken: &Delta,
+) -> Result<(), Refusal>
     requires { IsAccepted document.old (counted taken.now) }
     ensures document { OnOk result (document.new ≡ apply document.old (counted taken.now)) }
     ensures unchanged { OnErr result (document.new ≡ document.old) }

@@ -1,12 +1,17 @@
 //! The sources of a document, with what is prepared of them.
-ghost use Rattle.std.specs.Prelude.{◌≡◌, ℕ, true, IfOk, OnOk, OnErr, IsOkUnless};
+ghost use Rattle.std.specs.Prelude.{◌≡◌, ◌↔◌, ℕ, List, [], ◌∷◌, true, false, IsTrue, IfOk, OnOk, OnErr, IsOkUnless};
 ghost use Rattle.attributes.specs.Map.{empty};
+ghost use Rattle.delta.specs.Gaps.{counted, apply};
+ghost use Rattle.document.specs.Outcome.{IsAccepted};
 ghost use Rattle.revision.specs.Name.{is_source_name};
-ghost use Rattle.revision.specs.Sources.{with_last, with_entry, EqualBut};
+ghost use Rattle.revision.specs.Sources.{with_last, with_entry, is_among, EqualBut};
 ghost use Rattle.attributes.specs.Map.{get};
 
 use crate::name::Name;
-use crate::sources::Sources;
+use crate::past::apply_taken;
+use crate::sources::{LastTaken, Sources};
+use crate::taken::Taken;
+use document::Document;
 use refusal::Refusal;
 use std::alloc::Global;
 use std::marker::Model;
@@ -103,9 +108,37 @@ impl SourceTable {
             self.changed.clear();
             self.prepared = true;
         }
-        let name = source.copy(alloc)?;
-        self.changed.push(source.copy(alloc)?)?;
-        self.ahead.set(name, number, revision)
+        mark(alloc, &mut self.changed, &self.held, &self.ahead, source)?;
+        self.ahead.note(alloc, source, number, revision)
+    }
+
+    /// Prepares a command that was taken, and applies its delta to a document: both, or neither. Refused for want of memory alone.
+    pub fn prepare_with(
+        &mut self,
+        alloc: Global,
+        taken: &Taken,
+        document: &mut Document,
+    ) -> Result<(), Refusal>
+        requires accepted { IsAccepted document.old (counted taken.now.delta) }
+        ensures ok { OnOk result (self.new ≡ record self.old { prepared = with_last taken.now.source taken.now.number taken.now.revision self.old.prepared }) }
+        ensures document { OnOk result (document.new ≡ apply document.old (counted taken.now.delta)) }
+        ensures only { IsOkUnless result Refusal.NoMemory }
+        ensures unchanged { OnErr result (self.new ≡ self.old) }
+        ensures document_unchanged { OnErr result (document.new ≡ document.old) }
+    {
+        if !self.prepared {
+            align_all(alloc, self.changed.as_slice(), &self.held, &mut self.ahead)?;
+            self.changed.clear();
+            self.prepared = true;
+        }
+        mark(
+            alloc,
+            &mut self.changed,
+            &self.held,
+            &self.ahead,
+            taken.source(),
+        )?;
+        note_with(alloc, &mut self.ahead, taken, document)
     }
 
     /// Accepts what is prepared. It takes no memory, and isn't refused.
@@ -123,6 +156,59 @@ impl SourceTable {
         ensures { self.new ≡ record { held = self.old.held; prepared = self.old.held } }
     {
         self.prepared = false;
+    }
+}
+
+// Adds a source to those in which two lists may differ. Where they differ in it already it is one of them. Refused for want of
+// memory alone, and then none is added.
+fn mark(
+    alloc: Global,
+    changed: &mut Vec<Name>,
+    held: &Sources,
+    ahead: &Sources,
+    source: &Name,
+) -> Result<(), Refusal>
+    requires { EqualBut changed.old.items held.now ahead.now }
+    ensures ok { OnOk result ((name : List ℕ) → is_among name changed.new.items ≡ false
+        → (is_among name (source.now ∷ []) ≡ false) × (get held.now name ≡ get ahead.now name)) }
+    ensures unchanged { OnErr result (changed.new.items ≡ changed.old.items) }
+    ensures only { IsOkUnless result Refusal.NoMemory }
+{
+    if is_same(held.find(source), ahead.find(source)) {
+        changed.push(source.copy(alloc)?)?;
+    }
+    Ok(())
+}
+
+fn is_same(one: Option<LastTaken>, other: Option<LastTaken>) -> bool
+    ensures { IsTrue result ↔ (one ≡ other) }
+{
+    one == other
+}
+
+// Notes a command that was taken, and applies its delta to a document: both, or neither. Refused for want of memory alone.
+fn note_with(
+    alloc: Global,
+    sources: &mut Sources,
+    taken: &Taken,
+    document: &mut Document,
+) -> Result<(), Refusal>
+    requires accepted { IsAccepted document.old (counted taken.now.delta) }
+    ensures sources { OnOk result (sources.new ≡ with_last taken.now.source taken.now.number taken.now.revision sources.old) }
+    ensures document { OnOk result (document.new ≡ apply document.old (counted taken.now.delta)) }
+    ensures only { IsOkUnless result Refusal.NoMemory }
+    ensures unchanged { OnErr result (sources.new ≡ sources.old) }
+    ensures document_unchanged { OnErr result (document.new ≡ document.old) }
+{
+    let (source, delta) = (taken.source(), taken.delta());
+    let before = sources.find(source);
+    sources.note(alloc, source, taken.number(), taken.revision())?;
+    match apply_taken(alloc, document, delta) {
+        Ok(()) => Ok(()),
+        Err(refusal) => {
+            sources.put_back(source, before);
+            Err(refusal)
+        }
     }
 }
 

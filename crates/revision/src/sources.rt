@@ -1,10 +1,10 @@
 //! The sources of a document.
-ghost use Rattle.std.specs.Prelude.{◌≡◌, ◌-◌, ◌^◌, ℕ, T, true, min, MatchResult, IfOk, OnOk, OnErr, OnSome, IsOkUnless, length};
+ghost use Rattle.std.specs.Prelude.{◌≡◌, ◌-◌, ◌^◌, ℕ, T, true, None, min, is_some, MatchBool, MatchResult, IfOk, OnOk, OnErr, OnSome, IsOkUnless, length};
 ghost use Rattle.std.specs.FinMap.Entries.{is_sorted};
-ghost use Rattle.attributes.specs.Map.{by_bytes, empty, get, remove};
+ghost use Rattle.attributes.specs.Map.{by_bytes, empty, get, insert, remove};
 ghost use Rattle.attributes.specs.Place.{IsHere, IsFree};
 ghost use Rattle.revision.specs.Name.{is_source_name};
-ghost use Rattle.revision.specs.Sources.{are_named, count_of, last_of, with_last};
+ghost use Rattle.revision.specs.Sources.{are_named, count_of, last_of, with_last, with_entry};
 ghost use lib.Dec.{T_prop};
 
 use crate::name::Name;
@@ -136,6 +136,53 @@ impl Sources {
                 .list
                 .insert(i, (source, last))
                 .map_err(|_| Refusal::NoMemory),
+        }
+    }
+
+    /// Gives a source that is there what it has from now on, and tells whether it is there. It takes no memory.
+    pub(crate) fn renew(&mut self, source: &Name, last: LastTaken) -> bool
+        requires { is_source_name source.now ≡ true }
+        ensures { MatchBool result (self.new ≡ insert self.old source.now last) ((get self.old source.now ≡ None) × (self.new ≡ self.old)) }
+    {
+        match self.place(source.as_str()) {
+            Ok(i) => {
+                self.list[i].1 = last;
+                true
+            }
+            Err(_) => false,
+        }
+    }
+
+    /// Notes the last command of a source as `set` does, and copies its name only where it is new.
+    pub(crate) fn note(
+        &mut self,
+        alloc: Global,
+        source: &Name,
+        number: u64,
+        revision: u64,
+    ) -> Result<(), Refusal>
+        requires { is_source_name source.now ≡ true }
+        ensures ok { OnOk result (self.new ≡ with_last source.now number revision self.old) }
+        ensures unchanged { OnErr result (self.new ≡ self.old) }
+        ensures only { IsOkUnless result Refusal.NoMemory }
+    {
+        if self.renew(source, LastTaken { number, revision }) {
+            return Ok(());
+        }
+        self.set(source.copy(alloc)?, number, revision)
+    }
+
+    /// Gives a source that is there what it had before, and drops it where it had nothing. It takes no memory.
+    pub(crate) fn put_back(&mut self, source: &Name, before: Option<LastTaken>)
+        requires named { is_source_name source.now ≡ true }
+        requires there { is_some (get self.old source.now) ≡ true }
+        ensures { self.new ≡ with_entry source.now before self.old }
+    {
+        match before {
+            Some(last) => {
+                let _ = self.renew(source, last);
+            }
+            None => self.remove(source),
         }
     }
 

@@ -14,7 +14,7 @@ use Rattle.recovery.proofs.CallerLemmas.{found_open, found_as}
 use Rattle.session.specs.declared.reply.Reply.{Reply}
 use Rattle.session.specs.declared.reply.Reply.TheVariants as reply
 use Rattle.server.specs.declared.desk.StoreDesk.{StoreDesk}
-use Rattle.server.specs.Desk.{IsToldAtOnce, Commits, AnswersFromStore, PassesAtStore, store_of, has_failed}
+use Rattle.server.specs.Desk.{IsToldAtOnce, IsKeptUp, Commits, AnswersNow, AnswersFromStore, PassesAtStore, store_of, has_failed}
 use Rattle.session.specs.Exchange.{Exchange, Answered, Shown}
 use Rattle.session.specs.Replies.{Asks}
 use Rattle.server.specs.Asked.{added_by, with_command, state_with, state_after, MayHold, Holds, HoldsFrom, KeepsAll}
@@ -37,16 +37,16 @@ record Rests {D : Type 0} {disk : Ghosts D} (old new : StoreDesk D disk) (asked 
 
 failed_rests : {D : Type 0} (disk : Ghosts D) (old new : StoreDesk D disk) (asked : List Exchange) → has_failed old ≡ true → Asks PassesAtStore old asked new → Rests old new asked
 failed_rests disk old new [] failed asks = record { same = asks; after = λ state. refl; holds = λ state content found. found }
-failed_rests disk old new (Answered command result ∷ others) failed (next, inl (still, told, same), asks) =
-    let rests = failed_rests disk next new others (ap has_failed same ∙ failed) asks in
+failed_rests disk old new (Answered command result ∷ others) failed (next, (mid, kept, inl (still, told, same)), asks) =
+    let rests = failed_rests disk next new others (ap has_failed same ∙ still) asks in
     let stays : (state : State) → state_with state command result ≡ state = λ state. ap (state_with state command) told in
     record {
-      same = rests.same ∙ same;
+      same = rests.same ∙ same ∙ kept.rests failed;
       after = λ state. ap (λ (s : State). state_after s others) (stays state) ∙ rests.after state;
       holds = λ state content found. inl (subst (λ (s : State). Holds s others content) (sym (stays state)) (rests.holds state content found));
     }
-failed_rests disk old new (Answered command result ∷ others) failed (next, inr (works, more), asks) =
-    let both : true ≡ false = sym failed ∙ works in
+failed_rests disk old new (Answered command result ∷ others) failed (next, (mid, kept, inr (works, more)), asks) =
+    let both : true ≡ false = sym (ap has_failed (kept.rests failed) ∙ failed) ∙ works in
     absurd cc
 failed_rests disk old new (Shown shown ∷ others) failed (next, (is, same), asks) =
     let rests = failed_rests disk next new others (ap has_failed same ∙ failed) asks in
@@ -72,20 +72,33 @@ not_failed_before disk old new asked asks works = not_true (has_failed old) (λ 
     let both : true ≡ false = sym failed ∙ sym (ap has_failed (failed_rests disk old new asked failed asks).same) ∙ works in
     absurd cc)
 
--- it works on after an answer that didn't fail it
-works_next : {D : Type 0} {disk : Ghosts D} (old next : StoreDesk D disk) (command : Command) (result : Result Reply Refusal) → Works old → AnswersFromStore old command result next → has_failed next ≡ false → Works next
-works_next old next command result before (inl (failed, told, same)) goes_on =
+-- it works on once it is kept up, where that didn't fail it
+works_kept : {D : Type 0} {disk : Ghosts D} {old mid : StoreDesk D disk} → Works old → IsKeptUp old mid → has_failed mid ≡ false → Works mid
+works_kept before kept works =
+    let store_works = kept.store_works works before.store_works in
+    record { works = works; store_works = store_works; is_open = kept.goes.opens store_works before.is_open }
+
+-- and after an answer that didn't
+works_now : {D : Type 0} {disk : Ghosts D} (old next : StoreDesk D disk) (command : Command) (result : Result Reply Refusal) → Works old → AnswersNow old command result next → has_failed next ≡ false → Works next
+works_now old next command result before (inl (failed, told, same)) goes_on =
     let both : true ≡ false = sym failed ∙ before.works in
     absurd cc
-works_next old next command result before (inr (still, inl stays)) goes_on = subst Works (sym stays.same) before
-works_next old next command (Ok (reply.Taken revision)) before (inr (still, inr commits)) goes_on =
+works_now old next command result before (inr (still, inl stays)) goes_on = subst Works (sym stays.same) before
+works_now old next command (Ok (reply.Taken revision)) before (inr (still, inr commits)) goes_on =
     record { works = goes_on; store_works = commits.works; is_open = commits.done before.is_open }
-works_next old next command (Ok (reply.Again revision)) before (inr (still, inr commits)) goes_on = absurd commits.told
-works_next old next command (Err refusal) before (inr (still, inr commits)) goes_on =
+works_now old next command (Ok (reply.Again revision)) before (inr (still, inr commits)) goes_on = absurd commits.told
+works_now old next command (Err refusal) before (inr (still, inr commits)) goes_on =
     ⊎_elim (λ (memory : refusal ≡ NoMemory).
     record { works = goes_on; store_works = commits.store_works goes_on before.store_works; is_open = commits.kept (ap Err memory) before.is_open })
     (λ (failed : refusal ≡ StoreFailed). let both : true ≡ false = sym (commits.fails.1 (ap Err failed)) ∙ goes_on in absurd cc)
     commits.told
+
+works_next : {D : Type 0} {disk : Ghosts D} (old next : StoreDesk D disk) (command : Command) (result : Result Reply Refusal) → Works old → AnswersFromStore old command result next → has_failed next ≡ false → Works next
+works_next old next command result before (mid, kept, inl (failed, told, same)) goes_on =
+    let both : true ≡ false = sym (ap has_failed same ∙ failed) ∙ goes_on in
+    absurd cc
+works_next old next command result before (mid, kept, inr (still, does)) goes_on =
+    works_now mid next command result (works_kept before kept still) (inr (still, does)) goes_on
 
 -- and after all the answers, where none did
 works_after : {D : Type 0} (disk : Ghosts D) (old new : StoreDesk D disk) (asked : List Exchange) → Works old → Asks PassesAtStore old asked new → has_failed new ≡ false → Works new
@@ -116,7 +129,7 @@ module _ {D : Type 0} (disk : Ghosts D) (old next new : StoreDesk D disk) (comma
 
   module _ (result : Result Reply Refusal) (commits : Commits old command result next) where
     added : with_command state command ≡ fold state (commits.taken ∷ [])
-    added = ap (λ (a : Answer). fold state (added_by a)) commits.due
+    added = ap (λ (a : Answer). fold state (added_by a)) commits.planned
 
     -- a crash within the commit
     within : LeavesOnly disk (MayHold state (Answered command result ∷ others)) (device_of (store_of old)) (device_of (store_of next))
@@ -145,6 +158,29 @@ module _ {D : Type 0} (disk : Ghosts D) (old next new : StoreDesk D disk) (comma
           ((commits.any_moment before.store_works before.is_open).last content (subst (λ (d : StoreDesk D disk). MayLeaveNow disk (device_of (store_of d)) content) rests.same left));
     }
 
+-- the desk was kept up before the first answer
+module _ {D : Type 0} (disk : Ghosts D) (old mid new : StoreDesk D disk) (before : Works old) (kept : IsKeptUp old mid) where
+  -- and went on
+  after_upkeep : (command : Command) (result : Result Reply Refusal) (others : List Exchange) → Keeps disk mid new (Answered command result ∷ others)
+      → Keeps disk old new (Answered command result ∷ others)
+  after_upkeep command result others rest = record {
+    state = rest.state ∙ ap (λ (s : State). state_after s (Answered command result ∷ others)) kept.state;
+    any_moment = goes_on_run
+        (leaves_map {Q = MayHold (state_of (store_of old)) (Answered command result ∷ others)} (λ content left. inl left) (kept.goes.any_moment before.store_works before.is_open))
+        (subst (λ (s : State). LeavesOnly disk (MayHold s (Answered command result ∷ others)) (device_of (store_of mid)) (device_of (store_of new))) kept.state rest.any_moment);
+    after = λ content left. subst (λ (s : State). Holds s (Answered command result ∷ others) content) kept.state (rest.after content left);
+  }
+
+  -- or it failed at that, and answers StoreFailed
+  failed_upkeep : (command : Command) (refusal : Refusal) (others : List Exchange) → Rests mid new others → Keeps disk old new (Answered command (Err refusal) ∷ others)
+  failed_upkeep command refusal others rests = record {
+    state = ap (λ (d : StoreDesk D disk). state_of (store_of d)) rests.same ∙ kept.state ∙ sym (rests.after (state_of (store_of old)));
+    any_moment = subst (λ (d : StoreDesk D disk). LeavesOnly disk (MayHold (state_of (store_of old)) (Answered command (Err refusal) ∷ others)) (device_of (store_of old)) (device_of (store_of d))) (sym rests.same)
+        (leaves_map {Q = MayHold (state_of (store_of old)) (Answered command (Err refusal) ∷ others)} (λ content left. inl left) (kept.goes.any_moment before.store_works before.is_open));
+    after = λ content left. inl (rests.holds (state_of (store_of old)) content
+        ((kept.goes.any_moment before.store_works before.is_open).last content (subst (λ (d : StoreDesk D disk). MayLeaveNow disk (device_of (store_of d)) content) rests.same left)));
+  }
+
 -- whatever is asked
 keeps : {D : Type 0} (disk : Ghosts D) (old new : StoreDesk D disk) (asked : List Exchange) → Works old → Asks PassesAtStore old asked new → Keeps disk old new asked
 keeps {D} disk old new [] before asks =
@@ -162,28 +198,35 @@ keeps {D} disk old new [] before asks =
 keeps {D} disk old new (Shown shown ∷ others) before (next, (is, same), asks) =
     let rest = keeps disk old new others before (subst (λ (d : StoreDesk D disk). Asks PassesAtStore d others new) same asks) in
     record { state = rest.state; any_moment = leaves_map (λ content left. left) rest.any_moment; after = λ content left. rest.after content left }
-keeps disk old new (Answered command result ∷ others) before (next, inl (failed, told, same), asks) =
-    let both : true ≡ false = sym failed ∙ before.works in
-    absurd cc
-keeps {D} disk old new (Answered command result ∷ others) before (next, inr (still, inl stays), asks) =
-    after_told disk old next new command others before result (told_same _ result stays.told (state_of (store_of old)) command)
-    (keeps disk old new others before (subst (λ (d : StoreDesk D disk). Asks PassesAtStore d others new) stays.same asks))
-keeps disk old new (Answered command (Ok (reply.Taken revision)) ∷ others) before (next, inr (still, inr commits), asks) =
+keeps disk old new (Answered command (Ok answer) ∷ others) before (next, (mid, kept, inl (failed, told, same)), asks) = absurd cc
+keeps disk old new (Answered command (Err refusal) ∷ others) before (next, (mid, kept, inl (failed, told, same)), asks) =
+    failed_upkeep disk old mid new before kept command refusal others
+    (subst (λ (d : StoreDesk _ disk). Rests d new others) same (failed_rests disk next new others (ap has_failed same ∙ failed) asks))
+keeps {D} disk old new (Answered command result ∷ others) before (next, (mid, kept, inr (still, inl stays)), asks) =
+    let now = works_kept before kept still in
+    after_upkeep disk old mid new before kept command result others
+    (after_told disk mid next new command others now result (told_same _ result stays.told (state_of (store_of mid)) command)
+    (keeps disk mid new others now (subst (λ (d : StoreDesk D disk). Asks PassesAtStore d others new) stays.same asks)))
+keeps disk old new (Answered command (Ok (reply.Taken revision)) ∷ others) before (next, (mid, kept, inr (still, inr commits)), asks) =
+    let now = works_kept before kept still in
     let answered : Result Reply Refusal = Ok (reply.Taken revision) in
     let goes_on : has_failed next ≡ false = not_true (has_failed next) (λ fails. let no_error = commits.fails.0 fails in absurd cc) in
-    after_commit disk old next new command others before answered commits
-    (commits.state ∙ sym (added disk old next new command others before answered commits))
-    (keeps disk next new others (works_next old next command answered before (inr (still, inr commits)) goes_on) asks)
-keeps disk old new (Answered command (Ok (reply.Again revision)) ∷ others) before (next, inr (still, inr commits), asks) = absurd commits.told
-keeps disk old new (Answered command (Err refusal) ∷ others) before (next, inr (still, inr commits), asks) =
-    ⊎_elim (λ (memory : refusal ≡ NoMemory).
+    after_upkeep disk old mid new before kept command answered others
+    (after_commit disk mid next new command others now answered commits
+    (commits.state ∙ sym (added disk mid next new command others now answered commits))
+    (keeps disk next new others (works_now mid next command answered now (inr (still, inr commits)) goes_on) asks))
+keeps disk old new (Answered command (Ok (reply.Again revision)) ∷ others) before (next, (mid, kept, inr (still, inr commits)), asks) = absurd commits.told
+keeps disk old new (Answered command (Err refusal) ∷ others) before (next, (mid, kept, inr (still, inr commits)), asks) =
+    let now = works_kept before kept still in
+    after_upkeep disk old mid new before kept command (Err refusal) others
+    (⊎_elim (λ (memory : refusal ≡ NoMemory).
     let goes_on : has_failed next ≡ false = not_true (has_failed next) (λ fails. let is = commits.fails.0 fails in absurd cc) in
-    after_commit disk old next new command others before (Err refusal) commits commits.same_state
-    (keeps disk next new others (works_next old next command (Err refusal) before (inr (still, inr commits)) goes_on) asks))
+    after_commit disk mid next new command others now (Err refusal) commits commits.same_state
+    (keeps disk next new others (works_now mid next command (Err refusal) now (inr (still, inr commits)) goes_on) asks))
     (λ (failed : refusal ≡ StoreFailed).
-    after_failure disk old next new command others before (Err refusal) commits (ap Err failed) commits.same_state refl
+    after_failure disk mid next new command others now (Err refusal) commits (ap Err failed) commits.same_state refl
     (failed_rests disk next new others (commits.fails.1 (ap Err failed)) asks))
-    commits.told
+    commits.told)
 
 module _ {D : Type 0} (disk : Ghosts D) (old mid new : StoreDesk D disk) (answered others : List Exchange) (before : Works old)
     (first : Asks PassesAtStore old answered mid) (second : Asks PassesAtStore mid others new) where

@@ -38,7 +38,7 @@
 //!     ensures { IfOk result (λ after. (asked : List Exchange)
 //!         × (state_of after ≡ state_after (state_of store) asked)) }
 //! {
-//!     let mut desk = StoreDesk::new(store);
+//!     let mut desk = StoreDesk::new(store, 256);
 //!     serve(alloc, &mut desk, input, output)?;
 //!     Ok(desk.into_store())
 //! }

@@ -56,8 +56,12 @@ fn invoke<R: Files<File = File> + AllocGlobal, I: Read, O: Write>(
             recovery::format_device(rt.alloc(), &mut disk, shape)?;
             Ok(())
         }
-        Invocation::Serve { path } => {
-            let mut desk = StoreDesk::new(open(rt, path, Pick::Newer)?);
+        Invocation::Serve {
+            path,
+            listen: _,
+            every,
+        } => {
+            let mut desk = StoreDesk::new(open(rt, path, Pick::Newer)?, every);
             let mut stream = Stream::new(output);
             serve(rt.alloc(), &mut desk, input, &mut stream)
         }

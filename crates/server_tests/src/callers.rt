@@ -35,7 +35,7 @@ pub fn line_of(alloc: Global, text: &str) -> Result<String, Refusal>
 pub fn file_in<'a>(alloc: Global, words: &'a [&'a str]) -> Result<Option<&'a str>, clap::Error> {
     Ok(match Invocation::parse(alloc, words)? {
         Invocation::Format { path, shape: _ } => Some(path),
-        Invocation::Serve { path } | Invocation::Dump { path, older: _ } => Some(path),
+        Invocation::Serve { path, .. } | Invocation::Dump { path, older: _ } => Some(path),
         Invocation::Delta(_) => None,
     })
 }
@@ -52,7 +52,7 @@ pub fn serve_store<D: Disk + Drop, I: Read, O: Output>(
     ensures { IfOk result (λ after. (asked : List Exchange)
         × (state_of after ≡ state_after (state_of store) asked)) }
 {
-    let mut desk = StoreDesk::new(store);
+    let mut desk = StoreDesk::new(store, 256);
     serve(alloc, &mut desk, input, output)?;
     Ok(desk.into_store())
 }

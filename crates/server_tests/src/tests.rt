@@ -1,6 +1,7 @@
 mod deltas;
 mod edits;
 mod files;
+mod going_on;
 mod lines;
 mod news;
 mod refusals;

@@ -26,7 +26,7 @@ const RUNS: [(&str, &str); 4] = [
     ),
 ];
 
-/// An entry of 238 bytes is too wide; one of 237 fills the second slot, and then nothing has room. What is there can be read.
+/// An entry of 238 bytes is too wide; one of 237 fills the second slot, and the next one finds the journal full.
 const FULL: &str = "{\"do\":\"hello\",\"source\":\"a\"}\n\
     {\"do\":\"create\",\"doc\":\"d\",\"n\":1,\"ops\":[{\"insert\":\"z\"}]}\n\
     {\"base\":1,\"do\":\"edit\",\"doc\":\"d\",\"n\":2,\"ops\":[{\"attributes\":{\"n000000001\":null,\"n000000002\":null,\"n000000003\":null,\"n000000004\":null,\"n000000005\":null,\"n000000006\":null,\"n000000007\":null,\"n000000008\":null,\"n000000009\":null,\"n000000010\":null,\"n000000011\":null,\"n000000012\":null,\"n000000013\":null,\"n000000014\":null,\"n00000000150\":null},\"retain\":1}]}\n\
@@ -35,13 +35,23 @@ const FULL: &str = "{\"do\":\"hello\",\"source\":\"a\"}\n\
     {\"do\":\"create\",\"doc\":\"d\",\"n\":1,\"ops\":[]}\n\
     {\"do\":\"fetch\",\"doc\":\"d\"}\n";
 
-const FULL_REPLIES: &str = "{\"ok\":\"hello\"}\n\
+/// The first slot is freed, and takes it.
+const FREED_REPLIES: &str = "{\"ok\":\"hello\"}\n\
     {\"doc\":\"d\",\"n\":1,\"ok\":\"taken\",\"rev\":1}\n\
     {\"code\":17,\"error\":\"TooWide\"}\n\
     {\"doc\":\"d\",\"n\":2,\"ok\":\"taken\",\"rev\":2}\n\
+    {\"doc\":\"d\",\"n\":3,\"ok\":\"taken\",\"rev\":3}\n\
+    {\"code\":7,\"error\":\"Exists\"}\n\
+    {\"doc\":\"d\",\"ok\":\"doc\",\"ops\":[{\"insert\":\"z\"}],\"rev\":3}\n";
+
+/// The one slot that is open is the last one that can be: its number is the highest there is. What is there can be read.
+const LAST_REPLIES: &str = "{\"ok\":\"hello\"}\n\
+    {\"doc\":\"d\",\"n\":1,\"ok\":\"again\",\"rev\":1}\n\
+    {\"code\":17,\"error\":\"TooWide\"}\n\
     {\"code\":21,\"error\":\"StoreFailed\"}\n\
     {\"code\":21,\"error\":\"StoreFailed\"}\n\
-    {\"doc\":\"d\",\"ok\":\"doc\",\"ops\":[{\"insert\":\"z\"}],\"rev\":2}\n";
+    {\"code\":21,\"error\":\"StoreFailed\"}\n\
+    {\"doc\":\"d\",\"ok\":\"doc\",\"ops\":[{\"insert\":\"z\"}],\"rev\":1}\n";
 
 /// Commands on one file in turn, which is missing at first, each with its status and its error.
 const COMMANDS: [(&str, u8, &str); 6] = [
@@ -109,12 +119,31 @@ fn limits_hold_over_several_runs(rt: HostRuntime) -> Result<(), Fail> {
 }
 
 #[test]
-fn a_full_journal_fails_the_store(rt: HostRuntime) -> Result<(), Fail> {
+fn a_full_journal_is_freed(rt: HostRuntime) -> Result<(), Fail> {
     let path = path(&rt, "full")?;
     let path = path.as_str();
     format_small(&rt, path)?;
-    let wanted = (1, FULL_REPLIES, "error 21 StoreFailed\n");
-    runs(&rt, &["richd", "serve", path], &mut FULL.as_bytes(), wanted)?;
+    let serve = ["richd", "serve", path];
+    runs(&rt, &serve, &mut FULL.as_bytes(), (0, FREED_REPLIES, ""))?;
+    fs::remove_file(&rt, path)?;
+    Ok(())
+}
+
+#[test]
+fn a_full_journal_that_cannot_be_freed_fails_the_store(rt: HostRuntime) -> Result<(), Fail> {
+    let path = path(&rt, "last")?;
+    let path = path.as_str();
+    format_small(&rt, path)?;
+    let serve = ["richd", "serve", path];
+    let mut input = HELLO.as_bytes().chain(CREATE.as_bytes());
+    let taken = "{\"ok\":\"hello\"}\n{\"doc\":\"d\",\"n\":1,\"ok\":\"taken\",\"rev\":1}\n";
+    runs(&rt, &serve, &mut input, (0, taken, ""))?;
+    let mut bytes = fs::read(&rt, path)?;
+    // The number of the first slot's segment.
+    bytes[1089..1097].fill(0xff);
+    fs::write(&rt, path, bytes.as_slice())?;
+    let wanted = (1, LAST_REPLIES, "error 21 StoreFailed\n");
+    runs(&rt, &serve, &mut FULL.as_bytes(), wanted)?;
     fs::remove_file(&rt, path)?;
     Ok(())
 }

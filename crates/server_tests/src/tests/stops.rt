@@ -1,3 +1,5 @@
+use super::HELLO;
+use super::going_on::{edits, letter};
 use disk::{Call, Disk, FaultDisk, FaultPlan, Left, MemDisk};
 use recovery::{OpenFault, Pick, Shape, Store, format_device};
 use refusal::Refusal;
@@ -50,18 +52,30 @@ fn opened<R: AllocGlobal, D: Disk + Drop>(rt: &R, disk: D) -> Result<Store<D>, R
     }
 }
 
-/// Serves hello and the creation of `d` over a device under a plan, and gives the device then. This is what is written.
+/// Serves these lines over a store, with milestones two revisions apart, and gives the device then and what was written.
+fn ended<R: AllocGlobal>(
+    rt: &R,
+    store: Store<FaultDisk>,
+    lines: &str,
+) -> Result<(FaultDisk, String), Fail> {
+    let mut desk = StoreDesk::new(store, 2);
+    let mut output = Stream::new(Vec::new(rt.alloc()));
+    let _ = serve(rt.alloc(), &mut desk, &mut lines.as_bytes(), &mut output);
+    let written = String::from_utf8(output.into_writer())?;
+    Ok((desk.into_store().close(), written))
+}
+
+/// Serves hello and the creation of `d`. This is what is written.
 fn served<R: AllocGlobal + Abort>(
     rt: &R,
     disk: MemDisk,
     plan: FaultPlan,
     wanted: &str,
 ) -> Result<FaultDisk, Fail> {
-    let mut desk = StoreDesk::new(opened(rt, FaultDisk::new(disk, plan))?);
-    let mut output = Stream::new(Vec::new(rt.alloc()));
-    let _ = serve(rt.alloc(), &mut desk, &mut LINES.as_bytes(), &mut output);
-    assert_eq!(rt; output.into_writer().as_slice(), wanted.as_bytes());
-    Ok(desk.into_store().close())
+    let store = opened(rt, FaultDisk::new(disk, plan))?;
+    let (disk, written) = ended(rt, store, LINES)?;
+    assert_eq!(rt; written.as_str(), wanted);
+    Ok(disk)
 }
 
 /// Nothing goes wrong.
@@ -107,6 +121,67 @@ fn a_create_stopped_while_its_gate_opens_is_lost_or_kept(rt: HostRuntime) -> Res
         let stopped = served(&rt, formatted(&rt)?, plan, failed)?;
         holds(&rt, stopped.after_crash(rt.alloc())?, *documents)?;
         served(&rt, stopped.after_crash(rt.alloc())?, never(), *replies)?;
+    }
+    Ok(())
+}
+
+/// The journal of the small store is freed a few times on the way to this revision.
+const LAST: u64 = 16;
+
+/// How many commands were answered as taken.
+fn taken_in(written: &str) -> usize {
+    written.matches("\"ok\":\"taken\"").count()
+}
+
+/// The operations of the document at a revision from 1 on.
+fn content_at<R: AllocGlobal>(rt: &R, revision: u64) -> Result<String, Fail> {
+    let mut text = String::new(rt.alloc());
+    for back in 0..4 {
+        text.push(if revision >= back + 2 {
+            letter(revision - back)
+        } else {
+            'z'
+        })?;
+    }
+    let text = text.as_str();
+    Ok(format!(in rt.alloc(); "{{\"ops\":[{{\"insert\":\"{text}\"}}]}}\n")?)
+}
+
+/// The store over a device holds the document at this revision, or at the next one.
+fn holds_taken<R: AllocGlobal + Abort>(rt: &R, disk: MemDisk, taken: u64) -> Result<(), Fail> {
+    let store = opened(rt, disk)?;
+    let mut output = Vec::new(rt.alloc());
+    let _ = dump(rt.alloc(), store.state(), &mut output);
+    let dumped = String::from_utf8(output)?;
+    let revision = match store.state().documents().first() {
+        Some(document) => document.revision(),
+        None => 0,
+    };
+    assert!(rt; revision == taken || revision == taken + 1, "{revision} after {taken}");
+    if revision > 0 {
+        let content = content_at(rt, revision)?;
+        assert!(rt; dumped.as_str().ends_with(content.as_str()), "{}", dumped.as_str());
+    }
+    Ok(())
+}
+
+#[test]
+fn what_was_taken_outlives_a_stop_at_any_call(rt: HostRuntime) -> Result<(), Fail> {
+    let (lines, _) = edits(&rt, 1, LAST)?;
+    let create = "{\"do\":\"create\",\"doc\":\"d\",\"n\":1,\"ops\":[{\"insert\":\"zzzz\"}]}\n";
+    let lines = format!(in rt.alloc(); "{HELLO}{create}{}", lines.as_str())?;
+    let store = opened(&rt, FaultDisk::new(formatted(&rt)?, never()))?;
+    let (whole, written) = ended(&rt, store, lines.as_str())?;
+    assert_eq!(rt; taken_in(written.as_str()) as u64, LAST);
+    let lefts = [Left::Nothing, Left::All, Left::FirstHalf];
+    for call in 0..whole.disk().calls().len() {
+        let plan = FaultPlan::stop(call as u64, lefts[call % 3]);
+        let Ok(store) = opened(&rt, FaultDisk::new(formatted(&rt)?, plan)) else {
+            continue;
+        };
+        let (stopped, written) = ended(&rt, store, lines.as_str())?;
+        let taken = taken_in(written.as_str()) as u64;
+        holds_taken(&rt, stopped.after_crash(rt.alloc())?, taken)?;
     }
     Ok(())
 }

@@ -5,8 +5,8 @@ use Rattle.recovery.proofs.CallerLemmas.{one_fits}
 use Rattle.server.specs.Desk.{store_of}
 use Rattle.server.proofs.desk.StoreDesk.commit.Goals as goal
 
-pub commit-requires-clause-fits : goal.commit-requires-clause-fits
-commit-requires-clause-fits g c = one_fits (state_of (store_of c.args.self.now)) c.args.taken c.requires.grows
+pub commit_freeing-requires-clause-fits : goal.commit_freeing-requires-clause-fits
+commit_freeing-requires-clause-fits g c = one_fits (state_of (store_of c.args.self.now)) c.args.taken c.requires.grows
 
 pub returns-then-eq-clause-kept : goal.returns-then-eq-clause-kept
 returns-then-eq-clause-kept g c no_memory =

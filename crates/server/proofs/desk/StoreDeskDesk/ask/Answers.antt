@@ -1,47 +1,19 @@
-use Rattle.std.proofs.Common.{◌≡◌, ap, inr, sym, ◌∙◌, true, rules, Ok}
-use Rattle.revision.specs.Acceptance.{Answer, Takes, answer}
+use Rattle.std.proofs.Common.{subst}
+use Rattle.revision.specs.State.{State}
+use Rattle.session.specs.Shelf.{IsLater}
 use Rattle.recovery.specs.Open.{state_of}
-use Rattle.revision.specs.declared.planning.Plan.{Plan}
-use Rattle.revision.specs.declared.planning.Plan.TheVariants as plans
-use Rattle.revision.specs.Command.{Taken}
-use Rattle.revision.specs.Planned.{Gives}
-use Rattle.revision.specs.State.{grows}
-use Rattle.session.proofs.CallerLemmas.{later_by}
 use Rattle.server.specs.Desk.{store_of}
 use Rattle.server.proofs.desk.StoreDeskDesk.ask.Goals as goal
 
--- what a plan takes is what is due
-planned_due : (plan : Plan) (due : Answer) (taken : Taken) → Gives (Ok plan) due → plan ≡ plans.Taken taken → due ≡ Takes taken
-planned_due plan due taken h is = rw is at h
-
-pub returns-in-Taken-clause-answered : goal.returns-in-Taken-clause-answered
-returns-in-Taken-clause-answered g c =
-    let e = c.commit.ensures in
-    let due = planned_due _ _ c.in-Taken.taken c.in_ok-taken.ensures.due c.in-Taken.is in
-    inr (
-      c.if-self.false,
-      inr (record {
-        taken = c.in-Taken.taken;
-        due = ap (λ s. answer s c.args.command.now) (sym c.state.ensures) ∙ due;
-        told = e.told;
-        state = e.state;
-        same_state = e.same_state;
-        room = e.room;
-        works = e.works;
-        store_works = e.store_works;
-        fails = e.fails;
-        cause = e.cause;
-        full = e.full;
-        any_moment = e.any_moment;
-        done = e.done;
-        kept = e.kept;
-        honest = e.honest;
-      }),
+pub returns-clause-answered : goal.returns-clause-answered
+returns-clause-answered g c =
+    let e = c.keep_up.ensures in
+    (
+      c.keep_up.new.self,
+      record { done = e.done; spacing = e.spacing; state = e.state; goes = e.goes; store_works = e.store_works; cause = e.cause; rests = e.rests; honest = e.honest },
+      c.answer.ensures.answered,
     )
 
-pub returns-in-Taken-clause-later : goal.returns-in-Taken-clause-later
-returns-in-Taken-clause-later g c =
-    let e = c.commit.ensures in
-    let old = state_of (store_of c.args.self.now) in
-    let grow : grows old c.in-Taken.taken ≡ true = search rules in
-    later_by old (state_of (store_of c.commit.new.self)) c.in-Taken.taken c.commit.result grow e.state e.same_state
+pub returns-clause-later : goal.returns-clause-later
+returns-clause-later g c =
+    subst (λ (s : State). IsLater s (state_of (store_of c.answer.new.self))) c.keep_up.ensures.state c.answer.ensures.later

@@ -1,0 +1,79 @@
+#!/usr/bin/env python3
+"""Times edits through `richd serve` over standard input, by how far milestones lie apart.
+
+usage: bench/turns.py [COUNT] [LETTERS] [ROUNDS]     (default: 4,096 edits a row, 8,192 letters, the best of 3 rounds)
+
+Each row is a new store, and each edit puts a letter in place of another one, alone in its batch, with two syncs of the file. Once
+8 documents are edited in turn, once there is one. Milestones lie 16, 256 (the default) and 65,536 revisions apart, where the last
+means none. In the last rows the journal is that of two small slots, which is freed again and again.
+
+Run ./demo first, which builds crates/richd/out/richd. The store lies in a temporary folder (TMPDIR); the time depends on how
+long that disk takes to sync. With TMPDIR=/dev/shm its syncs cost next to nothing, and the milestones' share is the largest.
+"""
+import json
+import os
+import subprocess
+import sys
+import tempfile
+import time
+
+richd = os.path.join(os.path.dirname(os.path.abspath(__file__)), "../crates/richd/out/richd")
+count = int(sys.argv[1]) if len(sys.argv) > 1 else 4096
+letters = int(sys.argv[2]) if len(sys.argv) > 2 else 8192
+rounds = int(sys.argv[3]) if len(sys.argv) > 3 else 3
+
+rows = [
+    # documents, bytes of a slot
+    (8, 4_194_304),
+    (1, 4_194_304),
+    (1, 65_536),
+]
+spacings = [("65536", "none"), ("16", "16"), ("256", "256")]
+
+
+def spelled(messages):
+    return "".join(json.dumps(message) + "\n" for message in messages)
+
+
+def creations(documents):
+    for k in range(documents):
+        yield {"do": "create", "doc": f"d{k}", "n": 1, "ops": [{"insert": "x" * letters}]}
+
+
+def edits(documents):
+    for k in range(count):
+        number = 2 + k // documents
+        at = (37 * k) % letters
+        ops = ([{"retain": at}] if at else []) + [{"insert": "y"}, {"delete": 1}]
+        yield {"base": number - 1, "do": "edit", "doc": f"d{k % documents}", "n": number, "ops": ops}
+
+
+def serve(store, messages, spacing):
+    text = spelled([{"do": "hello", "source": "bench"}] + list(messages))
+    start = time.monotonic()
+    served = subprocess.run([richd, "serve", store, "--every", spacing], input=text, capture_output=True, text=True)
+    took = time.monotonic() - start
+    return took, served.stdout.count('"ok":"taken"')
+
+
+def edits_a_second(folder, documents, slot, spacing):
+    store = os.path.join(folder, "store")
+    cell = 12 * letters + 1_024
+    words = ["--docs", str(documents), "--cell", str(cell), "--slots", "2", "--slot", str(slot)]
+    subprocess.run([richd, "format", store] + words, check=True)
+    alone, made = serve(store, creations(documents), spacing)
+    took, taken = serve(store, edits(documents), spacing)
+    os.remove(store)
+    if (made, taken) != (documents, count):
+        sys.exit(f"{taken} of {count} edits were taken, {made} of {documents} creations")
+    return taken / took
+
+
+with tempfile.TemporaryDirectory() as folder:
+    for documents, slot in rows:
+        print(f"{documents} of {letters} letters, two slots of {slot} bytes:")
+        without = 0
+        for spacing, name in spacings:
+            best = max(edits_a_second(folder, documents, slot, spacing) for _ in range(rounds))
+            without = without or best
+            print(f"  milestones: {name}: {best:.0f} edits a second, {100 * (without - best) / without:.0f} % less")
