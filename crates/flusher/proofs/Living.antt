@@ -14,10 +14,8 @@ use Rattle.world.specs.Shown.{Shown, shown, all_shown}
 use Rattle.world.specs.Law.{IsSent, revision_named, last_found, last_held, IsKept}
 use Rattle.flusher.specs.Batches.{IsFirst}
 use Rattle.flusher.specs.declared.calls.Call.{Call}
-use Rattle.flusher.specs.declared.calls.Answer.{Answer}
-use Rattle.flusher.specs.Driving.{Between, Answered}
 use Rattle.flusher.specs.Schedule.{at_rest, schedule, acked, commands_in, AreNumbered, IsAllSettled}
-use Rattle.flusher.specs.Lives.{counted_from, Life, Opens, Drives, LifeGoesOn, Lives, First, Crashed, IsPromised, AllLives, OneLife, LivesGoOn}
+use Rattle.flusher.specs.Lives.{counted_from, Life, Opens, Drives, Lives, First, Crashed, IsPromised, AllLives, OneLife, LivesGoOn, RunGoesOn}
 use Rattle.world.proofs.Showing.{grown_shown, shown-fold, fold_shown, fold_shown-append}
 use Rattle.world.proofs.Numbers.{last_in}
 use Rattle.world.proofs.Histories.{AllPlaced, after, placed-take}
@@ -263,20 +261,13 @@ numbered-take zero calls numbered = tt
 numbered-take (suc n) [] numbered = tt
 numbered-take (suc n) (call ∷ calls) numbered = (numbered.0, numbered-take n calls numbered.1)
 
--- a run that was answered, whole or in part, goes on the life that came to its board
-module _ {D J : Type 0} {disk : Ghosts D} (start : State) (cap : ℕ) (begin : Between D disk) (calls : List Call) (answers : List (Answer D J)) (none : begin.tickets ≡ []) (numbered : AreNumbered calls)
-    (acks : List Ticket) (sent : List Command) (life : Life D J disk start begin.board.board acks sent) where
-  pub life_whole : (here : Between D disk) → Answered cap begin calls answers here → Life D J disk start here.board.board (acks ++ acked here.tickets calls answers) (sent ++ commands_in calls)
-  life_whole here answered = Drives begin.board.board acks sent cap begin here calls answers life refl none numbered answered
-
-pub life_continued : {D J : Type 0} {disk : Ghosts D} (start : State) (cap : ℕ) (begin last : Between D disk) (after : Board Entry) (tickets : List Ticket) (calls : List Call) (answers : List (Answer D J))
-    → begin.tickets ≡ [] → AreNumbered calls → Answered cap begin (take (length answers) calls) answers last → tickets ≡ last.tickets → after.order ≡ last.board.board.order → last.board.board.settled ≤ after.settled
-    → (acks : List Ticket) (sent : List Command) → Life D J disk start begin.board.board acks sent
-    → LifeGoesOn D J disk start after (acks ++ acked tickets (take (length answers) calls) answers) (sent ++ commands_in (take (length answers) calls))
-life_continued {D} {J} {disk} start cap begin last after tickets calls answers none numbered answered same order settled acks sent life = record {
-  last = last.board.board;
-  life = subst (λ (t : List Ticket). Life D J disk start last.board.board (acks ++ acked t (take (length answers) calls) answers) (sent ++ commands_in (take (length answers) calls))) (sym same)
-      (life_whole start cap begin (take (length answers) calls) answers none (numbered-take (length answers) calls numbered) acks sent life last answered);
-  order = order;
-  settled = settled;
-}
+pub run_goes_on : (D J : Type 0) (disk : Ghosts D) → RunGoesOn D J disk
+run_goes_on D J disk start cap begin after calls answers acks sent life none numbered answered =
+    let last = answered.last in
+    record {
+      last = last.board.board;
+      life = subst (λ (t : List Ticket). Life D J disk start last.board.board (acks ++ acked t (take (length answers) calls) answers) (sent ++ commands_in (take (length answers) calls))) (sym answered.tickets)
+          (Drives begin.board.board acks sent cap begin last (take (length answers) calls) answers life refl none (numbered-take (length answers) calls numbered) answered.answered);
+      order = answered.order;
+      settled = answered.settled;
+    }

@@ -13,7 +13,7 @@ use Rattle.flusher.specs.declared.calls.Call.{Call}
 use Rattle.flusher.specs.declared.calls.Answer.{Answer}
 use Rattle.recovery.specs.Found.{FoundAs}
 use Rattle.flusher.specs.Batches.{IsFirst}
-use Rattle.flusher.specs.Driving.{Between, Answered}
+use Rattle.flusher.specs.Driving.{Between, Answered, IsAnswered}
 use Rattle.flusher.specs.Schedule.{AreNumbered, commands_in, acked}
 
 -- tickets, with their lengths counted from the beginning of the first life on, after which so many commands stood when this one began
@@ -92,3 +92,10 @@ LivesGoOn D J disk =
     → ((state : State) → FoundAs content state → Agree next state)
     → (left : ℕ) × (least ≤ left)
     × Lives D J disk start (stand ++ take left board.order) (acks ++ counted_from (length stand) (take heard given)) (sent ++ asked) next
+
+-- A run that was answered as `drive` promises, up to where it stopped or whole, goes on the life that came to its board.
+abbrev pub RunGoesOn : (D J : Type 0) (disk : Ghosts D) → Type 0
+RunGoesOn D J disk =
+    (start : State) (cap : ℕ) (begin after : Between D disk) (calls : List Call) (answers : List (Answer D J)) (acks : List Ticket) (sent : List Command)
+    → Life D J disk start begin.board.board acks sent → begin.tickets ≡ [] → AreNumbered calls → IsAnswered cap begin after calls answers
+    → LifeGoesOn D J disk start after.board.board (acks ++ acked after.tickets (take (length answers) calls) answers) (sent ++ commands_in (take (length answers) calls))

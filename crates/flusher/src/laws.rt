@@ -1,6 +1,6 @@
 //! What holds of every run of a thread, and over all lives of a server: laws, as contracts of functions that do nothing.
 ghost use Rattle.flusher.specs.Schedule.{AreNumbered, FirstIsSchedule, IsNumbered, RunIsSchedule};
-ghost use Rattle.flusher.specs.Lives.{AllLives, LivesGoOn, OneLife};
+ghost use Rattle.flusher.specs.Lives.{AllLives, LivesGoOn, OneLife, RunGoesOn};
 
 use crate::calls::Call;
 use disk::Disk;
@@ -21,6 +21,7 @@ pub fn run_is_a_schedule<D: Disk, J: Site>()
 pub fn lives<D: Disk, J: Site>()
     ensures one { OneLife D J ⟦<D as Disk>⟧ }
     ensures all { AllLives D J ⟦<D as Disk>⟧ }
+    ensures run { RunGoesOn D J ⟦<D as Disk>⟧ }
     ensures go_on { LivesGoOn D J ⟦<D as Disk>⟧ }
 {}
 

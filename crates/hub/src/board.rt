@@ -158,6 +158,8 @@ impl<D, J: Site> Board<D, J> {
         ensures refused { self.old.failed ≡ false → IfErr result (λ e. (e ≡ Refusal.NoMemory) ⊎ (answer self.old.board.state command.now ≡ Refuses e)) }
         ensures unchanged { OnErr result (self.new ≡ self.old) }
         ensures uncounted { OnErr result (seat.new ≡ seat.old) }
+        ensures start { self.old.board.start ≡ J.start }
+        ensures history { IsHistory self.old.board }
     {
         if self.failed {
             return Err(Refusal::StoreFailed);

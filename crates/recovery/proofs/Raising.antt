@@ -11,7 +11,7 @@ use Rattle.revision.specs.Pending.{PendingDocument, held}
 use Rattle.revision.specs.State.{State, DocumentRecord, revision_of}
 use Rattle.history.specs.Cell.{Cell, Pair, cells_at, lowest, freed, with_pair}
 use Rattle.milestone.specs.Cells.{with_cell}
-use Rattle.milestone.specs.Job.{Job, cell_of_job}
+use Rattle.milestone.specs.Job.{cell_of_job}
 use Rattle.segments.specs.Slot.{Segment}
 use Rattle.segments.specs.Numbers.{IsOldest, open_count}
 use Rattle.segments.specs.Ring.{known_numbers}
@@ -21,7 +21,7 @@ use Rattle.recovery.specs.declared.store.Store.{Store}
 use Rattle.recovery.specs.Cells.{lowest_known, highest_known}
 use Rattle.recovery.specs.Marks.{marks_of, greatest_marked}
 use Rattle.recovery.specs.Marked.{MayRetire}
-use Rattle.recovery.specs.Jobs.{IsJobTo, highest, no_job_of, no_job_for}
+use Rattle.recovery.specs.Jobs.{highest, no_job_of, no_job_for}
 use Rattle.recovery.specs.Open.{IsOpen, IsRetiredNow, IsFreedNow, state_of}
 use Rattle.recovery.specs.Run.{IsPutAt}
 use Rattle.recovery.specs.steps.Freeing.{reached, reached_in, MayReach, KeepsSegments, IsOverSlots, NoneLower, IsRaised, IsMarkCovered, IsNeededByNone}

@@ -1,5 +1,5 @@
 -- How far the cells and the entries of a document reach: no further than the document itself.
-use Rattle.std.proofs.Common.{◌≡◌, ℕ, ◌+◌, ◌-◌, ◌≤◌, ◌<◌, max, true, false, Option, Some, None, List, [], ◌∷◌, ◌++◌, length, map, set, drop, refl, sym, ◌∙◌, ap, subst, inl, inr, arith}
+use Rattle.std.proofs.Common.{◌≡◌, ℕ, ◌+◌, ◌-◌, ◌≤◌, max, true, false, Option, Some, None, List, [], ◌∷◌, ◌++◌, length, map, set, refl, sym, ◌∙◌, ap, subst, inl, inr, arith}
 use Rattle.std.specs.Prelude.{◌==◌, ◌&&◌, not, nat_le, slice_get}
 use Rattle.std.proofs.lemmas.Bool.{cases_eq, and_parts, eqb-true}
 use Rattle.std.proofs.lemmas.Bool.Decides.{nat_tests}
@@ -11,10 +11,9 @@ use Rattle.revision.specs.Past.{Past, Change, newest, empty_past, from_floor, wi
 use Rattle.revision.specs.Sources.{last_of}
 use Rattle.revision.specs.State.{Limits, DocumentRecord, revision_of, sources_of, units_of, last_of_all, has_place, keeps, change_of, continues, continues_by_name, record_by_name, record_after, all_continue}
 use Rattle.history.specs.Entries.{of_document, greatest}
-use Rattle.history.specs.Cell.{Cell, Pair, cells_at, OfBoth}
+use Rattle.history.specs.Cell.{Pair, cells_at, OfBoth}
 use Rattle.history.specs.Shown.{RecordShows, past_of}
-use Rattle.history.specs.Running.{IsCellOf, Runs}
-use Rattle.segments.specs.Slot.{Segment}
+use Rattle.history.specs.Running.{IsCellOf}
 use Rattle.segments.specs.Numbers.{IsOldest}
 use Rattle.segments.specs.Table.{slot_at, numbers_of, IsRetired}
 use Rattle.segments.specs.Ring.{known_numbers}

@@ -1,16 +1,15 @@
 -- Where a journal is full: a slot that was freed is room, as long as segments have numbers.
-use Rattle.std.proofs.Common.{◌≡◌, ◌≢◌, ℕ, zero, suc, ◌+◌, ◌-◌, ◌*◌, ◌^◌, ◌≤◌, ◌<◌, max, Bool, true, false, Option, Some, None, List, [], ◌∷◌, length, map, set, refl, sym, ◌∙◌, ap, subst, inl, inr, arith}
-use Rattle.std.specs.Prelude.{nat_lt, ◌&&◌, ◌||◌}
+use Rattle.std.proofs.Common.{◌≡◌, ℕ, zero, suc, ◌-◌, ◌^◌, ◌≤◌, ◌<◌, Bool, true, false, Option, Some, None, List, [], ◌∷◌, length, set, refl, sym, ◌∙◌, ap, arith}
+use Rattle.std.specs.Prelude.{◌||◌}
 use Rattle.std.proofs.lemmas.Bool.{false≢true}
 use Rattle.std.proofs.lemmas.Bool.Decides.{nat_tests}
 use Rattle.std.proofs.lemmas.List.{length-map, map-set}
 use Rattle.disk.specs.declared.device.Disk.{Ghosts}
-use Rattle.segments.specs.Slot.{Segment, number_of}
-use Rattle.segments.specs.Numbers.{newest_number, open_count, number_at}
-use Rattle.segments.specs.Table.{slot_at, numbers_of, IsRetired}
+use Rattle.segments.specs.Slot.{number_of}
+use Rattle.segments.specs.Numbers.{newest_number, open_count}
+use Rattle.segments.specs.Table.{numbers_of}
 use Rattle.segments.specs.Ring.{known_numbers, fits_newest}
 use Rattle.segments.specs.Room.{has_closed, has_free, has_room_for}
-use Rattle.segments.specs.declared.ring.Ring.{Ring}
 use Rattle.recovery.specs.declared.store.Store.{Store}
 use Rattle.recovery.specs.Open.{IsOpen, IsFreedNow}
 use Rattle.recovery.proofs.Superblocks.{ranges_of}

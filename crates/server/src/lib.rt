@@ -1,6 +1,7 @@
 //! The program `richd`, as a call over its words and its standard streams.
 //!
-//! `run` reads the words and makes, serves or prints the store of a file. A served session writes what comes of the
+//! `run` reads the words and makes, serves or prints the store of a file; `serve_on`, of `listening`, serves many
+//! sessions over TCP. A session over the standard streams writes what comes of the
 //! lines of its input, with the answers of its desk, and the news after each line (`specs/Serving.antt`); the desk answers from its store, and
 //! acknowledges a command when it is on the device (`specs/Desk.antt`); `dump` writes each document's line
 //! (`specs/Dump.antt`), and a command on deltas the line of what it comes to. What holds of all that is asked of a desk
@@ -54,4 +55,5 @@ mod program;
 pub mod serve;
 
 pub use failure::Failure;
+pub use listening::serve_on;
 pub use program::run;

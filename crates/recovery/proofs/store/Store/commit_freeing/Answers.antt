@@ -1,4 +1,4 @@
-use Rattle.std.proofs.Common.{◌≡◌, ◌≢◌, ⊎_elim, inl, ℕ, false, sym, ap, subst, rules}
+use Rattle.std.proofs.Common.{◌≡◌, ◌≢◌, ⊎_elim, inl, false, sym, ap, subst, rules}
 use Rattle.std.specs.Prelude.{Err, IfErr}
 use Rattle.disk.specs.Device.{Rose}
 use Rattle.disk.proofs.CallerLemmas.{leaves_map}

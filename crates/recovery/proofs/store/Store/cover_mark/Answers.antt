@@ -1,4 +1,4 @@
-use Rattle.std.proofs.Common.{◌≡◌, ◌≢◌, ◌≤◌, ◌<◌, sym, ap, arith, rules}
+use Rattle.std.proofs.Common.{◌≡◌, ◌≢◌, ap, arith, rules}
 use Rattle.recovery.specs.Open.{IsOpen}
 use Rattle.recovery.specs.steps.Freeing.{reached_in}
 use Rattle.revision.specs.State.{State}

@@ -1,10 +1,9 @@
-use Rattle.std.proofs.Common.{◌≡◌, ◌≤◌, ◌<◌, ◌∙◌, ℕ, List, length, take, get_or, refl, sym, ap, subst, arith, rules}
+use Rattle.std.proofs.Common.{◌≡◌, ◌≤◌, ◌<◌, ◌∙◌, List, length, take, get_or, refl, sym, ap, subst, arith}
 use Rattle.std.proofs.lemmas.List.{take_all}
-use Rattle.revision.specs.State.{State}
 use Rattle.recovery.specs.declared.marks.Mark.{Mark}
 use Rattle.recovery.specs.Cells.{lowest_known}
 use Rattle.recovery.specs.Marks.{greatest_marked, marks_of}
-use Rattle.recovery.specs.Open.{IsOpen, state_of, known_cells, known_marks}
+use Rattle.recovery.specs.Open.{IsOpen, state_of}
 use Rattle.recovery.specs.steps.Freeing.{MayReach}
 use Rattle.recovery.proofs.Going.{goes_nowhere, goes_same}
 use Rattle.recovery.proofs.Faults.{counts_on, works_now}

@@ -1,12 +1,7 @@
-use Rattle.std.proofs.Common.{◌≡◌, ◌≢◌, ◌≤◌, ◌∙◌, ℕ, false, sym, subst, rules}
-use Rattle.std.specs.Prelude.{IsErrOf}
+use Rattle.std.proofs.Common.{◌≤◌, subst, rules}
 use Rattle.disk.specs.Device.{Rose}
-use Rattle.refusal.specs.declared.Refusal.TheVariants.{StillNeeded, Fault}
 use Rattle.segments.specs.Numbers.{open_count}
 use Rattle.segments.specs.Ring.{known_numbers}
-use Rattle.recovery.specs.Found.{FoundAs}
-use Rattle.recovery.specs.Goes.{Goes}
-use Rattle.recovery.specs.Open.{has_failed, state_of}
 use Rattle.recovery.proofs.Going.{goes_nowhere, goes_same}
 use Rattle.recovery.proofs.Faults.{retire_goes, works_now, works_still, works_by, done_by, kept_by}
 use Rattle.recovery.proofs.Raising.{may_go, freed_by}

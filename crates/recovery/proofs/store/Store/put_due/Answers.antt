@@ -1,4 +1,4 @@
-use Rattle.std.proofs.Common.{◌≡◌, ◌≢◌, ◌∙◌, Option, Some, None, ℕ, sym, ap, subst, rules}
+use Rattle.std.proofs.Common.{◌≡◌, ◌∙◌, Some, None, sym, ap, subst, rules}
 use Rattle.std.specs.Prelude.{Ok, Err, slice_get}
 use Rattle.disk.specs.Device.{Rose}
 use Rattle.refusal.specs.declared.Refusal.{Refusal}

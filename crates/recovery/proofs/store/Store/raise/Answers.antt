@@ -1,4 +1,4 @@
-use Rattle.std.proofs.Common.{◌≡◌, ◌≢◌, ◌≤◌, ◌<◌, ◌∙◌, None, List, sym, ap, arith, rules}
+use Rattle.std.proofs.Common.{◌≡◌, ◌≤◌, ◌<◌, ◌∙◌, None, List, sym, ap, arith, rules}
 use Rattle.std.specs.Prelude.{Err, slice_get}
 use Rattle.milestone.specs.declared.cells.Cells.{Cells}
 use Rattle.refusal.specs.declared.Refusal.{Refusal}

@@ -1,4 +1,4 @@
-use Rattle.std.proofs.Common.{◌≡◌, refl, rules}
+use Rattle.std.proofs.Common.{refl, rules}
 use Rattle.std.specs.Prelude.{IsErrOf}
 use Rattle.refusal.specs.declared.Refusal.TheVariants.{Fault}
 use Rattle.recovery.proofs.Faults.{retire_goes, fewer, same_faults}
