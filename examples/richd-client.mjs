@@ -2,17 +2,19 @@
 // A client of richd in one file, for Node without packages.
 //
 //     node examples/richd-client.mjs RICHD STORE
+//     node examples/richd-client.mjs HOST:PORT
 //
-// RICHD is the program, STORE a formatted store without a document "demo" (`richd format STORE`). It holds the
-// conversation of docs/PROTOCOL.md: two editors, a late edit, a reply that is lost, catching up, news. Each line that is
-// sent is printed behind `> `, each line that comes behind `< `.
+// RICHD is the program, STORE a formatted store without a document "demo" (`richd format STORE`). HOST:PORT is the address of a
+// `richd serve STORE --listen HOST:PORT` over such a store. It holds the conversation of docs/PROTOCOL.md: two editors, a late
+// edit, a reply that is lost, catching up, news. Each line that is sent is printed behind `> `, each line that comes behind `< `.
 //
-// `Session` speaks the protocol over the two pipes of a `richd serve`. `Editor` keeps what a client has to keep of a
-// document, and sends again what may have been lost. `apply` changes a document by a delta.
+// `Session` speaks the protocol over the two pipes of a `richd serve`, or over a connection. `Editor` keeps what a client has to
+// keep of a document, and sends again what may have been lost. `apply` changes a document by a delta.
 
 import assert from "node:assert";
 import { spawn } from "node:child_process";
 import { once } from "node:events";
+import { connect } from "node:net";
 import { createInterface } from "node:readline";
 
 /** The server refused a request: its number, as 13, and its name, as TooOld. */
@@ -26,15 +28,28 @@ class Refused extends Error {
 /** The server went away before it replied. What was sent last may have been taken or not. */
 class Ended extends Error {}
 
-/** One session: a `richd serve` of its own, and a pair of pipes to it. */
+/** The pipes to a `richd serve` of its own, or a connection to a `richd serve --listen`: where to write, what to read, its end. */
+function linkTo(server) {
+  if (server.length === 1) {
+    const at = server[0].lastIndexOf(":");
+    const socket = connect(Number(server[0].slice(at + 1)), server[0].slice(0, at));
+    socket.setNoDelay(true);
+    return { input: socket, output: socket, closed: once(socket, "close") };
+  }
+  const [richd, store] = server;
+  const child = spawn(richd, ["serve", store], { stdio: ["pipe", "pipe", "inherit"] });
+  return { input: child.stdin, output: child.stdout, closed: once(child, "close") };
+}
+
+/** One session, over pipes or over a connection. */
 class Session {
-  static async begin(richd, store, source) {
+  static async begin(server, source) {
     const session = new Session();
     session.source = source;
     session.news = []; // lines of news that came, and that nobody took yet
-    session.server = spawn(richd, ["serve", store], { stdio: ["pipe", "pipe", "inherit"] });
-    session.server.stdin.on("error", () => {}); // a pipe that broke shows when the reply doesn't come
-    session.lines = createInterface({ input: session.server.stdout })[Symbol.asyncIterator]();
+    session.link = linkTo(server);
+    session.link.input.on("error", () => {}); // a stream that broke shows when the reply doesn't come
+    session.lines = createInterface({ input: session.link.output })[Symbol.asyncIterator]();
     await session.request({ do: "hello", source });
     return session;
   }
@@ -43,7 +58,7 @@ class Session {
   send(message) {
     const line = JSON.stringify(message);
     console.log(`${this.source} > ${line}`);
-    this.server.stdin.write(line + "\n");
+    this.link.input.write(line + "\n");
   }
 
   /** Receives one line, of any length. It is a reply or news. */
@@ -67,10 +82,9 @@ class Session {
 
   /** Ends the session. What wasn't replied yet is replied, and nobody reads it. */
   async close() {
-    const closed = once(this.server, "close");
-    this.server.stdin.end();
+    this.link.input.end();
     while (!(await this.lines.next()).done);
-    await closed;
+    await this.link.closed;
   }
 }
 
@@ -111,8 +125,8 @@ function textOf(units) {
 
 /** What a client keeps of a document. A real one keeps the first four on its disk, so that it can go on after a stop. */
 class Editor {
-  constructor(richd, store, source, doc) {
-    Object.assign(this, { richd, store });
+  constructor(server, source, doc) {
+    this.server = server; // RICHD and STORE, or HOST:PORT alone
     Object.assign(this, { source, doc }); // the source's name belongs to this client alone
     this.number = 1; // the number of the next command: one above the last that was taken
     this.pending = null; // the command that was sent and not replied yet
@@ -122,7 +136,7 @@ class Editor {
 
   /** Begins a session, and sends again what may have been lost with the last one. */
   async connect() {
-    this.session = await Session.begin(this.richd, this.store, this.source);
+    this.session = await Session.begin(this.server, this.source);
     if (this.pending !== null) await this.finish();
   }
 
@@ -214,9 +228,9 @@ class Editor {
 }
 
 /** The conversation of docs/PROTOCOL.md. Each editor has a session while it speaks. */
-async function converse(richd, store) {
-  const ann = new Editor(richd, store, "ann", "demo");
-  const bob = new Editor(richd, store, "bob", "demo");
+async function converse(server) {
+  const ann = new Editor(server, "ann", "demo");
+  const bob = new Editor(server, "bob", "demo");
 
   await ann.connect();
   await ann.create({ insert: "Hello world" });
@@ -255,8 +269,8 @@ async function converse(richd, store) {
   console.log(`both have revision ${bob.revision}: ${textOf(bob.units)}`);
 }
 
-if (process.argv.length !== 4) {
-  console.error("usage: richd-client.mjs RICHD STORE");
+if (process.argv.length !== 3 && process.argv.length !== 4) {
+  console.error("usage: richd-client.mjs RICHD STORE, or richd-client.mjs HOST:PORT");
   process.exit(1);
 }
-await converse(process.argv[2], process.argv[3]);
+await converse(process.argv.slice(2));

@@ -2,16 +2,18 @@
 """A client of richd in one file, with Python's standard library alone.
 
     python3 examples/richd_client.py RICHD STORE
+    python3 examples/richd_client.py HOST:PORT
 
-RICHD is the program, STORE a formatted store without a document "demo" (`richd format STORE`). It holds the
-conversation of docs/PROTOCOL.md: two editors, a late edit, a reply that is lost, catching up, news. Each line that is
-sent is printed behind `> `, each line that comes behind `< `.
+RICHD is the program, STORE a formatted store without a document "demo" (`richd format STORE`). HOST:PORT is the address of a
+`richd serve STORE --listen HOST:PORT` over such a store. It holds the conversation of docs/PROTOCOL.md: two editors, a late
+edit, a reply that is lost, catching up, news. Each line that is sent is printed behind `> `, each line that comes behind `< `.
 
-`Session` speaks the protocol over the two pipes of a `richd serve`. `Editor` keeps what a client has to keep of a
-document, and sends again what may have been lost. `apply` changes a document by a delta.
+`Session` speaks the protocol over the two pipes of a `richd serve`, or over a connection. `Editor` keeps what a client has to
+keep of a document, and sends again what may have been lost. `apply` changes a document by a delta.
 """
 
 import json
+import socket
 import subprocess
 import sys
 
@@ -28,15 +30,43 @@ class Ended(Exception):
     """The server went away before it replied. What was sent last may have been taken or not."""
 
 
-class Session:
-    """One session: a `richd serve` of its own, and a pair of pipes to it."""
+class Pipes:
+    """A `richd serve` of its own, and a pair of pipes to it."""
 
-    def __init__(self, richd, store, source):
-        self.source = source
-        self.news = []  # lines of news that came, and that nobody took yet
+    def __init__(self, richd, store):
         self.server = subprocess.Popen(
             [richd, "serve", store], stdin=subprocess.PIPE, stdout=subprocess.PIPE
         )
+        self.input, self.output = self.server.stdin, self.server.stdout
+
+    def close(self):
+        self.input.close()
+        self.output.read()
+        self.server.wait()
+
+
+class Connection:
+    """A connection to a `richd serve --listen`."""
+
+    def __init__(self, address):
+        host, port = address.rsplit(":", 1)
+        self.socket = socket.create_connection((host, int(port)))
+        self.socket.setsockopt(socket.IPPROTO_TCP, socket.TCP_NODELAY, 1)
+        self.input, self.output = self.socket.makefile("wb"), self.socket.makefile("rb")
+
+    def close(self):
+        self.socket.shutdown(socket.SHUT_WR)
+        self.output.read()
+        self.socket.close()
+
+
+class Session:
+    """One session, over pipes or over a connection."""
+
+    def __init__(self, server, source):
+        self.source = source
+        self.news = []  # lines of news that came, and that nobody took yet
+        self.link = Connection(*server) if len(server) == 1 else Pipes(*server)
         self.request(do="hello", source=source)
 
     def send(self, **message):
@@ -45,14 +75,17 @@ class Session:
         line = json.dumps(message, ensure_ascii=False, separators=(",", ":"))
         print(f"{self.source} > {line}")
         try:
-            self.server.stdin.write(line.encode() + b"\n")
-            self.server.stdin.flush()
-        except BrokenPipeError:
+            self.link.input.write(line.encode() + b"\n")
+            self.link.input.flush()
+        except (BrokenPipeError, ConnectionError):
             raise Ended from None
 
     def receive(self):
         """Receives one line, of any length. It is a reply or news."""
-        line = self.server.stdout.readline()
+        try:
+            line = self.link.output.readline()
+        except ConnectionError:
+            raise Ended from None
         if not line.endswith(b"\n"):
             raise Ended
         print(f"{self.source} < {line.decode()}", end="")
@@ -72,9 +105,7 @@ class Session:
 
     def close(self):
         """Ends the session. What wasn't replied yet is replied, and nobody reads it."""
-        self.server.stdin.close()
-        self.server.stdout.read()
-        self.server.wait()
+        self.link.close()
 
 
 def units_of(operations):
@@ -119,8 +150,8 @@ def text_of(units):
 class Editor:
     """What a client keeps of a document. A real one keeps the first four on its disk, so that it can go on after a stop."""
 
-    def __init__(self, richd, store, source, doc):
-        self.richd, self.store = richd, store
+    def __init__(self, server, source, doc):
+        self.server = server  # RICHD and STORE, or HOST:PORT alone
         self.source, self.doc = source, doc  # the source's name belongs to this client alone
         self.number = 1  # the number of the next command: one above the last that was taken
         self.pending = None  # the command that was sent and not replied yet
@@ -129,7 +160,7 @@ class Editor:
 
     def connect(self):
         """Begins a session, and sends again what may have been lost with the last one."""
-        self.session = Session(self.richd, self.store, self.source)
+        self.session = Session(self.server, self.source)
         if self.pending is not None:
             self.finish()
 
@@ -205,10 +236,10 @@ class Editor:
                 self.revision = line["news"]
 
 
-def converse(richd, store):
+def converse(server):
     """The conversation of docs/PROTOCOL.md. Each editor has a session while it speaks."""
-    ann = Editor(richd, store, "ann", "demo")
-    bob = Editor(richd, store, "bob", "demo")
+    ann = Editor(server, "ann", "demo")
+    bob = Editor(server, "bob", "demo")
 
     ann.connect()
     ann.create({"insert": "Hello world"})
@@ -249,6 +280,6 @@ def converse(richd, store):
 
 
 if __name__ == "__main__":
-    if len(sys.argv) != 3:
-        sys.exit("usage: richd_client.py RICHD STORE")
-    converse(sys.argv[1], sys.argv[2])
+    if len(sys.argv) not in (2, 3):
+        sys.exit("usage: richd_client.py RICHD STORE, or richd_client.py HOST:PORT")
+    converse(sys.argv[1:])

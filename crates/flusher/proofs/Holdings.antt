@@ -1,21 +1,34 @@
 -- What a flusher holds, and how it fits the state of its store.
-use Rattle.std.proofs.Common.{◌≡◌, ◌≢◌, ◌↔◌, ◌⊎◌, inl, inr, true, false, List, [], ◌∷◌, ◌++◌, Vec, Global, Option, Some, None, refl, sym, ◌∙◌, ap, subst, append-nil}
-use Rattle.std.specs.Prelude.{Result, Ok, Err, OnOk, IfErr, IsErrOf}
+use Rattle.std.proofs.Common.{◌≡◌, ◌≢◌, ◌↔◌, ◌⊎◌, inl, inr, ℕ, Bool, true, false, List, [], ◌∷◌, ◌++◌, Vec, Global, Option, Some, None, refl, sym, ◌∙◌, ap, subst, append-nil}
+use Rattle.std.specs.Prelude.{Result, Ok, Err, OnOk, OnErr, IfErr, IsErrOf}
 use Rattle.std.specs.Option.{option_map}
 use Rattle.disk.specs.Crash.{LeavesOnly}
 use Rattle.refusal.specs.declared.Refusal.{Refusal}
-use Rattle.refusal.specs.declared.Refusal.TheVariants.{StillNeeded, Fault}
+use Rattle.refusal.specs.declared.Refusal.TheVariants.{JournalFull, Stranger, StillNeeded, StoreFailed, NoMemory, Fault}
 use Rattle.disk.specs.declared.device.Disk.{Ghosts}
 use Rattle.revision.specs.Command.{Taken}
 use Rattle.revision.specs.State.{State, fold}
 use Rattle.recovery.specs.declared.store.Store.{Store}
 use Rattle.recovery.specs.Found.{commands_of, FoundAs}
-use Rattle.recovery.specs.Open.{IsOpen, IsUnchanged, IsRetiredNow, IsWithOrWithout, device_of, state_of, has_failed}
+use Rattle.milestone.specs.Job.{Job}
+use Rattle.recovery.specs.Open.{IsOpen, IsUnchanged, IsPutNow, IsRetiredNow, IsWithOrWithout, device_of, state_of, has_failed}
+use Rattle.recovery.specs.declared.run.StoreStep.TheVariants.{Milestone as PutsMilestone, Retire as Retires}
+use Rattle.recovery.specs.Marked.{MayRetire}
+use Rattle.recovery.specs.Run.{IsPutAt, IsTaken, IsWhy}
 use Rattle.recovery.specs.Goes.{Goes}
 use Rattle.recovery.proofs.CallerLemmas.{goes_none, goes_call, open_unchanged, found_as, found_open}
 use Rattle.view.specs.Published.{Published}
 use Rattle.flusher.specs.Flushers.{listed}
 use Rattle.flusher.proofs.Beginnings.{commands-append, fold-append}
+
+-- the refusal of an answer, or this one where there is none
+abbrev pub refusal_in : {T : Type 0} → Refusal → Result T Refusal → Refusal
+refusal_in none (Ok answer) = none
+refusal_in none (Err refusal) = refusal
+
+-- a refusal that is known of one answer is known of another one of the same
+pub same_refusal : {S T : Type 0} (one : Refusal) (two : Refusal) → IsErrOf {T = S} (Err one) two → IsErrOf {T = T} (Err one) two
+same_refusal one two is = ap (λ (e : Refusal). Err e) (ap (refusal_in one) is)
 
 abbrev pub held_in : Option (Vec Taken Global) → List (List Taken)
 held_in waiting = listed (option_map (λ v. v.items) waiting)
@@ -35,6 +48,15 @@ module _ {D : Type 0} {disk : Ghosts D} where
       → Goes (IsWithOrWithout (state_of old) (commands_of batches)) old new
   goes_batch old new batch batches is goes =
       subst (λ (c : List Taken). Goes (IsWithOrWithout (state_of old) c) old new) (sym (ap commands_of is ∙ append-nil batch)) goes
+
+-- an Ok is no refusal
+pub no_error : {A : Type 0} (answer : A) (refusal : Refusal) → IsErrOf (Ok answer) refusal → ⊥
+no_error answer refusal is = cc
+
+-- a truth value is one or the other
+either : (b : Bool) → (b ≡ true) ⊎ (b ≡ false)
+either true = inl refl
+either false = inr refl
 
 module _ {D : Type 0} {disk : Ghosts D} (old new : Store D disk) where
   -- what a retirement leaves, whatever it answers
@@ -56,6 +78,56 @@ module _ {D : Type 0} {disk : Ghosts D} (old new : Store D disk) where
       → Goes (λ content. FoundAs content (state_of old)) old new
   goes_retired result failed_before fails any_moment done only untouched = goes_call result failed_before fails any_moment (retire_done result done) (retire_kept result only untouched)
 
+  -- after an Ok the store works
+  works_after : {A : Type 0} (result : Result A Refusal) → (has_failed old ≡ true → IsErrOf result Fault × IsUnchanged old new)
+      → (has_failed old ≡ false → (has_failed new ≡ true ↔ IsErrOf result Fault)) → OnOk result (has_failed new ≡ false)
+  works_after (Ok answer) failed_before fails = by_case (either (has_failed old)) (either (has_failed new))
+    where
+      by_case : (has_failed old ≡ true) ⊎ (has_failed old ≡ false) → (has_failed new ≡ true) ⊎ (has_failed new ≡ false) → has_failed new ≡ false
+      by_case failed (inr works) = works
+      by_case (inl failed) (inl fails_now) = absurd (no_error answer Fault (failed_before failed).0)
+      by_case (inr works) (inl fails_now) = absurd (no_error answer Fault ((fails works).0 fails_now))
+  works_after (Err refusal) failed_before fails = tt
+
+  -- a retirement was made
+  taken_now : {A : Type 0} (result : Result A Refusal) → OnOk result (has_failed new ≡ false) → state_of new ≡ state_of old
+      → OnOk result ((is_open : IsOpen old) → MayRetire is_open.table is_open.cells) → OnOk result ((is_open : IsOpen old) → IsRetiredNow is_open.cells is_open.table new)
+      → OnOk result (IsTaken Retires old new)
+  taken_now (Ok answer) works state may retired = (works, state, λ is_open. record { may = may is_open; retired = retired is_open })
+  taken_now (Err refusal) works state may retired = tt
+
+  pub retired_now : (result : Result (Unit {0}) Refusal) → (has_failed old ≡ true → IsErrOf result Fault × IsUnchanged old new)
+      → (has_failed old ≡ false → (has_failed new ≡ true ↔ IsErrOf result Fault)) → state_of new ≡ state_of old
+      → OnOk result ((is_open : IsOpen old) → MayRetire is_open.table is_open.cells) → OnOk result ((is_open : IsOpen old) → IsRetiredNow is_open.cells is_open.table new)
+      → OnOk result (IsTaken Retires old new)
+  retired_now result failed_before fails state may retired = taken_now result (works_after result failed_before fails) state may retired
+
+  -- why it was refused
+  pub retire_why : (result : Result (Unit {0}) Refusal) → IfErr result (λ e. (e ≡ StillNeeded) ⊎ (e ≡ Fault))
+      → (IsErrOf result StillNeeded → (is_open : IsOpen old) → ¬ MayRetire is_open.table is_open.cells) → IfErr result (λ e. e ≢ Fault → IsWhy Retires e old)
+  retire_why (Ok answer) only needed = tt
+  retire_why (Err refusal) (inl is) needed = λ no_fault. (is, needed (ap (λ (e : Refusal). Err e) is))
+  retire_why (Err refusal) (inr fault) needed = λ no_fault. absurd (no_fault fault)
+
+  -- a milestone was put
+  pub put_now : (document revision : ℕ) (result : Result (Unit {0}) Refusal) → OnOk result (has_failed new ≡ false) → state_of new ≡ state_of old
+      → OnOk result ((is_open : IsOpen old) → IsPutAt document revision old is_open new) → OnOk result (IsTaken (PutsMilestone document revision) old new)
+  put_now document revision (Ok answer) works state put = (works, state, put)
+  put_now document revision (Err refusal) works state put = tt
+
+  -- what a milestone of a job leaves
+  put_done : (job : Job) (result : Result (Unit {0}) Refusal) → OnOk result ((is_open : IsOpen old) → IsPutNow is_open.cells is_open.table job new) → OnOk result (IsOpen old → IsOpen new)
+  put_done job (Ok answer) done = λ is_open. (done is_open).goes_on
+  put_done job (Err refusal) done = tt
+
+  pub goes_put : (job : Job) (result : Result (Unit {0}) Refusal) → (has_failed old ≡ true → IsErrOf result Fault × IsUnchanged old new)
+      → (has_failed old ≡ false → (has_failed new ≡ true ↔ IsErrOf result Fault))
+      → (has_failed old ≡ false → IsOpen old → LeavesOnly disk (λ content. FoundAs content (state_of old)) (device_of old) (device_of new))
+      → OnOk result ((is_open : IsOpen old) → IsPutNow is_open.cells is_open.table job new)
+      → IfErr result (λ e. e ≢ Fault → IsOpen old → IsOpen new)
+      → Goes (λ content. FoundAs content (state_of old)) old new
+  goes_put job result failed_before fails any_moment done kept = goes_call result failed_before fails any_moment (put_done job result done) kept
+
 -- one batch that is committed more
 pub kept_more : (start old new : State) (before after : Published) (receipt batch : List Taken) → old ≡ fold start (commands_of (before.told ++ before.held)) → before.held ≡ []
     → after ≡ record before { held = receipt ∷ [] } → receipt ≡ batch → new ≡ fold old batch → new ≡ fold start (commands_of (after.told ++ after.held))
@@ -72,3 +144,23 @@ pub kept_published : (start state : State) (before after : Published) → state 
 kept_published start state before after kept is =
     kept ∙ ap (λ (l : List (List Taken)). fold start (commands_of l)) (sym (append-nil (before.told ++ before.held)))
     ∙ ap (λ (p : Published). fold start (commands_of (p.told ++ p.held))) (sym is)
+
+-- a commit isn't refused with `StoreFailed`
+pub not_lost : (refusal : Refusal) → ((refusal ≡ JournalFull) ⊎ ((refusal ≡ StillNeeded) ⊎ (refusal ≡ Stranger))) ⊎ ((refusal ≡ NoMemory) ⊎ (refusal ≡ Fault)) → refusal ≡ StoreFailed → ⊥
+not_lost refusal (inl (inl full)) is = cc
+not_lost refusal (inl (inr (inl needed))) is = cc
+not_lost refusal (inl (inr (inr stranger))) is = cc
+not_lost refusal (inr (inl memory)) is = cc
+not_lost refusal (inr (inr fault)) is = cc
+
+-- a publish that is refused so leaves the batch that it was given
+pub lost_still : {A : Type 0} (result : Result A Refusal) (before after : Published) → (IsErrOf result StoreFailed → ¬ (before.held ≡ [])) → OnErr result (after ≡ before) → IsErrOf result StoreFailed
+    → ¬ (after.held ≡ [])
+lost_still (Ok answer) before after lost same told = absurd (no_error answer StoreFailed told)
+lost_still (Err refusal) before after lost same told = λ none. lost told (ap (λ (p : Published). p.held) (sym same) ∙ none)
+
+-- and it has no other refusals
+pub publish_only : {A : Type 0} (P : Type 0) (result : Result A Refusal) → IfErr result (λ e. (e ≡ NoMemory) ⊎ (e ≡ StoreFailed)) → IfErr result (λ e. e ≢ NoMemory → e ≢ StoreFailed → P)
+publish_only P (Ok answer) only = tt
+publish_only P (Err refusal) (inl memory) = λ no_memory no_failure. absurd (no_memory memory)
+publish_only P (Err refusal) (inr failed) = λ no_memory no_failure. absurd (no_failure failed)

@@ -6,3 +6,7 @@ pub mod Holdings
 pub mod Fitting
 pub mod CallerLemmas
 pub mod Answering
+pub mod Resting
+pub mod Scheduling
+pub mod Living
+pub mod Refusing

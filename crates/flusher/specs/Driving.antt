@@ -1,45 +1,91 @@
 -- One thread's run: what each call gives, and what the answers say at the end.
-use Rattle.std.specs.Prelude.{◌≡◌, ◌≤◌, ◌⊎◌, ℕ, true, false, Option, Some, None, List, [], ◌∷◌, ◌++◌, length, take, slice_get}
+use Rattle.std.specs.Prelude.{◌≡◌, ◌≤◌, ◌⊎◌, ℕ, true, false, Option, Some, None, Result, Ok, Err, List, [], ◌∷◌, ◌++◌, length, take, slice_get}
+use Rattle.disk.specs.declared.device.Disk.{Ghosts}
 use Rattle.refusal.specs.declared.Refusal.{Refusal}
-use Rattle.refusal.specs.declared.Refusal.TheVariants.{StillNeeded, NoMemory, Fault}
+use Rattle.refusal.specs.declared.Refusal.TheVariants.{JournalFull, Stranger, StillNeeded, StoreFailed, NoMemory, Fault}
 use Rattle.revision.specs.Command.{Taken}
+use Rattle.revision.specs.State.{fold, all_grow}
 use Rattle.revision.specs.Acceptance.{Refuses, answer}
-use Rattle.world.specs.Board.{Board, Ticket, submitted, ticket_of, taken_more, settled_more, can_ack}
-use Rattle.world.specs.World.{Entry, entry_of}
+use Rattle.world.specs.Board.{Ticket, submitted, ticket_of, next_run, taken_more, settled_more, can_ack}
+use Rattle.world.specs.World.{entry_of, takens}
+use Rattle.recovery.specs.declared.store.Store.{Store}
+use Rattle.recovery.specs.declared.run.StoreStep.TheVariants.{Milestone as PutsMilestone, Retire as Retires}
 use Rattle.recovery.specs.Found.{commands_of}
+use Rattle.recovery.specs.Open.{IsOpen, IsUnchanged, state_of, has_failed, has_room}
+use Rattle.recovery.specs.Run.{IsTaken, IsWhy}
+use Rattle.hub.specs.Legal.{Board}
 use Rattle.hub.specs.Runs.{IsLongest, untaken}
+use Rattle.flusher.specs.Flushers.{IsUsedUp}
 use Rattle.flusher.specs.declared.calls.Call.{Call}
-use Rattle.flusher.specs.declared.calls.Call.TheVariants.{Submit, Turn, Ack, Retire}
+use Rattle.flusher.specs.declared.calls.Call.TheVariants.{Submit, Turn, Ack, Milestone, Retire}
 use Rattle.flusher.specs.declared.calls.Answer.{Answer}
-use Rattle.flusher.specs.declared.calls.Answer.TheVariants.{Submitted, Turned, Acked, Retired, Refused}
+use Rattle.flusher.specs.declared.calls.Answer.TheVariants.{Submitted, Turned, Acked, Put, Retired, Refused}
 
--- what an acknowledgement gives for a ticket, or for none
-abbrev pub AckGives : Board Entry → Option Ticket → Option (List (List Taken)) → Type 0
+-- What stands between two calls of a run: the board, the tickets that were given, in order, and the store.
+pub record Between (D : Type 0) (disk : Ghosts D) : Type 0 where
+  pub board : Board
+  pub tickets : List Ticket
+  pub store : Store D disk
+
+-- What an acknowledgement gives for a ticket, or for none: just where the ticket's length is settled, the board's token of all that
+-- was published.
+abbrev pub AckGives : Board → Option Ticket → Option (List (List Taken)) → Type 0
 AckGives board None told = told ≡ None
-AckGives board (Some ticket) None = can_ack board ticket ≡ false
-AckGives board (Some ticket) (Some told) = (can_ack board ticket ≡ true) × (ticket.length ≤ length (commands_of told))
+AckGives board (Some ticket) None = can_ack board.board ticket ≡ false
+AckGives board (Some ticket) (Some told) = (can_ack board.board ticket ≡ true) × (told ≡ board.told) × (ticket.length ≤ length (commands_of told))
+
+-- batches with one more behind them, if it has a command
+abbrev pub with_run : List (List Taken) → List Taken → List (List Taken)
+with_run told [] = told
+with_run told (first ∷ others) = told ++ (first ∷ others) ∷ []
+
+-- Turn: so many of the next commands are taken off and settled, and the board is told that they were published as one batch.
+abbrev pub turned : Board → ℕ → Board
+turned board count =
+    record board { board = settled_more (taken_more board.board count) count; told = with_run board.told (takens (next_run board.board count)) }
+
+module _ {D J : Type 0} {disk : Ghosts D} where
+  -- What a call gives, and what it makes of the board, of the list of the tickets and of the store: of the board as the world's step of
+  -- that name says, and of the store as the store's own step says. A turn settles the longest run of the next commands whose batch has
+  -- at most `cap` bytes.
+  abbrev pub Gives : ℕ → Between D disk → Call → Answer D J → Between D disk → Type 0
+  Gives cap here (Submit command) (Submitted at) after =
+      (after.board ≡ record here.board { board = submitted (entry_of command) here.board.board command }) × (at ≡ length here.tickets)
+      × ((ticket : Ticket) × (Some ticket ≡ ticket_of here.board.board command) × (after.tickets ≡ here.tickets ++ ticket ∷ []))
+      × (after.store ≡ here.store)
+  Gives cap here (Submit command) (Refused refusal) after = (after ≡ here) × (answer here.board.board.state command ≡ Refuses refusal)
+  Gives cap here Turn (Turned count) after =
+      IsLongest cap (untaken here.board.board) count × (after.board ≡ turned here.board count) × (after.tickets ≡ here.tickets)
+      × (state_of after.store ≡ fold (state_of here.store) (takens (next_run here.board.board count)))
+  Gives cap here (Ack at) (Acked told) after = (after ≡ here) × AckGives here.board (slice_get here.tickets at) told
+  Gives cap here (Milestone document revision) Put after =
+      (after.board ≡ here.board) × (after.tickets ≡ here.tickets) × IsTaken (PutsMilestone document revision) here.store after.store
+  Gives cap here (Milestone document revision) (Refused refusal) after =
+      (after.board ≡ here.board) × (after.tickets ≡ here.tickets) × (state_of after.store ≡ state_of here.store)
+      × IsWhy (PutsMilestone document revision) refusal here.store
+  Gives cap here Retire Retired after = (after.board ≡ here.board) × (after.tickets ≡ here.tickets) × IsTaken Retires here.store after.store
+  Gives cap here Retire (Refused refusal) after =
+      (after.board ≡ here.board) × (after.tickets ≡ here.tickets) × IsUnchanged here.store after.store × IsWhy Retires refusal here.store
+  Gives cap here call reply after = ⊥
+
+  -- Calls that were answered one after another. After each the store works, and it is open where it was before.
+  pub data Answered (cap : ℕ) (start : Between D disk) : List Call → List (Answer D J) → Between D disk → Type 0 where
+    Begins : Answered cap start [] [] start
+    Follows : (calls : List Call) (answers : List (Answer D J)) (here : Between D disk) (call : Call) (reply : Answer D J) (after : Between D disk)
+        → Answered cap start calls answers here → Gives cap here call reply after
+        → has_failed after.store ≡ false → (IsOpen here.store → IsOpen after.store)
+        → Answered cap start (calls ++ call ∷ []) (answers ++ reply ∷ []) after
+
+  -- The first calls were answered one after another, so many of them as there are answers, and what came behind them, if anything did,
+  -- gave no ticket and changed nothing of the order.
+  pub record IsAnswered (cap : ℕ) (start after : Between D disk) (calls : List Call) (answers : List (Answer D J)) : Type 0 where
+    pub last : Between D disk
+    pub answered : Answered cap start (take (length answers) calls) answers last
+    pub tickets : after.tickets ≡ last.tickets
+    pub order : after.board.board.order ≡ last.board.board.order
+    pub settled : last.board.board.settled ≤ after.board.board.settled
 
 module _ {D J : Type 0} where
-  -- What a call gives, and what it makes of the board and of the list of the tickets: each as the world's step of that name says. A turn
-  -- settles the longest run of the next commands whose batch has at most `cap` bytes.
-  abbrev pub Gives : ℕ → Board Entry → List Ticket → Call → Answer D J → Board Entry → List Ticket → Type 0
-  Gives cap board tickets (Submit command) (Submitted at) after out =
-      (after ≡ submitted (entry_of command) board command) × (at ≡ length tickets)
-      × ((ticket : Ticket) × (Some ticket ≡ ticket_of board command) × (out ≡ tickets ++ ticket ∷ []))
-  Gives cap board tickets (Submit command) (Refused refusal) after out = (after ≡ board) × (out ≡ tickets) × (answer board.state command ≡ Refuses refusal)
-  Gives cap board tickets Turn (Turned count) after out = IsLongest cap (untaken board) count × (after ≡ settled_more (taken_more board count) count) × (out ≡ tickets)
-  Gives cap board tickets (Ack at) (Acked told) after out = (after ≡ board) × (out ≡ tickets) × AckGives board (slice_get tickets at) told
-  Gives cap board tickets Retire Retired after out = (after ≡ board) × (out ≡ tickets)
-  Gives cap board tickets Retire (Refused refusal) after out = (after ≡ board) × (out ≡ tickets) × (refusal ≡ StillNeeded)
-  Gives cap board tickets call reply after out = ⊥
-
-  -- Calls that were answered one after another, from a board with no ticket given yet.
-  pub data Answered (cap : ℕ) (start : Board Entry) : List Call → List (Answer D J) → Board Entry → List Ticket → Type 0 where
-    Begins : Answered cap start [] [] start []
-    Follows : (calls : List Call) (answers : List (Answer D J)) (board : Board Entry) (tickets : List Ticket) (call : Call) (reply : Answer D J) (after : Board Entry) (out : List Ticket)
-        → Answered cap start calls answers board tickets → Gives cap board tickets call reply after out
-        → Answered cap start (calls ++ call ∷ []) (answers ++ reply ∷ []) after out
-
   -- An acknowledgement that named what was published: its ticket's length is settled.
   abbrev pub IsHeld : ℕ → List Ticket → Call → Answer D J → Type 0
   IsHeld settled tickets (Ack at) (Acked (Some told)) = (ticket : Ticket) × (slice_get tickets at ≡ Some ticket) × (ticket.length ≤ settled)
@@ -52,14 +98,34 @@ module _ {D J : Type 0} where
   AreHeld settled tickets [] (reply ∷ answers) = ⊥
   AreHeld settled tickets (call ∷ calls) [] = ⊥
 
-  -- The first calls were answered one after another, so many of them as there are answers, and what came behind them, if anything did,
-  -- changed nothing of the order.
-  pub record IsAnswered (cap : ℕ) (start after : Board Entry) (calls : List Call) (answers : List (Answer D J)) (tickets : List Ticket) : Type 0 where
-    pub board : Board Entry
-    pub answered : Answered cap start (take (length answers) calls) answers board tickets
-    pub order : after.order ≡ board.order
-    pub settled : board.settled ≤ after.settled
+-- what stopped a run, if anything did
+abbrev pub stop_of : Result (Unit {0}) Refusal → Option Refusal
+stop_of (Ok done) = None
+stop_of (Err refusal) = Some refusal
 
--- A run stops for want of memory, at a fault of the device, or where a turn was refused: the call behind those that were answered.
-abbrev pub StopsAt : List Call → ℕ → Refusal → Type 0
-StopsAt calls at refusal = ((refusal ≡ NoMemory) ⊎ (refusal ≡ Fault)) ⊎ (slice_get calls at ≡ Some Turn)
+module _ {D : Type 0} {disk : Ghosts D} where
+  -- Why the write of a run is refused, where neither the device failed nor memory ran out, and what that leaves: the run isn't committed,
+  -- since it finds no room in the journal, of which the last segment is opened, or doesn't continue the state; or it is committed, and the
+  -- log of what is published can't be made longer.
+  abbrev pub IsRunRefused : Store D disk → List Taken → Refusal → Store D disk → Type 0
+  IsRunRefused store run refusal after =
+      ((((refusal ≡ JournalFull) ⊎ (refusal ≡ StillNeeded)) × (has_room store run ≡ false) × IsUsedUp store) × (state_of after ≡ state_of store))
+      ⊎ ((((refusal ≡ Stranger) × (all_grow (state_of store) run ≡ false)) × (state_of after ≡ state_of store))
+      ⊎ ((refusal ≡ StoreFailed) × (state_of after ≡ fold (state_of store) run)))
+
+  -- Why a turn is refused, likewise: it took off a run with a command, and the write of that is refused.
+  abbrev pub IsTurnRefused : ℕ → Board → Store D disk → Refusal → Store D disk → Type 0
+  IsTurnRefused cap board store refusal after =
+      (count : ℕ) × IsLongest cap (untaken board.board) count × (1 ≤ count) × IsRunRefused store (takens (next_run board.board count)) refusal after
+
+module _ {D J : Type 0} {disk : Ghosts D} where
+  -- The call behind those that were answered is a turn, and by what stood there it is refused so, and leaves this store.
+  pub record StopsAtTurn (cap : ℕ) (start : Between D disk) (calls : List Call) (answers : List (Answer D J)) (refusal : Refusal) (after : Store D disk) : Type 0 where
+    pub last : Between D disk
+    pub answered : Answered cap start (take (length answers) calls) answers last
+    pub turns : slice_get calls (length answers) ≡ Some Turn
+    pub refused : IsTurnRefused cap last.board last.store refusal after
+
+  -- Why a run stops at a call, and with which store: for want of memory, at a fault of the device, or where a turn is refused.
+  abbrev pub Stops : ℕ → Between D disk → List Call → List (Answer D J) → Refusal → Store D disk → Type 0
+  Stops cap start calls answers refusal after = ((refusal ≡ NoMemory) ⊎ (refusal ≡ Fault)) ⊎ StopsAtTurn cap start calls answers refusal after

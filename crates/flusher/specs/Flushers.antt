@@ -1,8 +1,12 @@
 -- What a flusher holds, and what a write makes of it.
 use Rattle.std.specs.Prelude.{◌≡◌, ◌≤◌, ◌<◌, ◌+◌, ◌-◌, ◌^◌, ℕ, min, Option, Some, None, List, [], ◌∷◌, ◌++◌, length}
+use Rattle.disk.specs.declared.device.Disk.{Ghosts}
 use Rattle.revision.specs.Command.{Taken}
 use Rattle.revision.specs.State.{State}
-use Rattle.recovery.specs.Open.{FitsSlot}
+use Rattle.segments.specs.Numbers.{newest_number}
+use Rattle.segments.specs.Ring.{known_numbers}
+use Rattle.recovery.specs.declared.store.Store.{Store}
+use Rattle.recovery.specs.Open.{FitsSlot, IsOpen, ring_of}
 
 -- a batch as a list of batches, and no batch where there is none
 abbrev pub listed : Option (List Taken) → List (List Taken)
@@ -26,3 +30,8 @@ pub record IsWritten (told held after : List (List Taken)) (receipt : List Taken
 -- how many bytes a batch may have
 abbrev pub cap_of : State → ℕ
 cap_of state = min (state.limits.width + 4) (2 ^ 32 - 1)
+
+module _ {D : Type 0} {disk : Ghosts D} where
+  -- An open store has opened its last segment: the newest one has the highest number there is.
+  abbrev pub IsUsedUp : Store D disk → Type 0
+  IsUsedUp store = IsOpen store → 2 ^ 64 - 1 ≤ newest_number (known_numbers (ring_of store))

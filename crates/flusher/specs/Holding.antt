@@ -1,9 +1,12 @@
 -- The parts of a flusher, as contracts name them.
-use Rattle.std.specs.Prelude.{List}
+use Rattle.std.specs.Prelude.{◌≡◌, List, []}
 use Rattle.std.specs.Option.{option_map}
 use Rattle.disk.specs.declared.device.Disk.{Ghosts}
 use Rattle.revision.specs.Command.{Taken}
+use Rattle.revision.specs.State.{fold}
 use Rattle.recovery.specs.declared.store.Store.{Store}
+use Rattle.recovery.specs.Found.{commands_of}
+use Rattle.recovery.specs.Open.{state_of}
 use Rattle.flusher.specs.declared.flusher.Flusher.{Flusher}
 use Rattle.flusher.specs.Flushers.{listed}
 
@@ -22,3 +25,15 @@ module _ {D J : Type 0} {disk : Ghosts D} where
   -- the batch that is held and not committed yet, if there is one
   abbrev pub waiting_of : Flusher D J disk → List (List Taken)
   waiting_of flusher = listed (option_map (λ v. v.items) flusher.waiting)
+
+  -- The batch that was held is committed, and it or the one that was committed before isn't published.
+  pub record IsLost (old new : Flusher D J disk) : Type 0 where
+    pub waiting : waiting_of new ≡ []
+    pub committed : ¬ (committed_of new ≡ [])
+    pub state : state_of (store_of new) ≡ fold (state_of (store_of old)) (commands_of (waiting_of old))
+
+  -- The batch that was held isn't committed.
+  pub record IsUncommitted (old new : Flusher D J disk) : Type 0 where
+    pub waiting : waiting_of new ≡ waiting_of old
+    pub committed : committed_of new ≡ committed_of old
+    pub state : state_of (store_of new) ≡ state_of (store_of old)

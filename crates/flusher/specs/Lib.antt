@@ -4,3 +4,6 @@ pub mod Flushers
 pub mod Holding
 pub mod Driving
 pub mod Run
+pub mod Schedule
+pub mod Lives
+mod ScheduleExamples

@@ -12,10 +12,11 @@ use Rattle.recovery.specs.Open.{IsOpen, device_of, state_of, has_failed}
 use Rattle.recovery.specs.Goes.{Goes}
 use Rattle.flusher.specs.Batches.{IsBeginning, AreParts}
 
--- What the board has; the batches that were published; the batch that is committed and not published yet, and the one that isn't
--- committed yet, each a list of one batch or of none; and the store.
+-- What the board has, and the batches that it was told of; the batches that were published; the batch that is committed and not
+-- published yet, and the one that isn't committed yet, each a list of one batch or of none; and the store.
 pub record Standing (D : Type 0) (disk : Ghosts D) : Type 0 where
   pub board : Board Entry
+  pub known : List (List Taken)
   pub told : List (List Taken)
   pub committed : List (List Taken)
   pub waiting : List (List Taken)
@@ -32,9 +33,10 @@ module _ {D : Type 0} {disk : Ghosts D} where
     pub taken : here.board.taken ≤ length here.board.order
     pub parts : AreParts (takens here.board.order) here.board.settled here.board.taken here.told (here.committed ++ here.waiting)
 
-  -- nothing is under way: what was taken off is published, and the store holds the state after it
+  -- nothing is under way: what was taken off is published, the board was told of it, and the store holds the state after it
   pub record IsCalm (start : State) (here : Standing D disk) : Type 0 where
     pub even : IsEven here
+    pub known : here.known ≡ here.told
     pub committed : here.committed ≡ []
     pub waiting : here.waiting ≡ []
     pub state : state_of here.store ≡ fold start (commands_of here.told)

@@ -14,6 +14,8 @@ pub enum Call {
     Turn,
     /// Acknowledges the ticket of this place, counted from 0 among those that the run was given.
     Ack(usize),
+    /// Puts a milestone of the document of this number, in order of creation, at this revision.
+    Milestone(u32, u64),
     /// Retires the oldest segment.
     Retire,
 }
@@ -27,8 +29,10 @@ pub enum Answer<D, J: Site> {
     Turned(usize),
     /// The token of what was published, where the ticket is settled; `None` where it isn't, or there is no such ticket.
     Acked(Option<Told<D, J>>),
+    /// The milestone is put.
+    Put,
     /// The oldest segment is retired.
     Retired,
-    /// The call was refused, and changed nothing.
+    /// The call was refused: what was ordered, written and settled is as it was.
     Refused(Refusal),
 }

@@ -1,17 +1,21 @@
 //! One thread's run over a board and a flusher: call after call, each with its answer.
 ghost use Rattle.std.specs.Prelude.{List, ℕ, ◌≡◌, ◌≢◌, ◌⊎◌, ◌↔◌, ◌<◌, ◌≤◌, ◌^◌, [], ◌∷◌, ◌++◌, true, false, Some, None, length, slice_get, take, OnOk, OnErr, IfOk, IfErr, IfSome, IfNone, IsErrOf};
 ghost use Rattle.disk.specs.Crash.{LeavesOnly, MayLeaveNow};
+ghost use Rattle.refusal.specs.declared.Refusal.{Refusal as Why};
 ghost use Rattle.world.specs.Board.{submitted};
 ghost use Rattle.world.specs.World.{entry_of, takens};
+ghost use Rattle.recovery.specs.declared.store.Store.{Store};
+ghost use Rattle.recovery.specs.declared.run.StoreStep.TheVariants.{Milestone as PutsMilestone, Retire as Retires};
 ghost use Rattle.recovery.specs.Found.{FoundAs};
-ghost use Rattle.recovery.specs.Open.{IsOpen, device_of, state_of, has_failed};
+ghost use Rattle.recovery.specs.Open.{IsOpen, IsUnchanged, device_of, state_of, has_failed};
+ghost use Rattle.recovery.specs.Run.{IsTaken, IsWhy};
 ghost use Rattle.recovery.specs.Goes.{Goes};
 ghost use Rattle.flusher.specs.Batches.{IsFirst};
 ghost use Rattle.flusher.specs.Flushers.{cap_of};
 ghost use Rattle.flusher.specs.Holding.{store_of, told_of, committed_of, waiting_of};
 ghost use Rattle.flusher.specs.Standing.{IsCalm, RunGoes, batches_of};
-ghost use Rattle.flusher.specs.Run.{standing};
-ghost use Rattle.flusher.specs.Driving.{AckGives, Answered, AreHeld, Gives, IsAnswered, StopsAt};
+ghost use Rattle.flusher.specs.Run.{standing, between};
+ghost use Rattle.flusher.specs.Driving.{AckGives, Answered, AreHeld, Gives, IsAnswered, IsTurnRefused, Stops, stop_of};
 
 use crate::calls::{Answer, Call};
 use crate::flusher::Flusher;
@@ -44,9 +48,11 @@ fn submit_one<D: Disk, J: Site>(
     command: &Command,
 ) -> Result<Answer<D, J>, Refusal>
     requires works { board.old.failed ≡ false }
-    ensures gives { (cap : ℕ) → IfOk result (λ reply. Gives cap board.old.board tickets.old.items (Call.Submit command.now) reply board.new.board tickets.new.items) }
+    ensures gives { (cap : ℕ) (store : Store D ⟦<D as Disk>⟧) → IfOk result (λ reply. Gives cap (record { board = board.old; tickets = tickets.old.items; store = store })
+        (Call.Submit command.now) reply (record { board = board.new; tickets = tickets.new.items; store = store })) }
     ensures step { OnOk result (board.new.board ≡ submitted (entry_of command.now) board.old.board command.now) }
-    ensures same { OnErr result ((board.new.board ≡ board.old.board) × (tickets.new.items ≡ tickets.old.items)) }
+    ensures same { OnErr result ((board.new ≡ board.old) × (tickets.new.items ≡ tickets.old.items)) }
+    ensures told { board.new.told ≡ board.old.told }
     ensures failed { board.new.failed ≡ board.old.failed }
     ensures only { IfErr result (λ e. e ≡ Refusal.NoMemory) }
 {
@@ -69,7 +75,7 @@ fn submit_one<D: Disk, J: Site>(
 // What an acknowledgement gives for the ticket of this place, if there is one.
 fn ack_one<D, J: Site>(board: &Board<D, J>, tickets: &[Ticket], at: usize) -> Option<Told<D, J>>
     requires works { board.now.failed ≡ false }
-    ensures { AckGives board.now.board (slice_get tickets.now at) result }
+    ensures { AckGives board.now (slice_get tickets.now at) result }
 {
     match tickets.get(at) {
         None => None,
@@ -80,13 +86,54 @@ fn ack_one<D, J: Site>(board: &Board<D, J>, tickets: &[Ticket], at: usize) -> Op
     }
 }
 
+// What a refusal answers: itself, but for want of memory and a fault, at which a run stops.
+fn answered<D, J: Site>(refusal: Refusal) -> Result<Answer<D, J>, Refusal>
+    ensures answer { IfOk result (λ reply. (reply ≡ Answer.Refused refusal) × (refusal ≢ Refusal.NoMemory) × (refusal ≢ Refusal.Fault)) }
+    ensures stops { IfErr result (λ e. (e ≡ refusal) × ((e ≡ Refusal.NoMemory) ⊎ (e ≡ Refusal.Fault))) }
+{
+    if refusal == Refusal::NoMemory {
+        return Err(refusal);
+    }
+    if refusal == Refusal::Fault {
+        return Err(refusal);
+    }
+    Ok(Answer::Refused(refusal))
+}
+
+// Puts a milestone. Stops for want of memory and at a fault; another refusal is an answer.
+fn put_one<D: Disk, J: Site>(
+    alloc: Global,
+    flusher: &mut Flusher<D, J>,
+    document: u32,
+    revision: u64,
+) -> Result<Answer<D, J>, Refusal>
+    requires works { has_failed (store_of flusher.old) ≡ false }
+    ensures goes { Goes (λ content. FoundAs content (state_of (store_of flusher.old))) (store_of flusher.old) (store_of flusher.new) }
+    ensures state { state_of (store_of flusher.new) ≡ state_of (store_of flusher.old) }
+    ensures works { OnOk result (has_failed (store_of flusher.new) ≡ false) }
+    ensures answer { IfOk result (λ reply. ((reply ≡ Answer.Put) × IsTaken (PutsMilestone document revision) (store_of flusher.old) (store_of flusher.new))
+        ⊎ ((refusal : Why) × (reply ≡ Answer.Refused refusal) × IsWhy (PutsMilestone document revision) refusal (store_of flusher.old))) }
+    ensures fails { has_failed (store_of flusher.new) ≡ true ↔ IsErrOf result Refusal.Fault }
+    ensures only { IfErr result (λ e. (e ≡ Refusal.NoMemory) ⊎ (e ≡ Refusal.Fault)) }
+    ensures told { told_of flusher.new ≡ told_of flusher.old }
+    ensures committed { committed_of flusher.new ≡ committed_of flusher.old }
+    ensures waiting { waiting_of flusher.new ≡ waiting_of flusher.old }
+{
+    match flusher.put_document(alloc, document, revision) {
+        Ok(()) => Ok(Answer::Put),
+        Err(refusal) => answered(refusal),
+    }
+}
+
 // Retires the oldest segment. Stops at a fault alone; that the segment is still needed is an answer.
 fn retire_one<D: Disk, J: Site>(flusher: &mut Flusher<D, J>) -> Result<Answer<D, J>, Refusal>
     requires works { has_failed (store_of flusher.old) ≡ false }
     ensures goes { Goes (λ content. FoundAs content (state_of (store_of flusher.old))) (store_of flusher.old) (store_of flusher.new) }
     ensures state { state_of (store_of flusher.new) ≡ state_of (store_of flusher.old) }
     ensures works { OnOk result (has_failed (store_of flusher.new) ≡ false) }
-    ensures answer { IfOk result (λ reply. (reply ≡ Answer.Retired) ⊎ (reply ≡ Answer.Refused Refusal.StillNeeded)) }
+    ensures answer { IfOk result (λ reply. ((reply ≡ Answer.Retired) × IsTaken Retires (store_of flusher.old) (store_of flusher.new))
+        ⊎ ((refusal : Why) × (reply ≡ Answer.Refused refusal) × IsUnchanged (store_of flusher.old) (store_of flusher.new) × IsWhy Retires refusal (store_of flusher.old))) }
+    ensures fails { has_failed (store_of flusher.new) ≡ true ↔ IsErrOf result Refusal.Fault }
     ensures only { IfErr result (λ e. e ≡ Refusal.Fault) }
     ensures told { told_of flusher.new ≡ told_of flusher.old }
     ensures committed { committed_of flusher.new ≡ committed_of flusher.old }
@@ -94,12 +141,7 @@ fn retire_one<D: Disk, J: Site>(flusher: &mut Flusher<D, J>) -> Result<Answer<D,
 {
     match flusher.retire() {
         Ok(()) => Ok(Answer::Retired),
-        Err(refusal) => {
-            if refusal == Refusal::Fault {
-                return Err(refusal);
-            }
-            Ok(Answer::Refused(refusal))
-        }
+        Err(refusal) => answered(refusal),
     }
 }
 
@@ -119,11 +161,13 @@ fn call_one<D: Disk, J: Site, R: Wait>(
     ensures goes { RunGoes J.start (standing board.old flusher.old) (standing board.new flusher.new) }
     ensures calm { OnOk result (IsCalm J.start (standing board.new flusher.new)) }
     ensures works { OnOk result (has_failed (store_of flusher.new) ≡ false) }
-    ensures gives { IfOk result (λ reply. Gives (cap_of J.start) board.old.board tickets.old.items call.now reply board.new.board tickets.new.items) }
+    ensures gives { IfOk result (λ reply. Gives (cap_of J.start) (between board.old tickets.old.items flusher.old) call.now reply (between board.new tickets.new.items flusher.new)) }
     ensures same { OnErr result (tickets.new.items ≡ tickets.old.items) }
     ensures order { OnErr result (board.new.board.order ≡ board.old.board.order) }
     ensures failed { board.new.failed ≡ board.old.failed }
-    ensures stops { IfErr result (λ e. ((e ≡ Refusal.NoMemory) ⊎ (e ≡ Refusal.Fault)) ⊎ (call.now ≡ Call.Turn)) }
+    ensures fails { has_failed (store_of flusher.new) ≡ true ↔ IsErrOf result Refusal.Fault }
+    ensures stops { IfErr result (λ e. ((e ≡ Refusal.NoMemory) ⊎ (e ≡ Refusal.Fault))
+        ⊎ ((call.now ≡ Call.Turn) × IsTurnRefused (cap_of J.start) board.old (store_of flusher.old) e (store_of flusher.new))) }
 {
     match call {
         Call::Submit(command) => submit_one(alloc, board, seat, tickets, command),
@@ -132,6 +176,7 @@ fn call_one<D: Disk, J: Site, R: Wait>(
             Ok(Answer::Turned(count))
         }
         Call::Ack(at) => Ok(Answer::Acked(ack_one(board, tickets, *at))),
+        Call::Milestone(document, revision) => put_one(alloc, flusher, *document, *revision),
         Call::Retire => retire_one(flusher),
     }
 }
@@ -154,10 +199,12 @@ fn drive_all<D: Disk, J: Site, R: Wait>(
     ensures goes { RunGoes J.start (standing board.old flusher.old) (standing board.new flusher.new) }
     ensures calm { OnOk result (IsCalm J.start (standing board.new flusher.new)) }
     ensures works { OnOk result (has_failed (store_of flusher.new) ≡ false) }
-    ensures answered { IsAnswered (cap_of J.start) board.old.board board.new.board calls.now answers.new.items tickets.new.items }
-    ensures whole { OnOk result ((length answers.new.items ≡ length calls.now) × Answered (cap_of J.start) board.old.board calls.now answers.new.items board.new.board tickets.new.items) }
+    ensures answered { IsAnswered (cap_of J.start) (between board.old [] flusher.old) (between board.new tickets.new.items flusher.new) calls.now answers.new.items }
+    ensures stops { IfErr result (λ e. Stops (cap_of J.start) (between board.old [] flusher.old) calls.now answers.new.items e (store_of flusher.new)) }
+    ensures whole { OnOk result ((length answers.new.items ≡ length calls.now)
+        × Answered (cap_of J.start) (between board.old [] flusher.old) calls.now answers.new.items (between board.new tickets.new.items flusher.new)) }
     ensures failed { board.new.failed ≡ board.old.failed }
-    ensures stops { IfErr result (λ e. StopsAt calls.now (length answers.new.items) e) }
+    ensures fails { has_failed (store_of flusher.new) ≡ true ↔ IsErrOf result Refusal.Fault }
 {
     for call in calls {
         answers.reserve(1)?;
@@ -165,6 +212,16 @@ fn drive_all<D: Disk, J: Site, R: Wait>(
         answers.push(answer)?;
     }
     Ok(())
+}
+
+// What stopped a run, if anything did.
+fn stopped_by(ended: Result<(), Refusal>) -> Option<Refusal>
+    ensures { result ≡ stop_of ended }
+{
+    match ended {
+        Ok(()) => None,
+        Err(refusal) => Some(refusal),
+    }
 }
 
 /// One thread's run: makes the calls in order, each with its answer, over a flusher that has nothing under way and its board, where
@@ -195,10 +252,11 @@ pub fn drive<D: Disk, J: Site, R: Wait>(
     ensures acknowledged { AreHeld board.new.board.settled result.tickets.items (take (length result.answers.items) calls.now) result.answers.items }
 
     // What the calls gave.
-    ensures answered { IsAnswered (cap_of J.start) board.old.board board.new.board calls.now result.answers.items result.tickets.items }
+    ensures answered { IsAnswered (cap_of J.start) (between board.old [] flusher.old) (between board.new result.tickets.items flusher.new) calls.now result.answers.items }
+    ensures stops { IfSome result.stopped (λ refusal. Stops (cap_of J.start) (between board.old [] flusher.old) calls.now result.answers.items refusal (store_of flusher.new)) }
     ensures whole { result.stopped ≡ None → (length result.answers.items ≡ length calls.now)
-        × Answered (cap_of J.start) board.old.board calls.now result.answers.items board.new.board result.tickets.items }
-    ensures stops { IfSome result.stopped (λ refusal. StopsAt calls.now (length result.answers.items) refusal) }
+        × Answered (cap_of J.start) (between board.old [] flusher.old) calls.now result.answers.items (between board.new result.tickets.items flusher.new) }
+    ensures fails { has_failed (store_of flusher.new) ≡ true ↔ result.stopped ≡ Some Refusal.Fault }
 
     // The next run may go on from there.
     ensures calm { result.stopped ≡ None → IsCalm J.start (standing board.new flusher.new) }
@@ -217,13 +275,9 @@ pub fn drive<D: Disk, J: Site, R: Wait>(
         &mut tickets,
         calls,
     );
-    let stopped = match ended {
-        Ok(()) => None,
-        Err(refusal) => Some(refusal),
-    };
     Driven {
         answers,
         tickets,
-        stopped,
+        stopped: stopped_by(ended),
     }
 }

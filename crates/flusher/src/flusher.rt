@@ -9,6 +9,7 @@ ghost use Rattle.flusher.specs.Flushers.{MayCommit};
 use crate::begun::Begun;
 use crate::gate::{Gate, Moment};
 use disk::Disk;
+use hub::Run;
 use published::{Opened, Site, Told};
 use recovery::{Receipt, Store};
 use refusal::Refusal;
@@ -19,7 +20,7 @@ use view::{Publisher, Viewer};
 
 /// The store, what publishes its batches to readers, and at most one batch that is to be written.
 pub struct Flusher<D: Disk, J: Site> {
-    store: Store<D>,
+    pub(crate) store: Store<D>,
     publisher: Publisher<D, J>,
     waiting: Option<Vec<Taken>>,
     begun: Begun<J>,
@@ -28,12 +29,10 @@ pub struct Flusher<D: Disk, J: Site> {
 }
 
 impl<D: Disk, J: Site> Flusher<D, J> {
-    ghost use Rattle.recovery.specs.Found.{FoundAs};
-    ghost use Rattle.recovery.specs.Marked.{MayRetire};
-    ghost use Rattle.recovery.specs.Open.{IsOpen, IsRetiredNow, IsWithOrWithout, has_failed, has_room};
-    ghost use Rattle.flusher.specs.Flushers.{IsWritten, cap_of};
+    ghost use Rattle.recovery.specs.Open.{IsWithOrWithout, has_failed, has_room};
+    ghost use Rattle.flusher.specs.Flushers.{IsUsedUp, IsWritten, cap_of};
     ghost use Rattle.recovery.specs.Goes.{Goes};
-    ghost use Rattle.flusher.specs.Holding.{store_of, told_of, committed_of, waiting_of};
+    ghost use Rattle.flusher.specs.Holding.{IsLost, IsUncommitted, store_of, told_of, committed_of, waiting_of};
 
     // A flusher of which nothing was published yet.
     pub(crate) fn of(store: Store<D>, publisher: Publisher<D, J>, begun: Begun<J>) -> Flusher<D, J>
@@ -57,22 +56,26 @@ impl<D: Disk, J: Site> Flusher<D, J> {
         self.begun.is_start();
     }
 
-    /// Holds a batch, which the next `commit_held` or `write` commits. It takes no memory.
-    pub fn hold(&mut self, batch: Vec<Taken>)
+    /// Holds a run as the batch that the next `commit_held` or `write` commits. It has to be one that a board took off for this flusher's
+    /// `cap`. It takes no memory.
+    pub fn hold(&mut self, run: Run<J>)
         requires none { (committed_of self.old ≡ []) × (waiting_of self.old ≡ []) }
-        requires some { 1 ≤ length batch.items }
-        requires short { length batch.items < 2 ^ 32 }
-        requires fits { FitsSlot (state_of (store_of self.old)) batch.items }
+        requires some { 1 ≤ length run.commands }
+        requires short { length run.commands < 2 ^ 32 }
+        requires fits { FitsSlot (state_of (store_of self.old)) run.commands }
+        requires cap { run.cap ≡ cap_of (state_of (store_of self.old)) }
         ensures store { store_of self.new ≡ store_of self.old }
         ensures told { told_of self.new ≡ told_of self.old }
         ensures committed { committed_of self.new ≡ committed_of self.old }
-        ensures waiting { waiting_of self.new ≡ batch.items ∷ [] }
+        ensures waiting { waiting_of self.new ≡ run.commands ∷ [] }
     {
-        self.waiting = Some(batch);
+        self.waiting = Some(run.into_commands());
     }
 
-    /// Commits the batch that is held, if it isn't yet, and keeps the receipt. Refused as `Store::commit` refuses it; the batch is held still then. The
-    /// readers are shown nothing new.
+    /// Commits the batch that is held, if it isn't yet, and keeps the receipt. Where the journal is full the oldest segment is freed
+    /// first, by milestones of its documents. Refused as `Store::commit_freeing` refuses it; the batch is held still then. So in an open
+    /// store neither `JournalFull` nor `StillNeeded` comes before the numbers of its segments are used up. The readers are shown nothing
+    /// new.
     pub fn commit_held(&mut self, alloc: Global) -> Result<(), Refusal>
         // A crash at any moment leaves the state before it, or the one with the batch.
         ensures goes { Goes (IsWithOrWithout (state_of (store_of self.old)) (commands_of (waiting_of self.old))) (store_of self.old) (store_of self.new) }
@@ -87,14 +90,17 @@ impl<D: Disk, J: Site> Flusher<D, J> {
         // When each refusal comes.
         ensures fails { has_failed (store_of self.old) ≡ false → (has_failed (store_of self.new) ≡ true ↔ IsErrOf result Refusal.Fault) }
         ensures none { waiting_of self.old ≡ [] → OnErr result ⊥ }
-        ensures full { has_failed (store_of self.old) ≡ false → (batch : List Taken) → waiting_of self.old ≡ batch ∷ []
-            → (IsErrOf result Refusal.JournalFull ↔ (has_room (store_of self.old) batch ≡ false)) }
+        ensures full { IsErrOf result Refusal.JournalFull → (batch : List Taken) × (waiting_of self.old ≡ batch ∷ [])
+            × (has_room (store_of self.old) batch ≡ false) × (has_room (store_of self.new) batch ≡ false) }
+        ensures needed { IsErrOf result Refusal.StillNeeded → (batch : List Taken) × (waiting_of self.old ≡ batch ∷ []) × (has_room (store_of self.old) batch ≡ false) }
+        ensures never_full { (IsErrOf result Refusal.JournalFull) ⊎ (IsErrOf result Refusal.StillNeeded) → IsUsedUp (store_of self.old) }
         ensures stranger { IsErrOf result Refusal.Stranger → all_grow (state_of (store_of self.old)) (commands_of (waiting_of self.old)) ≡ false }
-        ensures only { IfErr result (λ e. ((e ≡ Refusal.JournalFull) ⊎ (e ≡ Refusal.Stranger)) ⊎ ((e ≡ Refusal.NoMemory) ⊎ (e ≡ Refusal.Fault))) }
+        ensures only { IfErr result (λ e. ((e ≡ Refusal.JournalFull) ⊎ ((e ≡ Refusal.StillNeeded) ⊎ (e ≡ Refusal.Stranger)))
+            ⊎ ((e ≡ Refusal.NoMemory) ⊎ (e ≡ Refusal.Fault))) }
     {
         match self.waiting.take() {
             None => Ok(()),
-            Some(batch) => match self.store.commit(alloc, &batch) {
+            Some(batch) => match self.store.commit_freeing(alloc, &batch) {
                 Ok(receipt) => {
                     self.publisher.accept(receipt);
                     Ok(())
@@ -109,7 +115,9 @@ impl<D: Disk, J: Site> Flusher<D, J> {
 
     /// Commits the batch that is held, if it isn't yet, and publishes it, between the gate's moments: gives the receipt of the commit
     /// and the token that ends with the batch, or `None` where no batch is held. On a refusal the next call goes on where this one
-    /// stopped: the same batch is committed, or published, by then. Refused as `commit_held`, and then as the publish, for want of memory.
+    /// stopped: the same batch is committed, or published, by then. Refused as `commit_held`, with `JournalFull` or `StillNeeded` where
+    /// the journal is full and can't be freed, and then as the publish: for want of memory, or with `StoreFailed` where the log of what is
+    /// published can't be made longer. The batch is on the disk then.
     pub fn write<R: Wait, G: Gate>(
         &mut self,
         rt: &R,
@@ -125,12 +133,28 @@ impl<D: Disk, J: Site> Flusher<D, J> {
         ensures done { OnOk result ((committed_of self.new ≡ []) × (waiting_of self.new ≡ [])) }
         ensures told { OnErr result (told_of self.new ≡ told_of self.old) }
         ensures held { OnErr result (committed_of self.new ++ waiting_of self.new ≡ committed_of self.old ++ waiting_of self.old) }
+        ensures state { OnOk result (state_of (store_of self.new) ≡ fold (state_of (store_of self.old)) (commands_of (waiting_of self.old))) }
+
+        // Whether the batch is committed after a refusal: after `StoreFailed` it is, and isn't published, after `NoMemory` it may be, and
+        // after any other it isn't.
+        ensures lost { IsErrOf result Refusal.StoreFailed → IsLost self.old self.new }
+        ensures uncommitted { IfErr result (λ e. e ≢ Refusal.NoMemory → e ≢ Refusal.StoreFailed → IsUncommitted self.old self.new) }
 
         // A failure of the device is told as such, and nothing else is.
         ensures fails { has_failed (store_of self.old) ≡ false → (has_failed (store_of self.new) ≡ true ↔ IsErrOf result Refusal.Fault) }
+        // When each other refusal comes.
+        ensures full { IsErrOf result Refusal.JournalFull → (batch : List Taken) × (waiting_of self.old ≡ batch ∷ [])
+            × (has_room (store_of self.old) batch ≡ false) × (has_room (store_of self.new) batch ≡ false) }
+        ensures needed { IsErrOf result Refusal.StillNeeded → (batch : List Taken) × (waiting_of self.old ≡ batch ∷ []) × (has_room (store_of self.old) batch ≡ false) }
+        ensures never_full { (IsErrOf result Refusal.JournalFull) ⊎ (IsErrOf result Refusal.StillNeeded) → IsUsedUp (store_of self.old) }
+        ensures stranger { IsErrOf result Refusal.Stranger → all_grow (state_of (store_of self.old)) (commands_of (waiting_of self.old)) ≡ false }
+        ensures only { IfErr result (λ e. (((e ≡ Refusal.JournalFull) ⊎ ((e ≡ Refusal.StillNeeded) ⊎ (e ≡ Refusal.Stranger)))
+            ⊎ ((e ≡ Refusal.NoMemory) ⊎ (e ≡ Refusal.Fault))) ⊎ (e ≡ Refusal.StoreFailed)) }
     {
         gate.pass(Moment::BeforeCommit);
-        self.commit_held(alloc)?;
+        if let Err(refusal) = self.commit_held(alloc) {
+            return Err(refusal);
+        }
         gate.pass(Moment::AfterCommit);
         self.publisher.publish(rt, alloc)
     }
@@ -155,22 +179,6 @@ impl<D: Disk, J: Site> Flusher<D, J> {
         ensures { IfSome result (λ viewer. viewer ≡ told_of self.now) }
     {
         self.publisher.viewer()
-    }
-
-    /// Retires the oldest segment of the store, as `Store::retire` does. It takes no memory.
-    pub fn retire(&mut self) -> Result<(), Refusal>
-        ensures goes { Goes (λ content. FoundAs content (state_of (store_of self.old))) (store_of self.old) (store_of self.new) }
-        ensures state { state_of (store_of self.new) ≡ state_of (store_of self.old) }
-        ensures fails { has_failed (store_of self.old) ≡ false → (has_failed (store_of self.new) ≡ true ↔ IsErrOf result Refusal.Fault) }
-        ensures needed { IsErrOf result Refusal.StillNeeded → (is_open : IsOpen (store_of self.old)) → ¬ MayRetire is_open.table is_open.cells }
-        ensures not_needed { OnOk result ((is_open : IsOpen (store_of self.old)) → MayRetire is_open.table is_open.cells) }
-        ensures done { OnOk result ((is_open : IsOpen (store_of self.old)) → IsRetiredNow is_open.cells is_open.table (store_of self.new)) }
-        ensures only { IfErr result (λ e. (e ≡ Refusal.StillNeeded) ⊎ (e ≡ Refusal.Fault)) }
-        ensures told { told_of self.new ≡ told_of self.old }
-        ensures committed { committed_of self.new ≡ committed_of self.old }
-        ensures waiting { waiting_of self.new ≡ waiting_of self.old }
-    {
-        self.store.retire()
     }
 
     /// Ends the publishing, and gives the store back.

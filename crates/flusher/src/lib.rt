@@ -7,24 +7,33 @@
 //!
 //! # One thread's run
 //!
-//! `drive` makes calls one after another (submit a command, make a turn, acknowledge a ticket, retire a segment) and gives an answer for
-//! each. Its contract says of the whole run:
+//! `drive` makes calls one after another (submit a command, make a turn, acknowledge a ticket, put a milestone, retire a segment) and
+//! gives an answer for each. Its contract says of the whole run:
 //!
 //! - `any_moment`, `holds`: each content that a crash may leave at any moment since the run began is found, whichever cell of a document
 //!   is used, as a state that agrees with the first commands of the board's order up to the end of a batch; once it has returned, with no
 //!   fewer commands than are settled then.
 //! - `acknowledged`: each ticket of which an acknowledgement gave a token asks for no more than is settled then. So a crash loses nothing
 //!   that was acknowledged.
-//! - `answered`, `whole`: each answer is what specs/Driving.antt says by `Gives` of its call, and a run that isn't stopped answers all.
-//! - `stops`: it stops for want of memory, at a fault of the device, and where a turn is refused.
+//! - `answered`, `whole`: each answer is what specs/Driving.antt says by `Gives` of its call, of the board, the tickets and the store; a
+//!   run that isn't stopped answers all. A run stops for want of memory, at a fault of the device, and where a turn is refused, by `Stops`
+//!   of the same file.
+//! - `fails`: it stops with `Fault` just where the store has failed.
 //!
 //! What a crash leaves is said of a store that is open as `IsOpen` of recovery says, which `Store::open` gives for an honest device. A
 //! turn that publishes a batch before its commit can't be written: a publish shows what was accepted by the receipt of its commit.
 //!
-//! # What isn't here yet
+//! # Over all lives
 //!
-//! A full journal is passed on as the refusal, so a run stops there. A run makes no milestones, and of a retirement its answers say only
-//! that it was made or is still refused.
+//! A run is a list of a world's events: specs/Schedule.antt says which, and `laws::run_is_a_schedule` that they make just the run's board,
+//! tickets and acknowledgements. specs/Lives.antt says what a life is (runs of `drive` over a store that was opened once), how a crash ends
+//! it, and how the next one begins; `laws::lives` promises of all of them that no acknowledged edit is missing, none is taken twice, none
+//! changes its revision, and that what was acknowledged and comes again is answered as a retry.
+//!
+//! # Upkeep
+//!
+//! Where the journal is full, a commit frees its oldest segment first, by milestones of that segment's documents. Milestones that are due
+//! are put by `put_due` between batches; `milestone_job` and `put_milestone` let another thread compose one.
 #![tactic(auto)]
 
 mod begun;
@@ -32,8 +41,10 @@ mod calls;
 mod driving;
 mod flusher;
 mod gate;
+pub mod laws;
 mod starting;
 mod turning;
+mod upkeep;
 
 pub use calls::{Answer, Call};
 pub use driving::{Driven, drive};

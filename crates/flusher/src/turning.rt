@@ -1,12 +1,15 @@
 //! A turn of a run: what is taken off is written, published and settled.
 ghost use Rattle.std.specs.Prelude.{◌≡◌, ◌≢◌, ◌⊎◌, ◌↔◌, ◌<◌, ◌≤◌, ◌^◌, [], ◌∷◌, ◌++◌, true, false, length, OnOk, OnErr, IfOk, IfErr, IfSome, IfNone, IsErrOf};
-ghost use Rattle.world.specs.Board.{taken_more, settled_more};
+ghost use Rattle.revision.specs.State.{fold};
+ghost use Rattle.world.specs.Board.{next_run};
+ghost use Rattle.world.specs.World.{takens};
 ghost use Rattle.hub.specs.Runs.{IsLongest, untaken};
 ghost use Rattle.recovery.specs.Open.{state_of, has_failed};
 ghost use Rattle.flusher.specs.Flushers.{cap_of};
 ghost use Rattle.flusher.specs.Holding.{store_of};
 ghost use Rattle.flusher.specs.Standing.{IsCalm, RunGoes};
 ghost use Rattle.flusher.specs.Run.{standing};
+ghost use Rattle.flusher.specs.Driving.{IsTurnRefused, turned};
 
 use crate::flusher::Flusher;
 use crate::gate::OpenGate;
@@ -18,7 +21,8 @@ use std::alloc::Global;
 use std::sync::Wait;
 
 /// A turn: takes off the longest run of commands whose batch fits a slot, writes it, and settles it. Gives how many commands there are
-/// in it, which are none where nothing was left to take off. At a refusal the run may be committed or not.
+/// in it, which are none where nothing was left to take off. At `StoreFailed` the run is committed and not published, at `NoMemory` it
+/// may be committed, and at any other refusal it isn't.
 pub fn turn<D: Disk, J: Site, R: Wait>(
     rt: &R,
     alloc: Global,
@@ -31,7 +35,10 @@ pub fn turn<D: Disk, J: Site, R: Wait>(
     ensures calm { OnOk result (IsCalm J.start (standing board.new flusher.new)) }
     ensures works { OnOk result (has_failed (store_of flusher.new) ≡ false) }
     ensures run { IfOk result (λ count. IsLongest (cap_of (state_of (store_of flusher.old))) (untaken board.old.board) count) }
-    ensures settled { IfOk result (λ count. board.new.board ≡ settled_more (taken_more board.old.board count) count) }
+    ensures settled { IfOk result (λ count. board.new ≡ turned board.old count) }
+    ensures state { IfOk result (λ count. state_of (store_of flusher.new) ≡ fold (state_of (store_of flusher.old)) (takens (next_run board.old.board count))) }
+    ensures fails { has_failed (store_of flusher.new) ≡ true ↔ IsErrOf result Refusal.Fault }
+    ensures refused { IfErr result (λ e. ((e ≡ Refusal.NoMemory) ⊎ (e ≡ Refusal.Fault)) ⊎ IsTurnRefused (cap_of (state_of (store_of flusher.old))) board.old (store_of flusher.old) e (store_of flusher.new)) }
     ensures failed { board.new.failed ≡ board.old.failed }
     ensures order { board.new.board.order ≡ board.old.board.order }
 {

@@ -1,7 +1,11 @@
-//! Tests of `flusher`, by its public calls alone.
+//! Tests of `flusher` and of `turns`, by their public calls alone.
 #![tactic(auto)]
 
+#[cfg(test)]
+mod freeing;
 #[cfg(test)]
 mod made;
 #[cfg(test)]
 mod runs;
+#[cfg(test)]
+mod threads;

@@ -2,7 +2,7 @@
 ghost use Rattle.std.specs.Prelude.{◌≡◌, false};
 ghost use Rattle.recovery.specs.Open.{has_failed};
 
-use attributes::Attrs;
+use attributes::{Attrs, Change, Key};
 use delta::{Builder, Delta, Op};
 use disk::MemDisk;
 use recovery::{Pick, Shape, Store, format_device};
@@ -28,6 +28,30 @@ fn letters(rt: &(impl Abort + AllocGlobal), count: u32) -> Delta {
     let mut builder = Builder::new(rt.alloc());
     assert!(rt; builder.push(Op::text(text, Attrs::new(rt.alloc()))).is_ok());
     builder.finish()
+}
+
+// Takes three names of 62 letters off the first letter, which has none.
+fn without_names(rt: &(impl Abort + AllocGlobal)) -> Delta {
+    let mut change = Change::new(rt.alloc());
+    for letter in &['a', 'b', 'c'] {
+        let mut name = String::new(rt.alloc());
+        for _ in 0..62u8 {
+            assert!(rt; name.push(*letter).is_ok());
+        }
+        let key = Key::new(rt.alloc(), &name).expect(rt, "a name");
+        assert!(rt; change.set(key, None).is_ok());
+    }
+    let mut builder = Builder::new(rt.alloc());
+    assert!(rt; builder.push(Op::retain(1, change)).is_ok());
+    builder.finish()
+}
+
+/// Source a's edit of document z whose entry has 236 bytes, so that it fills a slot; it leaves the text as it is.
+pub fn wide_command(rt: &(impl Abort + AllocGlobal), number: u64) -> Command {
+    assert!(rt; 2 <= number && number < 1 << 53);
+    let name = Name::doc(rt.alloc(), "z").expect(rt, "a document");
+    let source = Name::source(rt.alloc(), "a").expect(rt, "a source");
+    Command::edit(name, source, number, number - 1, without_names(rt)).expect(rt, "a command")
 }
 
 /// Source a's first command creates document z with one letter, and each other adds so many to the revision before.

@@ -1,10 +1,12 @@
 -- What stands behind the lock at any time that it is free.
-use Rattle.std.specs.Prelude.{◌≡◌, ◌≤◌, ◌+◌, ℕ, Bool, List, [], ◌∷◌, length}
-use Rattle.revision.specs.Command.{Taken}
+use Rattle.std.specs.Prelude.{◌≡◌, ◌≤◌, ◌+◌, ◌⊎◌, ℕ, Bool, List, [], ◌∷◌, length, Some, Result, Ok, Err}
+use Rattle.refusal.specs.declared.Refusal.{Refusal}
+use Rattle.refusal.specs.declared.Refusal.TheVariants.{NoMemory, StoreFailed}
+use Rattle.revision.specs.Command.{Taken, Command}
 use Rattle.revision.specs.State.{State, grown, fold}
-use Rattle.revision.specs.Acceptance.{Takes, Reply, TakenAt, AgainAt, Refused, answer}
+use Rattle.revision.specs.Acceptance.{Takes, Refuses, Reply, TakenAt, AgainAt, Refused, answer}
 use Rattle.recovery.specs.Found.{commands_of}
-use Rattle.world.specs.Board.{Board as Inner}
+use Rattle.world.specs.Board.{Board as Inner, Ticket, ticket_of}
 use Rattle.world.specs.World.{Entry, takens}
 
 -- a board of a world, whether the store under it has failed, the batches that were published up to what is settled, and how many seats
@@ -36,3 +38,15 @@ abbrev pub counted : ℕ → Reply → ℕ
 counted count (TakenAt revision) = count + 1
 counted count (AgainAt revision) = count
 counted count (Refused refusal) = count
+
+-- a board at some moment of a run that began with this state: its order is a legal history
+pub record IsOfRun (start : State) (board : Inner Entry) : Type 0 where
+  pub begun : board.start ≡ start
+  pub history : IsHistory board
+
+-- What a board gave for a command at some moment of such a run: the world's ticket, or a refusal of the rule of acceptance, or none for
+-- want of memory or since the store had failed.
+abbrev pub WasGiven : State → Command → Result Ticket Refusal → Type 0
+WasGiven start command (Ok ticket) = (board : Inner Entry) × IsOfRun start board × (Some ticket ≡ ticket_of board command)
+WasGiven start command (Err refusal) = (refusal ≡ NoMemory) ⊎ ((refusal ≡ StoreFailed)
+    ⊎ ((board : Inner Entry) × IsOfRun start board × (answer board.state command ≡ Refuses refusal)))

@@ -12,6 +12,11 @@ pub record IsLongest (cap : ℕ) (commands : List Taken) (count : ℕ) : Type 0 
   pub fits : (count ≡ 0) ⊎ (batch_width (take count commands) ≤ cap)
   pub longest : count < length commands → cap < batch_width (take (count + 1) commands)
 
+-- A run that was taken off: its commands, and how many bytes their batch could have.
+pub record Run : Type 0 where
+  pub commands : List Taken
+  pub cap : ℕ
+
 -- the commands that are not taken off yet
 abbrev pub untaken : Board Entry → List Taken
 untaken board = takens (drop board.taken board.order)

@@ -7,12 +7,12 @@ ghost use Rattle.world.specs.World.{entry_of, takens};
 ghost use Rattle.hub.specs.Legal.{IsHistory, IsWithin, counted};
 ghost use Rattle.hub.specs.Runs.{IsLongest, untaken, MaySettle};
 
-use crate::run::{copied, is_beginning, longest};
+use crate::run::{Run, copied, is_beginning, longest};
 use crate::seat::{PLACES, Seat, Ticket, count};
 use published::{Site, Told};
 use recovery::Receipt;
 use refusal::Refusal;
-use revision::{Command, State, Taken};
+use revision::{Command, State};
 use std::alloc::Global;
 use std::marker::Model;
 use std::sync::ledger::{Blank, Book, Share};
@@ -158,6 +158,8 @@ impl<D, J: Site> Board<D, J> {
         ensures refused { self.old.failed ≡ false → IfErr result (λ e. (e ≡ Refusal.NoMemory) ⊎ (answer self.old.board.state command.now ≡ Refuses e)) }
         ensures unchanged { OnErr result (self.new ≡ self.old) }
         ensures uncounted { OnErr result (seat.new ≡ seat.old) }
+        ensures start { self.old.board.start ≡ J.start }
+        ensures history { IsHistory self.old.board }
     {
         if self.failed {
             return Err(Refusal::StoreFailed);
@@ -178,10 +180,11 @@ impl<D, J: Site> Board<D, J> {
 
     /// Takes off the longest run of the next commands whose batch has at most `cap` bytes, and gives a copy of it; it is empty where
     /// there is none. Refused for want of memory alone, and then nothing has changed.
-    pub fn take(&mut self, alloc: Global, cap: u32) -> Result<Vec<Taken>, Refusal>
-        ensures longest { IfOk result (λ run. IsLongest cap (untaken self.old.board) (length run.items)) }
-        ensures run { IfOk result (λ run. run.items ≡ takens (next_run self.old.board (length run.items))) }
-        ensures board { IfOk result (λ run. self.new ≡ record self.old { board = taken_more self.old.board (length run.items) }) }
+    pub fn take(&mut self, alloc: Global, cap: u32) -> Result<Run<J>, Refusal>
+        ensures longest { IfOk result (λ run. IsLongest cap (untaken self.old.board) (length run.commands)) }
+        ensures run { IfOk result (λ run. run.commands ≡ takens (next_run self.old.board (length run.commands))) }
+        ensures cap { IfOk result (λ run. run.cap ≡ cap) }
+        ensures board { IfOk result (λ run. self.new ≡ record self.old { board = taken_more self.old.board (length run.commands) }) }
         ensures only { IfErr result (λ e. e ≡ Refusal.NoMemory) }
         ensures unchanged { OnErr result (self.new ≡ self.old) }
     {
@@ -189,7 +192,7 @@ impl<D, J: Site> Board<D, J> {
         let count = longest(untaken, cap);
         let run = copied(alloc, &untaken[..count])?;
         self.board.take(count);
-        Ok(run)
+        Ok(Run::taken(run, cap))
     }
 
     /// Settles a batch that was committed, by the receipt of its commit and the token of its publish. Refused with `Stranger` just where the batch isn't the

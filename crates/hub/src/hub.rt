@@ -1,15 +1,21 @@
 //! The board behind its lock, and the threads that wait for it.
-ghost use Rattle.std.specs.Prelude.{◌≡◌, ◌⊎◌, ◌≤◌, ◌+◌, [], length, IfOk, IfErr, IfSome, OnErr};
+ghost use Rattle.std.specs.Prelude.{◌≡◌, ◌⊎◌, ◌≤◌, ◌<◌, ◌+◌, true, false, [], Some, length, min, set, get_or, IfOk, IfErr, IfSome, IsOk, IsErrOf, OnOk, OnErr};
 ghost use Rattle.journal.specs.BatchSpelling.{batch_width};
 ghost use Rattle.recovery.specs.Found.{commands_of};
-ghost use Rattle.hub.specs.Legal.{counted};
+ghost use Rattle.revision.specs.Acceptance.{answer, Refuses};
+ghost use Rattle.world.specs.Board.{settled_more, submitted};
+ghost use Rattle.world.specs.World.{entry_of};
+ghost use Rattle.hub.specs.Legal.{counted, WasGiven};
+ghost use Rattle.hub.specs.Runs.{MaySettle};
+ghost use Rattle.hub.specs.Waiting.{AreWoken};
 
 use crate::board::Board;
+use crate::run::Run;
 use crate::seat::{PLACES, Seat, Ticket};
 use published::{Site, Told};
 use recovery::Receipt;
 use refusal::Refusal;
-use revision::{Command, Taken};
+use revision::Command;
 use std::alloc::Global;
 use std::array;
 use std::sync::{Condvar, Mutex, Wait};
@@ -24,35 +30,72 @@ struct Kept<D, J: Site> {
 }
 
 impl<D, J: Site> Kept<D, J> {
+    // submits a command to the board, unless the end was called
+    fn submit(
+        &mut self,
+        alloc: Global,
+        seat: &mut Seat<J>,
+        command: &Command,
+    ) -> Result<Ticket, Refusal>
+        ensures ok { OnOk result (self.new ≡ record self.old { board = record self.old.board { board = submitted (entry_of command.now) self.old.board.board command.now } }) }
+        ensures unchanged { OnErr result (self.new ≡ self.old) }
+        ensures given { WasGiven J.start command.now result }
+        ensures command { IfOk result (λ ticket. ticket.command ≡ command.now) }
+        ensures counts { IfOk result (λ ticket. seat.new ≡ counted seat.old ticket.reply) }
+        ensures uncounted { OnErr result (seat.new ≡ seat.old) }
+        ensures ended { self.old.ended ≡ true → IsErrOf result Refusal.StoreFailed }
+        ensures failed { self.old.board.failed ≡ true → IsErrOf result Refusal.StoreFailed }
+        ensures refused { self.old.ended ≡ false → self.old.board.failed ≡ false → IfErr result (λ e. (e ≡ Refusal.NoMemory) ⊎ (answer self.old.board.board.state command.now ≡ Refuses e)) }
+    {
+        if self.ended {
+            return Err(Refusal::StoreFailed);
+        }
+        self.board.submit(alloc, seat, command)
+    }
+
     // settles a batch, and gives the places where somebody waits for what is settled now
     fn settle(
         &mut self,
         receipt: &Receipt<D>,
         told: Told<D, J>,
     ) -> (Result<(), Refusal>, [bool; 64])
-        ensures { IfErr result.0 (λ e. e ≡ Refusal.Stranger) }
+        ensures board { OnOk result.0 (self.new.board ≡ record self.old.board { board = settled_more self.old.board.board (length receipt.now); told = told }) }
+        ensures others { self.new.ended ≡ self.old.ended }
+        ensures wakes { OnOk result.0 (AreWoken self.new.board.board.settled self.old.awaited self.new.awaited result.1) }
+        ensures stranger { MaySettle self.old.board.board receipt.now (length (commands_of told)) → IsOk result.0 }
+        ensures only { IfErr result.0 (λ e. e ≡ Refusal.Stranger) }
+        ensures unchanged { OnErr result.0 (self.new ≡ self.old) }
     {
-        let mut covered = [false; 64];
         if let Err(refusal) = self.board.settle(receipt, told) {
-            return (Err(refusal), covered);
+            return (Err(refusal), [false; 64]);
         }
         let settled = self.board.settled();
-        for i in 0..PLACES {
-            if self.awaited[i] <= settled {
-                self.awaited[i] = usize::MAX;
-                covered[i] = true;
-            }
-        }
-        (Ok(()), covered)
+        (Ok(()), woken(&mut self.awaited, settled))
     }
 
-    // notes that somebody waits for the ticket at its place
-    fn await_ticket(&mut self, ticket: &Ticket) {
-        let place = ticket.place();
-        if ticket.length() < self.awaited[place] {
-            self.awaited[place] = ticket.length();
+    // notes that somebody waits at a place for so many commands to be settled
+    fn await_at(&mut self, place: usize, length: usize)
+        requires { place < 64 }
+        ensures { self.new ≡ record self.old { awaited = set self.old.awaited place (min length (get_or self.old.awaited place 0)) } }
+    {
+        if length < self.awaited[place] {
+            self.awaited[place] = length;
         }
     }
+}
+
+// The places where no more is awaited than is settled. It notes that nobody waits there any more.
+fn woken(awaited: &mut [usize; 64], settled: usize) -> [bool; 64]
+    ensures { AreWoken settled awaited.old awaited.new result }
+{
+    let mut covered = [false; 64];
+    for i in 0..PLACES {
+        if awaited[i] <= settled {
+            awaited[i] = usize::MAX;
+            covered[i] = true;
+        }
+    }
+    covered
 }
 
 /// A board that threads share, behind one lock. A session's threads submit and wait; the flusher's thread takes, settles and waits
@@ -93,7 +136,8 @@ impl<D, J: Site> Hub<D, J> {
     }
 
     /// Submits a command to the board, and wakes the flusher. The ticket is of this command, and the seat counts it just where the
-    /// reply is that it was taken. Refused as `Board::submit` refuses it, and then the seat is as it was.
+    /// reply is that it was taken. Refused as `Board::submit` refuses it, and with `StoreFailed` once the end was called, since nobody
+    /// would write it; the seat is as it was then. What is given, a ticket or a refusal, is what the board gave at some moment of its run.
     pub fn submit<R: Wait>(
         &self,
         rt: &R,
@@ -101,18 +145,20 @@ impl<D, J: Site> Hub<D, J> {
         seat: &mut Seat<J>,
         command: &Command,
     ) -> Result<Ticket, Refusal>
+        ensures given { WasGiven J.start command.now result }
         ensures command { IfOk result (λ ticket. ticket.command ≡ command.now) }
         ensures counts { IfOk result (λ ticket. seat.new ≡ counted seat.old ticket.reply) }
         ensures uncounted { OnErr result (seat.new ≡ seat.old) }
     {
-        let answer = self.kept.lock(rt).board.submit(alloc, seat, command);
+        let answer = self.kept.lock(rt).submit(alloc, seat, command);
         self.work.notify_one();
         answer
     }
 
     /// Takes the next run off the board, as `Board::take` does: it fits `cap` bytes as one batch, or is empty. Refused for want of memory alone.
-    pub fn take<R: Wait>(&self, rt: &R, alloc: Global, cap: u32) -> Result<Vec<Taken>, Refusal>
-        ensures fits { IfOk result (λ run. (run.items ≡ []) ⊎ (batch_width run.items ≤ cap)) }
+    pub fn take<R: Wait>(&self, rt: &R, alloc: Global, cap: u32) -> Result<Run<J>, Refusal>
+        ensures fits { IfOk result (λ run. (run.commands ≡ []) ⊎ (batch_width run.commands ≤ cap)) }
+        ensures cap { IfOk result (λ run. run.cap ≡ cap) }
         ensures only { IfErr result (λ e. e ≡ Refusal.NoMemory) }
     {
         self.kept.lock(rt).board.take(alloc, cap)
@@ -167,7 +213,7 @@ impl<D, J: Site> Hub<D, J> {
                 Ok(None) => {}
                 Err(refusal) => return Err(refusal),
             }
-            kept.await_ticket(ticket);
+            kept.await_at(place, ticket.length());
             kept = self.moved[place].wait(rt, kept);
         }
         unreachable!()
@@ -188,7 +234,8 @@ impl<D, J: Site> Hub<D, J> {
         unreachable!()
     }
 
-    /// Tells the flusher that nothing more will be submitted.
+    /// Tells the flusher that nothing more will be submitted. From then on `submit` is refused with `StoreFailed`, so that nobody waits
+    /// for a turn that doesn't come.
     pub fn end<R: Wait>(&self, rt: &R) {
         self.kept.lock(rt).ended = true;
         self.work.notify_all();

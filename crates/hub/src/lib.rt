@@ -7,8 +7,11 @@
 //! type. Each call moves the board as the definition of that step in `world` says (specs/Legal.antt, specs/Runs.antt). What is
 //! settled was committed: `Board::settle` wants the receipt of a commit, which a store alone makes, and the token of a publish.
 //!
+//! What `take` takes off is a `Run`, which nothing else makes and nobody can change: so a flusher can only hold what a board took off.
+//!
 //! A `Hub` is shared by threads: sessions submit and wait for their acknowledgements, and one flusher takes batches, writes them with
-//! the board unlocked, and settles them. After it has let the lock go, `settle` wakes the seats whose tickets are covered.
+//! the board unlocked, and settles them. After it has let the lock go, `settle` wakes the seats whose tickets are covered
+//! (specs/Waiting.antt). Once the end was called nothing more is submitted.
 //!
 //! A caller, with its contract, which `hub_tests` proves as it stands:
 //!
@@ -46,7 +49,8 @@
 //! # What isn't promised
 //!
 //! - What a hub's call did to the board under the lock: no clause can name the board at that moment. The tokens that it moves say
-//!   some of it (a ticket, a seat's count, a `Told`), and tests the rest; so also that a call doesn't just refuse.
+//!   some of it (a ticket, a seat's count, a `Told`), and tests the rest. `Hub::submit` says that a board of the same run gave its
+//!   answer, a ticket or a refusal; so it may say that memory is short or that the store failed where it isn't so, and tests speak of that.
 //! - That a thread which waits is ever woken.
 //! - That a ticket is asked for at the board that gave it. A seat and a token are of one run by their types.
 #![tactic(auto)]
@@ -58,4 +62,5 @@ mod seat;
 
 pub use board::Board;
 pub use hub::Hub;
+pub use run::Run;
 pub use seat::{Seat, Ticket};

@@ -3,10 +3,68 @@ ghost use Rattle.std.specs.Prelude.{◌≡◌, ◌↔◌, ◌≤◌, true, lengt
 ghost use Rattle.world.specs.World.{takens};
 ghost use Rattle.hub.specs.Runs.{IsLongest};
 
+use published::Site;
 use refusal::Refusal;
 use revision::Taken;
 use std::alloc::Global;
+use std::marker::{Model, PhantomData};
 use world::Entry;
+
+/// A run that was taken off a board to be written, with how many bytes its batch could have. Only a board's `take` makes one, of the
+/// longest run that fits, and it can't be changed: so what is written is what the board took off.
+#[derive(Drop)]
+pub struct Run<J: Site> {
+    commands: Vec<Taken>,
+    cap: u32,
+    of: PhantomData<J>,
+}
+
+impl<J: Site> Model for Run<J> {
+    ghost use Rattle.hub.specs.Runs as spec;
+
+    ghost Value = { spec.Run };
+
+    ghost view = { λ r. record { commands = r.commands.items; cap = r.cap } };
+}
+
+impl<J: Site> Run<J> {
+    // A run that was taken off.
+    pub(crate) fn taken(commands: Vec<Taken>, cap: u32) -> Run<J>
+        ensures { result ≡ record { commands = commands.items; cap = cap } }
+    {
+        Run {
+            commands,
+            cap,
+            of: PhantomData,
+        }
+    }
+
+    /// How many commands it has.
+    pub fn len(&self) -> usize
+        ensures { result ≡ length self.now.commands }
+    {
+        self.commands.len()
+    }
+
+    /// Its commands, in order.
+    pub fn commands(&self) -> &[Taken]
+        ensures { result.now ≡ self.now.commands }
+    {
+        self.commands.as_slice()
+    }
+
+    /// Its commands alone, which are no run any more.
+    pub fn into_commands(self) -> Vec<Taken>
+        ensures { result.items ≡ self.commands }
+    {
+        let Run {
+            commands,
+            cap: _,
+            of: _,
+        } = self;
+        commands
+    }
+}
 
 /// How many of the first commands the journal spells in so many bytes as one batch.
 pub(crate) fn longest(entries: &[Entry], cap: u32) -> usize

@@ -2,6 +2,7 @@
 use Rattle.std.proofs.Common.{◌≡◌, ◌<◌, ◌≤◌, ◌+◌, ◌++◌, ℕ, zero, suc, List, [], ◌∷◌, length, take, drop, set, get_or, Result, Err, refl, sym, ap, subst, ◌∙◌, inl, add-one, arith}
 use Rattle.std.proofs.Math.Seq.{map-set_same}
 use Rattle.refusal.specs.declared.Refusal.{Refusal}
+use Rattle.refusal.specs.declared.Refusal.TheVariants.{NoMemory}
 use Rattle.revision.specs.Command.{Command}
 use Rattle.revision.specs.State.{State}
 use Rattle.world.specs.Board.{Ticket}
@@ -15,32 +16,33 @@ use Rattle.hub_desk.specs.AtHub.{Desk, PassesAtHub}
 use Rattle.hub_desk.specs.Tickets.{AreOf, IsOf, AnswersFor, counted_by, counted_all, with_count, last_by, last_of}
 
 -- one submission more
-pub are_of_more : (cs : List Command) (ts : List (Result Ticket Refusal)) (c : Command) (t : Result Ticket Refusal) → AreOf cs ts → IsOf c t → AreOf (cs ++ c ∷ []) (ts ++ t ∷ [])
-are_of_more [] [] c t of one = (one, tt)
-are_of_more [] (first ∷ others) c t of one = absurd of
-are_of_more (command ∷ commands) [] c t of one = absurd of
-are_of_more (command ∷ commands) (first ∷ others) c t of one = (of.0, are_of_more commands others c t of.1 one)
+pub are_of_more : (start : State) (cs : List Command) (ts : List (Result Ticket Refusal)) (c : Command) (t : Result Ticket Refusal) → AreOf start cs ts → IsOf start c t
+    → AreOf start (cs ++ c ∷ []) (ts ++ t ∷ [])
+are_of_more start [] [] c t of one = (one, tt)
+are_of_more start [] (first ∷ others) c t of one = absurd of
+are_of_more start (command ∷ commands) [] c t of one = absurd of
+are_of_more start (command ∷ commands) (first ∷ others) c t of one = (of.0, are_of_more start commands others c t of.1 one)
 
 pub counted_more : (count : ℕ) (ts : List (Result Ticket Refusal)) (t : Result Ticket Refusal) → counted_all count (ts ++ t ∷ []) ≡ counted_by (counted_all count ts) t
 counted_more count [] t = refl
 counted_more count (first ∷ others) t = counted_more (counted_by count first) others t
 
 -- as many as the commands
-pub as_many : (cs : List Command) (ts : List (Result Ticket Refusal)) → AreOf cs ts → length cs ≡ length ts
-as_many [] [] of = refl
-as_many [] (first ∷ others) of = absurd of
-as_many (command ∷ commands) [] of = absurd of
-as_many (command ∷ commands) (first ∷ others) of = ap suc (as_many commands others of.1)
+pub as_many : (start : State) (cs : List Command) (ts : List (Result Ticket Refusal)) → AreOf start cs ts → length cs ≡ length ts
+as_many start [] [] of = refl
+as_many start [] (first ∷ others) of = absurd of
+as_many start (command ∷ commands) [] of = absurd of
+as_many start (command ∷ commands) (first ∷ others) of = ap suc (as_many start commands others of.1)
 
 -- the one at a place is of the command there
-pub is_of_at : (cs : List Command) (ts : List (Result Ticket Refusal)) (i : ℕ) (c : Command) (t : Result Ticket Refusal) → i < length ts → AreOf cs ts
-    → c ≡ get_or cs i c → t ≡ get_or ts i t → IsOf c t
-is_of_at [] [] i c t within of command_is is = absurd (omega arith)
-is_of_at [] (first ∷ others) i c t within of command_is is = absurd of
-is_of_at (command ∷ commands) [] i c t within of command_is is = absurd of
-is_of_at (command ∷ commands) (first ∷ others) zero c t within of command_is is =
-    subst (λ (x : Command). IsOf x t) (sym command_is) (subst (λ (x : Result Ticket Refusal). IsOf command x) (sym is) of.0)
-is_of_at (command ∷ commands) (first ∷ others) (suc i) c t within of command_is is = is_of_at commands others i c t (omega arith) of.1 command_is is
+pub is_of_at : (start : State) (cs : List Command) (ts : List (Result Ticket Refusal)) (i : ℕ) (c : Command) (t : Result Ticket Refusal) → i < length ts → AreOf start cs ts
+    → c ≡ get_or cs i c → t ≡ get_or ts i t → IsOf start c t
+is_of_at start [] [] i c t within of command_is is = absurd (omega arith)
+is_of_at start [] (first ∷ others) i c t within of command_is is = absurd of
+is_of_at start (command ∷ commands) [] i c t within of command_is is = absurd of
+is_of_at start (command ∷ commands) (first ∷ others) zero c t within of command_is is =
+    subst (λ (x : Command). IsOf start x t) (sym command_is) (subst (λ (x : Result Ticket Refusal). IsOf start command x) (sym is) of.0)
+is_of_at start (command ∷ commands) (first ∷ others) (suc i) c t within of command_is is = is_of_at start commands others i c t (omega arith) of.1 command_is is
 
 -- what is counted with the next
 counted_suc : (count : ℕ) (ts : List (Result Ticket Refusal)) (i : ℕ) (t : Result Ticket Refusal) → i < length ts → t ≡ get_or ts i t
@@ -71,13 +73,13 @@ commands_suc [] i one within is = absurd (omega arith)
 commands_suc (first ∷ others) zero one within is = ap (λ (s : Sent). s.command ∷ []) (sym is)
 commands_suc (first ∷ others) (suc i) one within is = ap (λ (l : List Command). first.command ∷ l) (commands_suc others i one (omega arith) is)
 
-pub submitted_more : (sent : List Sent) (i : ℕ) (one : Sent) (ts ts' : List (Result Ticket Refusal)) (t : Result Ticket Refusal) → i < length sent → one ≡ get_or sent i one
-    → AreOf (commands_of (take i sent)) ts → IsOf one.command t → ts' ≡ ts ++ t ∷ [] → AreOf (commands_of (take (i + 1) sent)) ts'
-submitted_more sent i one ts ts' t within is of this more =
+pub submitted_more : (start : State) (sent : List Sent) (i : ℕ) (one : Sent) (ts ts' : List (Result Ticket Refusal)) (t : Result Ticket Refusal) → i < length sent → one ≡ get_or sent i one
+    → AreOf start (commands_of (take i sent)) ts → IsOf start one.command t → ts' ≡ ts ++ t ∷ [] → AreOf start (commands_of (take (i + 1) sent)) ts'
+submitted_more start sent i one ts ts' t within is of this more =
     let next : commands_of (take (i + 1) sent) ≡ commands_of (take i sent) ++ one.command ∷ [] = rw add-one (commands_suc sent i one within is) in
-    subst (λ (l : List Command). AreOf l ts') (sym next)
-    (subst (λ (l : List (Result Ticket Refusal)). AreOf (commands_of (take i sent) ++ one.command ∷ []) l) (sym more)
-    (are_of_more (commands_of (take i sent)) ts one.command t of this))
+    subst (λ (l : List Command). AreOf start l ts') (sym next)
+    (subst (λ (l : List (Result Ticket Refusal)). AreOf start (commands_of (take i sent) ++ one.command ∷ []) l) (sym more)
+    (are_of_more start (commands_of (take i sent)) ts one.command t of this))
 
 pub counts_more : (old now new : Desk) (ts ts' : List (Result Ticket Refusal)) (t : Result Ticket Refusal) → now ≡ with_count old (counted_all old.counted ts)
     → new ≡ with_count now (counted_by now.counted t) → ts' ≡ ts ++ t ∷ [] → new ≡ with_count old (counted_all old.counted ts')
@@ -99,24 +101,24 @@ asked_all start old mid new exchanges ts ts' counts others same asked =
 
 -- The next was answered by its submission.
 pub answered_more : (start : State) (old now new : Desk) (sent : List Sent) (ts : List (Result Ticket Refusal)) (i : ℕ) (item : Sent) (t : Result Ticket Refusal) (answer : Result Reply Refusal)
-    → i < length sent → i < length ts → item ≡ get_or sent i item → t ≡ get_or ts i t → AreOf (commands_of sent) ts
+    → i < length sent → i < length ts → item ≡ get_or sent i item → t ≡ get_or ts i t → AreOf start (commands_of sent) ts
     → ((count : ℕ) → Asks (PassesAtHub start) (with_count old count) (exchanges_of (take i sent)) (with_count now (counted_all count (take i ts))))
     → AnswersFor start now t answer new
     → (count : ℕ) → Asks (PassesAtHub start) (with_count old count) (exchanges_of (take (i + 1) (set sent i (record { command = item.command; answer = answer }))))
     (with_count new (counted_all count (take (i + 1) ts)))
 answered_more start old now new sent ts i item t answer within ticked is t_is of before answers count =
     let k = counted_all count (take i ts) in
-    let this = is_of_at (commands_of sent) ts i item.command t ticked of (command_at sent i item is) t_is in
+    let this = is_of_at start (commands_of sent) ts i item.command t ticked of (command_at sent i item is) t_is in
     subst (λ (n : ℕ). Asks (PassesAtHub start) (with_count old count) (exchanges_of (take (i + 1) (set sent i (record { command = item.command; answer = answer })))) (with_count new n))
     (sym (counted_next count ts i t ticked t_is))
     (asked_more (PassesAtHub start) (with_count old count) (with_count now k) (with_count new (counted_by k t)) sent i item item answer within is is (before count) (answers item.command k this)).1
 
--- The next was refused.
-pub refused_more : (refusal : Refusal) (sent : List Sent) (i : ℕ) (item : Sent) → i < length sent → item ≡ get_or sent i item
+-- The next was refused for want of memory.
+pub refused_more : (refusal : Refusal) (sent : List Sent) (i : ℕ) (item : Sent) → refusal ≡ NoMemory → i < length sent → item ≡ get_or sent i item
     → ((start : State) (desk : Desk) → Asks (PassesAtHub start) desk (exchanges_of (take i sent)) desk)
     → (start : State) (desk : Desk) → Asks (PassesAtHub start) desk (exchanges_of (take (i + 1) (set sent i (record { command = item.command; answer = Err refusal })))) desk
-refused_more refusal sent i item within is before start desk =
-    (asked_more (PassesAtHub start) desk desk desk sent i item item (Err refusal) within is is (before start desk) (inl refl)).1
+refused_more refusal sent i item none within is before start desk =
+    (asked_more (PassesAtHub start) desk desk desk sent i item item (Err refusal) within is is (before start desk) (inl (refl, inl none))).1
 
 -- the commands are the same whatever is noted
 pub commands_same : (sent : List Sent) (i : ℕ) (item : Sent) (answer : Result Reply Refusal) → item ≡ get_or sent i item

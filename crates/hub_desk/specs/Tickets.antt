@@ -1,10 +1,10 @@
 -- Commands that were submitted one after another, each with its ticket or why it was refused.
-use Rattle.std.specs.Prelude.{◌≡◌, ℕ, List, [], ◌∷◌, Result, Ok, Err}
+use Rattle.std.specs.Prelude.{◌≡◌, ℕ, List, [], ◌∷◌, Result, Ok, Err, IfOk}
 use Rattle.refusal.specs.declared.Refusal.{Refusal}
 use Rattle.revision.specs.Command.{Command}
 use Rattle.revision.specs.State.{State}
 use Rattle.world.specs.Board.{Ticket}
-use Rattle.hub.specs.Legal.{counted}
+use Rattle.hub.specs.Legal.{counted, WasGiven}
 use Rattle.session.specs.declared.reply.Reply.{Reply}
 use Rattle.session.specs.Exchange.{Answered}
 use Rattle.hub_desk.specs.AtHub.{Desk, PassesAtHub}
@@ -18,17 +18,16 @@ abbrev pub counted_all : ℕ → List (Result Ticket Refusal) → ℕ
 counted_all count [] = count
 counted_all count (first ∷ others) = counted_all (counted_by count first) others
 
--- a ticket is of this command
-abbrev pub IsOf : Command → Result Ticket Refusal → Type 0
-IsOf command (Ok ticket) = ticket.command ≡ command
-IsOf command (Err refusal) = Unit {0}
+-- a submission of this command: a board of a run that began with this state gave this for it
+abbrev pub IsOf : State → Command → Result Ticket Refusal → Type 0
+IsOf start command given = WasGiven start command given × IfOk given (λ ticket. ticket.command ≡ command)
 
 -- a submission for each of these commands, in order
-abbrev pub AreOf : List Command → List (Result Ticket Refusal) → Type 0
-AreOf [] [] = Unit {0}
-AreOf [] (first ∷ others) = ⊥
-AreOf (command ∷ commands) [] = ⊥
-AreOf (command ∷ commands) (first ∷ others) = IsOf command first × AreOf commands others
+abbrev pub AreOf : State → List Command → List (Result Ticket Refusal) → Type 0
+AreOf start [] [] = Unit {0}
+AreOf start [] (first ∷ others) = ⊥
+AreOf start (command ∷ commands) [] = ⊥
+AreOf start (command ∷ commands) (first ∷ others) = IsOf start command first × AreOf start commands others
 
 -- the last ticket of them, or this one where there is none
 abbrev pub last_by : Ticket → Result Ticket Refusal → Ticket
@@ -46,5 +45,5 @@ with_count desk count = record desk { counted = count }
 -- What is answered by a submission, whichever command it was of, and however many commands the seat had counted before it.
 abbrev pub AnswersFor : State → Desk → Result Ticket Refusal → Result Reply Refusal → Desk → Type 0
 AnswersFor start old submitted result new =
-    (command : Command) (count : ℕ) → IsOf command submitted
+    (command : Command) (count : ℕ) → IsOf start command submitted
     → PassesAtHub start (with_count old count) (Answered command result) (with_count new (counted_by count submitted))

@@ -100,9 +100,9 @@ impl<D, J: Site, R: Wait> HubDesk<'_, D, J, R> {
         Ok(())
     }
 
-    // Submits a command, and waits for nothing but the board.
+    // Submits a command, and waits for nothing but the board. What it gives, a ticket or a refusal, a board of the run gave.
     fn submit(&mut self, alloc: Global, command: &Command) -> Result<Ticket, Refusal>
-        ensures of_command { IsOf command.now result }
+        ensures of_command { IsOf J.start command.now result }
         ensures counts { self.new ≡ with_count self.old (counted_by self.old.counted result) }
     {
         self.hub.submit(self.rt, alloc, &mut self.seat, command)
@@ -115,9 +115,10 @@ impl<D, J: Site, R: Wait> HubDesk<'_, D, J, R> {
         alloc: Global,
         sent: &[Sent],
     ) -> Result<Vec<Result<Ticket, Refusal>>, Refusal>
-        ensures of_these { IfOk result (λ tickets. AreOf (ahead.commands_of sent.now) tickets.items) }
+        ensures of_these { IfOk result (λ tickets. AreOf J.start (ahead.commands_of sent.now) tickets.items) }
         ensures as_many { IfOk result (λ tickets. vec_len tickets ≡ length sent.now) }
         ensures counts { IfOk result (λ tickets. self.new ≡ with_count self.old (counted_all self.old.counted tickets.items)) }
+        ensures only { IfErr result (λ e. e ≡ Refusal.NoMemory) }
         ensures unchanged { OnErr result (self.new ≡ self.old) }
     {
         let mut tickets = Vec::with_capacity(alloc, sent.len())?;
@@ -172,7 +173,7 @@ impl<D, J: Site, R: Wait> HubDesk<'_, D, J, R> {
     // Answers commands in order by their submissions. The seat has counted all of them already, and by the answers it counts them
     // one after another.
     fn answer_all(&mut self, sent: &mut Vec<Sent>, tickets: &[Result<Ticket, Refusal>])
-        requires of_these { AreOf (ahead.commands_of sent.old.items) tickets.now }
+        requires of_these { AreOf J.start (ahead.commands_of sent.old.items) tickets.now }
         requires as_many { length tickets.now ≡ vec_len sent.old }
         ensures commands { ahead.commands_of sent.new.items ≡ ahead.commands_of sent.old.items }
         ensures others { self.new ≡ record self.old { told = self.new.told } }
@@ -258,8 +259,9 @@ fn push_in_room(tickets: &mut Vec<Result<Ticket, Refusal>>, submitted: Result<Ti
     }
 }
 
-// Answers each command with a refusal, which leaves a desk as it is.
+// Answers each command with want of memory, which leaves a desk as it is.
 fn refuse_all(sent: &mut Vec<Sent>, refusal: Refusal)
+    requires memory { refusal ≡ Refusal.NoMemory }
     ensures commands { ahead.commands_of sent.new.items ≡ ahead.commands_of sent.old.items }
     ensures refused { (start : state.State) (desk : at_hub.Desk) → Asks (PassesAtHub start) desk (ahead.exchanges_of sent.new.items) desk }
 {

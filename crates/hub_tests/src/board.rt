@@ -50,9 +50,9 @@ fn batch<J: Site, R: Abort + AllocGlobal>(
     board: &mut Board<MemDisk, J>,
     count: usize,
 ) -> Vec<Taken> {
-    let batch = board.take(rt.alloc(), CAP).expect(rt, "memory");
-    assert_eq!(rt; batch.len(), count);
-    batch
+    let run = board.take(rt.alloc(), CAP).expect(rt, "memory");
+    assert_eq!(rt; run.len(), count);
+    run.into_commands()
 }
 
 fn receipt_of<R: Abort + AllocGlobal>(

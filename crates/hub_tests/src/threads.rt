@@ -69,8 +69,8 @@ fn written<J: Site, R: Wait>(
         if !hub.wait_work(rt) {
             return Ok(batches);
         }
-        let batch = hub.take(rt, alloc, CAP)?;
-        let receipt = commit(alloc, store, &batch)?;
+        let run = hub.take(rt, alloc, CAP)?;
+        let receipt = commit(alloc, store, run.commands())?;
         told = told.add(log, &receipt).ok_or(Refusal::Stranger)?;
         hub.settle(rt, &receipt, told.copy())?;
         batches = batches.saturating_add(1);

@@ -61,6 +61,15 @@ module _ {D : Type 0} {disk : Ghosts D} where
       known : new.cells.items ≡ old.cells.items
       known = same.cells
 
+  -- over the same cells and slots
+  pub unchanged_cells : {old new : Store D disk} (same : IsUnchanged old new) (is_open : IsOpen old) → (open_unchanged same is_open).cells ≡ is_open.cells
+  unfolding open_unchanged
+  unchanged_cells same is_open = refl
+
+  pub unchanged_table : {old new : Store D disk} (same : IsUnchanged old new) (is_open : IsOpen old) → (open_unchanged same is_open).table ≡ is_open.table
+  unfolding open_unchanged
+  unchanged_table same is_open = refl
+
   -- a crash now leaves what an open store holds
   pub found_now : (store : Store D disk) → IsOpen store → (content : List ℕ) → MayLeaveNow disk (device_of store) content → FoundAs content (state_of store)
   found_now store is_open content left =
@@ -131,3 +140,13 @@ module _ {D : Type 0} {disk : Ghosts D} where
       moments : has_failed old ≡ false → IsOpen old → (has_failed mid ≡ true) ⊎ (has_failed mid ≡ false) → LeavesOnly disk P (device_of old) (device_of new)
       moments works is_open (inl failed) = subst (LeavesOnly disk P (device_of old)) (sym (second.stays failed).0) (first.any_moment works is_open)
       moments works is_open (inr unfailed) = goes_on_run (first.any_moment works is_open) (second.any_moment unfailed (first.opens unfailed is_open))
+
+  -- calls that leave the state, one behind the other
+  pub goes_same : {old mid new : Store D disk} → state_of mid ≡ state_of old → Goes (λ content. FoundAs content (state_of old)) old mid
+      → Goes (λ content. FoundAs content (state_of mid)) mid new → Goes (λ content. FoundAs content (state_of old)) old new
+  goes_same {old} {mid} {new} same first second =
+      goes_on first (subst (λ (s : State). Goes (λ content. FoundAs content s) mid new) same second)
+
+  -- no call, where the state is held by the content
+  pub goes_nowhere : (store : Store D disk) → Goes (λ content. FoundAs content (state_of store)) store store
+  goes_nowhere store = goes_none store (λ is_open. found_as _ _ (found_open store is_open))

@@ -32,7 +32,7 @@ number_held table slot = get_or-map number_of table slot None
 pub number_there : (table : List (Option Segment)) (slot : ℕ) (segment : Segment) → slot_at table slot ≡ Some segment → number_at (numbers_of table) slot ≡ Some segment.number
 number_there table slot segment is = number_held table slot ∙ ap number_of is
 
-there : (table : List (Option Segment)) (slot : ℕ) (segment : Segment) → slot_at table slot ≡ Some segment → slot < length table
+pub there : (table : List (Option Segment)) (slot : ℕ) (segment : Segment) → slot_at table slot ≡ Some segment → slot < length table
 there [] slot segment is = absurd cc
 there (first ∷ table) zero segment is = omega arith
 there (first ∷ table) (suc slot) segment is = omega (arith, there table slot segment is)

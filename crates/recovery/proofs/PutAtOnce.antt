@@ -1,5 +1,5 @@
 -- A step of a run that commits no batch: a milestone, whose job is handed out, composed and put at once, and a retirement.
-use Rattle.std.proofs.Common.{◌≡◌, ◌≢◌, ◌⊎◌, ◌↔◌, inl, inr, ℕ, ◌+◌, ◌<◌, Bool, true, false, List, [], ◌∷◌, ◌++◌, length, take, get_or, refl, sym, ap, subst}
+use Rattle.std.proofs.Common.{◌≡◌, ◌≢◌, ◌⊎◌, ◌↔◌, inl, inr, ℕ, ◌+◌, ◌<◌, Bool, true, false, Option, List, [], ◌∷◌, ◌++◌, length, take, get_or, refl, sym, ap, subst}
 use Rattle.std.specs.Prelude.{Result, Ok, Err, Contains, OnOk, IfErr, IsErrOf}
 use Rattle.std.proofs.lemmas.List.{take_more}
 use Rattle.std.proofs.lemmas.List.Elements.{Contains-push}
@@ -10,6 +10,7 @@ use Rattle.refusal.specs.declared.Refusal.TheVariants.{StillNeeded, NoMemory, Fa
 use Rattle.revision.specs.State.{State}
 use Rattle.history.specs.Cell.{Pair}
 use Rattle.milestone.specs.Job.{Job}
+use Rattle.segments.specs.Slot.{Segment}
 use Rattle.recovery.specs.declared.run.StoreStep.{StoreStep}
 use Rattle.recovery.specs.declared.run.StoreStep.TheVariants.{Milestone, Retire}
 use Rattle.recovery.specs.declared.store.Store.{Store}
@@ -23,7 +24,7 @@ use Rattle.recovery.proofs.Runs.{found_as, found_open}
 use Rattle.recovery.proofs.Going.{goes_still, open_unchanged}
 
 -- what is not true is false
-is_false : (b : Bool) → (b ≡ true → ⊥) → b ≡ false
+pub is_false : (b : Bool) → (b ≡ true → ⊥) → b ≡ false
 is_false true not_true = absurd (not_true refl)
 is_false false not_true = refl
 
@@ -71,26 +72,31 @@ module _ {D : Type 0} {disk : Ghosts D} where
   goes_on_needed old new (Err refusal) (inr fault) untouched = λ other is_open. absurd (other fault)
 
   -- what was put is the cell of the job that was handed out
-  pub put_at : (old new : Store D disk) (document revision : ℕ) (is_open : IsOpen old) (job composed : Job) (cells : List Pair) → cells ≡ is_open.cells → composed ≡ job
-      → IsJobTo (state_of old).documents document revision job → IsPutNow cells composed new → IsPutAt document revision old is_open new
-  put_at old new document revision is_open job composed cells same is to put = record {
+  pub put_at : (old new : Store D disk) (document revision : ℕ) (is_open : IsOpen old) (job composed : Job) (cells : List Pair) (table : List (Option Segment)) → cells ≡ is_open.cells
+      → table ≡ is_open.table → composed ≡ job → IsJobTo (state_of old).documents document revision job → IsPutNow cells table composed new
+      → IsPutAt document revision old is_open new
+  put_at old new document revision is_open job composed cells table same same_table is to put = record {
     job = job;
     to = to;
-    put = subst (λ (l : List Pair). IsPutNow l job new) same (subst (λ (j : Job). IsPutNow cells j new) is put);
+    put = subst (λ (l : List Pair). IsPutNow l is_open.table job new) same
+        (subst (λ (t : List (Option Segment)). IsPutNow cells t job new) same_table (subst (λ (j : Job). IsPutNow cells table j new) is put));
   }
 
   -- a milestone that was Ok
-  pub put_taken : {A : Type 0} (old new : Store D disk) (document revision : ℕ) (result : Result A Refusal) → state_of new ≡ state_of old
-      → OnOk result ((is_open : IsOpen old) → IsPutAt document revision old is_open new) → OnOk result (IsTaken (Milestone document revision) old new)
-  put_taken old new document revision (Ok answer) state put = (state, put)
-  put_taken old new document revision (Err refusal) state put = tt
+  pub put_taken : {A : Type 0} (old new : Store D disk) (document revision : ℕ) (result : Result A Refusal) → OnOk result (has_failed new ≡ false)
+      → state_of new ≡ state_of old → OnOk result ((is_open : IsOpen old) → IsPutAt document revision old is_open new)
+      → OnOk result (IsTaken (Milestone document revision) old new)
+  put_taken old new document revision (Ok answer) works state put = (works, state, put)
+  put_taken old new document revision (Err refusal) works state put = tt
 
   -- a retirement that was Ok
-  pub given_up : {A : Type 0} (old new : Store D disk) (result : Result A Refusal) → state_of new ≡ state_of old
-      → OnOk result ((is_open : IsOpen old) → MayRetire is_open.table is_open.cells)
+  pub given_up : {A : Type 0} (old new : Store D disk) (result : Result A Refusal)
+      → (has_failed old ≡ true → IsErrOf result Fault × IsUnchanged old new) → (has_failed old ≡ false → (has_failed new ≡ true ↔ IsErrOf result Fault))
+      → state_of new ≡ state_of old → OnOk result ((is_open : IsOpen old) → MayRetire is_open.table is_open.cells)
       → OnOk result ((is_open : IsOpen old) → IsRetiredNow is_open.cells is_open.table new) → OnOk result (IsTaken Retire old new)
-  given_up old new (Ok answer) state may done = (state, λ is_open. record { may = may is_open; retired = done is_open })
-  given_up old new (Err refusal) state may done = tt
+  given_up old new (Ok answer) before fails state may done =
+      (has_not_failed old new answer fails (had_not_failed answer before), state, λ is_open. record { may = may is_open; retired = done is_open })
+  given_up old new (Err refusal) before fails state may done = tt
 
   -- one step more was taken
   pushed : (first : List StoreStep) (step : StoreStep) (old mid new : Store D disk) → AreTaken first old mid → IsTaken step mid new → AreTaken (first ++ step ∷ []) old new

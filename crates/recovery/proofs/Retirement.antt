@@ -30,7 +30,7 @@ use Rattle.recovery.proofs.Marked.{number_held, one_oldest, covered_by_marks}
 use Rattle.recovery.proofs.Runs.{found_as}
 use Rattle.recovery.proofs.Splitting.{Split, split}
 
-held_there : (x : Option Segment) (n : ℕ) → number_of x ≡ Some n → (segment : Segment) × (x ≡ Some segment) × (segment.number ≡ n)
+pub held_there : (x : Option Segment) (n : ℕ) → number_of x ≡ Some n → (segment : Segment) × (x ≡ Some segment) × (segment.number ≡ n)
 held_there None n is = absurd cc
 held_there (Some segment) n is = let same : segment.number ≡ n = cc in (segment, refl, same)
 
@@ -55,7 +55,7 @@ module _ {D : Type 0} {disk : Ghosts D} (store : Store D disk) (is_open : IsOpen
       (sym (retired_bodies is_open.table after is_open.fits.holds.differ retired) ∙ is_open.holds.spell.spelled)
       (recursion_from_All IsBatch is_open.batches is_open.holds.spell.each)
 
-  oldest_here : (slot number : ℕ) → IsOldest (known_numbers store.ring) slot number → IsOldest (numbers_of is_open.table) slot number
+  pub oldest_here : (slot number : ℕ) → IsOldest (known_numbers store.ring) slot number → IsOldest (numbers_of is_open.table) slot number
   oldest_here slot number oldest = subst (λ (l : List (Option ℕ)). IsOldest l slot number) is_open.fits.numbers oldest
 
   -- fewer than two slots are open

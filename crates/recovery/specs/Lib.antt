@@ -8,5 +8,6 @@ pub mod Jobs
 pub mod Open
 pub mod Goes
 pub mod Run
+pub mod Due
 pub mod Formatting
 pub mod steps

@@ -17,6 +17,7 @@ use Rattle.segments.specs.Room.{has_room_for}
 use Rattle.recovery.specs.declared.store.Store.{Store}
 use Rattle.recovery.specs.Shape.{slots_place}
 use Rattle.recovery.specs.Cells.{AreCellsOf, FitEach}
+use Rattle.recovery.specs.declared.marks.Mark.{Mark}
 use Rattle.recovery.specs.Marks.{marks_of}
 use Rattle.recovery.specs.Marked.{AreMarked}
 use Rattle.recovery.specs.Jobs.{jobs_of, AreKept}
@@ -56,6 +57,10 @@ module _ {D : Type 0} {disk : Ghosts D} where
   abbrev pub kept_jobs : Store D disk → List Job
   kept_jobs store = jobs_of store.jobs
 
+  -- what it knows of the entries of its segments
+  abbrev pub known_marks : Store D disk → List Mark
+  known_marks store = marks_of store.marks
+
   -- a batch fits behind what is there: into the newest segment, or, where a slot is free, into that
   abbrev pub has_room : Store D disk → List Taken → Bool
   has_room store batch = has_room_for store.ring (batch_width batch)
@@ -70,7 +75,7 @@ module _ {D : Type 0} {disk : Ghosts D} where
     pub shape : new.shape ≡ old.shape
     pub ring : new.ring ≡ old.ring
     pub cells : known_cells new ≡ known_cells old
-    pub marks : marks_of new.marks ≡ marks_of old.marks
+    pub marks : known_marks new ≡ known_marks old
     pub jobs : kept_jobs new ≡ kept_jobs old
     pub state : new.state ≡ old.state
     pub failed : new.failed ≡ old.failed
@@ -102,10 +107,16 @@ module _ {D : Type 0} {disk : Ghosts D} where
     pub same_cells : goes_on.cells ≡ cells
     pub retired : IsRetired table goes_on.table
 
+  -- After room was made in the journal: the store goes on, and the slot of the oldest segment is closed.
+  pub record IsFreedNow (table : List (Option Segment)) (store : Store D disk) : Type 0 where
+    pub goes_on : IsOpen store
+    pub retired : IsRetired table goes_on.table
+
   -- After a milestone was put: the store goes on over the same slots, and the cell that comes of the job is open in its document's pair,
   -- in place of the older one where both were open. The other documents' cells are as they were.
-  pub record IsPutNow (cells : List Pair) (job : Job) (store : Store D disk) : Type 0 where
+  pub record IsPutNow (cells : List Pair) (table : List (Option Segment)) (job : Job) (store : Store D disk) : Type 0 where
     pub goes_on : IsOpen store
+    pub same_table : goes_on.table ≡ table
     pub put : goes_on.cells ≡ with_pair job.document (with_cell (cell_of_job job) (freed (cells_at cells job.document))) cells
 
   -- After a job was handed out: the store goes on over the same cells and slots.

@@ -13,7 +13,7 @@ use Rattle.recovery.specs.declared.run.StoreStep.TheVariants.{Commit, Milestone,
 use Rattle.recovery.specs.Found.{FoundAs}
 use Rattle.recovery.specs.Jobs.{IsJobTo, no_job_for, highest}
 use Rattle.recovery.specs.Marked.{MayRetire}
-use Rattle.recovery.specs.Open.{FitsSlot, IsOpen, IsPutNow, IsRetiredNow, state_of, has_room}
+use Rattle.recovery.specs.Open.{FitsSlot, IsOpen, IsPutNow, IsRetiredNow, state_of, has_failed, has_room}
 
 -- the batch of a step, empty where it commits none
 abbrev pub batch_of : StoreStep → List Taken
@@ -60,18 +60,22 @@ module _ {D : Type 0} {disk : Ghosts D} where
   pub record IsPutAt (document revision : ℕ) (old : Store D disk) (is_open : IsOpen old) (new : Store D disk) : Type 0 where
     pub job : Job
     pub to : IsJobTo (state_of old).documents document revision job
-    pub put : IsPutNow is_open.cells job new
+    pub put : IsPutNow is_open.cells is_open.table job new
 
   -- The oldest segment could be retired, and was.
   pub record IsGivenUp (old : Store D disk) (is_open : IsOpen old) (new : Store D disk) : Type 0 where
     pub may : MayRetire is_open.table is_open.cells
     pub retired : IsRetiredNow is_open.cells is_open.table new
 
-  -- A step was taken: its batch was committed, or its milestone put, or the oldest segment retired.
+  -- A step was taken, by a store that goes on: its batch was committed, or its milestone put, or the oldest segment retired.
   abbrev pub IsTaken : StoreStep → Store D disk → Store D disk → Type 0
-  IsTaken (Commit batch) old new = (all_grow (state_of old) batch.items ≡ true) × (state_of new ≡ fold (state_of old) batch.items)
-  IsTaken (Milestone document revision) old new = (state_of new ≡ state_of old) × ((is_open : IsOpen old) → IsPutAt document revision old is_open new)
-  IsTaken Retire old new = (state_of new ≡ state_of old) × ((is_open : IsOpen old) → IsGivenUp old is_open new)
+  IsTaken (Commit batch) old new =
+      (has_failed new ≡ false) × (all_grow (state_of old) batch.items ≡ true) × (state_of new ≡ fold (state_of old) batch.items)
+      × (IsOpen old → IsOpen new)
+  IsTaken (Milestone document revision) old new =
+      (has_failed new ≡ false) × (state_of new ≡ state_of old) × ((is_open : IsOpen old) → IsPutAt document revision old is_open new)
+  IsTaken Retire old new =
+      (has_failed new ≡ false) × (state_of new ≡ state_of old) × ((is_open : IsOpen old) → IsGivenUp old is_open new)
 
   -- steps were taken, one behind the other
   abbrev pub AreTaken : List StoreStep → Store D disk → Store D disk → Type 0

@@ -35,7 +35,9 @@
 //! ```
 #![tactic(auto)]
 
+mod due;
 mod formatting;
+mod freeing;
 mod jobs;
 pub mod laws;
 mod marks;

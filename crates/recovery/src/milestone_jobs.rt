@@ -8,7 +8,7 @@ ghost use Rattle.history.specs.Cell.{cells_at, cell_of};
 ghost use Rattle.milestone.specs.Job.{cell_of_job};
 ghost use Rattle.recovery.specs.Cells.{highest_known};
 ghost use Rattle.recovery.specs.Jobs.{IsJobTo, KeepsLimits, highest, no_job_of, no_job_for, with_job};
-ghost use Rattle.recovery.specs.Open.{IsOpen, IsUnchanged, IsStillOver, device_of, ring_of, state_of, known_cells, has_failed, kept_jobs};
+ghost use Rattle.recovery.specs.Open.{IsOpen, IsUnchanged, IsStillOver, device_of, ring_of, state_of, known_cells, known_marks, has_failed, kept_jobs};
 
 use crate::store::Store;
 use disk::Disk;
@@ -37,6 +37,8 @@ impl<D: Disk> Store<D> {
             → no_job_for (slice_get (state_of self.old).documents document) (highest (cells_at is_open.cells document)) revision ≡ Some why → IsErrOf result why }
         ensures refusal { IfErr result (λ e. e ≢ Refusal.NoMemory → has_failed self.old ≡ false → (is_open : IsOpen self.old)
             → no_job_for (slice_get (state_of self.old).documents document) (highest (cells_at is_open.cells document)) revision ≡ Some e) }
+        ensures refusal_by { IfErr result (λ e. e ≢ Refusal.NoMemory → e ≢ Refusal.Fault
+            → no_job_for (slice_get (state_of self.old).documents document) (highest_known (known_cells self.old) document) revision ≡ Some e) }
         ensures works { has_failed self.old ≡ false → ¬ IsErrOf result Refusal.Fault }
         ensures only { IfErr result (λ e. ((e ≡ Refusal.NoDocument) ⊎ ((e ≡ Refusal.Future) ⊎ (e ≡ Refusal.TooOld))) ⊎ ((e ≡ Refusal.NoMemory) ⊎ (e ≡ Refusal.Fault))) }
 
@@ -48,6 +50,7 @@ impl<D: Disk> Store<D> {
         ensures untouched { OnErr result (IsUnchanged self.old self.new) }
         ensures device { device_of self.new ≡ device_of self.old }
         ensures ring { ring_of self.new ≡ ring_of self.old }
+        ensures marks { known_marks self.new ≡ known_marks self.old }
         ensures state { state_of self.new ≡ state_of self.old }
         ensures failed { has_failed self.new ≡ has_failed self.old }
         ensures open { IsOpen self.old → IsOpen self.new }
@@ -98,7 +101,7 @@ fn why_none(found: &DocState, highest: u64, revision: u64) -> Option<Refusal>
 }
 
 // The highest revision of a document's open cells, 0 where none is open.
-fn highest_of(cells: &[Cells], document: u32) -> u64
+pub(crate) fn highest_of(cells: &[Cells], document: u32) -> u64
     ensures { result ≡ highest_known cells.now document }
 {
     match cells.get(document as usize) {

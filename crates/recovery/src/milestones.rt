@@ -1,15 +1,18 @@
-//! Putting a milestone.
+//! Putting a milestone of a job, or of a document.
 ghost use Rattle.std.specs.Prelude.{◌≡◌, ◌≢◌, ◌⊎◌, ◌↔◌, ◌+◌, ◌≤◌, ◌<◌, ℕ, true, false, length, Contains, OnOk, OnErr, IfErr, IsErrOf, Some, slice_get};
 ghost use Rattle.disk.specs.Device.{Rose};
 ghost use Rattle.disk.specs.Crash.{LeavesOnly};
+ghost use Rattle.history.specs.Cell.{cells_at};
 ghost use Rattle.milestone.specs.Job.{cell_of_job};
+ghost use Rattle.recovery.specs.Cells.{highest_known};
 ghost use Rattle.recovery.specs.Found.{FoundAs};
-ghost use Rattle.recovery.specs.Jobs.{without_job};
-ghost use Rattle.recovery.specs.Open.{IsOpen, IsUnchanged, IsPutNow, device_of, state_of, has_failed, kept_jobs};
+ghost use Rattle.recovery.specs.Jobs.{highest, no_job_for, without_job};
+ghost use Rattle.recovery.specs.Open.{IsOpen, IsUnchanged, IsPutNow, device_of, ring_of, state_of, known_cells, known_marks, has_failed, kept_jobs};
+ghost use Rattle.recovery.specs.Run.{IsPutAt};
 
 use crate::store::Store;
 use disk::Disk;
-use milestone::Composed;
+use milestone::{Composed, compose_job};
 use refusal::Refusal;
 use std::alloc::Global;
 
@@ -30,14 +33,18 @@ impl<D: Disk> Store<D> {
         ensures state { state_of self.new ≡ state_of self.old }
         ensures untouched { (IsErrOf result Refusal.Stranger) ⊎ (IsErrOf result Refusal.NoMemory) → IsUnchanged self.old self.new }
         ensures dropped { OnOk result (kept_jobs self.new ≡ without_job composed.now.document (kept_jobs self.old)) }
+        ensures jobs { OnErr result (kept_jobs self.new ≡ kept_jobs self.old) }
         ensures fails { has_failed self.old ≡ false → (has_failed self.new ≡ true ↔ IsErrOf result Refusal.Fault) }
         ensures good { OnOk result (D.faults (device_of self.new) ≡ D.faults (device_of self.old)) }
         ensures no_fault { IfErr result (λ e. e ≢ Refusal.Fault → D.faults (device_of self.new) ≡ D.faults (device_of self.old)) }
 
+        ensures ring { ring_of self.new ≡ ring_of self.old }
+        ensures marks { known_marks self.new ≡ known_marks self.old }
+
         // A crash at any moment leaves the state; once it is Ok, the cell of the job is open.
         ensures any_moment { has_failed self.old ≡ false → IsOpen self.old
             → LeavesOnly ⟦<D as Disk>⟧ (λ content. FoundAs content (state_of self.old)) (device_of self.old) (device_of self.new) }
-        ensures done { OnOk result ((is_open : IsOpen self.old) → IsPutNow is_open.cells composed.now self.new) }
+        ensures done { OnOk result ((is_open : IsOpen self.old) → IsPutNow is_open.cells is_open.table composed.now self.new) }
         ensures kept { IfErr result (λ e. e ≢ Refusal.Fault → IsOpen self.old → IsOpen self.new) }
 
         // Six calls of the device at most.
@@ -66,5 +73,54 @@ impl<D: Disk> Store<D> {
                 Err(refusal)
             }
         }
+    }
+    /// Puts a milestone of a document at a revision: hands out its job, composes it here, and puts what came of it. The refusals are
+    /// those of `milestone_job`, and `NoMemory` and `Fault` while it is composed and put. The documents stay.
+    pub fn put_document(
+        &mut self,
+        alloc: Global,
+        document: u32,
+        revision: u64,
+    ) -> Result<(), Refusal>
+        // When each refusal comes.
+        ensures failed_before { has_failed self.old ≡ true → (IsErrOf result Refusal.Fault) × IsUnchanged self.old self.new }
+        ensures refused { IfErr result (λ e. e ≢ Refusal.NoMemory → e ≢ Refusal.Fault → (is_open : IsOpen self.old)
+            → no_job_for (slice_get (state_of self.old).documents document) (highest (cells_at is_open.cells document)) revision ≡ Some e) }
+        ensures refused_by { IfErr result (λ e. e ≢ Refusal.NoMemory → e ≢ Refusal.Fault
+            → no_job_for (slice_get (state_of self.old).documents document) (highest_known (known_cells self.old) document) revision ≡ Some e) }
+        ensures fault { IsErrOf result Refusal.Fault → has_failed self.old ≡ false
+            → Rose (D.faults (device_of self.old)) (D.faults (device_of self.new)) }
+        ensures only { IfErr result (λ e. ((e ≡ Refusal.NoDocument) ⊎ ((e ≡ Refusal.Future) ⊎ (e ≡ Refusal.TooOld))) ⊎ ((e ≡ Refusal.NoMemory) ⊎ (e ≡ Refusal.Fault))) }
+
+        // What each answer leaves: the segments, what is known of them, and the kept jobs of other documents are as they were.
+        ensures state { state_of self.new ≡ state_of self.old }
+        ensures ring { ring_of self.new ≡ ring_of self.old }
+        ensures marks { known_marks self.new ≡ known_marks self.old }
+        ensures fails { has_failed self.old ≡ false → (has_failed self.new ≡ true ↔ IsErrOf result Refusal.Fault) }
+        ensures others { without_job document (kept_jobs self.new) ≡ without_job document (kept_jobs self.old) }
+        ensures works { OnOk result (has_failed self.new ≡ false) }
+        ensures good { OnOk result (D.faults (device_of self.new) ≡ D.faults (device_of self.old)) }
+        ensures no_fault { IfErr result (λ e. e ≢ Refusal.Fault → D.faults (device_of self.new) ≡ D.faults (device_of self.old)) }
+
+        // A crash at any moment leaves the state; once it is Ok, the cell of the document at the revision is open.
+        ensures any_moment { has_failed self.old ≡ false → IsOpen self.old
+            → LeavesOnly ⟦<D as Disk>⟧ (λ content. FoundAs content (state_of self.old)) (device_of self.old) (device_of self.new) }
+        ensures put { OnOk result ((is_open : IsOpen self.old) → IsPutAt document revision self.old is_open self.new) }
+        ensures done { OnOk result (IsOpen self.old → IsOpen self.new) }
+        ensures kept { IfErr result (λ e. e ≢ Refusal.Fault → IsOpen self.old → IsOpen self.new) }
+        ensures honest { D.honest (device_of self.new) ↔ D.honest (device_of self.old) }
+    {
+        let job = match self.milestone_job(alloc, document, revision) {
+            Ok(job) => job,
+            Err(refusal) => return Err(refusal),
+        };
+        let composed = match compose_job(alloc, job) {
+            Ok(composed) => composed,
+            Err(back) => return Err(back.refusal),
+        };
+        if let Err(refusal) = self.put_milestone(alloc, &composed) {
+            return Err(refusal);
+        }
+        Ok(())
     }
 }

@@ -7,7 +7,7 @@ ghost use Rattle.recovery.specs.Found.{FoundAs};
 ghost use Rattle.recovery.specs.Marks.{greatest_marked};
 ghost use Rattle.recovery.specs.Marked.{MayRetire};
 ghost use Rattle.recovery.specs.Cells.{FitEach, lowest_known};
-ghost use Rattle.recovery.specs.Open.{IsOpen, IsUnchanged, IsRetiredNow, device_of, state_of, has_failed};
+ghost use Rattle.recovery.specs.Open.{IsOpen, IsUnchanged, IsRetiredNow, device_of, state_of, has_failed, kept_jobs};
 
 use crate::marks::Mark;
 use crate::store::Store;
@@ -31,6 +31,7 @@ impl<D: Disk> Store<D> {
 
         // What each answer leaves.
         ensures state { state_of self.new ≡ state_of self.old }
+        ensures jobs { kept_jobs self.new ≡ kept_jobs self.old }
         ensures untouched { IsErrOf result Refusal.StillNeeded → IsUnchanged self.old self.new }
         ensures fails { has_failed self.old ≡ false → (has_failed self.new ≡ true ↔ IsErrOf result Refusal.Fault) }
         ensures good { OnOk result (D.faults (device_of self.new) ≡ D.faults (device_of self.old)) }
@@ -80,7 +81,7 @@ fn are_covered(cells: &[Cells], marks: &[Mark], segment: u64) -> bool
 }
 
 // The lowest revision of a document's open cells, 0 where none is open.
-fn lowest_of(cells: &[Cells], document: u32) -> u64
+pub(crate) fn lowest_of(cells: &[Cells], document: u32) -> u64
     ensures { result ≡ lowest_known cells.now document }
 {
     match cells.get(document as usize) {

@@ -2,16 +2,13 @@
 ghost use Rattle.std.specs.Prelude.{◌≡◌, ◌≢◌, ◌⊎◌, ◌↔◌, ◌<◌, ℕ, List, [], true, false, length, take, All, OnOk, OnErr, IfErr, IsErrOf};
 ghost use Rattle.disk.specs.Device.{Rose};
 ghost use Rattle.disk.specs.Crash.{LeavesOnly, MayLeaveNow};
-ghost use Rattle.refusal.specs.declared.Refusal.TheVariants.{JournalFull, Stranger, NoDocument, Future, TooOld, NoMemory, Fault};
+ghost use Rattle.refusal.specs.declared.Refusal.TheVariants.{JournalFull, Stranger, NoMemory, Fault};
 ghost use Rattle.revision.specs.State.{all_grow, fold};
-ghost use Rattle.recovery.specs.declared.run.StoreStep.TheVariants.{Milestone};
-ghost use Rattle.recovery.specs.Found.{FoundAs};
 ghost use Rattle.recovery.specs.Open.{IsOpen, IsUnchanged, IsWithOrWithout, device_of, state_of, has_failed, has_room};
-ghost use Rattle.recovery.specs.Run.{CanTake, IsOfStep, IsTaken, AreTaken, IsPutAt, IsWhy, IsStopped, IsAfterSome, state_after, batch_of, batch_at};
+ghost use Rattle.recovery.specs.Run.{CanTake, IsOfStep, IsTaken, AreTaken, IsWhy, IsStopped, IsAfterSome, state_after, batch_of, batch_at};
 
 use crate::store::Store;
 use disk::Disk;
-use milestone::compose_job;
 use refusal::Refusal;
 use revision::Taken;
 use std::alloc::Global;
@@ -118,39 +115,5 @@ impl<D: Disk> Store<D> {
             }
             StoreStep::Retire => self.retire(),
         }
-    }
-
-    // Puts a milestone of a document at a revision: hands out the job, does it here, and puts what came of it.
-    fn put_document(&mut self, alloc: Global, document: u32, revision: u64) -> Result<(), Refusal>
-        ensures failed_before { has_failed self.old ≡ true → (IsErrOf result Fault) × IsUnchanged self.old self.new }
-        ensures fault { IsErrOf result Fault → has_failed self.old ≡ false → Rose (D.faults (device_of self.old)) (D.faults (device_of self.new)) }
-        ensures only { IfErr result (λ e. ((e ≡ NoDocument) ⊎ ((e ≡ Future) ⊎ (e ≡ TooOld))) ⊎ ((e ≡ NoMemory) ⊎ (e ≡ Fault))) }
-        ensures refused { IfErr result (λ e. e ≢ NoMemory → e ≢ Fault → IsWhy (Milestone document revision) e self.old) }
-
-        ensures put { OnOk result ((is_open : IsOpen self.old) → IsPutAt document revision self.old is_open self.new) }
-        ensures state { state_of self.new ≡ state_of self.old }
-        ensures fails { has_failed self.old ≡ false → (has_failed self.new ≡ true ↔ IsErrOf result Fault) }
-        ensures works { OnOk result (has_failed self.new ≡ false) }
-        ensures good { OnOk result (D.faults (device_of self.new) ≡ D.faults (device_of self.old)) }
-        ensures no_fault { IfErr result (λ e. e ≢ Fault → D.faults (device_of self.new) ≡ D.faults (device_of self.old)) }
-
-        ensures any_moment { has_failed self.old ≡ false → IsOpen self.old
-            → LeavesOnly ⟦<D as Disk>⟧ (λ content. FoundAs content (state_of self.old)) (device_of self.old) (device_of self.new) }
-        ensures done { OnOk result (IsOpen self.old → IsOpen self.new) }
-        ensures kept { IfErr result (λ e. e ≢ Fault → IsOpen self.old → IsOpen self.new) }
-        ensures honest { D.honest (device_of self.new) ↔ D.honest (device_of self.old) }
-    {
-        let job = match self.milestone_job(alloc, document, revision) {
-            Ok(job) => job,
-            Err(refusal) => return Err(refusal),
-        };
-        let composed = match compose_job(alloc, job) {
-            Ok(composed) => composed,
-            Err(back) => return Err(back.refusal),
-        };
-        if let Err(refusal) = self.put_milestone(alloc, &composed) {
-            return Err(refusal);
-        }
-        Ok(())
     }
 }

@@ -65,7 +65,7 @@ impl<D: Disk> Store<D> {
     ghost use Rattle.recovery.specs.Found.{Found, FoundAs};
     ghost use Rattle.revision.specs.Agree.{Agree};
     ghost use Rattle.revision.specs.State.{fold, all_grow};
-    ghost use Rattle.recovery.specs.Open.{FitsSlot, IsOpen, IsUnchanged, IsWithOrWithout, device_of, ring_of, state_of, has_failed, has_room, fits_newest_segment};
+    ghost use Rattle.recovery.specs.Open.{FitsSlot, IsOpen, IsUnchanged, IsWithOrWithout, device_of, ring_of, state_of, has_failed, has_room, kept_jobs, fits_newest_segment};
 
     /// Opens a formatted device, by the newer or the older cell of each document: syncs it, then reads, and writes nothing.
     /// `NotFormatted` comes just where the superblock's gate is closed or the device has less than 64 bytes, `Damaged` just
@@ -76,6 +76,7 @@ impl<D: Disk> Store<D> {
         ensures found { IfOk result (λ store. D.honest (device_of store) → Found (D.seen disk) pick (state_of store)) }
         ensures only_state { IfOk result (λ store. D.honest (device_of store) → (state : StateValue) → Found (D.seen disk) pick state → state ≡ state_of store) }
         ensures works { IfOk result (λ store. has_failed store ≡ false) }
+        ensures no_jobs { IfOk result (λ store. kept_jobs store ≡ []) }
 
         // Where the content is that of a store which ran with some state, the store goes on, with a state that agrees with
         // that one, and nothing but the device or want of memory can refuse it.
@@ -182,6 +183,7 @@ impl<D: Disk> Store<D> {
         // What each answer leaves.
         ensures state { OnOk result (state_of self.new ≡ fold (state_of self.old) batch.now) }
         ensures same_state { OnErr result (state_of self.new ≡ state_of self.old) }
+        ensures jobs { kept_jobs self.new ≡ kept_jobs self.old }
         ensures fails { has_failed self.old ≡ false → (has_failed self.new ≡ true ↔ IsErrOf result Refusal.Fault) }
         ensures works { OnOk result (has_failed self.new ≡ false) }
         ensures untouched { (IsErrOf result Refusal.JournalFull) ⊎ (IsErrOf result Refusal.Stranger) → IsUnchanged self.old self.new }
@@ -246,7 +248,7 @@ impl<D: Disk> Store<D> {
     }
 
     // Whether the batch fits behind what is there.
-    fn has_room(&self, batch: &[Taken]) -> bool
+    pub(crate) fn has_room(&self, batch: &[Taken]) -> bool
         requires some { 1 ≤ length batch.now }
         requires short { length batch.now < 2 ^ 32 }
         requires fits { FitsSlot (state_of self.now) batch.now }

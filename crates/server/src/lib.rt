@@ -1,57 +1,11 @@
 //! The program `richd`, as a call over its words and its standard streams.
 //!
-//! `run` reads the words and makes, serves or prints the store of a file. A served session writes what comes of the
-//! lines of its input, with the answers of its desk, and the news after each line (`specs/Serving.antt`); the desk answers from its store, and
-//! acknowledges a command when it is on the device (`specs/Desk.antt`); `dump` writes each document's line
-//! (`specs/Dump.antt`), and a command on deltas the line of what it comes to. What holds of all that is asked of a desk
-//! over a store is in `laws`.
-//!
-//! It stands on `words` for what the words ask for, on `session` for lines and replies, on `recovery` for the store, on
-//! `revision` for what becomes of a command, on `algebra` for the commands on deltas, and on `disk` for the file.
-//!
-//! A caller, with its contract, which is proved as it stands:
-//!
-//! ```text
-//! ghost use Rattle.std.specs.Prelude.{◌≡◌, List, false, IfOk};
-//! ghost use Rattle.recovery.specs.Open.{IsOpen, has_failed, state_of};
-//! ghost use Rattle.server.specs.Asked.{state_after};
-//! ghost use Rattle.session.specs.Exchange.{Exchange};
-//!
-//! use disk::Disk;
-//! use recovery::Store;
-//! use server::Failure;
-//! use server::desk::StoreDesk;
-//! use server::serve::serve;
-//! use session::Output;
-//! use std::alloc::Global;
-//! use std::io::Read;
-//!
-//! /// Serves one session over an opened store. The store then holds what it held, with all that was answered as taken.
-//! pub fn serve_store<D: Disk + Drop, I: Read, O: Output>(
-//!     alloc: Global,
-//!     store: Store<D>,
-//!     input: &mut I,
-//!     output: &mut O,
-//! ) -> Result<Store<D>, Failure>
-//!     requires works { has_failed store ≡ false }
-//!     requires open { IsOpen store }
-//!     ensures { IfOk result (λ after. (asked : List Exchange)
-//!         × (state_of after ≡ state_after (state_of store) asked)) }
-//! {
-//!     let mut desk = StoreDesk::new(store);
-//!     serve(alloc, &mut desk, input, output)?;
-//!     Ok(desk.into_store())
-//! }
-//! ```
+//! `run` reads the words and makes, serves or prints the store of a file; `serve_on`, of `listening`, serves many sessions over TCP. It
+//! stands on `words` for what the words ask for, on `serving` for a session over the standard streams and for what is printed, and on
+//! `recovery` and `disk` for the store in a file.
 #![tactic(auto)]
 
-mod deltas;
-pub mod desk;
-pub mod dump;
-mod failure;
-pub mod laws;
 mod program;
-pub mod serve;
 
-pub use failure::Failure;
+pub use listening::serve_on;
 pub use program::run;

@@ -1,35 +1,44 @@
 //! The program over its words and its standard streams.
 ghost use Rattle.std.specs.Prelude.{◌≤◌};
 
-use crate::deltas::print_answer;
-use crate::desk::StoreDesk;
-use crate::dump::dump;
-use crate::failure::Failure;
-use crate::serve::serve;
 use clap::error::ErrorKind;
 use disk::{Fault, FileDisk};
+use listening::serve_on;
 use recovery::{OpenFault, Pick, Shape, Store};
 use refusal::Refusal;
+use serving::Failure;
+use serving::deltas::print_answer;
+use serving::desk::StoreDesk;
+use serving::dump::dump;
+use serving::serve::serve;
 use session::Stream;
 use std::alloc::Global;
 use std::convert::AsStr;
 use std::fs::{self, File};
 use std::io::{Read, Write};
+use std::net::{Net, TcpListener, TcpStream};
 use std::rt::Files;
+use std::sync::Wait;
+use std::thread::Threads;
 use words::{Invocation, ShapeOptions};
 
 /// Runs the program, and answers its status: 0 for success, 1 for a refusal or a standard stream that failed, 2 for
 /// words that it can't use. The first word is the program's path.
 ///
 /// A refusal is told on `errors` as `error 7 Exists`, a usage fault there in a text of its own; help that is asked for
-/// goes to `output`. Faults are found in the order words, file, store.
-pub fn run<R: Files<File = File> + AllocGlobal, S: AsStr, I: Read, O: Write, E: Write>(
-    rt: &R,
-    words: &[S],
-    input: &mut I,
-    output: &mut O,
-    errors: &mut E,
-) -> u8
+/// goes to `output`. Faults are found in the order words, file, store, address.
+pub fn run<
+    R: Files<File = File>
+        + AllocGlobal
+        + Net<Listener = TcpListener, Stream = TcpStream>
+        + Threads
+        + Wait
+        + Sync,
+    S: AsStr,
+    I: Read,
+    O: Write,
+    E: Write,
+>(rt: &R, words: &[S], input: &mut I, output: &mut O, errors: &mut E) -> u8
     ensures { result ≤ 2 }
 {
     let invocation = match Invocation::parse(rt.alloc(), words) {
@@ -43,12 +52,16 @@ pub fn run<R: Files<File = File> + AllocGlobal, S: AsStr, I: Read, O: Write, E: 
     }
 }
 
-fn invoke<R: Files<File = File> + AllocGlobal, I: Read, O: Write>(
-    rt: &R,
-    invocation: Invocation<'_>,
-    input: &mut I,
-    output: &mut O,
-) -> Result<(), Failure> {
+fn invoke<
+    R: Files<File = File>
+        + AllocGlobal
+        + Net<Listener = TcpListener, Stream = TcpStream>
+        + Threads
+        + Wait
+        + Sync,
+    I: Read,
+    O: Write,
+>(rt: &R, invocation: Invocation<'_>, input: &mut I, output: &mut O) -> Result<(), Failure> {
     match invocation {
         Invocation::Format { path, shape } => {
             let shape = shape_of(shape);
@@ -56,8 +69,20 @@ fn invoke<R: Files<File = File> + AllocGlobal, I: Read, O: Write>(
             recovery::format_device(rt.alloc(), &mut disk, shape)?;
             Ok(())
         }
-        Invocation::Serve { path } => {
-            let mut desk = StoreDesk::new(open(rt, path, Pick::Newer)?);
+        Invocation::Serve {
+            path,
+            listen: Some(address),
+            every,
+        } => {
+            let store = open(rt, path, Pick::Newer)?;
+            listen(rt, store, address, every, output)
+        }
+        Invocation::Serve {
+            path,
+            listen: None,
+            every,
+        } => {
+            let mut desk = StoreDesk::new(open(rt, path, Pick::Newer)?, every);
             let mut stream = Stream::new(output);
             serve(rt.alloc(), &mut desk, input, &mut stream)
         }
@@ -103,6 +128,36 @@ fn is_there<R: Files<File = File> + AllocGlobal>(rt: &R, path: &str) -> Result<b
 // Which milestone of a document its reading begins with.
 fn pick_of(older: bool) -> Pick {
     if older { Pick::Older } else { Pick::Newer }
+}
+
+// Serves the store to those who connect to the address, once it has told where it listens. It ends where the listener fails. An address
+// that can't be had is a fault.
+fn listen<
+    R: AllocGlobal + Net<Listener = TcpListener, Stream = TcpStream> + Threads + Wait + Sync,
+    O: Write,
+>(
+    rt: &R,
+    store: Store<FileDisk>,
+    address: &str,
+    every: u32,
+    output: &mut O,
+) -> Result<(), Failure> {
+    let listener = bind(rt, address)?;
+    let bound = listener.local_addr().map_err(|_| Fault)?;
+    if writeln!(output, "listening {bound}").is_err() || output.flush().is_err() {
+        return Err(Failure::Stream);
+    }
+    let (_store, served) = serve_on(rt, rt.alloc(), store, &listener, every);
+    served?;
+    // The listener has failed.
+    Err(Failure::Refused(Refusal::Fault))
+}
+
+fn bind<R: Net<Listener = TcpListener, Stream = TcpStream>>(
+    rt: &R,
+    address: &str,
+) -> Result<TcpListener, Fault> {
+    TcpListener::bind(rt, address).map_err(|_| Fault)
 }
 
 fn open<R: Files<File = File> + AllocGlobal>(

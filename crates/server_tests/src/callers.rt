@@ -1,16 +1,16 @@
-//! The callers that stand at the head of `lib.rt` of refusal, words and server.
+//! The callers that stand at the head of `lib.rt` of refusal, words and serving.
 ghost use Rattle.std.specs.Prelude.{◌≡◌, ◌≤◌, ◌<◌, ◌⊎◌, ◌++◌, ◌∷◌, ◌↔◌, [], List, Err, false, length, IfOk, IfErr};
 ghost use Rattle.std.specs.String.{string_bytes};
 ghost use Rattle.recovery.specs.Open.{IsOpen, has_failed, state_of};
-ghost use Rattle.server.specs.Asked.{state_after};
+ghost use Rattle.serving.specs.Asked.{state_after};
 ghost use Rattle.session.specs.Exchange.{Exchange};
 
 use disk::Disk;
 use recovery::Store;
 use refusal::Refusal;
-use server::Failure;
-use server::desk::StoreDesk;
-use server::serve::serve;
+use serving::Failure;
+use serving::desk::StoreDesk;
+use serving::serve::serve;
 use session::Output;
 use std::alloc::Global;
 use std::io::Read;
@@ -35,7 +35,7 @@ pub fn line_of(alloc: Global, text: &str) -> Result<String, Refusal>
 pub fn file_in<'a>(alloc: Global, words: &'a [&'a str]) -> Result<Option<&'a str>, clap::Error> {
     Ok(match Invocation::parse(alloc, words)? {
         Invocation::Format { path, shape: _ } => Some(path),
-        Invocation::Serve { path } | Invocation::Dump { path, older: _ } => Some(path),
+        Invocation::Serve { path, .. } | Invocation::Dump { path, older: _ } => Some(path),
         Invocation::Delta(_) => None,
     })
 }
@@ -52,7 +52,7 @@ pub fn serve_store<D: Disk + Drop, I: Read, O: Output>(
     ensures { IfOk result (λ after. (asked : List Exchange)
         × (state_of after ≡ state_after (state_of store) asked)) }
 {
-    let mut desk = StoreDesk::new(store);
+    let mut desk = StoreDesk::new(store, 256);
     serve(alloc, &mut desk, input, output)?;
     Ok(desk.into_store())
 }

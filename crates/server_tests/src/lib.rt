@@ -1,7 +1,7 @@
 //! Tests of the program as a call, of its sessions over a device that stops, and of how a refusal is printed. They call
 //! public functions only.
 //!
-//! `callers` has the callers that open `lib.rt` of refusal, words and server, proved.
+//! `callers` has the callers that open `lib.rt` of refusal, words and serving, proved.
 #![tactic(auto)]
 
 pub mod callers;

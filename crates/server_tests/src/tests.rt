@@ -1,6 +1,7 @@
 mod deltas;
 mod edits;
 mod files;
+mod going_on;
 mod lines;
 mod news;
 mod refusals;
@@ -11,9 +12,12 @@ mod usage;
 use server::run;
 use std::fs::File;
 use std::io::{self, Read};
+use std::net::{Net, TcpListener, TcpStream};
 use std::process::Abort;
 use std::rt::Files;
+use std::sync::Wait;
 use std::test::Fail;
+use std::thread::Threads;
 use std::{env, process};
 
 const HELLO: &str = "{\"do\":\"hello\",\"source\":\"a\"}\n";
@@ -31,11 +35,15 @@ struct Outcome {
 }
 
 /// A run of the program over these words and this input.
-fn call<R: Files<File = File> + AllocGlobal, I: Read>(
-    rt: &R,
-    words: &[&str],
-    input: &mut I,
-) -> Result<Outcome, Fail> {
+fn call<
+    R: Files<File = File>
+        + AllocGlobal
+        + Net<Listener = TcpListener, Stream = TcpStream>
+        + Threads
+        + Wait
+        + Sync,
+    I: Read,
+>(rt: &R, words: &[&str], input: &mut I) -> Result<Outcome, Fail> {
     let mut output = Vec::new(rt.alloc());
     let mut errors = Vec::new(rt.alloc());
     let status = run(rt, words, input, &mut output, &mut errors);
@@ -47,12 +55,16 @@ fn call<R: Files<File = File> + AllocGlobal, I: Read>(
 }
 
 /// Runs the program, which is to end with this status, output and errors.
-fn runs<R: Files<File = File> + AllocGlobal + Abort, I: Read>(
-    rt: &R,
-    words: &[&str],
-    input: &mut I,
-    wanted: (u8, &str, &str),
-) -> Result<(), Fail> {
+fn runs<
+    R: Files<File = File>
+        + AllocGlobal
+        + Net<Listener = TcpListener, Stream = TcpStream>
+        + Threads
+        + Wait
+        + Sync
+        + Abort,
+    I: Read,
+>(rt: &R, words: &[&str], input: &mut I, wanted: (u8, &str, &str)) -> Result<(), Fail> {
     let ended = call(rt, words, input)?;
     assert_eq!(rt;
         (ended.status, ended.output.as_str(), ended.errors.as_str()),
@@ -69,10 +81,15 @@ fn path(rt: &HostRuntime, name: &str) -> io::Result<String> {
 }
 
 /// Makes a store of two slots of 256 bytes, two documents, cells of 256 bytes, four sources and two revisions.
-fn format_small<R: Files<File = File> + AllocGlobal + Abort>(
-    rt: &R,
-    path: &str,
-) -> Result<(), Fail> {
+fn format_small<
+    R: Files<File = File>
+        + AllocGlobal
+        + Net<Listener = TcpListener, Stream = TcpStream>
+        + Threads
+        + Wait
+        + Sync
+        + Abort,
+>(rt: &R, path: &str) -> Result<(), Fail> {
     let words = [
         "richd",
         "format",

@@ -5,17 +5,12 @@ mod writes;
 
 ghost use Rattle.std.specs.Prelude.{◌≤◌};
 
-use refusal::Refusal;
 use revision::{Limits, State};
 use session::laws::kept_documents_stay;
 use session::{Output, Session, SessionEnded, Shelf, StateDesk, Stream};
 use std::alloc::Global;
 use std::marker::Model;
 use std::process::Abort;
-use std::test::Fail;
-
-/// A line, and its reply.
-type Said = (&'static str, &'static str);
 
 /// A session over a state in memory, with the shelf that fits it.
 #[derive(Drop)]
@@ -38,15 +33,16 @@ impl Model for Conversation {
 
 impl Conversation {
     /// A session over a state without documents, which keeps so many revisions.
-    fn new(alloc: Global, keep: u32) -> Result<Conversation, Refusal>
+    fn new(rt: &(impl Abort + AllocGlobal), keep: u32) -> Conversation
         requires first { 1 ≤ keep }
         requires last { keep ≤ 65536 }
     {
-        Ok(Conversation {
-            session: Session::new(alloc)?,
-            desk: StateDesk::new(State::new(alloc, Limits::new(4, 4, 65536, 65536, keep))),
-            shelf: Shelf::new(alloc)?,
-        })
+        let limits = Limits::new(4, 4, 65536, 65536, keep);
+        Conversation {
+            session: Session::new(rt.alloc()).expect(rt, "memory"),
+            desk: StateDesk::new(State::new(rt.alloc(), limits)),
+            shelf: Shelf::new(rt.alloc()).expect(rt, "memory"),
+        }
     }
 
     fn feed<O: Output>(
@@ -65,23 +61,29 @@ impl Conversation {
     }
 }
 
-/// A session over a state without documents, which keeps two revisions, is fed each line whole, or byte by byte, and writes
-/// each reply.
-fn talk<R: AllocGlobal + Abort>(rt: &R, rows: &[Said], by_bytes: bool) -> Result<(), Fail> {
-    let alloc = rt.alloc();
-    let mut talk = Conversation::new(alloc, 2)?;
-    for (line, reply) in rows {
-        let mut out = Stream::new(Vec::new(alloc));
-        let input = format!(in alloc; "{line}\n")?;
-        let wanted = format!(in alloc; "{reply}\n")?;
-        let size = if by_bytes { 1 } else { 65_536 };
-        for piece in input.as_bytes().chunks(size) {
-            talk.feed(alloc, piece, &mut out)?;
-        }
-        assert_eq!(rt;
-            String::from_utf8(out.into_writer())?.as_str(),
-            wanted.as_str()
-        );
+/// What is written upon a line that is fed in pieces of so many bytes.
+fn said(rt: &(impl Abort + AllocGlobal), talk: &mut Conversation, line: &str, size: usize) -> String
+    requires { 1 ≤ size }
+{
+    let input = format!(in rt.alloc(); "{line}\n").expect(rt, "memory");
+    let mut out = Stream::new(Vec::new(rt.alloc()));
+    for piece in input.as_bytes().chunks(size) {
+        talk.feed(rt.alloc(), piece, &mut out)
+            .expect(rt, "no write fails");
     }
-    Ok(())
+    String::from_utf8(out.into_writer()).expect(rt, "a text")
+}
+
+/// Upon a line this line is written.
+fn is_replied(
+    rt: &(impl Abort + AllocGlobal),
+    talk: &mut Conversation,
+    line: &str,
+    reply: &str,
+    size: usize,
+)
+    requires { 1 ≤ size }
+{
+    let wanted = format!(in rt.alloc(); "{reply}\n").expect(rt, "memory");
+    assert_eq!(rt; said(rt, talk, line, size).as_str(), wanted.as_str());
 }

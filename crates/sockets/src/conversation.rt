@@ -6,7 +6,7 @@ use crate::hall::Hall;
 use session::{Desk, Output, Session, SessionEnded, Shelf, Stream};
 use std::alloc::Global;
 use std::io::{BufWriter, ErrorKind, Read};
-use std::net::TcpStream;
+use std::net::{Shutdown, TcpStream};
 use std::time::Duration;
 
 /// How many bytes are read at once.
@@ -15,11 +15,11 @@ const PIECE: usize = 8192;
 /// How long a read waits, in milliseconds, before the news are told.
 const READ_WAIT: u64 = 100;
 
-/// How long a write waits for a peer that doesn't read, in milliseconds, before the connection is closed.
-const WRITE_WAIT: u64 = 10_000;
+/// How long a write waits for a peer that doesn't read, in milliseconds. One that took no byte in that time fails.
+const WRITE_WAIT: u64 = 5_000;
 
 /// Serves one session over a connection until its peer closes it, a call on it fails, or the hall ends. Where memory for the session is
-/// wanted the connection is left without a byte.
+/// wanted the connection is left without a byte. Where a write fails the connection is shut down, and what is held back is dropped.
 pub fn converse<K: Desk>(alloc: Global, hall: &Hall, desk: &mut K, stream: &TcpStream) {
     if !is_ready(stream) {
         return;
@@ -35,7 +35,7 @@ pub fn converse<K: Desk>(alloc: Global, hall: &Hall, desk: &mut K, stream: &TcpS
     };
     let mut input = stream;
     let mut output = Stream::new(writer);
-    let _ = answer_all(
+    let answered = answer_all(
         alloc,
         hall,
         &mut session,
@@ -44,6 +44,10 @@ pub fn converse<K: Desk>(alloc: Global, hall: &Hall, desk: &mut K, stream: &TcpS
         &mut input,
         &mut output,
     );
+    if answered.is_err() {
+        // the writer tries once more as it is dropped, which is not to wait again
+        let _ = stream.shutdown(Shutdown::Both);
+    }
 }
 
 // Sets how long the connection waits. Small replies leave at once.
@@ -68,8 +72,11 @@ fn answer_all<K: Desk, I: Read, O: Output>(
     requires fits { Fits (K.reached desk.old) shelf.old }
     ensures fits { Fits (K.reached desk.new) shelf.new }
 {
+    let mut piece = [0; PIECE];
     'pieces: for _ in 0..u64::MAX {
-        if hall.has_ended() || !answer_piece(alloc, session, desk, shelf, input, output)? {
+        if hall.has_ended()
+            || !answer_piece(alloc, session, desk, shelf, input, &mut piece, output)?
+        {
             return Ok(());
         }
         tell_news(alloc, session, desk, shelf, output)?;
@@ -77,20 +84,21 @@ fn answer_all<K: Desk, I: Read, O: Output>(
     Ok(())
 }
 
-// Reads a piece of the input and answers its lines. The answer is whether the connection goes on; it does where nothing came in time.
+// Reads a piece of the input into `piece` and answers its lines. The answer is whether the connection goes on; it does where nothing
+// came in time.
 fn answer_piece<K: Desk, I: Read, O: Output>(
     alloc: Global,
     session: &mut Session,
     desk: &mut K,
     shelf: &mut Shelf,
     input: &mut I,
+    piece: &mut [u8; PIECE],
     output: &mut O,
 ) -> Result<bool, SessionEnded>
     requires fits { Fits (K.reached desk.old) shelf.old }
     ensures fits { Fits (K.reached desk.new) shelf.new }
 {
-    let mut piece = [0; PIECE];
-    match input.read(&mut piece) {
+    match input.read(piece) {
         Ok(0) => Ok(false),
         Ok(count) => {
             session.feed(alloc, &piece[..count], output, desk, shelf)?;

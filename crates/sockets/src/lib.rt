@@ -2,8 +2,10 @@
 //!
 //! `serve_desks` takes connections from a listener and hands each to a desk that is free, in the thread of that desk. A connection has a
 //! session of its own: what comes in one read is given to `Session::feed`, the news are told after each read and after each 100
-//! milliseconds in which nothing came, and all that was written then leaves at once. A peer that doesn't read for 10 seconds is closed;
-//! it holds up its own desk alone. When the listener fails each session ends within its next read.
+//! milliseconds in which nothing came, and all that was written then leaves at once. A peer that takes no byte of what is written to it
+//! holds up its own desk alone, and is closed: a write that took no byte in 5 seconds fails. One that took some is followed by another
+//! one, and the system takes a little more where it seemed full, so that this comes about after 5 to 15 seconds. When the listener fails
+//! each session ends within its next read.
 //!
 //! # What is proved
 //!

@@ -4,7 +4,7 @@ ghost use Rattle.std.specs.Prelude.{◌≤◌, ◌<◌, ◌^◌};
 use crate::picks::written;
 use crate::stopping::store_under_plan;
 use crate::stores::{
-    answer_text, create, device_of, edit, has_documents, open_store, small_device,
+    answer_text, create, device_of, edit, has_documents, open_by, open_store, small_device,
 };
 use delta::{Delta, OpRef};
 use disk::{Disk, Left};
@@ -12,6 +12,16 @@ use milestone::{Job, Milestone, compose_job};
 use recovery::{Pick, Store};
 use refusal::Refusal;
 use std::process::Abort;
+
+// Asks for a job.
+fn job_of<D: Disk>(
+    rt: &(impl Abort + AllocGlobal),
+    store: &mut Store<D>,
+    document: u32,
+    revision: u64,
+) -> Result<Job, Refusal> {
+    store.milestone_job(rt.alloc(), document, revision)
+}
 
 /// A store has no job of a document to a revision, for this reason, and has not failed for it.
 pub fn is_refused<D: Disk>(
@@ -21,7 +31,7 @@ pub fn is_refused<D: Disk>(
     revision: u64,
     why: Refusal,
 ) {
-    match store.milestone_job(rt.alloc(), document, revision) {
+    match job_of(rt, store, document, revision) {
         Ok(_) => panic!(rt; "a job of {document} to {revision}"),
         Err(refusal) => assert_eq!(rt; refusal, why, "of {document} to {revision}"),
     }
@@ -29,7 +39,7 @@ pub fn is_refused<D: Disk>(
 
 /// A job that a store has.
 pub fn job<D: Disk>(rt: &(impl Abort + AllocGlobal), store: &mut Store<D>, revision: u64) -> Job {
-    match store.milestone_job(rt.alloc(), 0, revision) {
+    match job_of(rt, store, 0, revision) {
         Ok(job) => job,
         Err(refusal) => panic!(rt; "{refusal} to {revision}"),
     }
@@ -109,17 +119,12 @@ fn a_job_has_the_sources_of_its_revision(rt: HostRuntime) {
 #[test]
 fn no_job_below_an_open_cell(rt: HostRuntime) {
     let disk = device_of(&rt, &written(&rt));
-    match Store::open(rt.alloc(), disk, Pick::Older) {
-        Ok(opened) => {
-            let mut store = opened;
-            has_documents(&rt, store.state(), "d 2 zx\n");
-            is_refused(&rt, &mut store, 0, 1, Refusal::TooOld);
-            is_refused(&rt, &mut store, 0, 3, Refusal::Future);
-            is_refused(&rt, &mut store, 1, 1, Refusal::NoDocument);
-            is_composed_as(&rt, job(&rt, &mut store, 2), 2, "zx");
-        }
-        Err(fault) => panic!(&rt; "{}", fault.refusal),
-    }
+    let mut store = open_by(&rt, disk, Pick::Older);
+    has_documents(&rt, store.state(), "d 2 zx\n");
+    is_refused(&rt, &mut store, 0, 1, Refusal::TooOld);
+    is_refused(&rt, &mut store, 0, 3, Refusal::Future);
+    is_refused(&rt, &mut store, 1, 1, Refusal::NoDocument);
+    is_composed_as(&rt, job(&rt, &mut store, 2), 2, "zx");
 }
 
 #[test]

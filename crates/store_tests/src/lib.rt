@@ -8,6 +8,8 @@ pub mod callers;
 #[cfg(test)]
 mod cells;
 #[cfg(test)]
+mod crashes;
+#[cfg(test)]
 mod creating;
 #[cfg(test)]
 mod damage;
@@ -15,6 +17,8 @@ mod damage;
 mod deltas;
 #[cfg(test)]
 mod devices;
+#[cfg(test)]
+mod freeing;
 #[cfg(test)]
 mod jobs;
 #[cfg(test)]
@@ -31,6 +35,8 @@ mod retiring;
 mod rings;
 #[cfg(test)]
 mod running;
+#[cfg(test)]
+mod scripts;
 #[cfg(test)]
 mod stopping;
 #[cfg(test)]

@@ -5,7 +5,7 @@ use crate::jobs::{append, is_refused, job};
 use crate::picks::{FIRST, SECOND, written};
 use crate::stopping::{LEFT, calls_before};
 use crate::stores::{
-    Row, create, device_of, differ_by, has_documents, is_opened_as, open_store, session,
+    Row, create, device_of, differ_by, has_documents, is_opened_as, open_by, open_store, session,
     small_device,
 };
 use disk::{Disk, FaultDisk, FaultPlan, Left};
@@ -22,6 +22,15 @@ fn composed(rt: &(impl Abort + AllocGlobal), job: Job) -> Composed {
     }
 }
 
+// Puts what came of a job.
+fn put<D: Disk>(
+    rt: &(impl Abort + AllocGlobal),
+    store: &mut Store<D>,
+    done: &Composed,
+) -> Result<(), Refusal> {
+    store.put_milestone(rt.alloc(), done)
+}
+
 // A milestone of document 0 at a revision is put, or refused.
 fn is_put<D: Disk>(
     rt: &(impl Abort + AllocGlobal),
@@ -30,7 +39,7 @@ fn is_put<D: Disk>(
     wanted: Result<(), Refusal>,
 ) {
     let done = composed(rt, job(rt, store, revision));
-    assert_eq!(rt; store.put_milestone(rt.alloc(), &done), wanted);
+    assert_eq!(rt; put(rt, store, &done), wanted);
 }
 
 const CREATED: [Row; 1] = [("a", "d", "z", "taken 1")];
@@ -59,24 +68,20 @@ fn a_milestone_of_another_job_is_a_stranger(rt: HostRuntime) {
     let first = composed(&rt, job(&rt, &mut store, 1));
     let second = composed(&rt, job(&rt, &mut store, 2));
     let stranger = Err(Refusal::Stranger);
-    assert_eq!(&rt; store.put_milestone(rt.alloc(), &first), stranger);
-    assert_eq!(&rt; store.put_milestone(rt.alloc(), &second), Ok(()));
+    assert_eq!(&rt; put(&rt, &mut store, &first), stranger);
+    assert_eq!(&rt; put(&rt, &mut store, &second), Ok(()));
     // The kept copy is dropped once it is put.
-    assert_eq!(&rt; store.put_milestone(rt.alloc(), &second), stranger);
+    assert_eq!(&rt; put(&rt, &mut store, &second), stranger);
     assert!(&rt; !store.has_failed());
     has_documents(&rt, store.state(), "d 2 xz\n");
 }
 
 // A device is opened by a pick, with the floor of its only document.
 fn has_floor(rt: &(impl Abort + AllocGlobal), bytes: &[u8], pick: Pick, floor: u64) {
-    match Store::open(rt.alloc(), device_of(rt, bytes), pick) {
-        Ok(store) => {
-            let documents = store.state().documents();
-            assert_eq!(rt; documents.len(), 1);
-            assert_eq!(rt; documents[0].floor(), floor);
-        }
-        Err(fault) => panic!(rt; "{}", fault.refusal),
-    }
+    let store = open_by(rt, device_of(rt, bytes), pick);
+    let documents = store.state().documents();
+    assert_eq!(rt; documents.len(), 1);
+    assert_eq!(rt; documents[0].floor(), floor);
 }
 
 // A milestone below the newest revision: the cell has the sources of its own revision, and what is behind it is read again.

@@ -4,6 +4,8 @@ use crate::picks::{FIRST, SECOND};
 use crate::stores::{
     device_of, differ_by, is_opened_as, is_opened_with, open_store, small_device, with_bytes_at,
 };
+use disk::Disk;
+use recovery::Store;
 use refusal::Refusal;
 use std::process::Abort;
 
@@ -21,10 +23,15 @@ fn device(rt: &(impl Abort + AllocGlobal), first: &[u8], second: &[u8]) -> Vec<u
     with_bytes_at(rt, &bytes, 1_344, &SLOT_1)
 }
 
+// Retires the oldest segment.
+fn retire<D: Disk>(store: &mut Store<D>) -> Result<(), Refusal> {
+    store.retire()
+}
+
 // The segment is still needed, and nothing is written.
 fn is_needed(rt: &(impl Abort + AllocGlobal), bytes: &[u8]) {
     let mut store = open_store(rt, device_of(rt, bytes));
-    assert_eq!(rt; store.retire(), Err(Refusal::StillNeeded));
+    assert_eq!(rt; retire(&mut store), Err(Refusal::StillNeeded));
     assert!(rt; !store.has_failed());
     assert_eq!(rt; store.close().bytes(), bytes);
 }
@@ -32,8 +39,8 @@ fn is_needed(rt: &(impl Abort + AllocGlobal), bytes: &[u8]) {
 // It is retired: the gate of its slot alone is closed. The other segment is the only one then, and is needed.
 fn is_retired(rt: &(impl Abort + AllocGlobal), bytes: &[u8]) {
     let mut store = open_store(rt, device_of(rt, bytes));
-    assert_eq!(rt; store.retire(), Ok(()));
-    assert_eq!(rt; store.retire(), Err(Refusal::StillNeeded));
+    assert_eq!(rt; retire(&mut store), Ok(()));
+    assert_eq!(rt; retire(&mut store), Err(Refusal::StillNeeded));
     let device = store.close();
     differ_by(rt, device.bytes(), bytes, 1_088, &[0]);
     is_opened_as(rt, device.bytes(), "d 2 zx\n");

@@ -1,6 +1,6 @@
 //! Batches over two slots, byte for byte: shape S of docs/FORMATS.md, whose second batch opens slot 1.
 use crate::batches::EDIT;
-use crate::running::step;
+use crate::running::{run_steps, step};
 use crate::stores::{
     SLOT, device_of, differ_by, has_documents, is_opened_as, is_opened_with, open_store, part,
     small_device, with_bytes_at,
@@ -24,7 +24,8 @@ const WITHOUT_NAMES: [u8; 45] = [
     3, 0, 0, 0, // three names
 ];
 
-fn extend(rt: &(impl Abort + AllocGlobal), bytes: &mut Vec<u8>, more: &[u8]) {
+/// Puts more bytes behind others.
+pub fn extend(rt: &(impl Abort + AllocGlobal), bytes: &mut Vec<u8>, more: &[u8]) {
     bytes.extend_from_slice(more).expect(rt, "memory");
 }
 
@@ -36,8 +37,8 @@ fn first(rt: &(impl Abort + AllocGlobal)) -> Vec<u8> {
     bytes
 }
 
-// The second one, of 240 bytes, with one entry of 236. Each name has 62 bytes.
-fn second(rt: &(impl Abort + AllocGlobal)) -> Vec<u8> {
+/// The second one, of 240 bytes, with one entry of 236. Each name has 62 bytes.
+pub fn second(rt: &(impl Abort + AllocGlobal)) -> Vec<u8> {
     let mut bytes = WITHOUT_NAMES.to_vec(rt.alloc()).expect(rt, "memory");
     for letter in [b'a', b'b', b'c'] {
         extend(rt, &mut bytes, &[62, 0]);
@@ -73,7 +74,10 @@ fn a_second_slot_is_opened_and_filled(rt: HostRuntime) {
         step(&rt, &store, &third),
     ];
     let refusal = Refusal::JournalFull;
-    assert_eq!(rt; store.run(rt.alloc(), &steps), Err(Stop { at: 2, refusal }));
+    assert_eq!(rt;
+        run_steps(&rt, &mut store, &steps),
+        Err(Stop { at: 2, refusal })
+    );
     assert!(rt; !store.has_failed());
     has_documents(&rt, store.state(), "d 3 zx\n");
     let disk = store.close();
@@ -97,20 +101,28 @@ fn slots_are_read_in_order_of_their_numbers(rt: HostRuntime) {
     is_opened_with(&rt, &turned, 1_344, &[0], "error 32 Damaged");
 }
 
+/// A device whose only segment has the number 2^64 - 1, and the first batch.
+pub fn with_last_number(rt: &(impl Abort + AllocGlobal)) -> Vec<u8> {
+    with_bytes_at(rt, &with_first(rt), 1_089, &[255; 8])
+}
+
 // Behind the number 2^64 - 1 there is none: a store opens, but no further slot does.
 #[test]
 fn no_number_is_behind_the_last(rt: HostRuntime) {
-    let bytes = with_bytes_at(&rt, &with_first(&rt), 1_089, &[255; 8]);
+    let bytes = with_last_number(&rt);
     let mut store = open_store(&rt, device_of(&rt, &bytes));
     has_documents(&rt, store.state(), "d 2 zx\n");
     let steps = [step(&rt, &store, &second(&rt))];
     let refusal = Refusal::JournalFull;
-    assert_eq!(rt; store.run(rt.alloc(), &steps), Err(Stop { at: 0, refusal }));
+    assert_eq!(rt;
+        run_steps(&rt, &mut store, &steps),
+        Err(Stop { at: 0, refusal })
+    );
     assert_eq!(rt; store.close().bytes(), bytes.as_slice());
 }
 
 /// What is left of the unsynced ranges, and whether a gate that was being opened then stands open.
-const LEFT: [(Left, bool); 6] = [
+pub const LEFT: [(Left, bool); 6] = [
     (Left::Nothing, false),
     (Left::All, true),
     (Left::FirstHalf, false),
@@ -127,7 +139,10 @@ fn is_stopped(rt: &(impl Abort + AllocGlobal), call: u64, left: Left, wanted: &s
     let mut store = open_store(rt, FaultDisk::new(device_of(rt, &bytes), plan));
     let steps = [step(rt, &store, &second(rt))];
     let refusal = Refusal::Fault;
-    assert_eq!(rt; store.run(rt.alloc(), &steps), Err(Stop { at: 0, refusal }));
+    assert_eq!(rt;
+        run_steps(rt, &mut store, &steps),
+        Err(Stop { at: 0, refusal })
+    );
     let after = store.close().after_crash(rt.alloc()).expect(rt, "memory");
     is_opened_as(rt, after.bytes(), wanted);
 }

@@ -94,6 +94,17 @@ pub fn step<D: Disk>(rt: &(impl Abort + AllocGlobal), store: &Store<D>, bytes: &
     StoreStep::Commit(batch)
 }
 
+/// A store takes steps. No clause is kept of what comes of it, so callers are checked faster.
+pub fn run_steps<D: Disk>(
+    rt: &(impl Abort + AllocGlobal),
+    store: &mut Store<D>,
+    steps: &[StoreStep],
+) -> Result<(), Stop>
+    requires { All (CanTake (state_of store.old)) steps.now }
+{
+    store.run(rt.alloc(), steps)
+}
+
 // The step that creates the document d so many times.
 fn repeated<D: Disk>(rt: &(impl Abort + AllocGlobal), store: &Store<D>, count: u8) -> StoreStep
     ensures { CanTake (state_of store.now) result }
@@ -112,10 +123,13 @@ fn is_stopped(rt: &(impl Abort + AllocGlobal), count: u8) {
     let mut store = open_store(rt, small_device(rt));
     let steps = [repeated(rt, &store, 1), repeated(rt, &store, count)];
     let refusal = Refusal::Stranger;
-    assert_eq!(rt; store.run(rt.alloc(), &steps), Err(Stop { at: 1, refusal }));
+    assert_eq!(rt;
+        run_steps(rt, &mut store, &steps),
+        Err(Stop { at: 1, refusal })
+    );
     has_documents(rt, store.state(), "d 1 z\n");
     let second = [step(rt, &store, &part(rt, &SLOT, 64, 45))];
-    assert_eq!(rt; store.run(rt.alloc(), &second), Ok(()));
+    assert_eq!(rt; run_steps(rt, &mut store, &second), Ok(()));
     differ_by(
         rt,
         store.close().bytes(),
@@ -157,5 +171,8 @@ fn an_edit_of_nothing_is_not_committed(rt: HostRuntime) {
     let mut store = open_store(&rt, small_device(&rt));
     let steps = [step(&rt, &store, &EDIT)];
     let refusal = Refusal::Stranger;
-    assert_eq!(rt; store.run(rt.alloc(), &steps), Err(Stop { at: 0, refusal }));
+    assert_eq!(rt;
+        run_steps(&rt, &mut store, &steps),
+        Err(Stop { at: 0, refusal })
+    );
 }

@@ -4,9 +4,9 @@ ghost use Rattle.std.specs.Prelude.{◌≤◌, ◌<◌, ◌^◌};
 use attributes::Attrs;
 use delta::{Builder, Delta, Op, OpRef};
 use disk::{Disk, MemDisk};
-use recovery::{Pick, Shape, Store, format_device};
+use recovery::{OpenFault, Pick, Shape, Store, format_device};
 use refusal::Refusal;
-use revision::{Command, Name, Plan, State};
+use revision::{Command, Name, Plan, State, Taken};
 use std::process::Abort;
 
 /// A device of 1,600 bytes: cells at 64, 320, 576 and 832, slots at 1,088 and 1,344.
@@ -86,16 +86,30 @@ pub fn device_of(rt: &(impl Abort + AllocGlobal), bytes: &[u8]) -> MemDisk {
     MemDisk::holding(rt.alloc(), bytes.to_vec(rt.alloc()).expect(rt, "memory"))
 }
 
-/// A store over a device that is to open.
-pub fn open_store<D: Disk + Drop>(rt: &(impl Abort + AllocGlobal), disk: D) -> Store<D> {
-    match Store::open(rt.alloc(), disk, Pick::Newer) {
+/// Opens a device. No clause is kept of what comes of it, so callers are checked faster.
+fn opened<D: Disk + Drop>(
+    rt: &(impl Abort + AllocGlobal),
+    disk: D,
+    pick: Pick,
+) -> Result<Store<D>, OpenFault<D>> {
+    Store::open(rt.alloc(), disk, pick)
+}
+
+/// A store over a device that is to open by this pick.
+pub fn open_by<D: Disk + Drop>(rt: &(impl Abort + AllocGlobal), disk: D, pick: Pick) -> Store<D> {
+    match opened(rt, disk, pick) {
         Ok(store) => store,
         Err(fault) => panic!(rt; "{}", fault.refusal),
     }
 }
 
+/// A store over a device that is to open by the newer pick.
+pub fn open_store<D: Disk + Drop>(rt: &(impl Abort + AllocGlobal), disk: D) -> Store<D> {
+    open_by(rt, disk, Pick::Newer)
+}
+
 /// The text that a delta inserts.
-fn text_of(rt: &(impl Abort + AllocGlobal), delta: &Delta) -> String {
+pub fn text_of(rt: &(impl Abort + AllocGlobal), delta: &Delta) -> String {
     let mut all = String::new(rt.alloc());
     for op in delta.ops() {
         if let OpRef::Text(text, _) = op.get() {
@@ -133,7 +147,7 @@ pub fn is_opened_as(rt: &(impl Abort + AllocGlobal), bytes: &[u8], wanted: &str)
 
 /// And by this pick.
 pub fn is_picked_as(rt: &(impl Abort + AllocGlobal), bytes: &[u8], pick: Pick, wanted: &str) {
-    match Store::open(rt.alloc(), device_of(rt, bytes), pick) {
+    match opened(rt, device_of(rt, bytes), pick) {
         Ok(store) => {
             has_documents(rt, store.state(), wanted);
             assert_eq!(rt; store.close().bytes(), bytes);
@@ -200,21 +214,36 @@ pub fn edit(
     Command::edit(doc, source, number, base, insert_of(rt, text)).expect(rt, "an edit")
 }
 
+// Commits what was taken of a command.
+fn commit_taken<D: Disk>(
+    rt: &(impl Abort + AllocGlobal),
+    store: &mut Store<D>,
+    taken: Taken,
+) -> Result<(), Refusal> {
+    let batch = [taken];
+    assert!(rt; store.fits(&batch));
+    match store.commit(rt.alloc(), &batch) {
+        Ok(_) => Ok(()),
+        Err(refusal) => Err(refusal),
+    }
+}
+
 // How a command is answered, and which revision it has made. It is committed where it is taken.
 fn answer<D: Disk>(
     rt: &(impl Abort + AllocGlobal),
     store: &mut Store<D>,
     command: &Command,
 ) -> Result<(&'static str, u64), Refusal> {
-    match store.state().plan(rt.alloc(), command)? {
-        Plan::Taken(taken) => {
+    match store.state().plan(rt.alloc(), command) {
+        Ok(Plan::Taken(taken)) => {
             let rev = taken.revision();
-            let batch = [taken];
-            assert!(rt; store.fits(&batch));
-            store.commit(rt.alloc(), &batch)?;
-            Ok(("taken", rev))
+            match commit_taken(rt, store, taken) {
+                Ok(()) => Ok(("taken", rev)),
+                Err(refusal) => Err(refusal),
+            }
         }
-        Plan::Again { rev } => Ok(("again", rev)),
+        Ok(Plan::Again { rev }) => Ok(("again", rev)),
+        Err(refusal) => Err(refusal),
     }
 }
 

@@ -1,8 +1,10 @@
 //! Runs that commit, put milestones and retire: a journal whose oldest segment is given up, and a stop within.
 use crate::batches::EDIT;
-use crate::running::step;
+use crate::running::{run_steps, step};
 use crate::stopping::LEFT;
-use crate::stores::{SLOT, device_of, has_documents, is_opened_as, open_store, part, small_device};
+use crate::stores::{
+    SLOT, device_of, has_documents, is_opened_as, open_by, open_store, part, small_device,
+};
 use disk::{Disk, FaultDisk, FaultPlan, Left};
 use recovery::{Pick, Stop, Store, StoreStep};
 use refusal::Refusal;
@@ -65,24 +67,20 @@ fn run<D: Disk + Drop>(
         StoreStep::Milestone(0, 5),
         StoreStep::Retire,
     ];
-    assert_eq!(rt; store.run(rt.alloc(), &steps), wanted);
+    assert_eq!(rt; run_steps(rt, &mut store, &steps), wanted);
     store
 }
 
 // By a pick the document's last change is number 5 of its source.
 fn is_last(rt: &(impl Abort + AllocGlobal), bytes: &[u8], pick: Pick) {
-    match Store::open(rt.alloc(), device_of(rt, bytes), pick) {
-        Ok(store) => {
-            has_documents(rt, store.state(), "d 5 qx\n");
-            let source = Name::source(rt.alloc(), "a").expect(rt, "a source");
-            let documents = store.state().documents();
-            assert_eq!(rt; documents.len(), 1);
-            let last = documents[0].last(&source);
-            assert_eq!(rt; last.number, 5);
-            assert_eq!(rt; last.revision, 5);
-        }
-        Err(fault) => panic!(rt; "{}", fault.refusal),
-    }
+    let store = open_by(rt, device_of(rt, bytes), pick);
+    has_documents(rt, store.state(), "d 5 qx\n");
+    let source = Name::source(rt.alloc(), "a").expect(rt, "a source");
+    let documents = store.state().documents();
+    assert_eq!(rt; documents.len(), 1);
+    let last = documents[0].last(&source);
+    assert_eq!(rt; last.number, 5);
+    assert_eq!(rt; last.revision, 5);
 }
 
 // By each pick a device of these bytes has all that was committed.
@@ -180,7 +178,10 @@ fn a_segment_above_a_cell_is_still_needed(rt: HostRuntime) {
         StoreStep::Retire,
     ];
     let refusal = Refusal::StillNeeded;
-    assert_eq!(rt; store.run(rt.alloc(), &steps), Err(Stop { at: 5, refusal }));
+    assert_eq!(rt;
+        run_steps(&rt, &mut store, &steps),
+        Err(Stop { at: 5, refusal })
+    );
     assert!(rt; !store.has_failed());
     is_opened_as(&rt, store.close().bytes(), "d 4 x\n");
 }
@@ -193,7 +194,10 @@ fn is_refused(rt: &(impl Abort + AllocGlobal), document: u32, revision: u64, ref
         StoreStep::Milestone(document, revision),
         StoreStep::Retire,
     ];
-    assert_eq!(rt; store.run(rt.alloc(), &steps), Err(Stop { at: 1, refusal }));
+    assert_eq!(rt;
+        run_steps(rt, &mut store, &steps),
+        Err(Stop { at: 1, refusal })
+    );
     assert!(rt; !store.has_failed());
     has_documents(rt, store.state(), "d 1 z\n");
 }

@@ -1,44 +1,87 @@
 //! One turn, and all of them.
-ghost use Rattle.std.specs.Prelude.{◌≡◌, ◌≤◌, [], length, IfOk, IfSome};
+ghost use Rattle.std.specs.Prelude.{◌≡◌, ◌≢◌, ◌↔◌, ◌≤◌, [], ◌++◌, true, false, length, OnOk, IfOk, IfErr, IfSome, IsErrOf};
 ghost use Rattle.journal.specs.BatchSpelling.{batch_width};
-ghost use Rattle.flusher.specs.Holding.{committed_of, waiting_of};
+ghost use Rattle.recovery.specs.Open.{has_failed};
+ghost use Rattle.flusher.specs.Holding.{store_of, told_of, committed_of, waiting_of};
+ghost use Rattle.turns.specs.Writing.{Writes, IsOneMore, IsTurnFailed, IsEndedBy};
 
+use crate::upkeep::Upkeep;
 use disk::Disk;
 use flusher::{Flusher, Gate};
-use hub::Hub;
+use hub::{Hub, Run};
 use published::Site;
 use refusal::Refusal;
-use revision::Taken;
 use std::alloc::Global;
 use std::sync::Wait;
 use std::thread;
 
-/// Takes the longest run of the next commands that makes one batch, writes it while the board is unlocked, and settles it. It answers
-/// whether it settled one: `false` where nothing was to be taken.
+/// Puts the milestones that are due of the documents of the batch before, as `upkeep` knows them. Then takes the longest run of the next
+/// commands that makes one batch, writes it while the board is unlocked, and settles it. It answers whether it settled one: `false`
+/// where nothing was to be taken.
 ///
-/// Refused with `NoMemory` where memory was wanted, and then the next turn goes on with the same batch, or with its publishing. Each
-/// other refusal fails the board: the device failed, the journal is full, or the batch isn't what the board has to settle next.
+/// Refused with `NoMemory` where memory was wanted for a batch, and then the next turn goes on with the same batch, or with its
+/// publishing; where it was wanted for a milestone, the next turn looks for it again. Each other refusal fails the board: the device
+/// failed, the journal is full and can't be freed, or the batch isn't what the board has to settle next.
 pub fn flush_turn<D: Disk, J: Site, R: Wait, G: Gate>(
     rt: &R,
     alloc: Global,
     flusher: &mut Flusher<D, J>,
     hub: &Hub<D, J>,
+    upkeep: &mut Upkeep<D>,
     gate: &mut G,
-) -> Result<bool, Refusal> {
-    if !flusher.holds() && !hold_next(rt, alloc, flusher, hub)? {
-        return Ok(false);
-    }
-    match write_held(rt, alloc, flusher, hub, gate) {
+) -> Result<bool, Refusal>
+    // What a crash leaves, and what is published and held after it.
+    ensures writes { Writes J.start flusher.old flusher.new }
+    ensures one { IfOk result (λ settled. settled ≡ true → IsOneMore flusher.old flusher.new) }
+    ensures none { IfOk result (λ settled. settled ≡ false → told_of flusher.new ≡ told_of flusher.old) }
+    ensures nothing { OnOk result ((committed_of flusher.new ≡ []) × (waiting_of flusher.new ≡ [])) }
+
+    // When each refusal comes: a failure of the device is told as such, and nothing else is.
+    ensures fails { has_failed (store_of flusher.old) ≡ false → (has_failed (store_of flusher.new) ≡ true ↔ IsErrOf result Refusal.Fault) }
+    ensures causes { IfErr result (λ e. e ≢ Refusal.NoMemory → e ≢ Refusal.Fault → IsTurnFailed flusher.old e flusher.new) }
+{
+    match turn_made(rt, alloc, flusher, hub, upkeep, gate) {
         Ok(settled) => Ok(settled),
-        Err(Refusal::NoMemory) => Err(Refusal::NoMemory),
         Err(refusal) => {
-            hub.fail(rt);
+            if refusal != Refusal::NoMemory {
+                hub.fail(rt);
+            }
             Err(refusal)
         }
     }
 }
 
-// Takes the next batch and holds it, where there is one.
+// A turn, which leaves it to its caller to fail the board.
+fn turn_made<D: Disk, J: Site, R: Wait, G: Gate>(
+    rt: &R,
+    alloc: Global,
+    flusher: &mut Flusher<D, J>,
+    hub: &Hub<D, J>,
+    upkeep: &mut Upkeep<D>,
+    gate: &mut G,
+) -> Result<bool, Refusal>
+    ensures writes { Writes J.start flusher.old flusher.new }
+    ensures one { IfOk result (λ settled. settled ≡ true → IsOneMore flusher.old flusher.new) }
+    ensures none { IfOk result (λ settled. settled ≡ false → told_of flusher.new ≡ told_of flusher.old) }
+    ensures nothing { OnOk result ((committed_of flusher.new ≡ []) × (waiting_of flusher.new ≡ [])) }
+    ensures fails { has_failed (store_of flusher.old) ≡ false → (has_failed (store_of flusher.new) ≡ true ↔ IsErrOf result Refusal.Fault) }
+    ensures causes { IfErr result (λ e. e ≢ Refusal.NoMemory → e ≢ Refusal.Fault → IsTurnFailed flusher.old e flusher.new) }
+{
+    flusher.kept();
+    if let Err(refusal) = upkeep.put_due(alloc, flusher) {
+        return Err(refusal);
+    }
+    let held = match hold_next(rt, alloc, flusher, hub) {
+        Ok(held) => held,
+        Err(refusal) => return Err(refusal),
+    };
+    if !held {
+        return Ok(false);
+    }
+    write_held(rt, alloc, flusher, hub, upkeep, gate)
+}
+
+// Takes the next batch and holds it, where none is held; whether one is held then. Refused for want of memory alone.
 #[tactic(auto, using(crate::proofs::Fitting::fits_slot))]
 fn hold_next<D: Disk, J: Site, R: Wait>(
     rt: &R,
@@ -46,63 +89,116 @@ fn hold_next<D: Disk, J: Site, R: Wait>(
     flusher: &mut Flusher<D, J>,
     hub: &Hub<D, J>,
 ) -> Result<bool, Refusal>
-    requires { (committed_of flusher.old ≡ []) × (waiting_of flusher.old ≡ []) }
+    ensures writes { Writes J.start flusher.old flusher.new }
+    ensures held { IfOk result (λ held. held ≡ true → committed_of flusher.new ++ waiting_of flusher.new ≢ []) }
+    ensures nothing { IfOk result (λ held. held ≡ false → (committed_of flusher.new ≡ []) × (waiting_of flusher.new ≡ [])) }
+    ensures store { store_of flusher.new ≡ store_of flusher.old }
+    ensures told { told_of flusher.new ≡ told_of flusher.old }
+    ensures only { IfErr result (λ e. e ≡ Refusal.NoMemory) }
 {
-    let Some(batch) = take_some(rt, alloc, flusher.cap(), hub)? else {
-        return Ok(false);
+    flusher.kept();
+    if flusher.holds() {
+        return Ok(true);
+    }
+    let taken = match take_some(rt, alloc, flusher.cap(), hub) {
+        Ok(taken) => taken,
+        Err(refusal) => return Err(refusal),
     };
-    flusher.hold(batch);
-    Ok(true)
+    match taken {
+        None => Ok(false),
+        Some(run) => {
+            flusher.hold(run);
+            Ok(true)
+        }
+    }
 }
 
-// The next batch of at most so many bytes, where there is one.
+// The next run whose batch has at most so many bytes, where there is one.
 fn take_some<D: Disk, J: Site, R: Wait>(
     rt: &R,
     alloc: Global,
     cap: u32,
     hub: &Hub<D, J>,
-) -> Result<Option<Vec<Taken>>, Refusal>
-    ensures { IfOk result (λ taken. IfSome taken (λ batch. (1 ≤ length batch.items) × (batch_width batch.items ≤ cap))) }
+) -> Result<Option<Run<J>>, Refusal>
+    ensures fits { IfOk result (λ taken. IfSome taken (λ run. (1 ≤ length run.commands) × (batch_width run.commands ≤ cap))) }
+    ensures cap { IfOk result (λ taken. IfSome taken (λ run. run.cap ≡ cap)) }
+    ensures only { IfErr result (λ e. e ≡ Refusal.NoMemory) }
 {
-    let batch = hub.take(rt, alloc, cap)?;
-    if batch.is_empty() {
+    let run = match hub.take(rt, alloc, cap) {
+        Ok(run) => run,
+        Err(refusal) => return Err(refusal),
+    };
+    if run.len() == 0 {
         return Ok(None);
     }
-    Ok(Some(batch))
+    Ok(Some(run))
 }
 
-// Writes the batch that is held, and settles it.
+// Writes the batch that is held, settles it, and notes it for the next turn's milestones.
 fn write_held<D: Disk, J: Site, R: Wait, G: Gate>(
     rt: &R,
     alloc: Global,
     flusher: &mut Flusher<D, J>,
     hub: &Hub<D, J>,
+    upkeep: &mut Upkeep<D>,
     gate: &mut G,
-) -> Result<bool, Refusal> {
-    let Some((receipt, told)) = flusher.write(rt, alloc, gate)? else {
-        return Ok(false);
+) -> Result<bool, Refusal>
+    ensures writes { Writes J.start flusher.old flusher.new }
+    ensures one { IfOk result (λ settled. settled ≡ true → IsOneMore flusher.old flusher.new) }
+    ensures none { IfOk result (λ settled. settled ≡ false → committed_of flusher.old ++ waiting_of flusher.old ≡ []) }
+    ensures nothing { OnOk result ((committed_of flusher.new ≡ []) × (waiting_of flusher.new ≡ [])) }
+    ensures fails { has_failed (store_of flusher.old) ≡ false → (has_failed (store_of flusher.new) ≡ true ↔ IsErrOf result Refusal.Fault) }
+    ensures causes { IfErr result (λ e. e ≢ Refusal.NoMemory → e ≢ Refusal.Fault → IsTurnFailed flusher.old e flusher.new) }
+{
+    flusher.kept();
+    let written = match flusher.write(rt, alloc, gate) {
+        Ok(written) => written,
+        Err(refusal) => return Err(refusal),
     };
-    hub.settle(rt, &receipt, told)?;
-    Ok(true)
+    match written {
+        None => Ok(false),
+        Some(both) => {
+            let (receipt, told) = both;
+            flusher.kept();
+            if let Err(refusal) = hub.settle(rt, &receipt, told) {
+                return Err(refusal);
+            }
+            upkeep.note(receipt);
+            Ok(true)
+        }
+    }
 }
 
 /// Makes turns until the hub is ended and all that was ordered is settled, or until a turn fails the board. It waits where nothing is
-/// to be taken, and where memory is wanted it lets other threads run and tries again.
+/// to be taken, and where memory is wanted it lets other threads run and tries again. A document's milestone is due where it passes a
+/// multiple of `every` revisions; 0 puts none.
+///
+/// A crash at any moment of it leaves some first batches of those that were given, and no fewer commands than were published when it
+/// began; one after its return no fewer than are published then. Of each turn `flush_turn` says the same.
 pub fn flush_all<D: Disk, J: Site, R: Wait, G: Gate>(
     rt: &R,
     alloc: Global,
     flusher: &mut Flusher<D, J>,
     hub: &Hub<D, J>,
+    every: u32,
     gate: &mut G,
-) -> Result<(), Refusal> {
+) -> Result<(), Refusal>
+    ensures writes { Writes J.start flusher.old flusher.new }
+    ensures nothing { OnOk result ((committed_of flusher.new ≡ []) × (waiting_of flusher.new ≡ [])) }
+    ensures fails { has_failed (store_of flusher.old) ≡ false → (has_failed (store_of flusher.new) ≡ true ↔ IsErrOf result Refusal.Fault) }
+    ensures causes { IfErr result (λ e. e ≢ Refusal.Fault → IsEndedBy J.start flusher.old e flusher.new) }
+{
+    flusher.kept();
+    let mut upkeep = Upkeep::new(every);
     for _ in rt.forever() {
         if !flusher.holds() && !hub.wait_work(rt) {
             return Ok(());
         }
-        match flush_turn(rt, alloc, flusher, hub, gate) {
-            Ok(_) => {}
-            Err(Refusal::NoMemory) => thread::yield_now(),
-            Err(refusal) => return Err(refusal),
+        if let Err(refusal) = flush_turn(rt, alloc, flusher, hub, &mut upkeep, gate) {
+            if refusal != Refusal::NoMemory {
+                return Err(refusal);
+            }
+            thread::yield_now();
         }
     }
     unreachable!()

@@ -1,5 +1,5 @@
 //! The writer of the view.
-ghost use Rattle.std.specs.Prelude.{◌≡◌, ◌⊎◌, ◌∷◌, ◌++◌, [], drop, length, nat_lt, IfOk, IfErr, IfSome, IfNone, OnErr, IsOkUnless};
+ghost use Rattle.std.specs.Prelude.{◌≡◌, ◌⊎◌, ◌∷◌, ◌++◌, [], drop, length, nat_lt, IfOk, IfErr, IfSome, IfNone, OnErr, IsErrOf, IsOkUnless};
 ghost use Rattle.view.specs.Published.{Published};
 ghost use Rattle.view.specs.Stages.{AreShown, news_of as to_show};
 
@@ -133,8 +133,8 @@ impl<D, J: Site> Publisher<D, J> {
     /// Publishes the batch that was given, and gives its receipt with the token that ends with it; `None` where none was given.
     ///
     /// Refused with `NoMemory`, and the next call goes on then, with the same batch, which comes into the log once. Refused with
-    /// `StoreFailed` where the log was made longer by somebody else, who can't be, or counts 2^62 batches or commands. Refused, nothing
-    /// is published, and the batch stays given.
+    /// `StoreFailed` where the log was made longer by somebody else, who can't be, or counts 2^62 batches or commands; never where no
+    /// batch was given. Refused, nothing is published, and the batch stays given.
     pub fn publish<R: Wait>(
         &mut self,
         rt: &R,
@@ -145,6 +145,7 @@ impl<D, J: Site> Publisher<D, J> {
         ensures shown { IfOk result (λ published. IfSome published (λ p. self.new ≡ record { told = p.1; held = [] })) }
         ensures none { IfOk result (λ published. IfNone published ((self.old.held ≡ []) × (self.new ≡ self.old))) }
         ensures unchanged { OnErr result (self.new ≡ self.old) }
+        ensures lost { IsErrOf result Refusal.StoreFailed → ¬ (self.old.held ≡ []) }
         ensures only { IfErr result (λ e. (e ≡ Refusal.NoMemory) ⊎ (e ≡ Refusal.StoreFailed)) }
     {
         replace_with(self, (rt, alloc), published::<D, J, R>)
@@ -175,6 +176,7 @@ fn published<D, J: Site, R: Wait>(
     ensures shown { IfOk result.1 (λ published. IfSome published (λ p. result.0 ≡ record { told = p.1; held = [] })) }
     ensures none { IfOk result.1 (λ published. IfNone published ((publisher.held ≡ []) × (result.0 ≡ publisher))) }
     ensures unchanged { OnErr result.1 (result.0 ≡ publisher) }
+    ensures lost { IsErrOf result.1 Refusal.StoreFailed → ¬ (publisher.held ≡ []) }
     ensures only { IfErr result.1 (λ e. (e ≡ Refusal.NoMemory) ⊎ (e ≡ Refusal.StoreFailed)) }
 {
     let (rt, alloc) = with;

@@ -28,6 +28,37 @@ pub fn with_number<'a>(
     command.arg(number)
 }
 
+/// The command with an option that takes a number from 1 up to `most`.
+pub fn with_count<'a>(
+    alloc: Global,
+    command: Command<'a>,
+    name: &'a str,
+    most: u32,
+    help: &'a str,
+) -> Result<Command<'a>, AllocError> {
+    let count = Arg::new(alloc, name)
+        .long(name)
+        .value_name("N")
+        .value_parser(value_parser!(u32).range(1..=most as i64))
+        .help(help);
+    command.arg(count)
+}
+
+/// The command with an option that takes a text.
+pub fn with_text<'a>(
+    alloc: Global,
+    command: Command<'a>,
+    name: &'a str,
+    value_name: &'a str,
+    help: &'a str,
+) -> Result<Command<'a>, AllocError> {
+    let text = Arg::new(alloc, name)
+        .long(name)
+        .value_name(value_name)
+        .help(help);
+    command.arg(text)
+}
+
 /// The command with an option that takes nothing.
 pub fn with_flag<'a>(
     alloc: Global,

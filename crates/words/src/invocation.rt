@@ -13,12 +13,24 @@ const VERSION: &str = "0.1.0";
 #[derive(Clone, Copy, Debug, PartialEq, Eq)]
 pub enum Invocation<'a> {
     /// To make a store in this file.
-    Format { path: &'a str, shape: ShapeOptions },
-    /// To serve a session over the store in this file.
-    Serve { path: &'a str },
+    Format {
+        path: &'a str,
+        shape: ShapeOptions,
+    },
+    /// To serve the store in this file: to those who connect to an address where one is given, else to one session over
+    /// standard input and output. A milestone of a document is put where it passes a multiple of `every` revisions, which is 1 to
+    /// 65,536.
+    Serve {
+        path: &'a str,
+        listen: Option<&'a str>,
+        every: u32,
+    },
     /// To print the documents of the store in this file. Where a document has two milestones, its reading begins with the newer
     /// one, or with the older one where that is asked for.
-    Dump { path: &'a str, older: bool },
+    Dump {
+        path: &'a str,
+        older: bool,
+    },
     /// To print what comes of two deltas.
     Delta(Task<'a>),
 }
@@ -44,6 +56,8 @@ impl<'a> Invocation<'a> {
             },
             Some(("serve", given)) => Invocation::Serve {
                 path: store::path_in(given),
+                listen: store::listen_in(given),
+                every: store::every_in(given),
             },
             Some((_, given)) => Invocation::Dump {
                 path: store::path_in(given),

@@ -14,7 +14,7 @@
 //! pub fn file_in<'a>(alloc: Global, words: &'a [&'a str]) -> Result<Option<&'a str>, clap::Error> {
 //!     Ok(match Invocation::parse(alloc, words)? {
 //!         Invocation::Format { path, shape: _ } => Some(path),
-//!         Invocation::Serve { path } | Invocation::Dump { path, older: _ } => Some(path),
+//!         Invocation::Serve { path, .. } | Invocation::Dump { path, older: _ } => Some(path),
 //!         Invocation::Delta(_) => None,
 //!     })
 //! }
@@ -27,4 +27,4 @@ mod invocation;
 mod store;
 
 pub use invocation::Invocation;
-pub use store::ShapeOptions;
+pub use store::{DEFAULT_EVERY, ShapeOptions};

@@ -1,5 +1,5 @@
 //! The words of the commands on a store: `format`, `serve` and `dump`.
-use crate::arguments::{with_choice, with_number, with_word};
+use crate::arguments::{with_choice, with_count, with_number, with_text, with_word};
 use clap::{ArgMatches, Command};
 use std::alloc::{AllocError, Global};
 
@@ -30,6 +30,12 @@ const NUMBERS: [(&str, &str); 6] = [
 /// The milestones of a document that `dump` can begin with.
 const PICKS: [&str; 2] = ["newer", "older"];
 
+/// How many revisions of a document a milestone stands for, where the words don't say.
+pub const DEFAULT_EVERY: u32 = 256;
+
+/// The most revisions that a milestone can be asked to stand for.
+const MAX_EVERY: u32 = 65_536;
+
 /// Makes a store.
 pub fn format<'a>(alloc: Global) -> Result<Command<'a>, AllocError> {
     let format = Command::new(alloc, "format").about(
@@ -41,9 +47,11 @@ pub fn format<'a>(alloc: Global) -> Result<Command<'a>, AllocError> {
 /// Serves a store.
 pub fn serve<'a>(alloc: Global) -> Result<Command<'a>, AllocError> {
     let serve = Command::new(alloc, "serve").about(
-        "Serves a session over standard input and output",
+        "Serves a session over standard input and output, or many over TCP",
     );
-    with_path(alloc, serve)
+    let serve = with_path(alloc, serve)?;
+    let serve = with_listen(alloc, serve)?;
+    with_every(alloc, serve)
 }
 
 /// Prints a store.
@@ -57,6 +65,16 @@ pub fn dump<'a>(alloc: Global) -> Result<Command<'a>, AllocError> {
 /// The file that was given.
 pub fn path_in<'a>(given: &ArgMatches<'a>) -> &'a str {
     given.get_str("PATH").unwrap_or("")
+}
+
+/// The address that was given to `serve`.
+pub fn listen_in<'a>(given: &ArgMatches<'a>) -> Option<&'a str> {
+    given.get_str("listen")
+}
+
+/// The number of revisions for a milestone that was given to `serve`, or the default.
+pub fn every_in(given: &ArgMatches<'_>) -> u32 {
+    given.get_one("every").unwrap_or(DEFAULT_EVERY)
 }
 
 /// Whether the older milestones were asked for.
@@ -81,6 +99,16 @@ fn with_numbers<'a>(alloc: Global, mut command: Command<'a>) -> Result<Command<'
         command = with_number(alloc, command, name, help)?;
     }
     Ok(command)
+}
+
+fn with_listen<'a>(alloc: Global, command: Command<'a>) -> Result<Command<'a>, AllocError> {
+    let help = "The address to serve at, as 127.0.0.1:7000; port 0 takes a free one";
+    with_text(alloc, command, "listen", "ADDR", help)
+}
+
+fn with_every<'a>(alloc: Global, command: Command<'a>) -> Result<Command<'a>, AllocError> {
+    let help = "Revisions of a document for a milestone, 1 to 65536 [default: 256]";
+    with_count(alloc, command, "every", MAX_EVERY, help)
 }
 
 fn with_path<'a>(alloc: Global, command: Command<'a>) -> Result<Command<'a>, AllocError> {

@@ -1,9 +1,12 @@
 use super::{GREETED, path, runs};
 use std::fs::{self, File};
 use std::io;
+use std::net::{Net, TcpListener, TcpStream};
 use std::process::Abort;
 use std::rt::Files;
+use std::sync::Wait;
 use std::test::Fail;
+use std::thread::Threads;
 
 /// A source, what it says, and the reply.
 type Said = (&'static str, &'static str, &'static str);
@@ -241,11 +244,15 @@ const STRANGERS: [Said; 8] = [
 ];
 
 /// Says it in a run of its own over the store.
-fn say<R: Files<File = File> + AllocGlobal + Abort>(
-    rt: &R,
-    path: &str,
-    said: &Said,
-) -> Result<(), Fail> {
+fn say<
+    R: Files<File = File>
+        + AllocGlobal
+        + Net<Listener = TcpListener, Stream = TcpStream>
+        + Threads
+        + Wait
+        + Sync
+        + Abort,
+>(rt: &R, path: &str, said: &Said) -> Result<(), Fail> {
     let (source, line, reply) = *said;
     let hello = r#"{"do":"hello","source":""#;
     let input = format!(in rt.alloc(); "{hello}{source}\"}}\n{line}\n")?;
@@ -260,13 +267,15 @@ fn say<R: Files<File = File> + AllocGlobal + Abort>(
 
 /// A new store that keeps two revisions, of so many sources, is said all of it, each in a run of its own, and then prints
 /// this.
-fn talk<R: Files<File = File> + AllocGlobal + Abort>(
-    rt: &R,
-    path: &str,
-    sources: &str,
-    rows: &[Said],
-    dump: &str,
-) -> Result<(), Fail> {
+fn talk<
+    R: Files<File = File>
+        + AllocGlobal
+        + Net<Listener = TcpListener, Stream = TcpStream>
+        + Threads
+        + Wait
+        + Sync
+        + Abort,
+>(rt: &R, path: &str, sources: &str, rows: &[Said], dump: &str) -> Result<(), Fail> {
     let words = [
         "richd",
         "format",

@@ -1,9 +1,12 @@
 use super::{CREATE, GREETED, HELLO, call, format_small, path, runs};
 use std::fs::{self, File};
 use std::io::{self, Read};
+use std::net::{Net, TcpListener, TcpStream};
 use std::process::Abort;
 use std::rt::Files;
+use std::sync::Wait;
 use std::test::Fail;
+use std::thread::Threads;
 
 /// Hello and the creation of `d` by source `a`, and the same with other names, one run after another over a store of two
 /// documents: what comes behind the greeting.
@@ -26,7 +29,7 @@ const RUNS: [(&str, &str); 4] = [
     ),
 ];
 
-/// An entry of 238 bytes is too wide; one of 237 fills the second slot, and then nothing has room. What is there can be read.
+/// An entry of 238 bytes is too wide; one of 237 fills the second slot, and the next one finds the journal full.
 const FULL: &str = "{\"do\":\"hello\",\"source\":\"a\"}\n\
     {\"do\":\"create\",\"doc\":\"d\",\"n\":1,\"ops\":[{\"insert\":\"z\"}]}\n\
     {\"base\":1,\"do\":\"edit\",\"doc\":\"d\",\"n\":2,\"ops\":[{\"attributes\":{\"n000000001\":null,\"n000000002\":null,\"n000000003\":null,\"n000000004\":null,\"n000000005\":null,\"n000000006\":null,\"n000000007\":null,\"n000000008\":null,\"n000000009\":null,\"n000000010\":null,\"n000000011\":null,\"n000000012\":null,\"n000000013\":null,\"n000000014\":null,\"n00000000150\":null},\"retain\":1}]}\n\
@@ -35,13 +38,23 @@ const FULL: &str = "{\"do\":\"hello\",\"source\":\"a\"}\n\
     {\"do\":\"create\",\"doc\":\"d\",\"n\":1,\"ops\":[]}\n\
     {\"do\":\"fetch\",\"doc\":\"d\"}\n";
 
-const FULL_REPLIES: &str = "{\"ok\":\"hello\"}\n\
+/// The first slot is freed, and takes it.
+const FREED_REPLIES: &str = "{\"ok\":\"hello\"}\n\
     {\"doc\":\"d\",\"n\":1,\"ok\":\"taken\",\"rev\":1}\n\
     {\"code\":17,\"error\":\"TooWide\"}\n\
     {\"doc\":\"d\",\"n\":2,\"ok\":\"taken\",\"rev\":2}\n\
+    {\"doc\":\"d\",\"n\":3,\"ok\":\"taken\",\"rev\":3}\n\
+    {\"code\":7,\"error\":\"Exists\"}\n\
+    {\"doc\":\"d\",\"ok\":\"doc\",\"ops\":[{\"insert\":\"z\"}],\"rev\":3}\n";
+
+/// The one slot that is open is the last one that can be: its number is the highest there is. What is there can be read.
+const LAST_REPLIES: &str = "{\"ok\":\"hello\"}\n\
+    {\"doc\":\"d\",\"n\":1,\"ok\":\"again\",\"rev\":1}\n\
+    {\"code\":17,\"error\":\"TooWide\"}\n\
     {\"code\":21,\"error\":\"StoreFailed\"}\n\
     {\"code\":21,\"error\":\"StoreFailed\"}\n\
-    {\"doc\":\"d\",\"ok\":\"doc\",\"ops\":[{\"insert\":\"z\"}],\"rev\":2}\n";
+    {\"code\":21,\"error\":\"StoreFailed\"}\n\
+    {\"doc\":\"d\",\"ok\":\"doc\",\"ops\":[{\"insert\":\"z\"}],\"rev\":1}\n";
 
 /// Commands on one file in turn, which is missing at first, each with its status and its error.
 const COMMANDS: [(&str, u8, &str); 6] = [
@@ -81,10 +94,15 @@ fn a_document_is_made_and_printed(rt: HostRuntime) -> Result<(), Fail> {
     Ok(())
 }
 
-fn slot_is_written<R: Files<File = File> + AllocGlobal + Abort>(
-    rt: &R,
-    path: &str,
-) -> Result<(), Fail> {
+fn slot_is_written<
+    R: Files<File = File>
+        + AllocGlobal
+        + Net<Listener = TcpListener, Stream = TcpStream>
+        + Threads
+        + Wait
+        + Sync
+        + Abort,
+>(rt: &R, path: &str) -> Result<(), Fail> {
     let bytes = fs::read(rt, path)?;
     assert_eq!(rt; bytes.len(), 1600);
     assert_eq!(rt; &bytes[1088..1148], SLOT);
@@ -109,12 +127,38 @@ fn limits_hold_over_several_runs(rt: HostRuntime) -> Result<(), Fail> {
 }
 
 #[test]
-fn a_full_journal_fails_the_store(rt: HostRuntime) -> Result<(), Fail> {
+fn a_full_journal_is_freed(rt: HostRuntime) -> Result<(), Fail> {
     let path = path(&rt, "full")?;
     let path = path.as_str();
     format_small(&rt, path)?;
-    let wanted = (1, FULL_REPLIES, "error 21 StoreFailed\n");
-    runs(&rt, &["richd", "serve", path], &mut FULL.as_bytes(), wanted)?;
+    let serve = ["richd", "serve", path];
+    runs(&rt, &serve, &mut FULL.as_bytes(), (0, FREED_REPLIES, ""))?;
+    fs::remove_file(&rt, path)?;
+    Ok(())
+}
+
+/// The bytes of a small store, with the highest number there is as that of the first slot's segment.
+fn with_last_number(rt: &(impl Abort + AllocGlobal), bytes: &[u8]) -> Vec<u8> {
+    let head = bytes.iter().take(1_089).chain(&[0xff; 8]);
+    let mut all: Vec<u8> = head.copied().collect(rt.alloc()).expect(rt, "memory");
+    for byte in bytes.iter().skip(1_097) {
+        all.push(*byte).expect(rt, "memory");
+    }
+    all
+}
+
+#[test]
+fn a_full_journal_that_cannot_be_freed_fails_the_store(rt: HostRuntime) -> Result<(), Fail> {
+    let path = path(&rt, "last")?;
+    let path = path.as_str();
+    format_small(&rt, path)?;
+    let serve = ["richd", "serve", path];
+    let (input, replies) = RUNS[0];
+    runs(&rt, &serve, &mut input.as_bytes(), (0, replies, ""))?;
+    let bytes = with_last_number(&rt, &fs::read(&rt, path)?);
+    fs::write(&rt, path, bytes.as_slice())?;
+    let wanted = (1, LAST_REPLIES, "error 21 StoreFailed\n");
+    runs(&rt, &serve, &mut FULL.as_bytes(), wanted)?;
     fs::remove_file(&rt, path)?;
     Ok(())
 }
@@ -146,12 +190,15 @@ fn faults_have_their_statuses(rt: HostRuntime) -> Result<(), Fail> {
     Ok(())
 }
 
-fn command_runs<R: Files<File = File> + AllocGlobal + Abort>(
-    rt: &R,
-    command: &str,
-    path: &str,
-    wanted: (u8, &str, &str),
-) -> Result<(), Fail> {
+fn command_runs<
+    R: Files<File = File>
+        + AllocGlobal
+        + Net<Listener = TcpListener, Stream = TcpStream>
+        + Threads
+        + Wait
+        + Sync
+        + Abort,
+>(rt: &R, command: &str, path: &str, wanted: (u8, &str, &str)) -> Result<(), Fail> {
     runs(rt, &["richd", command, path], &mut io::empty(), wanted)
 }
 
@@ -168,11 +215,15 @@ fn a_file_in_no_folder_is_a_fault(rt: HostRuntime) -> Result<(), Fail> {
 }
 
 /// A run of one source, which makes one document and sends the creation once more. The answer is the document's line.
-fn made<R: Files<File = File> + AllocGlobal + Abort>(
-    rt: &R,
-    path: &str,
-    k: u32,
-) -> Result<String, Fail> {
+fn made<
+    R: Files<File = File>
+        + AllocGlobal
+        + Net<Listener = TcpListener, Stream = TcpStream>
+        + Threads
+        + Wait
+        + Sync
+        + Abort,
+>(rt: &R, path: &str, k: u32) -> Result<String, Fail> {
     let create = format!(in rt.alloc();
         "{{\"do\":\"create\",\"doc\":\"d{k}\",\"n\":1,\"ops\":[{{\"insert\":\"text {k}\"}}]}}\n"
     )?;

@@ -1,9 +1,12 @@
 use super::{GREETED, HELLO, call, format_small, path};
 use std::fs::{self, File};
 use std::io::{self, Read};
+use std::net::{Net, TcpListener, TcpStream};
 use std::process::Abort;
 use std::rt::Files;
+use std::sync::Wait;
 use std::test::Fail;
+use std::thread::Threads;
 
 /// An input that is read in pieces of one size.
 #[derive(Drop)]
@@ -203,11 +206,16 @@ const BAD_NAME: &str = "{\"code\":8,\"error\":\"BadName\"}\n";
 const BAD_OPS: &str = "{\"code\":3,\"error\":\"BadOps\"}\n";
 
 /// What a session over a new store writes. It ends well.
-fn replies<R: Files<File = File> + AllocGlobal + Abort, I: Read>(
-    rt: &R,
-    path: &str,
-    input: &mut I,
-) -> Result<String, Fail> {
+fn replies<
+    R: Files<File = File>
+        + AllocGlobal
+        + Net<Listener = TcpListener, Stream = TcpStream>
+        + Threads
+        + Wait
+        + Sync
+        + Abort,
+    I: Read,
+>(rt: &R, path: &str, input: &mut I) -> Result<String, Fail> {
     format_small(rt, path)?;
     let ended = call(rt, &["richd", "serve", path], input)?;
     assert_eq!(rt; (ended.status, ended.errors.as_str()), (0, ""));
@@ -216,12 +224,15 @@ fn replies<R: Files<File = File> + AllocGlobal + Abort, I: Read>(
 }
 
 /// An input is replied this, in whatever pieces it is read.
-fn replied<R: Files<File = File> + AllocGlobal + Abort>(
-    rt: &R,
-    path: &str,
-    input: &[u8],
-    wanted: &str,
-) -> Result<(), Fail> {
+fn replied<
+    R: Files<File = File>
+        + AllocGlobal
+        + Net<Listener = TcpListener, Stream = TcpStream>
+        + Threads
+        + Wait
+        + Sync
+        + Abort,
+>(rt: &R, path: &str, input: &[u8], wanted: &str) -> Result<(), Fail> {
     for size in [1, 7, 100_000] {
         let written = replies(rt, path, &mut Pieces { rest: input, size })?;
         assert_eq!(rt; written.as_str(), wanted);

@@ -1,9 +1,11 @@
+use super::HELLO;
+use super::going_on::{edits, letter};
 use disk::{Call, Disk, FaultDisk, FaultPlan, Left, MemDisk};
 use recovery::{OpenFault, Pick, Shape, Store, format_device};
 use refusal::Refusal;
-use server::desk::StoreDesk;
-use server::dump::dump;
-use server::serve::serve;
+use serving::desk::StoreDesk;
+use serving::dump::dump;
+use serving::serve::serve;
 use session::Stream;
 use std::process::Abort;
 use std::test::Fail;
@@ -36,32 +38,44 @@ const STOPS: [(u8, &str, &str); 2] = [
 ];
 
 /// A device with a store without documents.
-fn formatted<R: AllocGlobal>(rt: &R) -> Result<MemDisk, Fail> {
-    let alloc = rt.alloc();
-    let mut disk = MemDisk::new(alloc, 1_600)?;
-    format_device(alloc, &mut disk, SMALL)?;
-    Ok(MemDisk::holding(alloc, disk.bytes().to_vec(alloc)?))
+fn formatted(rt: &(impl Abort + AllocGlobal)) -> MemDisk {
+    let mut disk = MemDisk::new(rt.alloc(), 1_600).expect(rt, "memory");
+    assert_eq!(rt; format_device(rt.alloc(), &mut disk, SMALL), Ok(()));
+    let bytes = disk.bytes().to_vec(rt.alloc()).expect(rt, "memory");
+    MemDisk::holding(rt.alloc(), bytes)
 }
 
-fn opened<R: AllocGlobal, D: Disk + Drop>(rt: &R, disk: D) -> Result<Store<D>, Refusal> {
+fn opened<D: Disk + Drop>(rt: &impl AllocGlobal, disk: D) -> Result<Store<D>, Refusal> {
     match Store::open(rt.alloc(), disk, Pick::Newer) {
         Ok(store) => Ok(store),
         Err(OpenFault { disk: _, refusal }) => Err(refusal),
     }
 }
 
-/// Serves hello and the creation of `d` over a device under a plan, and gives the device then. This is what is written.
-fn served<R: AllocGlobal + Abort>(
-    rt: &R,
+/// Serves these lines over a store, with milestones two revisions apart, and gives the device then and what was written.
+fn ended(
+    rt: &(impl Abort + AllocGlobal),
+    store: Store<FaultDisk>,
+    lines: &str,
+) -> (FaultDisk, String) {
+    let mut desk = StoreDesk::new(store, 2);
+    let mut output = Stream::new(Vec::new(rt.alloc()));
+    let _ = serve(rt.alloc(), &mut desk, &mut lines.as_bytes(), &mut output);
+    let written = String::from_utf8(output.into_writer()).expect(rt, "a text");
+    (desk.into_store().close(), written)
+}
+
+/// Serves hello and the creation of `d`. This is what is written.
+fn served(
+    rt: &(impl Abort + AllocGlobal),
     disk: MemDisk,
     plan: FaultPlan,
     wanted: &str,
-) -> Result<FaultDisk, Fail> {
-    let mut desk = StoreDesk::new(opened(rt, FaultDisk::new(disk, plan))?);
-    let mut output = Stream::new(Vec::new(rt.alloc()));
-    let _ = serve(rt.alloc(), &mut desk, &mut LINES.as_bytes(), &mut output);
-    assert_eq!(rt; output.into_writer().as_slice(), wanted.as_bytes());
-    Ok(desk.into_store().close())
+) -> FaultDisk {
+    let store = opened(rt, FaultDisk::new(disk, plan)).expect(rt, "a store");
+    let (disk, written) = ended(rt, store, LINES);
+    assert_eq!(rt; written.as_str(), wanted);
+    disk
 }
 
 /// Nothing goes wrong.
@@ -77,36 +91,101 @@ fn is_gate(call: &Call) -> bool {
 }
 
 /// The number of the call that opens the first record's gate, where nothing goes wrong.
-fn gate_call<R: AllocGlobal + Abort>(rt: &R) -> Result<u64, Fail> {
+fn gate_call(rt: &(impl Abort + AllocGlobal)) -> u64 {
     let taken = STOPS[0].2;
-    let disk = served(rt, formatted(rt)?, never(), taken)?;
-    let gate = disk
-        .disk()
-        .calls()
-        .iter()
-        .position(is_gate)
-        .ok_or("the gate is not opened")?;
-    Ok(gate as u64)
+    let disk = served(rt, formatted(rt), never(), taken);
+    let gate = disk.disk().calls().iter().position(is_gate);
+    gate.expect(rt, "the gate is opened") as u64
 }
 
 /// The documents of a store over a device, as they are printed.
-fn holds<R: AllocGlobal + Abort>(rt: &R, disk: MemDisk, wanted: &str) -> Result<(), Fail> {
-    let store = opened(rt, disk)?;
+fn dumped<D: Disk>(rt: &(impl Abort + AllocGlobal), store: &Store<D>) -> String {
     let mut output = Vec::new(rt.alloc());
     let _ = dump(rt.alloc(), store.state(), &mut output);
-    assert_eq!(rt; output.as_slice(), wanted.as_bytes());
-    Ok(())
+    String::from_utf8(output).expect(rt, "a text")
 }
 
 #[test]
 fn a_create_stopped_while_its_gate_opens_is_lost_or_kept(rt: HostRuntime) -> Result<(), Fail> {
-    let gate = gate_call(&rt)?;
+    let gate = gate_call(&rt);
     let failed = "{\"ok\":\"hello\"}\n{\"code\":21,\"error\":\"StoreFailed\"}\n";
     for (left, documents, replies) in &STOPS {
         let plan = FaultPlan::stop(gate, Left::Byte(*left));
-        let stopped = served(&rt, formatted(&rt)?, plan, failed)?;
-        holds(&rt, stopped.after_crash(rt.alloc())?, *documents)?;
-        served(&rt, stopped.after_crash(rt.alloc())?, never(), *replies)?;
+        let stopped = served(&rt, formatted(&rt), plan, failed);
+        let store = opened(&rt, stopped.after_crash(rt.alloc())?)?;
+        assert_eq!(&rt; dumped(&rt, &store).as_str(), *documents);
+        served(&rt, stopped.after_crash(rt.alloc())?, never(), *replies);
+    }
+    Ok(())
+}
+
+/// The journal of the small store is freed a few times on the way to this revision.
+const LAST: u64 = 16;
+
+const CREATE: &str = "{\"do\":\"create\",\"doc\":\"d\",\"n\":1,\"ops\":[{\"insert\":\"zzzz\"}]}\n";
+
+/// What is left of the unsynced ranges, in turn.
+const LEFTS: [Left; 3] = [Left::Nothing, Left::All, Left::FirstHalf];
+
+/// How many commands were answered as taken.
+fn taken_in(written: &str) -> u64 {
+    written.matches("\"ok\":\"taken\"").count() as u64
+}
+
+/// The operations of the document at a revision from 1 on, as they are printed.
+fn content_at(rt: &(impl Abort + AllocGlobal), revision: u64) -> String {
+    let mut text = String::new(rt.alloc());
+    for back in 0..4 {
+        let made = revision.saturating_sub(back);
+        let letter = if made >= 2 { letter(made) } else { 'z' };
+        text.push(letter).expect(rt, "memory");
+    }
+    format!(in rt.alloc(); "{{\"ops\":[{{\"insert\":\"{text}\"}}]}}\n").expect(rt, "memory")
+}
+
+/// The documents of a store, as they are printed, end with the content of this revision.
+fn ends_with(rt: &(impl Abort + AllocGlobal), store: &Store<MemDisk>, revision: u64) {
+    let dumped = dumped(rt, store);
+    let content = content_at(rt, revision);
+    assert!(rt; dumped.as_str().ends_with(content.as_str()), "{dumped}");
+}
+
+/// The store over a device holds the document at this revision, or at the next one.
+fn holds_taken(rt: &(impl Abort + AllocGlobal), disk: MemDisk, taken: u64) {
+    let store = opened(rt, disk).expect(rt, "a store");
+    let revision = match store.state().documents().first() {
+        Some(document) => document.revision(),
+        None => 0,
+    };
+    assert!(rt;
+        revision == taken || revision == taken.saturating_add(1),
+        "{revision} after {taken}"
+    );
+    if revision > 0 {
+        ends_with(rt, &store, revision);
+    }
+}
+
+/// The device stops at a call. What was taken before is there after a crash.
+fn outlives(rt: &(impl Abort + AllocGlobal), lines: &str, plan: FaultPlan) {
+    if let Ok(store) = opened(rt, FaultDisk::new(formatted(rt), plan)) {
+        let (stopped, written) = ended(rt, store, lines);
+        let after = stopped.after_crash(rt.alloc()).expect(rt, "memory");
+        holds_taken(rt, after, taken_in(written.as_str()));
+    }
+}
+
+#[test]
+fn what_was_taken_outlives_a_stop_at_any_call(rt: HostRuntime) -> Result<(), Fail> {
+    let edits = edits(&rt, 1, LAST);
+    let lines = format!(in rt.alloc(); "{HELLO}{CREATE}{edits}")?;
+    let store = opened(&rt, FaultDisk::new(formatted(&rt), never()))?;
+    let (whole, written) = ended(&rt, store, lines.as_str());
+    assert_eq!(&rt; taken_in(written.as_str()), LAST);
+    for call in 0..whole.disk().calls().len() as u64 {
+        for left in LEFTS {
+            outlives(&rt, lines.as_str(), FaultPlan::stop(call, left));
+        }
     }
     Ok(())
 }

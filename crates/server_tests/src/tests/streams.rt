@@ -2,9 +2,12 @@ use super::{HELLO, format_small, path};
 use server::run;
 use std::fs::{self, File};
 use std::io::{self, ErrorKind, Read, Write};
+use std::net::{Net, TcpListener, TcpStream};
 use std::process::Abort;
 use std::rt::Files;
+use std::sync::Wait;
 use std::test::Fail;
+use std::thread::Threads;
 
 /// A stream that fails.
 #[derive(Drop)]
@@ -27,12 +30,17 @@ impl Write for Broken {
 }
 
 /// A run over these streams ends with status 1, and writes nothing to the last one.
-fn fails<R: Files<File = File> + AllocGlobal + Abort, I: Read, O: Write>(
-    rt: &R,
-    words: &[&str],
-    input: &mut I,
-    output: &mut O,
-) -> Result<(), Fail> {
+fn fails<
+    R: Files<File = File>
+        + AllocGlobal
+        + Net<Listener = TcpListener, Stream = TcpStream>
+        + Threads
+        + Wait
+        + Sync
+        + Abort,
+    I: Read,
+    O: Write,
+>(rt: &R, words: &[&str], input: &mut I, output: &mut O) -> Result<(), Fail> {
     let mut errors = Vec::new(rt.alloc());
     assert_eq!(rt; run(rt, words, input, output, &mut errors), 1);
     assert!(rt; errors.is_empty());

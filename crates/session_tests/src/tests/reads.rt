@@ -1,5 +1,10 @@
-use super::{Said, talk};
-use std::test::Fail;
+ghost use Rattle.std.specs.Prelude.{◌≤◌};
+
+use super::{Conversation, is_replied};
+use std::process::Abort;
+
+/// A line, and its reply.
+type Said = (&'static str, &'static str);
 
 const READS: [Said; 18] = [
     ("", r#"{"code":1,"error":"BadLine"}"#),
@@ -70,8 +75,18 @@ const READS: [Said; 18] = [
     ),
 ];
 
+// The rows, over a state that keeps two revisions.
+fn are_told(rt: &(impl Abort + AllocGlobal), size: usize)
+    requires { 1 ≤ size }
+{
+    let mut talk = Conversation::new(rt, 2);
+    for (line, reply) in &READS {
+        is_replied(rt, &mut talk, line, reply, size);
+    }
+}
+
 #[test]
-fn what_is_asked_of_a_document_is_told(rt: HostRuntime) -> Result<(), Fail> {
-    talk(&rt, &READS, false)?;
-    talk(&rt, &READS, true)
+fn what_is_asked_of_a_document_is_told(rt: HostRuntime) {
+    are_told(&rt, 65_536);
+    are_told(&rt, 1);
 }

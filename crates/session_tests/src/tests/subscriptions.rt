@@ -1,7 +1,8 @@
-use super::Conversation;
+ghost use Rattle.std.specs.Prelude.{◌≤◌};
+
+use super::{Conversation, said};
 use session::Stream;
 use std::process::Abort;
-use std::test::Fail;
 
 /// What is done to a session.
 #[derive(Clone, Copy)]
@@ -128,67 +129,62 @@ const SEVERAL: [Row; 12] = [
     ),
 ];
 
-/// What is written upon a step, whole or byte by byte. There is ample memory, so the news are told.
-fn written<R: AllocGlobal + Abort>(
-    rt: &R,
-    talk: &mut Conversation,
-    step: Step,
-    by_bytes: bool,
-) -> Result<String, Fail> {
-    let alloc = rt.alloc();
-    let mut out = Stream::new(Vec::new(alloc));
-    match step {
-        Step::Say(line) => {
-            let input = format!(in alloc; "{line}\n")?;
-            let size = if by_bytes { 1 } else { 65_536 };
-            for piece in input.as_bytes().chunks(size) {
-                talk.feed(alloc, piece, &mut out)?;
-            }
-        }
-        Step::News => assert!(rt; talk.on_news(alloc, &mut out)?),
-    }
-    Ok(String::from_utf8(out.into_writer())?)
+/// What is written where the news are asked for. There is ample memory, so they are told.
+fn news(rt: &(impl Abort + AllocGlobal), talk: &mut Conversation) -> String {
+    let mut out = Stream::new(Vec::new(rt.alloc()));
+    let told = talk.on_news(rt.alloc(), &mut out);
+    assert!(rt; told.expect(rt, "no write fails"));
+    String::from_utf8(out.into_writer()).expect(rt, "a text")
 }
 
-fn go<R: AllocGlobal + Abort>(
-    rt: &R,
-    talk: &mut Conversation,
-    rows: &[Row],
-    by_bytes: bool,
-) -> Result<(), Fail> {
-    let alloc = rt.alloc();
-    for (step, lines) in rows {
-        let mut wanted = String::new(alloc);
-        for line in *lines {
-            wanted.push_str(line)?;
-            wanted.push('\n')?;
-        }
-        let text = written(rt, talk, *step, by_bytes)?;
-        assert_eq!(rt; text.as_str(), wanted.as_str());
+/// Lines, each with its end.
+fn joined(rt: &(impl Abort + AllocGlobal), lines: &[&str]) -> String {
+    let mut text = String::new(rt.alloc());
+    for line in lines {
+        text.push_str(line).expect(rt, "memory");
+        text.push('\n').expect(rt, "memory");
     }
-    Ok(())
+    text
 }
 
-fn go_on_from_the_beginning<R: AllocGlobal + Abort>(rt: &R, rows: &[Row]) -> Result<(), Fail> {
-    for by_bytes in [false, true] {
-        let mut talk = Conversation::new(rt.alloc(), 2)?;
-        go(rt, &mut talk, &BEGINNING, by_bytes)?;
-        go(rt, &mut talk, rows, by_bytes)?;
+fn is_row(rt: &(impl Abort + AllocGlobal), talk: &mut Conversation, row: &Row, size: usize)
+    requires { 1 ≤ size }
+{
+    let (step, lines) = row;
+    let text = match step {
+        Step::Say(line) => said(rt, talk, line, size),
+        Step::News => news(rt, talk),
+    };
+    assert_eq!(rt; text.as_str(), joined(rt, lines).as_str());
+}
+
+/// The rows, behind the beginning, over a state that keeps two revisions.
+fn are_followed(rt: &(impl Abort + AllocGlobal), rows: &[Row], size: usize)
+    requires { 1 ≤ size }
+{
+    let mut talk = Conversation::new(rt, 2);
+    for row in &BEGINNING {
+        is_row(rt, &mut talk, row, size);
     }
-    Ok(())
+    for row in rows {
+        is_row(rt, &mut talk, row, size);
+    }
 }
 
 #[test]
-fn each_revision_is_told_once(rt: HostRuntime) -> Result<(), Fail> {
-    go_on_from_the_beginning(&rt, &FOLLOWED)
+fn each_revision_is_told_once(rt: HostRuntime) {
+    are_followed(&rt, &FOLLOWED, 65_536);
+    are_followed(&rt, &FOLLOWED, 1);
 }
 
 #[test]
-fn what_is_not_held_ends_a_subscription(rt: HostRuntime) -> Result<(), Fail> {
-    go_on_from_the_beginning(&rt, &ENDED)
+fn what_is_not_held_ends_a_subscription(rt: HostRuntime) {
+    are_followed(&rt, &ENDED, 65_536);
+    are_followed(&rt, &ENDED, 1);
 }
 
 #[test]
-fn several_documents_are_followed(rt: HostRuntime) -> Result<(), Fail> {
-    go_on_from_the_beginning(&rt, &SEVERAL)
+fn several_documents_are_followed(rt: HostRuntime) {
+    are_followed(&rt, &SEVERAL, 65_536);
+    are_followed(&rt, &SEVERAL, 1);
 }

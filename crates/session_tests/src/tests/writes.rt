@@ -1,7 +1,6 @@
 use super::Conversation;
 use session::Stream;
 use std::io::{self, ErrorKind, Write};
-use std::test::Fail;
 
 /// A writer that takes so many bytes, and then fails.
 #[derive(Drop)]
@@ -29,9 +28,9 @@ impl Write for Short {
 const INPUT: &[u8] = b"{\"do\":\"hello\",\"source\":\"ann\"}\n{\"do\":\"fetch\",\"doc\":\"d\"}\n";
 
 #[test]
-fn a_failed_write_ends_the_session(rt: HostRuntime) -> Result<(), Fail> {
+fn a_failed_write_ends_the_session(rt: HostRuntime) {
     let alloc = rt.alloc();
-    let mut talk = Conversation::new(alloc, 2)?;
+    let mut talk = Conversation::new(&rt, 2);
     let mut out = Stream::new(Short {
         bytes: Vec::new(alloc),
         room: 20,
@@ -45,5 +44,4 @@ fn a_failed_write_ends_the_session(rt: HostRuntime) -> Result<(), Fail> {
     assert!(rt; talk.feed(alloc, INPUT, &mut other).is_err());
     assert!(rt; talk.on_news(alloc, &mut other).is_err());
     assert!(rt; other.into_writer().is_empty());
-    Ok(())
 }

@@ -1,7 +1,11 @@
-use Rattle.std.proofs.Common.{[], length, take, sym, append-nil}
+use Rattle.std.proofs.Common.{[], length, take, sym, ◌∙◌, append-nil}
 use Rattle.flusher.specs.Flushers.{cap_of}
-use Rattle.flusher.specs.Run.{standing}
+use Rattle.flusher.specs.Run.{standing, between}
 use Rattle.flusher.proofs.Answering.{first_any_moment, first_now, answered_held, all_later}
+use Rattle.recovery.specs.Open.{has_failed}
+use Rattle.flusher.specs.Holding.{store_of}
+use Rattle.flusher.specs.Driving.{Stops}
+use Rattle.flusher.proofs.Refusing.{stop_fails, stop_none, stop_some}
 use Rattle.flusher.proofs.driving.drive.Goals as goal
 
 pub returns-clause-any_moment : goal.returns-clause-any_moment
@@ -20,5 +24,23 @@ returns-clause-acknowledged g c =
     let tickets = c.drive_all-ended.new.tickets.items in
     let answers = c.drive_all-ended.new.answers.items in
     let made = take (length answers) c.args.calls.now in
-    all_later a.board.settled c.drive_all-ended.new.board.board.settled tickets tickets [] made answers a.settled (sym (append-nil tickets))
-    (answered_held (cap_of g.J.Site.start) c.args.board.now.board made answers a.board tickets a.answered)
+    all_later a.last.board.board.settled c.drive_all-ended.new.board.board.settled a.last.tickets tickets [] made answers a.settled (a.tickets ∙ sym (append-nil a.last.tickets))
+    (answered_held (cap_of g.J.Site.start) (between c.args.board.now [] c.args.flusher.now) made answers a.last a.answered)
+
+pub returns-clause-whole : goal.returns-clause-whole
+returns-clause-whole g c = stop_none c.drive_all-ended.result c.stopped_by.result c.stopped_by.ensures c.drive_all-ended.ensures.whole
+
+pub returns-clause-stops : goal.returns-clause-stops
+returns-clause-stops g c =
+    stop_some (λ r. Stops (cap_of g.J.Site.start) (between c.args.board.now [] c.args.flusher.now) c.args.calls.now c.drive_all-ended.new.answers.items r (store_of c.drive_all-ended.new.flusher)) c.drive_all-ended.result c.stopped_by.result
+    c.stopped_by.ensures c.drive_all-ended.ensures.stops
+
+pub returns-clause-fails : goal.returns-clause-fails
+returns-clause-fails g c =
+    stop_fails (has_failed (store_of c.drive_all-ended.new.flusher)) c.drive_all-ended.result c.stopped_by.result c.stopped_by.ensures c.drive_all-ended.ensures.fails
+
+pub returns-clause-calm : goal.returns-clause-calm
+returns-clause-calm g c = stop_none c.drive_all-ended.result c.stopped_by.result c.stopped_by.ensures c.drive_all-ended.ensures.calm
+
+pub returns-clause-works : goal.returns-clause-works
+returns-clause-works g c = stop_none c.drive_all-ended.result c.stopped_by.result c.stopped_by.ensures c.drive_all-ended.ensures.works

@@ -1,8 +1,9 @@
 use Rattle.std.proofs.Common.{◌≡◌, ℕ, ◌+◌, [], ◌∷◌, ◌++◌, length, take, refl, sym, ◌∙◌, ap, subst, arith, length-append}
 use Rattle.std.proofs.lemmas.Result.{err_from_is_err_and}
 use Rattle.flusher.specs.Flushers.{cap_of}
-use Rattle.flusher.specs.Run.{standing}
-use Rattle.flusher.specs.Driving.{Answered, StopsAt}
+use Rattle.flusher.specs.Holding.{store_of}
+use Rattle.flusher.specs.Run.{standing, between}
+use Rattle.flusher.specs.Driving.{Answered, Stops}
 use Rattle.flusher.proofs.Running.{run_none, run_on}
 use Rattle.flusher.proofs.Answering.{begins_at, one_more, stops_there, handed_on}
 use Rattle.flusher.proofs.driving.drive_all.Goals as goal
@@ -14,7 +15,7 @@ loop-call-init g c = record {
   failed = refl;
   goes = run_none g.J.Site.start (standing c.args.board.now c.args.flusher.now) c.requires.calm;
   count = ap length c.requires.nothing.0;
-  answered = begins_at (cap_of g.J.Site.start) c.args.board.now.board c.args.answers.now.items c.args.tickets.now.items c.requires.nothing.0 c.requires.nothing.1;
+  answered = begins_at (cap_of g.J.Site.start) c.args.board.now (store_of c.args.flusher.now) c.args.answers.now.items c.args.tickets.now.items c.requires.nothing.0 c.requires.nothing.1;
 }
 
 pub returns-in_err-answer-clause-goes : goal.returns-in_err-answer-clause-goes
@@ -25,10 +26,17 @@ returns-in_err-answer-clause-goes g c =
 
 pub returns-in_err-answer-clause-stops : goal.returns-in_err-answer-clause-stops
 returns-in_err-answer-clause-stops g c =
+    let i = c.loop-call.invariant in
+    let cap : ℕ = cap_of g.J.Site.start in
+    let first = between c.args.board.now [] c.args.flusher.now in
+    let last = between c.loop-call.board c.loop-call.tickets.items c.loop-call.flusher in
+    let answered =
+    subst (λ l. Answered cap first (take (length l) c.args.calls.now) l last) (sym c.in_ok-reserve.ensures.items)
+    (subst (λ n. Answered cap first (take n c.args.calls.now) c.loop-call.answers.items last) (sym i.count) i.answered) in
     let p = err_from_is_err_and c.from_residual-in_err-answer.result c.from_residual-in_err-answer.ensures.1 in
-    handed_on (StopsAt c.args.calls.now (length c.reserve.new.self.items)) c.from_residual-in_err-answer.result p.0 c.in_err-answer.field-0.0 p.1 p.2
-    (stops_there c.args.calls.now c.loop-call.call-index (length c.reserve.new.self.items) c.call-item.result _ c.in_err-answer.field-0.0 c.loop-call-test.true c.call-item.is
-    (ap length c.in_ok-reserve.ensures.items ∙ c.loop-call.invariant.count) c.in_err-answer.ensures.stops)
+    handed_on (λ r. Stops cap first c.args.calls.now c.reserve.new.self.items r (store_of c.call_one.new.flusher)) c.from_residual-in_err-answer.result p.0 c.in_err-answer.field-0.0 p.1 p.2
+    (stops_there cap first last c.args.calls.now c.loop-call.call-index c.reserve.new.self.items c.call-item.result _ c.in_err-answer.field-0.0 (store_of c.call_one.new.flusher) c.loop-call-test.true c.call-item.is
+    (ap length c.in_ok-reserve.ensures.items ∙ i.count) answered c.in_err-answer.ensures.stops)
 
 pub loop-call-preserved : goal.loop-call-preserved
 loop-call-preserved g c =
@@ -44,22 +52,55 @@ loop-call-preserved g c =
           i.goes i.calm i.works c.call_one.ensures.goes;
       count = omega (arith, ap length items, length-append c.loop-call.answers.items (c.in_ok-answer.answer ∷ []), i.count);
       answered =
-          subst (λ l. Answered (cap_of g.J.Site.start) c.args.board.now.board (take (c.loop-call.call-index + 1) c.args.calls.now) l c.call_one.new.board.board c.call_one.new.tickets.items) (sym items)
-          (one_more (cap_of g.J.Site.start) c.args.board.now.board c.args.calls.now c.loop-call.call-index c.call-item.result c.loop-call.answers.items c.loop-call.board.board c.loop-call.tickets.items
-          c.in_ok-answer.answer c.call_one.new.board.board c.call_one.new.tickets.items _ c.loop-call-test.true c.call-item.is i.answered c.in_ok-answer.ensures.gives);
+          subst (λ l. Answered (cap_of g.J.Site.start) (between c.args.board.now [] c.args.flusher.now) (take (c.loop-call.call-index + 1) c.args.calls.now) l
+          (between c.call_one.new.board c.call_one.new.tickets.items c.call_one.new.flusher)) (sym items)
+          (one_more (cap_of g.J.Site.start) (between c.args.board.now [] c.args.flusher.now) c.args.calls.now c.loop-call.call-index c.call-item.result c.loop-call.answers.items
+          (between c.loop-call.board c.loop-call.tickets.items c.loop-call.flusher) c.in_ok-answer.answer (between c.call_one.new.board c.call_one.new.tickets.items c.call_one.new.flusher) _
+          c.loop-call-test.true c.call-item.is i.answered c.in_ok-answer.ensures.gives c.in_ok-answer.ensures.works (c.call_one.ensures.goes.goes.opens c.in_ok-answer.ensures.works));
     }
 
 pub returns-in_err-answer-clause-answered : goal.returns-in_err-answer-clause-answered
 returns-in_err-answer-clause-answered g c =
     let i = c.loop-call.invariant in
     let cap : ℕ = cap_of g.J.Site.start in
+    let first = between c.args.board.now [] c.args.flusher.now in
+    let last = between c.loop-call.board c.loop-call.tickets.items c.loop-call.flusher in
     record {
-      board = c.loop-call.board.board;
+      last = last;
       answered =
-          subst (λ l. Answered cap c.args.board.now.board (take (length l) c.args.calls.now) l c.loop-call.board.board c.call_one.new.tickets.items) (sym c.in_ok-reserve.ensures.items)
-          (subst (λ n. Answered cap c.args.board.now.board (take n c.args.calls.now) c.loop-call.answers.items c.loop-call.board.board c.call_one.new.tickets.items) (sym i.count)
-          (subst (λ t. Answered cap c.args.board.now.board (take c.loop-call.call-index c.args.calls.now) c.loop-call.answers.items c.loop-call.board.board t) (sym c.in_err-answer.ensures.same)
-          i.answered));
+          subst (λ l. Answered cap first (take (length l) c.args.calls.now) l last) (sym c.in_ok-reserve.ensures.items)
+          (subst (λ n. Answered cap first (take n c.args.calls.now) c.loop-call.answers.items last) (sym i.count) i.answered);
+      tickets = c.in_err-answer.ensures.same;
       order = c.in_err-answer.ensures.order;
       settled = c.call_one.ensures.goes.settled;
+    }
+
+pub returns-in_err-reserve-clause-answered : goal.returns-in_err-reserve-clause-answered
+returns-in_err-reserve-clause-answered g c =
+    let i = c.loop-call.invariant in
+    let cap : ℕ = cap_of g.J.Site.start in
+    let first = between c.args.board.now [] c.args.flusher.now in
+    let last = between c.loop-call.board c.loop-call.tickets.items c.loop-call.flusher in
+    record {
+      last = last;
+      answered =
+          subst (λ l. Answered cap first (take (length l) c.args.calls.now) l last) (sym c.in_err-reserve.ensures.items)
+          (subst (λ n. Answered cap first (take n c.args.calls.now) c.loop-call.answers.items last) (sym i.count) i.answered);
+      tickets = refl;
+      order = refl;
+      settled = omega arith;
+    }
+
+pub returns-clause-answered : goal.returns-clause-answered
+returns-clause-answered g c =
+    let i = c.loop-call.invariant in
+    let cap : ℕ = cap_of g.J.Site.start in
+    let first = between c.args.board.now [] c.args.flusher.now in
+    let last = between c.loop-call.board c.loop-call.tickets.items c.loop-call.flusher in
+    record {
+      last = last;
+      answered = subst (λ n. Answered cap first (take n c.args.calls.now) c.loop-call.answers.items last) (sym i.count) i.answered;
+      tickets = refl;
+      order = refl;
+      settled = omega arith;
     }

@@ -1,9 +1,9 @@
-use Rattle.std.proofs.Common.{◌≡◌, false, length, take}
+use Rattle.std.proofs.Common.{◌≡◌, false, [], length, take}
 use Rattle.recovery.specs.Open.{has_failed}
 use Rattle.flusher.specs.Flushers.{cap_of}
 use Rattle.flusher.specs.Holding.{store_of}
 use Rattle.flusher.specs.Standing.{IsCalm, RunGoes}
-use Rattle.flusher.specs.Run.{standing}
+use Rattle.flusher.specs.Run.{standing, between}
 use Rattle.flusher.specs.Driving.{Answered}
 use Rattle.flusher.proofs.driving.drive_all.Given as goal
 
@@ -14,5 +14,5 @@ invariant-loop-call g l = record {
   failed : l.board.failed ≡ l.fn.board.failed;
   goes : RunGoes g.J.Site.start (standing l.fn.board l.fn.flusher) (standing l.board l.flusher);
   count : length l.answers.items ≡ l.call-index;
-  answered : Answered (cap_of g.J.Site.start) l.fn.board.board (take l.call-index l.calls) l.answers.items l.board.board l.tickets.items;
+  answered : Answered (cap_of g.J.Site.start) (between l.fn.board [] l.fn.flusher) (take l.call-index l.calls) l.answers.items (between l.board l.tickets.items l.flusher);
 }

@@ -12,7 +12,7 @@ loop-i-preserved c =
     let item = c.index_mut.result.now in
     record {
       commands = commands_same c.loop-i.sent.items c.loop-i.i item (Err c.args.refusal) c.index_mut.ensures.value ∙ so_far.commands;
-      refused = refused_more c.args.refusal c.loop-i.sent.items c.loop-i.i item (search rules) c.index_mut.ensures.value so_far.refused;
+      refused = refused_more c.args.refusal c.loop-i.sent.items c.loop-i.i item c.requires.memory (search rules) c.index_mut.ensures.value so_far.refused;
     }
 
 pub returns-clause-refused : goal.returns-clause-refused

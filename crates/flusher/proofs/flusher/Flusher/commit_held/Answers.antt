@@ -1,12 +1,10 @@
-use Rattle.std.proofs.Common.{◌≡◌, [], ◌∷◌, ◌++◌, List, Some, None, refl, sym, ◌∙◌, ap, append-nil}
-use Rattle.std.proofs.lemmas.Bool.{false≢true}
+use Rattle.std.proofs.Common.{◌≡◌, ⊎_elim, inl, inr, [], ◌∷◌, ◌++◌, List, Some, None, refl, sym, ◌∙◌, ap, append-nil}
 use Rattle.revision.specs.Command.{Taken}
-use Rattle.revision.specs.State.{fold}
+use Rattle.revision.specs.State.{fold, all_grow}
 use Rattle.recovery.specs.Found.{commands_of}
-use Rattle.recovery.specs.Open.{has_room}
-use Rattle.recovery.proofs.CallerLemmas.{goes_call}
+use Rattle.refusal.specs.declared.Refusal.TheVariants.{JournalFull, StillNeeded, Stranger}
 use Rattle.view.specs.Published.{Published}
-use Rattle.flusher.proofs.Holdings.{held_in, same_batch, goes_not, goes_batch, kept_more}
+use Rattle.flusher.proofs.Holdings.{held_in, goes_not, goes_batch, kept_more, same_refusal}
 use Rattle.flusher.proofs.flusher.Flusher.commit_held.Goals as goal
 
 pub returns-in-None-clause-goes : goal.returns-in-None-clause-goes
@@ -23,19 +21,12 @@ returns-in-None-clause-state g c =
     let none : c.args.self.now.waiting ≡ None = cc in
     sym (ap (λ (l : List (List Taken)). fold c.args.self.now.store.state (commands_of l)) (ap held_in none))
 
-pub returns-in-None-clause-full : goal.returns-in-None-clause-full
-returns-in-None-clause-full g c works batch is =
-    let none : c.args.self.now.waiting ≡ None = cc in
-    let empty : held_in c.args.self.now.waiting ≡ [] = ap held_in none in
-    absurd (let no : ⊥ = cc in no)
-
 pub returns-in-Ok-clause-goes : goal.returns-in-Ok-clause-goes
 returns-in-Ok-clause-goes g c =
     let held : c.args.self.now.waiting ≡ Some c.in-Some.batch = cc in
     let same : c.deref.result.now ≡ c.in-Some.batch.items = cc in
-    let e = c.commit.ensures in
-    goes_batch _ _ c.deref.result.now _ (ap held_in held ∙ ap (λ (b : List Taken). b ∷ []) (sym same))
-    (goes_call c.commit.result e.failed_before e.fails e.any_moment e.done e.kept)
+    let e = c.commit_freeing.ensures in
+    goes_batch _ _ c.deref.result.now _ (ap held_in held ∙ ap (λ (b : List Taken). b ∷ []) (sym same)) e.goes
 
 pub returns-in-Ok-clause-ok : goal.returns-in-Ok-clause-ok
 returns-in-Ok-clause-ok g c =
@@ -53,27 +44,41 @@ returns-in-Ok-clause-state g c =
     let same : c.deref.result.now ≡ c.in-Some.batch.items = cc in
     c.in-Ok.ensures.state ∙ ap (fold c.args.self.now.store.state) (same ∙ sym (ap commands_of (ap held_in held) ∙ append-nil _))
 
-pub returns-in-Ok-clause-full : goal.returns-in-Ok-clause-full
-returns-in-Ok-clause-full g c works batch is =
-    let held : c.args.self.now.waiting ≡ Some c.in-Some.batch = cc in
-    let same : c.deref.result.now ≡ c.in-Some.batch.items = cc in
-    let one : batch ≡ c.deref.result.now = same_batch _ batch c.deref.result.now is (ap held_in held ∙ ap (λ (b : List Taken). b ∷ []) (sym same)) in (
-      λ no. absurd (let none : ⊥ = cc in none),
-      λ none. absurd (false≢true (sym none ∙ ap (has_room c.args.self.now.store) one ∙ c.in-Ok.ensures.room)),
-    )
-
 pub returns-in-Err-clause-goes : goal.returns-in-Err-clause-goes
 returns-in-Err-clause-goes g c =
     let held : c.args.self.now.waiting ≡ Some c.in-Some.batch = cc in
     let same : c.deref.result.now ≡ c.in-Some.batch.items = cc in
-    let e = c.commit.ensures in
-    goes_batch _ _ c.deref.result.now _ (ap held_in held ∙ ap (λ (b : List Taken). b ∷ []) (sym same))
-    (goes_call c.commit.result e.failed_before e.fails e.any_moment e.done e.kept)
+    let e = c.commit_freeing.ensures in
+    goes_batch _ _ c.deref.result.now _ (ap held_in held ∙ ap (λ (b : List Taken). b ∷ []) (sym same)) e.goes
 
 pub returns-in-Err-clause-held : goal.returns-in-Err-clause-held
 returns-in-Err-clause-held g c =
     let held : c.args.self.now.waiting ≡ Some c.in-Some.batch = cc in
     (refl, sym (ap held_in held))
+
+pub returns-in-Err-clause-full : goal.returns-in-Err-clause-full
+returns-in-Err-clause-full g c is =
+    let held : c.args.self.now.waiting ≡ Some c.in-Some.batch = cc in
+    let same : c.deref.result.now ≡ c.in-Some.batch.items = cc in
+    let room = c.in-Err.ensures.full (same_refusal c.in-Err.refusal JournalFull is) in
+    (c.deref.result.now, ap held_in held ∙ ap (λ (b : List Taken). b ∷ []) (sym same), room.0, room.1)
+
+pub returns-in-Err-clause-needed : goal.returns-in-Err-clause-needed
+returns-in-Err-clause-needed g c is =
+    let held : c.args.self.now.waiting ≡ Some c.in-Some.batch = cc in
+    let same : c.deref.result.now ≡ c.in-Some.batch.items = cc in
+    (c.deref.result.now, ap held_in held ∙ ap (λ (b : List Taken). b ∷ []) (sym same), c.in-Err.ensures.needed (same_refusal c.in-Err.refusal StillNeeded is))
+
+pub returns-in-Err-clause-never_full : goal.returns-in-Err-clause-never_full
+returns-in-Err-clause-never_full g c told =
+    c.in-Err.ensures.never_full
+    (⊎_elim (λ full. inl (same_refusal c.in-Err.refusal JournalFull full)) (λ needed. inr (same_refusal c.in-Err.refusal StillNeeded needed)) told)
+
+pub returns-in-Err-clause-stranger : goal.returns-in-Err-clause-stranger
+returns-in-Err-clause-stranger g c is =
+    let held : c.args.self.now.waiting ≡ Some c.in-Some.batch = cc in
+    let same : c.deref.result.now ≡ c.in-Some.batch.items = cc in
+    ap (all_grow c.args.self.now.store.state) (ap commands_of (ap held_in held) ∙ append-nil _ ∙ sym same) ∙ c.in-Err.ensures.stranger (same_refusal c.in-Err.refusal Stranger is)
 
 pub invariant_of-self-in-Ok : goal.invariant_of-self-in-Ok
 invariant_of-self-in-Ok g c =

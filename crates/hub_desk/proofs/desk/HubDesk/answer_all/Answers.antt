@@ -17,7 +17,7 @@ loop-i-preserved g c =
     let new = c.answer_by-answer.new.self in
     let ticked : c.loop-i.i < length c.args.tickets.now = search rules in
     let within : c.loop-i.i < length c.loop-i.sent.items = search rules in
-    let of = subst (λ (l : List Command). AreOf l c.args.tickets.now) (sym so_far.commands) c.requires.of_these in
+    let of = subst (λ (l : List Command). AreOf g.J.Site.start l c.args.tickets.now) (sym so_far.commands) c.requires.of_these in
     record {
       commands = commands_same c.loop-i.sent.items c.loop-i.i item c.answer_by-answer.result c.index_mut.ensures.value ∙ so_far.commands;
       others = c.answer_by-answer.ensures.others ∙ ap (λ (d : Desk). record d { told = new.told }) so_far.others;

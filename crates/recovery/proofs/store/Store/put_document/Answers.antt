@@ -3,9 +3,11 @@ use Rattle.std.specs.Prelude.{Err}
 use Rattle.refusal.specs.declared.Refusal.{Refusal}
 use Rattle.milestone.specs.Job.{Job}
 use Rattle.refusal.specs.declared.Refusal.TheVariants.{Fault}
+use Rattle.recovery.specs.Jobs.{without_job}
 use Rattle.recovery.specs.Open.{has_failed, kept_jobs}
 use Rattle.recovery.proofs.Refusals.{ok≢err}
 use Rattle.recovery.proofs.PutAtOnce.{keeps_it, had_not_failed, has_not_failed, still, from_there, put_at, refused_unfailed}
+use Rattle.recovery.proofs.OtherJobs.{others_with, others_without}
 use Rattle.recovery.proofs.store.Store.put_document.Goals as goal
 
 -- no call of the device came before the put
@@ -62,7 +64,7 @@ returns-clause-any_moment g c unfailed is_open =
 pub returns-clause-put : goal.returns-clause-put
 returns-clause-put g c is_open =
     let still = c.in-Ok.ensures.stays is_open in
-    put_at c.args.self.now c.put_milestone.new.self c.args.document c.args.revision is_open c.in-Ok.job c.in-Ok-compose_job.composed still.goes_on.cells still.same_cells
+    put_at c.args.self.now c.put_milestone.new.self c.args.document c.args.revision is_open c.in-Ok.job c.in-Ok-compose_job.composed still.goes_on.cells still.goes_on.table still.same_cells still.same_table
     c.in-Ok-compose_job.ensures.done c.in-Ok.ensures.job (c.in_default.ensures.done still.goes_on)
 
 -- why the job was refused; the put itself has no such reason
@@ -82,3 +84,41 @@ returns-in-Err-put_milestone-clause-refused g c memory fault =
     (λ stranger. absurd ((c.in-Err-put_milestone.ensures.stranger works).0 (ap (λ (r : Refusal). Err r) stranger)
     (keeps_it c.in-Ok.job c.in-Ok-compose_job.composed (kept_jobs store) (kept_jobs mid) c.in-Ok.ensures.keeps c.in-Ok-compose_job.ensures.done)))
     (⊎_elim (λ is. absurd (memory is)) (λ is. absurd (fault is))) c.in-Err-put_milestone.ensures.only
+
+-- the same by the cells that are known in memory
+pub returns-in-Err-compose_job-clause-refused_by : goal.returns-in-Err-compose_job-clause-refused_by
+returns-in-Err-compose_job-clause-refused_by g c memory fault = absurd (memory c.in-Err-compose_job.ensures.only)
+
+pub returns-in-Err-put_milestone-clause-refused_by : goal.returns-in-Err-put_milestone-clause-refused_by
+returns-in-Err-put_milestone-clause-refused_by g c memory fault =
+    let store = c.args.self.now in
+    let mid = c.milestone_job.new.self in
+    let works : has_failed mid ≡ false = c.milestone_job.ensures.failed ∙ had_not_failed c.in-Ok.job c.in-Ok.ensures.failed_before in
+    ⊎_elim
+    (λ stranger. absurd ((c.in-Err-put_milestone.ensures.stranger works).0 (ap (λ (r : Refusal). Err r) stranger)
+    (keeps_it c.in-Ok.job c.in-Ok-compose_job.composed (kept_jobs store) (kept_jobs mid) c.in-Ok.ensures.keeps c.in-Ok-compose_job.ensures.done)))
+    (⊎_elim (λ is. absurd (memory is)) (λ is. absurd (fault is))) c.in-Err-put_milestone.ensures.only
+
+-- the kept jobs of other documents
+pub returns-in-Err-clause-others : goal.returns-in-Err-clause-others
+returns-in-Err-clause-others g c = ap (without_job c.args.document) c.in-Err.ensures.untouched.jobs
+
+pub returns-in-Err-compose_job-clause-others : goal.returns-in-Err-compose_job-clause-others
+returns-in-Err-compose_job-clause-others g c =
+    ap (without_job c.args.document) c.in-Ok.ensures.keeps
+    ∙ others_with c.args.document c.in-Ok.job (kept_jobs c.args.self.now) c.in-Ok.ensures.job.number
+
+pub returns-in-Err-put_milestone-clause-others : goal.returns-in-Err-put_milestone-clause-others
+returns-in-Err-put_milestone-clause-others g c =
+    ap (without_job c.args.document) (c.in-Err-put_milestone.ensures.jobs ∙ c.in-Ok.ensures.keeps)
+    ∙ others_with c.args.document c.in-Ok.job (kept_jobs c.args.self.now) c.in-Ok.ensures.job.number
+
+pub returns-clause-others : goal.returns-clause-others
+returns-clause-others g c =
+    let document = c.args.document in
+    let composed : c.in-Ok-compose_job.composed ≡ c.in-Ok.job = c.in-Ok-compose_job.ensures.done in
+    let number = ap (λ (j : Job). j.document) composed ∙ c.in-Ok.ensures.job.number in
+    ap (without_job document) c.in_default.ensures.dropped
+    ∙ others_without document c.in-Ok-compose_job.composed.document (kept_jobs c.milestone_job.new.self) number
+    ∙ ap (without_job document) c.in-Ok.ensures.keeps
+    ∙ others_with document c.in-Ok.job (kept_jobs c.args.self.now) c.in-Ok.ensures.job.number

@@ -187,6 +187,7 @@ returns-in-Ok-clause-done g c is_open =
             (ap (λ n. without_job n (kept_jobs store)) (sym is) ∙ sym c.forget.ensures)
             (kept_put is_open.order is_open.cells job.document (after store is_open job now_kept inside one its) (kept_jobs store) is_open.kept);
       };
+      same_table = refl;
       put = refl;
     }
 

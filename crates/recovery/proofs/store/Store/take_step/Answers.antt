@@ -24,12 +24,14 @@ returns-in-Retire-clause-kept g c = goes_on_needed c.args.self.now c.retire.new.
 pub returns-in-Milestone-clause-taken : goal.returns-in-Milestone-clause-taken
 returns-in-Milestone-clause-taken g c =
     subst (λ (s : StoreStep). OnOk c.put_document.result (IsTaken s c.args.self.now c.put_document.new.self)) (sym c.in-Milestone.is)
-    (put_taken c.args.self.now c.put_document.new.self c.in-Milestone.document c.in-Milestone.revision c.put_document.result c.put_document.ensures.state c.put_document.ensures.put)
+    (put_taken c.args.self.now c.put_document.new.self c.in-Milestone.document c.in-Milestone.revision c.put_document.result c.put_document.ensures.works c.put_document.ensures.state
+    c.put_document.ensures.put)
 
 pub returns-in-Retire-clause-taken : goal.returns-in-Retire-clause-taken
 returns-in-Retire-clause-taken g c =
     subst (λ (s : StoreStep). OnOk c.retire.result (IsTaken s c.args.self.now c.retire.new.self)) (sym c.in-Retire.is)
-    (given_up c.args.self.now c.retire.new.self c.retire.result c.retire.ensures.state c.retire.ensures.not_needed c.retire.ensures.done)
+    (given_up c.args.self.now c.retire.new.self c.retire.result c.retire.ensures.failed_before c.retire.ensures.fails c.retire.ensures.state
+    c.retire.ensures.not_needed c.retire.ensures.done)
 
 -- why it was refused
 pub returns-in-Milestone-clause-refused : goal.returns-in-Milestone-clause-refused

@@ -1,0 +1,250 @@
+#!/usr/bin/env python3
+"""Connects to `richd serve --listen` in the ways that a client shouldn't, and checks that it answers as docs/PROTOCOL.md says.
+
+usage: bench/hostile.py [NAME..]     (default: each row)
+
+A row is one way, over one server for all rows. After each row a plain session has to create a document, edit it and fetch it, and
+before the end of the script 64 sessions have to find places again. A row that fails says why, and the status is 1.
+
+Run ./demo first, which builds crates/richd/out/richd, or name another program in RICHD. The store lies in a temporary folder (TMPDIR).
+"""
+import json
+import os
+import socket
+import struct
+import subprocess
+import sys
+import tempfile
+import time
+
+richd = os.environ.get("RICHD") or os.path.join(os.path.dirname(os.path.abspath(__file__)), "../crates/richd/out/richd")
+
+PLACES = 64
+PATIENCE = 30  # seconds
+HELLO = b'{"do":"hello","source":"s"}\n'
+GREETING = b'{"ok":"hello"}\n'
+BAD_LINE = b'{"code":1,"error":"BadLine"}\n'
+LINE_TOO_LONG = b'{"code":23,"error":"LineTooLong"}\n'
+
+
+def connect():
+    stream = socket.create_connection(address, PATIENCE)
+    stream.setsockopt(socket.IPPROTO_TCP, socket.TCP_NODELAY, 1)
+    return stream
+
+
+def read_up_to(stream, count):
+    """What comes until so many bytes have come, or the stream ends."""
+    got = b""
+    while len(got) < count:
+        piece = stream.recv(count - len(got))
+        if not piece:
+            break
+        got += piece
+    return got
+
+
+def is_closed(stream):
+    """Whether the server closes a connection on which nothing more is due."""
+    try:
+        return stream.recv(1) == b""
+    except ConnectionError:
+        return True
+
+
+def reset(stream):
+    """Ends a connection as a machine does that fails: the peer's next read or write fails."""
+    stream.setsockopt(socket.SOL_SOCKET, socket.SO_LINGER, struct.pack("ii", 1, 0))
+    stream.close()
+
+
+def expect(stream, sent, wanted):
+    stream.sendall(sent)
+    got = read_up_to(stream, len(wanted))
+    assert got == wanted, (got, wanted)
+
+
+def session():
+    """A session for which a place was free, or none."""
+    try:
+        stream = connect()
+        stream.sendall(HELLO)
+        if read_up_to(stream, len(GREETING)) == GREETING:
+            return stream
+        stream.close()
+    except ConnectionError:
+        pass
+    return None
+
+
+def session_soon():
+    """A session, once there is a place."""
+    for _ in range(PATIENCE * 10):
+        stream = session()
+        if stream is not None:
+            return stream
+        time.sleep(0.1)
+    raise AssertionError("no place came free")
+
+
+def line_without_end():
+    """70,000 bytes without a line's end: refused once, at the 65,537th byte; the next line is answered."""
+    with session_soon() as stream:
+        expect(stream, b"x" * 70_000, LINE_TOO_LONG)
+        expect(stream, b"y" * 1_000_000 + b"\n" + b"{\n", BAD_LINE)
+
+
+def longest_line():
+    """A line of 65,536 bytes is a line."""
+    with session_soon() as stream:
+        expect(stream, b" " * 65_535 + b"{\n", BAD_LINE)
+
+
+def byte_by_byte():
+    """A byte at a time."""
+    with connect() as stream:
+        for byte in HELLO[:-1]:
+            stream.sendall(bytes([byte]))
+            time.sleep(0.005)
+        expect(stream, b"\n", GREETING)
+
+
+def no_text():
+    """Bytes that aren't UTF-8, each value of a byte, an empty line, and a text that nests too deep."""
+    with session_soon() as stream:
+        expect(stream, b"\xff\xfe\xfd\n", BAD_LINE)
+        expect(stream, b'{"do":"fetch","doc":"\xc3\x28"}\n', BAD_LINE)
+        expect(stream, b"".join(bytes([byte]) for byte in range(256) if byte != 10) + b"\n", BAD_LINE)
+        expect(stream, b"\n", BAD_LINE)
+        expect(stream, b"\r\n", BAD_LINE)
+        expect(stream, b"[" * 60_000 + b"\n", BAD_LINE)
+
+
+def cut_lines():
+    """Connections that end in the middle of a line, by a close and by a reset: nothing comes of the line."""
+    line = b'{"do":"create","doc":"cut","n":1,"ops":[{"insert":"cut"}]}'
+    for end in (socket.socket.close, reset):
+        for length in range(0, len(line) + 1, 3):
+            stream = session_soon()
+            stream.sendall(line[:length])
+            end(stream)
+    with session_soon() as stream:
+        expect(stream, b'{"do":"fetch","doc":"cut"}\n', b'{"code":6,"error":"NoDocument"}\n')
+
+
+def half_open():
+    """Connections that send nothing keep their places, those whose peer closes its sending half are answered and closed."""
+    with connect() as silent, session_soon() as stream:
+        stream.sendall(b"{\n" * 100)
+        stream.shutdown(socket.SHUT_WR)
+        assert read_up_to(stream, 100 * len(BAD_LINE)) == 100 * BAD_LINE
+        assert is_closed(stream)
+        time.sleep(1)
+        expect(silent, HELLO, GREETING)
+
+
+def vanished():
+    """64 peers that vanish behind a reset, some in the middle of a line: their places come free."""
+    for round in range(3):
+        streams = [session_soon() for _ in range(PLACES)]
+        for number, stream in enumerate(streams):
+            stream.sendall(b"{" * (number % 2))
+            reset(stream)
+
+
+def two_hundred():
+    """200 connections at once: 64 are served, and the others closed without a byte."""
+    streams = [connect() for _ in range(200)]
+    for stream in streams:
+        try:
+            stream.sendall(HELLO)
+        except ConnectionError:
+            pass
+    served = closed = 0
+    for stream in streams:
+        try:
+            got = read_up_to(stream, len(GREETING))
+        except ConnectionError:
+            got = b""
+        assert got in (GREETING, b""), got
+        served += got == GREETING
+        closed += got == b""
+    assert (served, closed) == (PLACES, 200 - PLACES), (served, closed)
+    for stream in streams:
+        stream.close()
+
+
+def never_reads():
+    """A peer that sends ahead and never reads is closed 5 to 15 seconds after the server could write last, while others are answered."""
+    with session_soon() as stream, session_soon() as other:
+        stream.settimeout(1)
+        last = time.monotonic()
+        try:
+            while time.monotonic() < last + 30:
+                try:
+                    stream.send(b"{\n" * 10_000)
+                    last = time.monotonic()  # the server still reads, so it still writes
+                except TimeoutError:
+                    pass
+                expect(other, b"{\n", BAD_LINE)
+            raise AssertionError("it was never closed")
+        except ConnectionError:
+            took = time.monotonic() - last
+        assert 4 < took < 20, took
+
+
+rows = [
+    line_without_end,
+    longest_line,
+    byte_by_byte,
+    no_text,
+    cut_lines,
+    half_open,
+    vanished,
+    two_hundred,
+    never_reads,
+]
+
+
+def use(number):
+    """A plain session, which has to be served as if nothing had been, once there is a place."""
+    doc = f"plain{number}"
+    with session_soon() as stream:
+        lines = stream.makefile("rb")
+        for message, wanted in [
+            ({"do": "create", "doc": doc, "n": 1, "ops": [{"insert": "a"}]}, {"ok": "taken", "doc": doc, "n": 1, "rev": 1}),
+            ({"do": "edit", "doc": doc, "n": 2, "base": 1, "ops": [{"insert": "b"}]}, {"ok": "taken", "doc": doc, "n": 2, "rev": 2}),
+            ({"do": "fetch", "doc": doc}, {"ok": "doc", "doc": doc, "ops": [{"insert": "ba"}], "rev": 2}),
+        ]:
+            stream.sendall(json.dumps(message).encode() + b"\n")
+            reply = json.loads(lines.readline())
+            assert reply == wanted, (reply, wanted)
+
+
+failed = 0
+with tempfile.TemporaryDirectory() as folder:
+    store = os.path.join(folder, "store")
+    subprocess.run([richd, "format", store], check=True)
+    server = subprocess.Popen([richd, "serve", store, "--listen", "127.0.0.1:0"], stdout=subprocess.PIPE, text=True)
+    host, port = server.stdout.readline().split()[1].rsplit(":", 1)
+    address = host, int(port)
+    for number, row in enumerate(rows):
+        if len(sys.argv) > 1 and row.__name__ not in sys.argv[1:]:
+            continue
+        begin = time.monotonic()
+        try:
+            row()
+            use(number)
+            print(f"ok      {row.__name__}, {time.monotonic() - begin:.1f} s")
+        except (AssertionError, OSError, ValueError) as error:
+            failed += 1
+            print(f"FAILED  {row.__name__}: {error!r}")
+    streams = [session_soon() for _ in range(PLACES)]
+    print(f"at the end {len(streams)} sessions have a place")
+    alive = server.poll() is None
+    server.kill()
+    server.wait()
+    server.stdout.close()
+if not alive:
+    print("FAILED  the server ended")
+sys.exit(1 if failed or not alive else 0)

@@ -1,0 +1,90 @@
+#!/usr/bin/env python3
+"""Times edits through `richd serve` over standard input, by how far milestones lie apart.
+
+usage: bench/turns.py [COUNT] [LETTERS] [ROUNDS]     (default: 4,096 edits a row, 8,192 letters, the best of 3 rounds)
+
+Each row is a new store, and each edit puts a letter in place of another one, alone in its batch, with two syncs of the file. Once
+8 documents are edited in turn, once there is one. Each row has the best time, and the least processor time of an edit, which
+depends less on what else the machine does. Milestones lie 16, 256 (the default) and 65,536 revisions apart, where the last
+means none. In the last rows the journal is that of two small slots, which is freed again and again.
+
+Run ./demo first, which builds crates/richd/out/richd. The store lies in a temporary folder (TMPDIR); the time depends on how
+long that disk takes to sync. With TMPDIR=/dev/shm its syncs cost next to nothing, and the milestones' share is the largest.
+"""
+import json
+import os
+import resource
+import subprocess
+import sys
+import tempfile
+import time
+
+richd = os.path.join(os.path.dirname(os.path.abspath(__file__)), "../crates/richd/out/richd")
+count = int(sys.argv[1]) if len(sys.argv) > 1 else 4096
+letters = int(sys.argv[2]) if len(sys.argv) > 2 else 8192
+rounds = int(sys.argv[3]) if len(sys.argv) > 3 else 3
+
+rows = [
+    # documents, bytes of a slot
+    (8, 4_194_304),
+    (1, 4_194_304),
+    (1, 65_536),
+]
+spacings = [("65536", "none"), ("16", "16"), ("256", "256")]
+
+
+def spelled(messages):
+    return "".join(json.dumps(message) + "\n" for message in messages)
+
+
+def creations(documents):
+    for k in range(documents):
+        yield {"do": "create", "doc": f"d{k}", "n": 1, "ops": [{"insert": "x" * letters}]}
+
+
+def edits(documents):
+    for k in range(count):
+        number = 2 + k // documents
+        at = (37 * k) % letters
+        ops = ([{"retain": at}] if at else []) + [{"insert": "y"}, {"delete": 1}]
+        yield {"base": number - 1, "do": "edit", "doc": f"d{k % documents}", "n": number, "ops": ops}
+
+
+def serve(store, messages, spacing):
+    text = spelled([{"do": "hello", "source": "bench"}] + list(messages))
+    before = processor_time()
+    start = time.monotonic()
+    served = subprocess.run([richd, "serve", store, "--every", spacing], input=text, capture_output=True, text=True)
+    took = time.monotonic() - start
+    return took, processor_time() - before, served.stdout.count('"ok":"taken"')
+
+
+def processor_time():
+    used = resource.getrusage(resource.RUSAGE_CHILDREN)
+    return used.ru_utime + used.ru_stime
+
+
+def measured(folder, documents, slot, spacing):
+    store = os.path.join(folder, "store")
+    cell = 12 * letters + 1_024
+    words = ["--docs", str(documents), "--cell", str(cell), "--slots", "2", "--slot", str(slot)]
+    subprocess.run([richd, "format", store] + words, check=True)
+    _, _, made = serve(store, creations(documents), spacing)
+    took, used, taken = serve(store, edits(documents), spacing)
+    os.remove(store)
+    if (made, taken) != (documents, count):
+        sys.exit(f"{taken} of {count} edits were taken, {made} of {documents} creations")
+    return took, used
+
+
+with tempfile.TemporaryDirectory() as folder:
+    for documents, slot in rows:
+        print(f"{documents} of {letters} letters, two slots of {slot} bytes:")
+        without = None
+        for spacing, name in spacings:
+            runs = [measured(folder, documents, slot, spacing) for _ in range(rounds)]
+            best = count / min(took for took, _ in runs)
+            least = min(used for _, used in runs) / count * 1e6
+            without = without or least
+            more = 100 * (least - without) / without
+            print(f"  milestones: {name}: {best:.0f} edits a second, {least:.1f} us of a processor each, {more:+.0f} %")

@@ -1,0 +1,22 @@
+use Rattle.std.proofs.Common.{ap}
+use Rattle.refusal.specs.declared.Refusal.TheVariants.{StoreFailed}
+use Rattle.flusher.proofs.Holdings.{refusal_in, not_lost, lost_still, publish_only}
+use Rattle.flusher.proofs.flusher.Flusher.write.Goals as goal
+
+pub returns-in-Err-clause-lost : goal.returns-in-Err-clause-lost
+returns-in-Err-clause-lost g c told = absurd (not_lost c.in-Err.refusal c.in-Err.ensures.only (ap (refusal_in StoreFailed) told))
+
+pub returns-in-Err-clause-uncommitted : goal.returns-in-Err-clause-uncommitted
+returns-in-Err-clause-uncommitted g c =
+    let e = c.in-Err.ensures in
+    λ no_memory no_failure. record { waiting = e.held.1; committed = e.held.0; state = e.same_state }
+
+pub returns-clause-lost : goal.returns-clause-lost
+returns-clause-lost g c told = record {
+  waiting = c.in_default.ensures.ok.1;
+  committed = lost_still c.publish.result c.commit_held.new.self.publisher c.publish.new.self c.publish.ensures.lost c.publish.ensures.unchanged told;
+  state = c.in_default.ensures.state;
+}
+
+pub returns-clause-uncommitted : goal.returns-clause-uncommitted
+returns-clause-uncommitted g c = publish_only _ c.publish.result c.publish.ensures.only

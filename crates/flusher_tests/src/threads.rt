@@ -1,0 +1,163 @@
+//! The flusher's thread beside one that submits: the board is free while a batch is written.
+ghost use Rattle.std.specs.Prelude.{◌≡◌};
+ghost use Rattle.recovery.specs.Open.{state_of};
+
+use crate::made::{command, new_store};
+use disk::MemDisk;
+use flusher::{Flusher, Gate, Moment, start};
+use hub::{Board, Hub};
+use published::{Opened, Site};
+use recovery::Store;
+use refusal::Refusal;
+use std::alloc::Global;
+use std::marker::Brand;
+use std::process::Abort;
+use std::sync::Wait;
+use std::sync::atomic::{AtomicBool, Ordering};
+use std::sync::ledger::Blank;
+use std::thread::{Threads, join, yield_now};
+use turns::flush_all;
+
+/// So often a thread looks whether the other one has come along.
+const LOOKS: u64 = 10_000_000;
+
+/// Holds the flusher before its first commit until the order has a second command.
+#[derive(Drop)]
+struct UntilSecond<'a, J: Site, R> {
+    rt: &'a R,
+    hub: &'a Hub<MemDisk, J>,
+    reached: &'a AtomicBool,
+    saw: bool,
+}
+
+impl<'a, J: Site, R: Wait> Gate for UntilSecond<'a, J, R> {
+    fn pass(&mut self, at: Moment) {
+        if self.saw || at == Moment::AfterCommit {
+            return;
+        }
+        self.reached.store(true, Ordering::SeqCst);
+        for _ in 0..LOOKS {
+            if self.hub.ordered(self.rt) >= 2 {
+                self.saw = true;
+                return;
+            }
+            yield_now();
+        }
+    }
+}
+
+// waits until the flusher has reached its gate
+fn wait_for(reached: &AtomicBool) -> bool {
+    for _ in 0..LOOKS {
+        if reached.load(Ordering::SeqCst) {
+            return true;
+        }
+        yield_now();
+    }
+    false
+}
+
+// Submits the first command, and by another seat the second one, once the flusher is at the gate with the first. Both are acknowledged
+// then; the last token's commands are counted.
+fn submitted<J: Site, R: Wait + Abort + AllocGlobal>(
+    rt: &R,
+    hub: &Hub<MemDisk, J>,
+    reached: &AtomicBool,
+) -> u64 {
+    let alloc = rt.alloc();
+    let mut one = hub.seat(rt).expect(rt, "a seat");
+    let mut other = hub.seat(rt).expect(rt, "a seat");
+    let first = command(rt, 1, 1);
+    let ticket = hub.submit(rt, alloc, &mut one, &first).expect(rt, "taken");
+    assert!(rt; wait_for(reached));
+    let second = command(rt, 2, 1);
+    let last = hub
+        .submit(rt, alloc, &mut other, &second)
+        .expect(rt, "taken");
+    let _ = hub.wait_ack(rt, &ticket).expect(rt, "acknowledged");
+    let told = hub.wait_ack(rt, &last).expect(rt, "acknowledged");
+    told.len()
+}
+
+// Submits both, and then ends the hub.
+fn submitted_all<J: Site, R: Wait + Abort + AllocGlobal>(
+    rt: &R,
+    hub: &Hub<MemDisk, J>,
+    reached: &AtomicBool,
+) -> u64 {
+    let held = submitted(rt, hub, reached);
+    hub.end(rt);
+    held
+}
+
+// Writes all that is ordered, and a milestone at each revision between; whether the order had a second command while the first was
+// written.
+fn flushed<J: Site, R: Wait>(
+    rt: &R,
+    alloc: Global,
+    flusher: &mut Flusher<MemDisk, J>,
+    hub: &Hub<MemDisk, J>,
+    reached: &AtomicBool,
+) -> Result<bool, Refusal> {
+    let mut gate = UntilSecond {
+        rt,
+        hub,
+        reached,
+        saw: false,
+    };
+    flush_all(rt, alloc, flusher, hub, 1, &mut gate)?;
+    Ok(gate.saw)
+}
+
+fn started<J: Site, R: Abort + AllocGlobal>(
+    rt: &R,
+    store: Store<MemDisk>,
+    opened: Opened,
+    blank: Blank,
+) -> (Flusher<MemDisk, J>, Board<MemDisk, J>)
+    requires book { opened ≡ J.book }
+    requires name { blank.name ≡ J.name }
+    requires parts { blank.parts ≡ J.parts }
+    requires seats { blank.parts ≡ 3 }
+    requires begin { state_of store ≡ J.start }
+{
+    match start::<_, J>(rt.alloc(), store, opened, blank, 2) {
+        Ok(both) => both,
+        Err(fault) => panic!(rt; "{}", fault.refusal),
+    }
+}
+
+fn beside<J: Site + Send + Sync, R: Threads + Wait + Abort + AllocGlobal + Sync>(
+    rt: &R,
+    store: Store<MemDisk>,
+    opened: Opened,
+    blank: Blank,
+)
+    requires book { opened ≡ J.book }
+    requires name { blank.name ≡ J.name }
+    requires parts { blank.parts ≡ J.parts }
+    requires seats { blank.parts ≡ 3 }
+    requires begin { state_of store ≡ J.start }
+{
+    let alloc = rt.alloc();
+    let (mut flusher, board) = started::<J, R>(rt, store, opened, blank);
+    let hub = Hub::new(board);
+    let reached = AtomicBool::new(false);
+    let (held, saw) = join(
+        rt,
+        || submitted_all(rt, &hub, &reached),
+        || flushed(rt, alloc, &mut flusher, &hub, &reached),
+    );
+    let store = flusher.end(rt);
+    assert_eq!(rt; held, 2);
+    assert!(rt; matches!(saw, Ok(true)));
+    let disk = store.close();
+    assert!(rt; disk.bytes().len() == 1_600 && disk.bytes()[64] == 0xa5);
+}
+
+// The second command is submitted by another seat while the first one's batch is at the gate, and both are acknowledged. A milestone of
+// the first stands in the document's first cell.
+#[test]
+fn second_is_ordered_while_first_is_written(rt: HostRuntime) {
+    beside::<Brand, _>(&rt, new_store(&rt), Opened::new(), Blank::new(3));
+}

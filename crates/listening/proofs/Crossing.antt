@@ -1,0 +1,34 @@
+-- What a desk at a hub has may go to another thread, and a hub may be shared among threads. The search for it is too long in one piece.
+use denote.RattleType.{RattleType}
+use denote.Ref.{NamedLft}
+use denote.Param.Send.{IsSend, IsSync, sendable}
+use Rattle.std.proofs.Crossing.{crosses}
+use Rattle.core.specs.declared.ledger.Ledger as ledger
+use Rattle.core.proofs.ledger.Book.TheSendSync as book
+use Rattle.core.proofs.ledger.Share.TheSendSync as share
+use Rattle.logbook.proofs.tokens.Seen.TheSendSync as seen
+use Rattle.published.specs.declared.site.Site as site
+use Rattle.published.specs.contracts.told.Told as told
+use Rattle.view.proofs.CallerLemmas.{viewer_send}
+use Rattle.hub.specs.contracts.hub.Hub as hub
+use Rattle.hub.specs.contracts.seat.Seat as seat
+use Rattle.hub.proofs.CallerLemmas.{board_send}
+use Rattle.hub_desk.specs.contracts.desk.HubDesk as desk
+
+pub told_send : (D T : RattleType) (s : site.Ghosts T.Denot) (l : ledger.Ghosts T.Denot) → IsSend T → IsSend (told.the_row D T s l)
+told_send D T s l a = search (seen.the_send, sendable, crosses) depth 60 fits 20000
+
+pub seat_send : (T : RattleType) (s : site.Ghosts T.Denot) (l : ledger.Ghosts T.Denot) → IsSend T → IsSend (seat.the_row T s l)
+seat_send T s l a = search (share.the_send, sendable, crosses) depth 60 fits 20000
+
+pub hub_sync : (D T : RattleType) (s : site.Ghosts T.Denot) (l : ledger.Ghosts T.Denot) → IsSend T → IsSync T → IsSync (hub.the_row D T s l)
+hub_sync D T s l a b = search (board_send, book.the_send, share.the_send, seen.the_send, sendable, crosses) depth 60 fits 20000
+
+pub desk_send : (k : NamedLft) (D T R : RattleType) (s : site.Ghosts T.Denot) (l : ledger.Ghosts T.Denot) → IsSend T → IsSync T → IsSync R
+    → IsSend (desk.the_row k D T R s l)
+desk_send k D T R s l a b c =
+    let hub = hub_sync D T s l a b in
+    let seat = seat_send T s l a in
+    let viewer = viewer_send D T s l a b in
+    let told = told_send D T s l a in
+    search (sendable, crosses) depth 60 fits 20000

@@ -1,0 +1,148 @@
+-- How far the cells and the entries of a document reach: no further than the document itself.
+use Rattle.std.proofs.Common.{◌≡◌, ℕ, ◌+◌, ◌-◌, ◌≤◌, max, true, false, Option, Some, None, List, [], ◌∷◌, ◌++◌, length, map, set, refl, sym, ◌∙◌, ap, subst, inl, inr, arith}
+use Rattle.std.specs.Prelude.{◌==◌, ◌&&◌, not, nat_le, slice_get}
+use Rattle.std.proofs.lemmas.Bool.{cases_eq, and_parts, eqb-true}
+use Rattle.std.proofs.lemmas.Bool.Decides.{nat_tests}
+use Rattle.std.proofs.lemmas.List.{length-drop, length-append, length-map}
+use Rattle.std.proofs.lemmas.List.Concat.{flat_map-append}
+use Rattle.disk.specs.declared.device.Disk.{Ghosts}
+use Rattle.revision.specs.Command.{Taken}
+use Rattle.revision.specs.Past.{Past, Change, newest, empty_past, from_floor, with_change}
+use Rattle.revision.specs.Sources.{last_of}
+use Rattle.revision.specs.State.{Limits, DocumentRecord, revision_of, sources_of, units_of, last_of_all, has_place, keeps, change_of, continues, continues_by_name, record_by_name, record_after, all_continue}
+use Rattle.history.specs.Entries.{of_document, greatest}
+use Rattle.history.specs.Cell.{Pair, cells_at, OfBoth}
+use Rattle.history.specs.Shown.{RecordShows, past_of}
+use Rattle.history.specs.Running.{IsCellOf}
+use Rattle.segments.specs.Numbers.{IsOldest}
+use Rattle.segments.specs.Table.{slot_at, numbers_of, IsRetired}
+use Rattle.segments.specs.Ring.{known_numbers}
+use Rattle.recovery.specs.declared.store.Store.{Store}
+use Rattle.recovery.specs.Found.{commands_of}
+use Rattle.recovery.specs.Open.{IsOpen}
+use Rattle.recovery.specs.Cells.{highest_known}
+use Rattle.recovery.specs.Marks.{marks_of, greatest_marked}
+use Rattle.recovery.specs.Jobs.{highest}
+use Rattle.recovery.specs.Marked.{SpellSegment}
+use Rattle.recovery.specs.steps.Freeing.{reached, reached_in}
+use Rattle.recovery.proofs.Marked.{number_held}
+use Rattle.recovery.proofs.Retirement.{held_there, parted, oldest_here, known_highest}
+
+-- a change more makes one revision more at most
+newest_with : (keep : ℕ) (past : Past) (change : Change) → newest (with_change keep past change) ≤ newest past + 1
+newest_with keep past change =
+    omega (arith, length-drop (max past.floor (newest past + 1 - keep) - past.floor) (past.changes ++ change ∷ []), length-append past.changes (change ∷ []))
+
+reached_with : (keep : ℕ) (found : Option DocumentRecord) (taken : Taken) (name : Option (List ℕ)) → reached (record_by_name keep found taken name) ≤ reached found + 1
+reached_with keep None taken None = omega arith
+reached_with keep None taken (Some name) = newest_with keep empty_past (change_of taken)
+reached_with keep (Some found) taken name = newest_with keep found.past (change_of taken)
+
+-- a command that continues a document is its next revision
+next_reached : (limits : Limits) (found : Option DocumentRecord) (taken : Taken) (name : Option (List ℕ)) → continues_by_name limits found taken name ≡ true
+    → taken.revision ≡ reached found + 1
+next_reached limits None taken None is = absurd cc
+next_reached limits None taken (Some name) is =
+    let last = and_parts ((taken.revision == 1) && (taken.number == 1)) _ is in
+    omega (arith, eqb-true _ _ (and_parts (taken.revision == 1) (taken.number == 1) last.0).0)
+next_reached limits (Some found) taken None is =
+    let kept = and_parts ((taken.revision == revision_of found + 1) && not (revision_of found == last_of_all)
+    && (taken.number == (last_of taken.source (sources_of found)).number + 1) && nat_le taken.number last_of_all
+    && has_place limits taken.source (sources_of found)) (keeps limits (units_of found) (sources_of found) taken) is in
+    let place = and_parts ((taken.revision == revision_of found + 1) && not (revision_of found == last_of_all)
+    && (taken.number == (last_of taken.source (sources_of found)).number + 1) && nat_le taken.number last_of_all) _ kept.0 in
+    let number = and_parts ((taken.revision == revision_of found + 1) && not (revision_of found == last_of_all)
+    && (taken.number == (last_of taken.source (sources_of found)).number + 1)) _ place.0 in
+    let next = and_parts ((taken.revision == revision_of found + 1) && not (revision_of found == last_of_all)) _ number.0 in
+    eqb-true _ _ (and_parts (taken.revision == revision_of found + 1) _ next.0).0
+next_reached limits (Some found) taken (Some name) is = absurd cc
+
+-- the commands of a document reach no further than there are of them
+pub greatest_reached : (limits : Limits) (number : ℕ) (order : List Taken) (found : Option DocumentRecord) → all_continue limits found (of_document number order) ≡ true
+    → greatest number order ≤ reached found + length (of_document number order)
+greatest_reached limits number [] found = λ goes_on. omega arith
+greatest_reached limits number (first ∷ others) found = elim (cases_eq first.document number) [
+  | inl same ↦
+      let test : (first.document == number) ≡ true = grind (arith, nat_tests) in
+      rw test (λ goes_on.
+      let parts = and_parts (continues limits found first) (all_continue limits (record_after limits.keep found first) (of_document number others)) goes_on in
+      omega (
+        arith,
+        next_reached limits found first first.name parts.0,
+        reached_with limits.keep found first first.name,
+        greatest_reached limits number others (record_after limits.keep found first) parts.1,
+      ))
+  | inr apart ↦
+      let test : (first.document == number) ≡ false = grind (arith, nat_tests) in
+      rw test (greatest_reached limits number others found)
+]
+
+-- some of the commands reach no further than all
+greatest_first : (number : ℕ) (first others : List Taken) → greatest number first ≤ greatest number (first ++ others)
+greatest_first number [] others = omega arith
+greatest_first number (taken ∷ more) others = elim (cases_eq taken.document number) [
+  | inl same ↦ let test : (taken.document == number) ≡ true = grind (arith, nat_tests) in rw test (omega (arith, greatest_first number more others))
+  | inr apart ↦ let test : (taken.document == number) ≡ false = grind (arith, nat_tests) in rw test (greatest_first number more others)
+]
+
+greatest_last : (number : ℕ) (first others : List Taken) → greatest number others ≤ greatest number (first ++ others)
+greatest_last number [] others = omega arith
+greatest_last number (taken ∷ more) others = elim (cases_eq taken.document number) [
+  | inl same ↦ let test : (taken.document == number) ≡ true = grind (arith, nat_tests) in rw test (omega (arith, greatest_last number more others))
+  | inr apart ↦ let test : (taken.document == number) ≡ false = grind (arith, nat_tests) in rw test (greatest_last number more others)
+]
+
+newest_shown : (commands : List Taken) (floor : ℕ) → floor ≤ length commands → newest (from_floor (past_of commands) floor) ≡ length commands
+newest_shown commands floor below = omega (arith, below, length-drop (floor - 0) (map change_of commands), length-map commands change_of)
+
+-- a document that shows its commands has reached as many revisions
+shown_reached : (commands : List Taken) (found : Option DocumentRecord) → RecordShows commands found → length commands ≡ reached found
+shown_reached commands None shows = ap (λ (l : List Taken). length l) shows
+shown_reached commands (Some found) shows = sym (ap newest shows.past ∙ newest_shown commands found.past.floor shows.floor)
+
+-- open cells of it reach no further
+cells_within : (commands : List Taken) (pair : Pair) → OfBoth (IsCellOf commands) pair → highest pair ≤ length commands
+cells_within commands (None, None) both = omega arith
+cells_within commands (None, Some second) both = both.1.reached
+cells_within commands (Some first, None) both = both.0.reached
+cells_within commands (Some first, Some second) both = omega (arith, both.0.reached, both.1.reached)
+
+module _ {D : Type 0} {disk : Ghosts D} (store : Store D disk) (is_open : IsOpen store) where
+  document_reached : (document : ℕ) → length (of_document document is_open.order) ≡ reached_in store.state document
+  document_reached document = shown_reached (of_document document is_open.order) (slice_get store.state.documents document) (is_open.runs.shows document)
+
+  -- no open cell of a document is above its revision
+  pub cells_reached : (document : ℕ) → highest_known store.cells.items document ≤ reached_in store.state document
+  cells_reached document =
+      omega (
+        arith,
+        known_highest store is_open document,
+        document_reached document,
+        cells_within (of_document document is_open.order) (cells_at is_open.cells document) (is_open.runs.cells_are document),
+      )
+
+  -- and no mark of the oldest segment
+  pub marks_reached : (slot number : ℕ) → IsOldest (known_numbers store.ring) slot number → (document : ℕ)
+      → greatest_marked number document (marks_of store.marks) ≤ reached_in store.state document
+  marks_reached slot number oldest document =
+      let here = oldest_here store is_open slot number oldest in
+      let held = held_there (slot_at is_open.table slot) number (sym (number_held is_open.table slot) ∙ here.has) in
+      let segment = held.0 in
+      let retired : IsRetired is_open.table (set is_open.table slot None) =
+      record { slot = slot; segment = segment; has = held.1; oldest = subst (λ n. IsOldest (numbers_of is_open.table) slot n) (sym held.2) here; is = refl } in
+      let parts = parted store is_open (set is_open.table slot None) retired in
+      let spell : SpellSegment segment parts.gone = record { spelled = parts.gone_spelled; each = parts.gone_each } in
+      let marked = is_open.marked.each slot segment held.1 parts.gone spell document in
+      let entries : commands_of is_open.batches ≡ commands_of parts.gone ++ commands_of parts.left =
+      ap commands_of parts.both ∙ flat_map-append (λ (c : List Taken). c) parts.gone parts.left in
+      omega (
+        arith,
+        ap (λ n. greatest_marked n document (marks_of store.marks)) held.2,
+        marked,
+        greatest_first document (commands_of parts.gone) (commands_of parts.left),
+        ap (greatest document) entries,
+        greatest_last document is_open.runs.retired (commands_of is_open.batches),
+        ap (greatest document) is_open.runs.held,
+        greatest_reached store.state.limits document is_open.order None (is_open.runs.is_order document),
+        document_reached document,
+      )

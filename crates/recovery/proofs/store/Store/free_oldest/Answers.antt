@@ -1,0 +1,66 @@
+use Rattle.std.proofs.Common.{◌≤◌, subst, rules}
+use Rattle.disk.specs.Device.{Rose}
+use Rattle.segments.specs.Numbers.{open_count}
+use Rattle.segments.specs.Ring.{known_numbers}
+use Rattle.recovery.proofs.Going.{goes_nowhere, goes_same}
+use Rattle.recovery.proofs.Faults.{retire_goes, works_now, works_still, works_by, done_by, kept_by}
+use Rattle.recovery.proofs.Raising.{may_go, freed_by}
+use Rattle.recovery.proofs.store.Store.free_oldest.Goals as goal
+
+-- too few slots are open
+pub returns-in_default-clause-goes : goal.returns-in_default-clause-goes
+returns-in_default-clause-goes g c = goes_nowhere c.args.self.now
+
+pub returns-in_default-clause-any_moment : goal.returns-in_default-clause-any_moment
+returns-in_default-clause-any_moment g c = (goes_nowhere c.args.self.now).any_moment
+
+pub returns-in-Err-clause-kept : goal.returns-in-Err-clause-kept
+returns-in-Err-clause-kept g c other =
+    c.cover_segment.ensures.goes.opens (works_still {A = Unit {0}} c.cover_segment.new.self c.in-Err.refusal c.in-Err.ensures.fails other)
+
+-- nothing needs the oldest segment any more
+pub returns-clause-needed : goal.returns-clause-needed
+returns-clause-needed g c told is_open =
+    let store = c.args.self.now in
+    let mid = c.cover_segment.new.self in
+    let none = c.in_default-cover_segment.ensures.covered is_open in
+    let two : 2 ≤ open_count (known_numbers store.ring) = search rules in
+    let oldest = c.in-Some.ensures.oldest in
+    absurd (c.retire.ensures.needed told none.over.goes_on (may_go store mid is_open.table oldest.0 c.in-Some.oldest c.cover_segment.ensures.keeps oldest.1 two none))
+
+pub returns-clause-fault : goal.returns-clause-fault
+returns-clause-fault g c told works =
+    let mid_works = works_now c.cover_segment.new.self c.in_default-cover_segment.field-0 c.in_default-cover_segment.ensures.fails in
+    subst (λ n. Rose n (g.D.Disk.faults c.retire.new.self.device)) c.in_default-cover_segment.ensures.faults.good (c.retire.ensures.fault told mid_works)
+
+pub returns-clause-fails : goal.returns-clause-fails
+returns-clause-fails g c works =
+    c.retire.ensures.fails (works_now c.cover_segment.new.self c.in_default-cover_segment.field-0 c.in_default-cover_segment.ensures.fails)
+
+pub returns-clause-works : goal.returns-clause-works
+returns-clause-works g c =
+    works_by c.retire.new.self c.retire.result
+    (c.retire.ensures.fails (works_now c.cover_segment.new.self c.in_default-cover_segment.field-0 c.in_default-cover_segment.ensures.fails))
+
+pub returns-clause-goes : goal.returns-clause-goes
+returns-clause-goes g c =
+    goes_same c.cover_segment.ensures.keeps.state c.cover_segment.ensures.goes
+    (retire_goes c.cover_segment.new.self c.retire.new.self c.retire.result c.retire.ensures.failed_before c.retire.ensures.fails c.retire.ensures.any_moment c.retire.ensures.only c.retire.ensures.untouched c.retire.ensures.done)
+
+pub returns-clause-any_moment : goal.returns-clause-any_moment
+unfolding returns-clause-goes
+returns-clause-any_moment g c = (returns-clause-goes g c).any_moment
+
+pub returns-clause-freed : goal.returns-clause-freed
+returns-clause-freed g c =
+    freed_by c.args.self.now c.cover_segment.new.self c.retire.new.self c.in-Some.oldest c.retire.result c.in_default-cover_segment.ensures.covered c.retire.ensures.done
+
+pub returns-clause-done : goal.returns-clause-done
+returns-clause-done g c =
+    done_by c.args.self.now c.retire.new.self c.retire.result
+    (c.retire.ensures.fails (works_now c.cover_segment.new.self c.in_default-cover_segment.field-0 c.in_default-cover_segment.ensures.fails)) (returns-clause-goes g c)
+
+pub returns-clause-kept : goal.returns-clause-kept
+returns-clause-kept g c =
+    kept_by c.args.self.now c.retire.new.self c.retire.result
+    (c.retire.ensures.fails (works_now c.cover_segment.new.self c.in_default-cover_segment.field-0 c.in_default-cover_segment.ensures.fails)) (returns-clause-goes g c)

@@ -1,0 +1,77 @@
+use Rattle.std.proofs.Common.{◌≡◌, ◌∙◌, Some, None, sym, ap, subst, rules}
+use Rattle.std.specs.Prelude.{Ok, Err, slice_get}
+use Rattle.disk.specs.Device.{Rose}
+use Rattle.refusal.specs.declared.Refusal.{Refusal}
+use Rattle.refusal.specs.declared.Refusal.TheVariants.{Fault}
+use Rattle.recovery.specs.Cells.{highest_known}
+use Rattle.recovery.specs.Due.{due_for}
+use Rattle.recovery.proofs.Refusals.{refusal_or}
+use Rattle.recovery.proofs.HandedOut.{none≢some}
+use Rattle.recovery.proofs.Retirement.{known_highest}
+use Rattle.recovery.proofs.Going.{goes_nowhere, goes_call, goes_same}
+use Rattle.recovery.proofs.Faults.{works_still, works_now}
+use Rattle.recovery.proofs.Freed.{only_memory, due_put}
+use Rattle.recovery.proofs.store.Store.put_due.Goals as goal
+
+-- none is due
+pub returns-in_default-clause-none : goal.returns-in_default-clause-none
+returns-in_default-clause-none g c told is_open =
+    let store = c.args.self.now in
+    let none : due_for c.args.every (slice_get store.state.documents c.args.document) (highest_known store.cells.items c.args.document) ≡ None = search rules in
+    ap (λ n. due_for c.args.every (slice_get store.state.documents c.args.document) n) (sym (known_highest store is_open c.args.document)) ∙ none
+
+pub returns-in_default-clause-goes : goal.returns-in_default-clause-goes
+returns-in_default-clause-goes g c = goes_nowhere c.args.self.now
+
+pub returns-in_default-clause-any_moment : goal.returns-in_default-clause-any_moment
+returns-in_default-clause-any_moment g c = (goes_nowhere c.args.self.now).any_moment
+
+-- it was refused
+pub returns-in-Err-clause-only : goal.returns-in-Err-clause-only
+returns-in-Err-clause-only g c =
+    only_memory c.in-Err.refusal c.in-Err.ensures.only (λ memory fault. none≢some (sym c.in-Some.ensures.can ∙ c.in-Err.ensures.refused_by memory fault))
+
+pub returns-in-Err-clause-goes : goal.returns-in-Err-clause-goes
+returns-in-Err-clause-goes g c =
+    goes_call (Err c.in-Err.refusal) c.in-Err.ensures.failed_before c.in-Err.ensures.fails c.put_document.ensures.any_moment tt c.in-Err.ensures.kept
+
+-- it was put, and the device failed behind it
+pub returns-in-Err-retire_covered-clause-goes : goal.returns-in-Err-retire_covered-clause-goes
+returns-in-Err-retire_covered-clause-goes g c =
+    goes_same c.put_document.ensures.state
+    (goes_call (Ok c.in_default-put_document.field-0) c.in_default-put_document.ensures.failed_before c.in_default-put_document.ensures.fails c.put_document.ensures.any_moment
+    c.in_default-put_document.ensures.done tt) c.retire_covered.ensures.goes
+
+pub returns-in-Err-retire_covered-clause-any_moment : goal.returns-in-Err-retire_covered-clause-any_moment
+unfolding returns-in-Err-retire_covered-clause-goes
+returns-in-Err-retire_covered-clause-any_moment g c = (returns-in-Err-retire_covered-clause-goes g c).any_moment
+
+pub returns-in-Err-retire_covered-clause-kept : goal.returns-in-Err-retire_covered-clause-kept
+returns-in-Err-retire_covered-clause-kept g c other =
+    (returns-in-Err-retire_covered-clause-goes g c).opens (works_still {A = Unit {0}} c.retire_covered.new.self c.in-Err-retire_covered.refusal c.in-Err-retire_covered.ensures.fails other)
+
+pub returns-in-Err-retire_covered-clause-fault : goal.returns-in-Err-retire_covered-clause-fault
+returns-in-Err-retire_covered-clause-fault g c told works =
+    subst (λ n. Rose n (g.D.Disk.faults c.retire_covered.new.self.device)) c.in_default-put_document.ensures.good
+    (c.in-Err-retire_covered.ensures.faults.failed (ap (λ (r : Refusal). Err r) (ap (refusal_or Fault) told)))
+
+-- it was put
+pub returns-clause-put : goal.returns-clause-put
+returns-clause-put g c told is_open =
+    let store = c.args.self.now in
+    let due : due_for c.args.every (slice_get store.state.documents c.args.document) (highest_known store.cells.items c.args.document) ≡ Some c.in-Some.revision = search rules in
+    due_put store c.put_document.new.self c.retire_covered.new.self c.args.every c.args.document c.in-Some.revision is_open due (c.in_default-put_document.ensures.put is_open)
+    c.in_default-retire_covered.ensures.slots
+
+pub returns-clause-goes : goal.returns-clause-goes
+returns-clause-goes g c =
+    goes_same c.put_document.ensures.state
+    (goes_call (Ok c.in_default-put_document.field-0) c.in_default-put_document.ensures.failed_before c.in_default-put_document.ensures.fails c.put_document.ensures.any_moment
+    c.in_default-put_document.ensures.done tt) c.retire_covered.ensures.goes
+
+pub returns-clause-any_moment : goal.returns-clause-any_moment
+unfolding returns-clause-goes
+returns-clause-any_moment g c = (returns-clause-goes g c).any_moment
+
+pub returns-clause-done : goal.returns-clause-done
+returns-clause-done g c = (returns-clause-goes g c).opens (works_now c.retire_covered.new.self c.in_default-retire_covered.field-0 c.in_default-retire_covered.ensures.fails)

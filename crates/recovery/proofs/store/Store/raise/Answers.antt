@@ -1,0 +1,49 @@
+use Rattle.std.proofs.Common.{◌≡◌, ◌≤◌, ◌∙◌, None, sym, ap, arith, rules}
+use Rattle.std.specs.Prelude.{Err, slice_get}
+use Rattle.refusal.specs.declared.Refusal.{Refusal}
+use Rattle.refusal.specs.declared.Refusal.TheVariants.{StillNeeded, Fault}
+use Rattle.recovery.specs.Cells.{highest_known}
+use Rattle.recovery.specs.Jobs.{no_job_for}
+use Rattle.recovery.proofs.Refusals.{refusal_or}
+use Rattle.recovery.proofs.Going.{goes_nowhere, goes_call}
+use Rattle.recovery.proofs.Faults.{counted_as}
+use Rattle.recovery.proofs.HandedOut.{none≢some}
+use Rattle.recovery.proofs.Reaching.{cells_reached}
+use Rattle.recovery.proofs.Raising.{none_against, raised_by}
+use Rattle.recovery.proofs.store.Store.raise.Goals as goal
+
+pub returns-then-newest-revision-clause-goes : goal.returns-then-newest-revision-clause-goes
+returns-then-newest-revision-clause-goes g c = goes_nowhere c.args.self.now
+
+-- in an open store nothing speaks against the milestone
+pub returns-in-Err-clause-needed : goal.returns-in-Err-clause-needed
+returns-in-Err-clause-needed g c told is_open =
+    let store = c.args.self.now in
+    let needed : c.or_needed.result ≡ StillNeeded = ap (refusal_or StillNeeded) told in
+    let newest = c.newest_of-newest.result in
+    let high = highest_known store.cells.items c.args.document in
+    let found = slice_get store.state.documents c.args.document in
+    let why = c.in-Err.ensures.refused_by (c.or_needed.ensures.needed needed) (c.or_needed.ensures.fault needed) in
+    let enough : c.args.revision ≤ newest = search rules in
+    let none : no_job_for found high newest ≡ None =
+    none_against found newest high c.newest_of-newest.ensures (omega (arith, cells_reached store is_open c.args.document, c.newest_of-newest.ensures)) (omega (arith, c.requires.some, enough)) in
+    absurd (none≢some (sym none ∙ why))
+
+pub returns-in-Err-clause-faults : goal.returns-in-Err-clause-faults
+returns-in-Err-clause-faults g c =
+    let there : c.in-Err.refusal ≡ Fault → c.or_needed.result ≡ Fault = search rules in
+    let back : c.or_needed.result ≡ Fault → c.in-Err.refusal ≡ Fault = search rules in
+    counted_as c.args.self.now c.put_document.new.self c.in-Err.refusal c.or_needed.result c.requires.working
+    (λ is. c.in-Err.ensures.fault (ap (λ (r : Refusal). Err r) is)) c.in-Err.ensures.no_fault back there
+
+pub returns-in-Err-clause-goes : goal.returns-in-Err-clause-goes
+returns-in-Err-clause-goes g c =
+    goes_call (Err c.in-Err.refusal) c.in-Err.ensures.failed_before c.in-Err.ensures.fails c.put_document.ensures.any_moment tt c.in-Err.ensures.kept
+
+-- the milestone is put
+pub returns-clause-raised : goal.returns-clause-raised
+returns-clause-raised g c is_open reach =
+    let store = c.args.self.now in
+    let enough : c.args.revision ≤ c.newest_of-newest.result = search rules in
+    raised_by store c.put_document.new.self is_open c.args.document c.newest_of-newest.result c.args.revision enough
+    (omega (arith, cells_reached store is_open c.args.document, c.newest_of-newest.ensures)) (c.in_default.ensures.put is_open)

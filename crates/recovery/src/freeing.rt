@@ -1,0 +1,241 @@
+//! Making room in a journal that is full.
+ghost use Rattle.std.specs.Prelude.{◌≡◌, ◌≢◌, ◌⊎◌, ◌↔◌, ◌<◌, ◌≤◌, ◌+◌, ◌-◌, ◌^◌, ℕ, true, false, length, get_or, OnOk, OnErr, IfOk, IfErr, IsErrOf};
+ghost use Rattle.disk.specs.Calls.{CountsFaultsAs};
+ghost use Rattle.disk.specs.Device.{Rose};
+ghost use Rattle.disk.specs.Crash.{LeavesOnly};
+ghost use Rattle.revision.specs.State.{fold, all_grow};
+ghost use Rattle.segments.specs.Numbers.{IsOldest, newest_number, open_count};
+ghost use Rattle.segments.specs.Ring.{known_numbers};
+ghost use Rattle.recovery.specs.Found.{FoundAs};
+ghost use Rattle.recovery.specs.Goes.{Goes};
+ghost use Rattle.recovery.specs.Open.{FitsSlot, IsOpen, IsUnchanged, IsFreedNow, IsWithOrWithout, device_of, ring_of, state_of, known_marks, kept_jobs, has_failed, has_room};
+ghost use Rattle.recovery.specs.steps.Freeing.{reached_in, MayReach, KeepsSegments, IsRaised, IsMarkCovered, IsNeededByNone};
+
+use crate::marks::Mark;
+use crate::receipt::Receipt;
+use crate::retiring::lowest_of;
+use crate::store::Store;
+use disk::Disk;
+use refusal::Refusal;
+use revision::Taken;
+use std::alloc::Global;
+
+impl<D: Disk> Store<D> {
+    /// Makes room in a journal that is full: puts milestones of each document that needs an entry of the oldest segment, at its
+    /// revision, until both its cells stand there, and retires the segment. `StillNeeded` comes just where fewer than two slots are
+    /// open, and then makes no call of the device. After `NoMemory` some of the milestones may be put. After a `Fault` the store
+    /// has failed. The documents stay.
+    pub fn free_oldest(&mut self, alloc: Global) -> Result<(), Refusal>
+        // When each refusal comes.
+        ensures failed_before { has_failed self.old ≡ true → (IsErrOf result Refusal.Fault) × IsUnchanged self.old self.new }
+        ensures few { has_failed self.old ≡ false → open_count (known_numbers (ring_of self.old)) < 2
+            → (IsErrOf result Refusal.StillNeeded) × IsUnchanged self.old self.new }
+        ensures needed { IsErrOf result Refusal.StillNeeded → IsOpen self.old → open_count (known_numbers (ring_of self.old)) < 2 }
+        ensures fault { IsErrOf result Refusal.Fault → has_failed self.old ≡ false
+            → Rose (D.faults (device_of self.old)) (D.faults (device_of self.new)) }
+        ensures only { IfErr result (λ e. (e ≡ Refusal.StillNeeded) ⊎ ((e ≡ Refusal.NoMemory) ⊎ (e ≡ Refusal.Fault))) }
+
+        // What each answer leaves.
+        ensures state { state_of self.new ≡ state_of self.old }
+        ensures fails { has_failed self.old ≡ false → (has_failed self.new ≡ true ↔ IsErrOf result Refusal.Fault) }
+        ensures works { OnOk result (has_failed self.new ≡ false) }
+        ensures good { OnOk result (D.faults (device_of self.new) ≡ D.faults (device_of self.old)) }
+        ensures no_fault { IfErr result (λ e. e ≢ Refusal.Fault → D.faults (device_of self.new) ≡ D.faults (device_of self.old)) }
+
+        // A crash at any moment leaves the state; once it is Ok, the slot of the oldest segment is closed.
+        ensures goes { Goes (λ content. FoundAs content (state_of self.old)) self.old self.new }
+        ensures any_moment { has_failed self.old ≡ false → IsOpen self.old
+            → LeavesOnly ⟦<D as Disk>⟧ (λ content. FoundAs content (state_of self.old)) (device_of self.old) (device_of self.new) }
+        ensures freed { OnOk result ((is_open : IsOpen self.old) → IsFreedNow is_open.table self.new) }
+        ensures done { OnOk result (IsOpen self.old → IsOpen self.new) }
+        ensures kept { IfErr result (λ e. e ≢ Refusal.Fault → IsOpen self.old → IsOpen self.new) }
+        ensures honest { D.honest (device_of self.new) ↔ D.honest (device_of self.old) }
+    {
+        if self.failed {
+            return Err(Refusal::Fault);
+        }
+        let Some(oldest) = self.ring.oldest_number() else {
+            return Err(Refusal::StillNeeded);
+        };
+        if let Err(refusal) = self.cover_segment(alloc, oldest) {
+            return Err(refusal);
+        }
+        self.retire()
+    }
+
+    /// Commits a batch as `commit` does; where it finds no room for it, it frees the oldest segment first, as `free_oldest` does. So
+    /// in an open store neither `JournalFull` nor `StillNeeded` comes before the segments' numbers are used up, of which 2^64 - 1 is
+    /// the last one. Whatever was freed for it, no refusal changes the documents.
+    pub fn commit_freeing(&mut self, alloc: Global, batch: &[Taken]) -> Result<Receipt<D>, Refusal>
+        requires some { 1 ≤ length batch.now }
+        requires short { length batch.now < 2 ^ 32 }
+        requires fits { FitsSlot (state_of self.old) batch.now }
+
+        // What an Ok hands out names just this batch.
+        ensures receipt { IfOk result (λ receipt. receipt ≡ batch.now) }
+
+        // When each refusal comes. Want of memory may be told in place of `Stranger`.
+        ensures failed_before { has_failed self.old ≡ true → (IsErrOf result Refusal.Fault) × IsUnchanged self.old self.new }
+        ensures full { IsErrOf result Refusal.JournalFull → (has_room self.old batch.now ≡ false) × (has_room self.new batch.now ≡ false) }
+        ensures full_still { IsErrOf result Refusal.JournalFull → (is_open : IsOpen self.old) → IsFreedNow is_open.table self.new }
+        ensures needed { IsErrOf result Refusal.StillNeeded → has_room self.old batch.now ≡ false }
+        ensures few { has_failed self.old ≡ false → has_room self.old batch.now ≡ false → open_count (known_numbers (ring_of self.old)) < 2
+            → IsErrOf result Refusal.StillNeeded }
+        ensures needed_by_few { IsErrOf result Refusal.StillNeeded → IsOpen self.old → open_count (known_numbers (ring_of self.old)) < 2 }
+        ensures never_full { (IsErrOf result Refusal.JournalFull) ⊎ (IsErrOf result Refusal.StillNeeded) → IsOpen self.old
+            → 2 ^ 64 - 1 ≤ newest_number (known_numbers (ring_of self.old)) }
+        ensures stranger { IsErrOf result Refusal.Stranger → all_grow (state_of self.old) batch.now ≡ false }
+        ensures grow { OnOk result (all_grow (state_of self.old) batch.now ≡ true) }
+        ensures no_growth { has_failed self.old ≡ false → has_room self.old batch.now ≡ true → all_grow (state_of self.old) batch.now ≡ false
+            → (IsErrOf result Refusal.Stranger) ⊎ (IsErrOf result Refusal.NoMemory) }
+        ensures fault { IsErrOf result Refusal.Fault → has_failed self.old ≡ false
+            → Rose (D.faults (device_of self.old)) (D.faults (device_of self.new)) }
+        ensures only { IfErr result (λ e. ((e ≡ Refusal.JournalFull) ⊎ ((e ≡ Refusal.StillNeeded) ⊎ (e ≡ Refusal.Stranger))) ⊎ ((e ≡ Refusal.NoMemory) ⊎ (e ≡ Refusal.Fault))) }
+
+        // What each answer leaves.
+        ensures state { OnOk result (state_of self.new ≡ fold (state_of self.old) batch.now) }
+        ensures same_state { OnErr result (state_of self.new ≡ state_of self.old) }
+        ensures jobs { has_room self.old batch.now ≡ true → kept_jobs self.new ≡ kept_jobs self.old }
+        ensures fails { has_failed self.old ≡ false → (has_failed self.new ≡ true ↔ IsErrOf result Refusal.Fault) }
+        ensures works { OnOk result (has_failed self.new ≡ false) }
+        ensures good { OnOk result (D.faults (device_of self.new) ≡ D.faults (device_of self.old)) }
+        ensures no_fault { IfErr result (λ e. e ≢ Refusal.Fault → D.faults (device_of self.new) ≡ D.faults (device_of self.old)) }
+
+        // A crash at any moment of the call leaves the state before it, or the one with the batch.
+        ensures goes { Goes (IsWithOrWithout (state_of self.old) batch.now) self.old self.new }
+        ensures any_moment { has_failed self.old ≡ false → IsOpen self.old
+            → LeavesOnly ⟦<D as Disk>⟧ (IsWithOrWithout (state_of self.old) batch.now) (device_of self.old) (device_of self.new) }
+        // Once it is Ok, the device is synced and stands for the state with the batch.
+        ensures done { OnOk result (IsOpen self.old → IsOpen self.new) }
+        ensures kept { IfErr result (λ e. e ≢ Refusal.Fault → IsOpen self.old → IsOpen self.new) }
+
+        // Where it has room, it makes eight calls of the device at most.
+        ensures calls { has_room self.old batch.now ≡ true → length (D.past (device_of self.new)) ≤ length (D.past (device_of self.old)) + 8 }
+        ensures honest { D.honest (device_of self.new) ↔ D.honest (device_of self.old) }
+    {
+        if self.has_room(batch) {
+            return self.commit(alloc, batch);
+        }
+        if let Err(refusal) = self.free_oldest(alloc) {
+            return Err(refusal);
+        }
+        self.commit(alloc, batch)
+    }
+
+    // Puts milestones until no document needs an entry of the oldest segment. `StillNeeded` comes where a document can't be given
+    // the one that it needs, which no open store has.
+    fn cover_segment(&mut self, alloc: Global, segment: u64) -> Result<(), Refusal>
+        requires working { has_failed self.old ≡ false }
+        requires oldest { (slot : ℕ) × IsOldest (known_numbers (ring_of self.old)) slot segment }
+
+        ensures only { IfErr result (λ e. (e ≡ Refusal.StillNeeded) ⊎ ((e ≡ Refusal.NoMemory) ⊎ (e ≡ Refusal.Fault))) }
+        ensures needed { IsErrOf result Refusal.StillNeeded → ¬ IsOpen self.old }
+        ensures covered { OnOk result ((is_open : IsOpen self.old) → IsNeededByNone segment is_open.table self.new) }
+        ensures keeps { KeepsSegments self.old self.new }
+        ensures fails { has_failed self.new ≡ true ↔ IsErrOf result Refusal.Fault }
+        ensures faults { CountsFaultsAs ⟦<D as Disk>⟧ Refusal.Fault result (device_of self.old) (device_of self.new) }
+        ensures goes { Goes (λ content. FoundAs content (state_of self.old)) self.old self.new }
+        ensures honest { D.honest (device_of self.new) ↔ D.honest (device_of self.old) }
+    {
+        for place in 0..self.mark_count() {
+            let mark = self.mark_at(place);
+            if let Err(refusal) = self.cover_mark(alloc, segment, mark) {
+                return Err(refusal);
+            }
+        }
+        Ok(())
+    }
+
+    // Where an open cell of a document is below its mark of this segment, or none is open, puts two milestones of it: both cells then
+    // stand at its newest revision, since each takes the place of the lower one.
+    fn cover_mark(&mut self, alloc: Global, segment: u64, mark: Mark) -> Result<(), Refusal>
+        requires working { has_failed self.old ≡ false }
+
+        ensures only { IfErr result (λ e. (e ≡ Refusal.StillNeeded) ⊎ ((e ≡ Refusal.NoMemory) ⊎ (e ≡ Refusal.Fault))) }
+        ensures needed { IsErrOf result Refusal.StillNeeded → IsOpen self.old → ¬ MayReach segment mark (state_of self.old) }
+        ensures covered { OnOk result ((is_open : IsOpen self.old) → MayReach segment mark (state_of self.old)
+            → IsMarkCovered segment mark is_open.table self.old self.new) }
+        ensures keeps { KeepsSegments self.old self.new }
+        ensures fails { has_failed self.new ≡ true ↔ IsErrOf result Refusal.Fault }
+        ensures faults { CountsFaultsAs ⟦<D as Disk>⟧ Refusal.Fault result (device_of self.old) (device_of self.new) }
+        ensures goes { Goes (λ content. FoundAs content (state_of self.old)) self.old self.new }
+        ensures honest { D.honest (device_of self.new) ↔ D.honest (device_of self.old) }
+    {
+        if mark.segment != segment {
+            return Ok(());
+        }
+        if mark.revision <= lowest_of(&self.cells, mark.document) {
+            return Ok(());
+        }
+        if let Err(refusal) = self.raise(alloc, mark.document, mark.revision) {
+            return Err(refusal);
+        }
+        self.raise(alloc, mark.document, mark.revision)
+    }
+
+    // Puts a milestone of a document at its newest revision, which is no lower than this one.
+    fn raise(&mut self, alloc: Global, document: u32, revision: u64) -> Result<(), Refusal>
+        requires working { has_failed self.old ≡ false }
+        requires some { 1 ≤ revision }
+
+        ensures only { IfErr result (λ e. (e ≡ Refusal.StillNeeded) ⊎ ((e ≡ Refusal.NoMemory) ⊎ (e ≡ Refusal.Fault))) }
+        ensures needed { IsErrOf result Refusal.StillNeeded → IsOpen self.old → reached_in (state_of self.old) document < revision }
+        ensures raised { OnOk result ((is_open : IsOpen self.old) → revision ≤ reached_in (state_of self.old) document
+            → IsRaised document revision is_open.table self.old self.new) }
+        ensures keeps { KeepsSegments self.old self.new }
+        ensures fails { has_failed self.new ≡ true ↔ IsErrOf result Refusal.Fault }
+        ensures faults { CountsFaultsAs ⟦<D as Disk>⟧ Refusal.Fault result (device_of self.old) (device_of self.new) }
+        ensures goes { Goes (λ content. FoundAs content (state_of self.old)) self.old self.new }
+        ensures honest { D.honest (device_of self.new) ↔ D.honest (device_of self.old) }
+    {
+        let newest = self.newest_of(document);
+        if newest < revision {
+            return Err(Refusal::StillNeeded);
+        }
+        if let Err(refusal) = self.put_document(alloc, document, newest) {
+            return Err(or_needed(refusal));
+        }
+        Ok(())
+    }
+
+    // The newest revision of a document, 0 where there is none of this number.
+    fn newest_of(&self, document: u32) -> u64
+        ensures { result ≡ reached_in (state_of self.now) document }
+    {
+        match self.state.documents().get(document as usize) {
+            Some(found) => found.revision(),
+            None => 0,
+        }
+    }
+
+    // How many marks there are.
+    fn mark_count(&self) -> usize
+        ensures { result ≡ length (known_marks self.now) }
+    {
+        self.marks.all().len()
+    }
+
+    // The mark at a place.
+    fn mark_at(&self, place: usize) -> Mark
+        requires { place < length (known_marks self.now) }
+        ensures { get_or (known_marks self.now) place result ≡ result }
+    {
+        self.marks.all()[place]
+    }
+}
+
+// A refusal as freeing tells it: where a document can't be given a milestone, the oldest segment is needed.
+fn or_needed(refusal: Refusal) -> Refusal
+    ensures same { (refusal ≡ Refusal.NoMemory) ⊎ (refusal ≡ Refusal.Fault) → result ≡ refusal }
+    ensures other { refusal ≢ Refusal.NoMemory → refusal ≢ Refusal.Fault → result ≡ Refusal.StillNeeded }
+    ensures needed { result ≡ Refusal.StillNeeded → refusal ≢ Refusal.NoMemory }
+    ensures fault { result ≡ Refusal.StillNeeded → refusal ≢ Refusal.Fault }
+    ensures only { (refusal ≢ Refusal.Fault) ⊎ (result ≡ Refusal.Fault) }
+    ensures no_fault { refusal ≢ Refusal.Fault → result ≢ Refusal.Fault }
+{
+    if refusal == Refusal::NoMemory || refusal == Refusal::Fault {
+        refusal
+    } else {
+        Refusal::StillNeeded
+    }
+}

@@ -1,4 +1,0 @@
-mod Dumps
-mod Streams
-mod Asking
-mod Worked

@@ -1,5 +1,0 @@
-use Rattle.server.proofs.Asking.{keeps_all}
-use Rattle.server.proofs.laws.asked_keeps_all.Goals as goal
-
-pub returns : goal.returns
-returns g c = keeps_all g.D.Disk

@@ -1,0 +1,238 @@
+use super::{GREETED, HELLO, format_small, path};
+use server::run;
+use std::fs::{self, File};
+use std::net::{Net, TcpListener, TcpStream};
+use std::process::Abort;
+use std::rt::Files;
+use std::sync::Wait;
+use std::test::Fail;
+use std::thread::Threads;
+
+/// The two slots of a small store hold some nine edits of this kind.
+const EDITS: u64 = 200;
+
+/// Two documents, of which the second one alone is edited.
+const CREATES: &str = "{\"do\":\"create\",\"doc\":\"e\",\"n\":1,\"ops\":[{\"insert\":\"e\"}]}\n\
+    {\"do\":\"create\",\"doc\":\"d\",\"n\":1,\"ops\":[{\"insert\":\"zzzz\"}]}\n";
+
+const CREATED: &str =
+    "{\"doc\":\"e\",\"n\":1,\"ok\":\"taken\",\"rev\":1}\n{\"doc\":\"d\",\"n\":1,\"ok\":\"taken\",\"rev\":1}\n";
+
+/// The letter that the edit of a revision puts in front of the other ones. The last of these goes.
+pub fn letter(revision: u64) -> char {
+    char::from(b'a'.saturating_add((revision % 26) as u8))
+}
+
+/// The edits that make the revisions above the first number up to the second one.
+pub fn edits(rt: &(impl Abort + AllocGlobal), above: u64, last: u64) -> String {
+    let mut lines = String::new(rt.alloc());
+    for base in above..last {
+        let revision = base.saturating_add(1);
+        let letter = letter(revision);
+        let line = format!(in rt.alloc();
+            "{{\"base\":{base},\"do\":\"edit\",\"doc\":\"d\",\"n\":{revision},\"ops\":[{{\"insert\":\"{letter}\"}},{{\"retain\":3}},{{\"delete\":1}}]}}\n"
+        );
+        lines
+            .push_str(line.expect(rt, "memory").as_str())
+            .expect(rt, "memory");
+    }
+    lines
+}
+
+/// The replies to these edits.
+fn taken(rt: &(impl Abort + AllocGlobal), above: u64, last: u64) -> String {
+    let mut lines = String::new(rt.alloc());
+    for base in above..last {
+        let revision = base.saturating_add(1);
+        let line = format!(in rt.alloc();
+            "{{\"doc\":\"d\",\"n\":{revision},\"ok\":\"taken\",\"rev\":{revision}}}\n"
+        );
+        lines
+            .push_str(line.expect(rt, "memory").as_str())
+            .expect(rt, "memory");
+    }
+    lines
+}
+
+/// What a run of the program that ends well writes.
+fn printed<
+    R: Files<File = File>
+        + AllocGlobal
+        + Net<Listener = TcpListener, Stream = TcpStream>
+        + Threads
+        + Wait
+        + Sync
+        + Abort,
+>(rt: &R, words: &[&str], input: &str) -> String {
+    let mut output = Vec::new(rt.alloc());
+    let mut errors = Vec::new(rt.alloc());
+    let status = run(rt, words, &mut input.as_bytes(), &mut output, &mut errors);
+    assert_eq!(rt; status, 0);
+    assert!(rt; errors.is_empty());
+    String::from_utf8(output).expect(rt, "a text")
+}
+
+/// Serves these lines behind hello, and nothing but these replies comes.
+fn is_served<
+    R: Files<File = File>
+        + AllocGlobal
+        + Net<Listener = TcpListener, Stream = TcpStream>
+        + Threads
+        + Wait
+        + Sync
+        + Abort,
+>(rt: &R, words: &[&str], lines: &str, replies: &str) {
+    let input = format!(in rt.alloc(); "{HELLO}{lines}").expect(rt, "memory");
+    let wanted = format!(in rt.alloc(); "{GREETED}{replies}").expect(rt, "memory");
+    assert_eq!(rt;
+        printed(rt, words, input.as_str()).as_str(),
+        wanted.as_str()
+    );
+}
+
+/// Serves the edits that make the revisions above the first number up to the second one, and each is acknowledged.
+fn are_taken<
+    R: Files<File = File>
+        + AllocGlobal
+        + Net<Listener = TcpListener, Stream = TcpStream>
+        + Threads
+        + Wait
+        + Sync
+        + Abort,
+>(rt: &R, words: &[&str], above: u64, last: u64) {
+    let lines = edits(rt, above, last);
+    is_served(rt, words, lines.as_str(), taken(rt, above, last).as_str());
+}
+
+/// Both documents as they are printed after all edits, with these floors: the second one has the letters of its last four edits.
+fn is_printed(rt: &(impl Abort + AllocGlobal), dumped: &str, floor: u64, other: u64) -> bool {
+    let a = letter(EDITS);
+    let b = letter(EDITS - 1);
+    let c = letter(EDITS - 2);
+    let d = letter(EDITS - 3);
+    let wanted = format!(in rt.alloc();
+        "e 1 {other} {{\"ops\":[{{\"insert\":\"e\"}}]}}\nd {EDITS} {floor} {{\"ops\":[{{\"insert\":\"{a}{b}{c}{d}\"}}]}}\n"
+    );
+    dumped == wanted.expect(rt, "memory").as_str()
+}
+
+/// By a pick of the milestones a store holds both documents. A floor is that of the milestone, or two revisions back.
+fn is_held<
+    R: Files<File = File>
+        + AllocGlobal
+        + Net<Listener = TcpListener, Stream = TcpStream>
+        + Threads
+        + Wait
+        + Sync
+        + Abort,
+>(rt: &R, path: &str, pick: &str) {
+    let dumped = printed(rt, &["richd", "dump", path, "--pick", pick], "");
+    let mut found = false;
+    for floor in EDITS - 2..=EDITS {
+        for other in 0..=1 {
+            found = found || is_printed(rt, dumped.as_str(), floor, other);
+        }
+    }
+    assert!(rt; found, "{dumped}");
+}
+
+/// A store takes twenty times what its journal holds, and each edit is acknowledged; the edits above a number come in a further run.
+fn goes_on<
+    R: Files<File = File>
+        + AllocGlobal
+        + Net<Listener = TcpListener, Stream = TcpStream>
+        + Threads
+        + Wait
+        + Sync
+        + Abort,
+>(rt: &R, path: &str, every: &str, parted: u64) {
+    let words = ["richd", "serve", path, "--every", every];
+    is_served(rt, &words, CREATES, CREATED);
+    are_taken(rt, &words, 1, parted);
+    are_taken(rt, &words, parted, EDITS);
+    is_held(rt, path, "newer");
+    is_held(rt, path, "older");
+}
+
+#[test]
+fn a_store_outlives_its_journal(rt: HostRuntime) -> Result<(), Fail> {
+    let path = path(&rt, "outlives")?;
+    for parted in [2, 101, EDITS] {
+        format_small(&rt, path.as_str())?;
+        goes_on(&rt, path.as_str(), "256", parted);
+        fs::remove_file(&rt, path.as_str())?;
+    }
+    Ok(())
+}
+
+#[test]
+fn and_with_milestones_that_lie_elsewhere(rt: HostRuntime) -> Result<(), Fail> {
+    let path = path(&rt, "elsewhere")?;
+    for (every, parted) in [("1", EDITS), ("2", 100), ("65536", 199)] {
+        format_small(&rt, path.as_str())?;
+        goes_on(&rt, path.as_str(), every, parted);
+        fs::remove_file(&rt, path.as_str())?;
+    }
+    Ok(())
+}
+
+/// How far milestones lie apart, and the floors of a document at revision 10 as its reading begins with its newer or its older
+/// milestone.
+const FLOORS: [(&str, &str, &str); 3] = [("1", "9", "8"), ("4", "8", "4"), ("65536", "0", "0")];
+
+/// By a pick the document is at revision 10, with this floor.
+fn has_floor<
+    R: Files<File = File>
+        + AllocGlobal
+        + Net<Listener = TcpListener, Stream = TcpStream>
+        + Threads
+        + Wait
+        + Sync
+        + Abort,
+>(rt: &R, path: &str, pick: &str, floor: &str) {
+    let dumped = printed(rt, &["richd", "dump", path, "--pick", pick], "");
+    let wanted = format!(in rt.alloc(); "\nd 10 {floor} ").expect(rt, "memory");
+    assert!(rt; dumped.as_str().contains(wanted.as_str()), "{dumped}");
+}
+
+/// A store of two slots of the usual size.
+fn format_wide<
+    R: Files<File = File>
+        + AllocGlobal
+        + Net<Listener = TcpListener, Stream = TcpStream>
+        + Threads
+        + Wait
+        + Sync
+        + Abort,
+>(rt: &R, path: &str) {
+    let words = ["richd", "format", path, "--slots", "2", "--docs", "2"];
+    assert_eq!(rt; printed(rt, &words, "").as_str(), "");
+}
+
+/// Ten revisions with milestones that lie so far apart give these floors.
+fn lie_apart<
+    R: Files<File = File>
+        + AllocGlobal
+        + Net<Listener = TcpListener, Stream = TcpStream>
+        + Threads
+        + Wait
+        + Sync
+        + Abort,
+>(rt: &R, path: &str, every: &str, newer: &str, older: &str) {
+    let words = ["richd", "serve", path, "--every", every];
+    is_served(rt, &words, CREATES, CREATED);
+    are_taken(rt, &words, 1, 10);
+    has_floor(rt, path, "newer", newer);
+    has_floor(rt, path, "older", older);
+}
+
+#[test]
+fn milestones_lie_so_far_apart(rt: HostRuntime) -> Result<(), Fail> {
+    let path = path(&rt, "apart")?;
+    for (every, newer, older) in &FLOORS {
+        format_wide(&rt, path.as_str());
+        lie_apart(&rt, path.as_str(), *every, *newer, *older);
+        fs::remove_file(&rt, path.as_str())?;
+    }
+    Ok(())
+}

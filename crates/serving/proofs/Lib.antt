@@ -1,0 +1,5 @@
+mod Dumps
+mod Streams
+mod Asking
+mod Worked
+mod KeptUp

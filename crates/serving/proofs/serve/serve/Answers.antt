@@ -1,0 +1,25 @@
+use Rattle.std.proofs.Common.{[], refl}
+use Rattle.serving.proofs.Asking.{keeps_all}
+use Rattle.serving.proofs.serve.serve.Goals as goal
+
+-- nothing was asked
+pub returns-in_err-session-clause-keeps : goal.returns-in_err-session-clause-keeps
+returns-in_err-session-clause-keeps g c works store_works is_open = ([], refl, keeps_all g.D.Disk c.args.desk.now c.args.desk.now [] works store_works is_open refl)
+
+pub returns-in_err-shelf-clause-keeps : goal.returns-in_err-shelf-clause-keeps
+returns-in_err-shelf-clause-keeps g c works store_works is_open = ([], refl, keeps_all g.D.Disk c.args.desk.now c.args.desk.now [] works store_works is_open refl)
+
+pub returns-in_err-serve_all-clause-keeps : goal.returns-in_err-serve_all-clause-keeps
+returns-in_err-serve_all-clause-keeps g c works store_works is_open =
+    let was = c.serve_all.ensures.asked in
+    (was.0, was.1, keeps_all g.D.Disk c.args.desk.now c.serve_all.new.desk was.0 works store_works is_open was.1)
+
+pub returns-then-has_failed-clause-keeps : goal.returns-then-has_failed-clause-keeps
+returns-then-has_failed-clause-keeps g c works store_works is_open =
+    let was = c.serve_all.ensures.asked in
+    (was.0, was.1, keeps_all g.D.Disk c.args.desk.now c.serve_all.new.desk was.0 works store_works is_open was.1)
+
+pub returns-clause-keeps : goal.returns-clause-keeps
+returns-clause-keeps g c works store_works is_open =
+    let was = c.serve_all.ensures.asked in
+    (was.0, was.1, keeps_all g.D.Disk c.args.desk.now c.serve_all.new.desk was.0 works store_works is_open was.1)

@@ -1,0 +1,12 @@
+use Rattle.serving.specs.Serving.{Serves}
+use Rattle.session.specs.Shelf.{Fits}
+use Rattle.serving.proofs.serve.serve_all.Given as goal
+
+-- what comes of the pieces so far is written, and the shelf fits
+abbrev pub invariant-pieces : goal.invariant-pieces
+invariant-pieces g l =
+    record {
+      fits : Fits (g.K.Desk.reached l.desk) l.shelf;
+      served : Serves g.K.Desk.does l.fn.session l.session l.fn.desk l.desk (g.I.Read.remaining l.fn.input) (g.I.Read.remaining l.input)
+          (g.O.Output.contents l.fn.output) (g.O.Output.contents l.output);
+    }

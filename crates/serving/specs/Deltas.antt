@@ -1,0 +1,12 @@
+-- Why a command on deltas ends without a line.
+use Rattle.std.specs.Prelude.{◌≡◌, ◌⊎◌, Err}
+use Rattle.refusal.specs.declared.Refusal.TheVariants.{NoMemory}
+use Rattle.algebra.specs.Tasks.{ComesTo}
+use Rattle.algebra.specs.declared.task.Task.{Task}
+use Rattle.serving.specs.declared.failure.Failure.{Failure}
+use Rattle.serving.specs.declared.failure.Failure.TheVariants.{Refused, Stream}
+
+-- by the refusal that the task comes to, for want of memory, or since the stream failed
+abbrev pub EndsWith : Task → Failure → Type 0
+EndsWith task (Refused refusal) = ComesTo task (Err refusal) ⊎ (refusal ≡ NoMemory)
+EndsWith task Stream = Unit {0}

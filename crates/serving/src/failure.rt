@@ -1,0 +1,41 @@
+//! Why a program ends before its end.
+ghost use Rattle.std.specs.Prelude.{◌≡◌};
+ghost use Rattle.serving.specs.declared.failure.Failure.TheVariants.{Refused};
+ghost use Rattle.refusal.specs.declared.Refusal.TheVariants as refusal;
+
+use disk::Fault;
+use refusal::Refusal;
+use std::alloc::AllocError;
+
+/// Why a program ends with status 1.
+#[derive(Debug, Drop)]
+pub enum Failure {
+    /// It was refused, which is told on standard error.
+    Refused(Refusal),
+    /// A standard stream failed, which is not told.
+    Stream,
+}
+
+impl From<Refusal> for Failure {
+    ghost from_gives = { λ refusal failure. failure ≡ Refused refusal };
+
+    fn from(refusal: Refusal) -> Failure {
+        Failure::Refused(refusal)
+    }
+}
+
+impl From<AllocError> for Failure {
+    ghost from_gives = { λ _ failure. failure ≡ Refused refusal.NoMemory };
+
+    fn from(_error: AllocError) -> Failure {
+        Failure::Refused(Refusal::NoMemory)
+    }
+}
+
+impl From<Fault> for Failure {
+    ghost from_gives = { λ _ failure. failure ≡ Refused refusal.Fault };
+
+    fn from(_fault: Fault) -> Failure {
+        Failure::Refused(Refusal::Fault)
+    }
+}

@@ -1,0 +1,181 @@
+//! One session over a pair of streams.
+ghost use Rattle.std.specs.Prelude.{◌≡◌, ◌⊎◌, ◌≤◌, ◌<◌, ◌∷◌, List, ℕ, [], None, Some, true, false, take, length, IfOk, IfErr, IsErrOf, OnOk, OnErr};
+ghost use Rattle.std.specs.Io.KnownBytes.{Consumes, IsAtEnd, Keeps};
+ghost use Rattle.recovery.specs.Open.{IsOpen, has_failed as store_has_failed};
+ghost use Rattle.serving.specs.Asked.{KeepsAll};
+ghost use Rattle.serving.specs.Desk.{PassesAtStore, store_of, has_failed};
+ghost use Rattle.session.specs.Exchange.{Exchange};
+ghost use Rattle.session.specs.Replies.{Asks};
+ghost use Rattle.session.specs.Shelf.{Fits};
+ghost use Rattle.serving.specs.Serving.{Serves, ServesBytes, IsServed, WasAsked};
+
+use crate::desk::StoreDesk;
+use crate::failure::Failure;
+use disk::Disk;
+use refusal::Refusal;
+use session::{Desk, Output, Session, Shelf};
+use std::alloc::Global;
+use std::io::{ErrorKind, Read};
+
+/// How many bytes are read at once.
+const PIECE: usize = 8192;
+
+/// Serves one session to the end of the input, with the news after each line, and ends with `StoreFailed` where the store has
+/// failed by then. A stream that fails ends it at once (`Stream`), and so does `NoMemory` at its beginning.
+pub fn serve<D: Disk, I: Read, O: Output>(
+    alloc: Global,
+    desk: &mut StoreDesk<D>,
+    input: &mut I,
+    output: &mut O,
+) -> Result<(), Failure>
+    // What is written is what comes of all the input, with the answers of the desk, and the news after each line.
+    ensures served { OnOk result (IsServed PassesAtStore desk.old desk.new
+        (I.remaining input.old) (I.remaining input.new) (O.contents output.old) (O.contents output.new)) }
+    // Whatever ends it: the desk was asked commands one after another, and a crash at any moment, or afterwards, leaves
+    // all that was acknowledged before it.
+    ensures keeps { has_failed desk.old ≡ false → store_has_failed (store_of desk.old) ≡ false → IsOpen (store_of desk.old)
+        → (asked : List Exchange) × Asks PassesAtStore desk.old asked desk.new × KeepsAll ⟦<D as Disk>⟧ desk.old desk.new asked }
+    ensures works { OnOk result (has_failed desk.new ≡ false) }
+    ensures failed { IsErrOf result (Failure.Refused Refusal.StoreFailed) → (has_failed desk.new ≡ true)
+        × IsServed PassesAtStore desk.old desk.new
+        (I.remaining input.old) (I.remaining input.new) (O.contents output.old) (O.contents output.new) }
+    ensures no_memory { IsErrOf result (Failure.Refused Refusal.NoMemory) → (desk.new ≡ desk.old)
+        × (input.new ≡ input.old) × (output.new ≡ output.old) }
+    ensures only { IfErr result (λ e. (e ≡ Failure.Stream)
+        ⊎ ((e ≡ Failure.Refused Refusal.StoreFailed) ⊎ (e ≡ Failure.Refused Refusal.NoMemory))) }
+{
+    let mut session = Session::new(alloc)?;
+    let mut shelf = Shelf::new(alloc)?;
+    serve_all(alloc, &mut session, desk, &mut shelf, input, output)?;
+    if desk.has_failed() {
+        return Err(Failure::Refused(Refusal::StoreFailed));
+    }
+    Ok(())
+}
+
+// Serves pieces of the input up to its end.
+fn serve_all<K: Desk, I: Read, O: Output>(
+    alloc: Global,
+    session: &mut Session,
+    desk: &mut K,
+    shelf: &mut Shelf,
+    input: &mut I,
+    output: &mut O,
+) -> Result<(), Failure>
+    requires fits { Fits (K.reached desk.old) shelf.old }
+    ensures fits { Fits (K.reached desk.new) shelf.new }
+    ensures served { OnOk result (Serves K.does session.old session.new desk.old desk.new
+        (I.remaining input.old) (I.remaining input.new) (O.contents output.old) (O.contents output.new)) }
+    ensures at_end { OnOk result (IsAtEnd (I.remaining input.new)) }
+    ensures asked { WasAsked K.does desk.old desk.new }
+    ensures only { IfErr result (λ e. e ≡ Failure.Stream) }
+{
+    'pieces: for _ in 0..u64::MAX {
+        if !serve_piece(alloc, session, desk, shelf, input, output)? {
+            return Ok(());
+        }
+    }
+    Err(Failure::Stream)
+}
+
+// Reads a piece of the input and answers its lines. The answer is whether there was one.
+fn serve_piece<K: Desk, I: Read, O: Output>(
+    alloc: Global,
+    session: &mut Session,
+    desk: &mut K,
+    shelf: &mut Shelf,
+    input: &mut I,
+    output: &mut O,
+) -> Result<bool, Failure>
+    requires fits { Fits (K.reached desk.old) shelf.old }
+    ensures fits { Fits (K.reached desk.new) shelf.new }
+    ensures served { OnOk result (Serves K.does session.old session.new desk.old desk.new
+        (I.remaining input.old) (I.remaining input.new) (O.contents output.old) (O.contents output.new)) }
+    ensures at_end { IfOk result (λ went_on. went_on ≡ false → IsAtEnd (I.remaining input.new)) }
+    ensures asked { WasAsked K.does desk.old desk.new }
+    ensures only { IfErr result (λ e. e ≡ Failure.Stream) }
+{
+    let mut piece = [0; PIECE];
+    let count = read_some(input, &mut piece)?;
+    feed_all(alloc, session, desk, shelf, &piece[..count], output)?;
+    flush(output)?;
+    Ok(count > 0)
+}
+
+// A read that a signal cut short is made again.
+fn read_some<I: Read>(input: &mut I, piece: &mut [u8]) -> Result<usize, Failure>
+    requires { 0 < length piece.old }
+    ensures within { IfOk result (λ n. n ≤ length piece.new) }
+    ensures given { IfOk result (λ n. Consumes (I.remaining input.old) (I.remaining input.new) (take n piece.new)) }
+    ensures at_end { IfOk result (λ n. n ≡ 0 → IsAtEnd (I.remaining input.new)) }
+    ensures only { IfErr result (λ e. e ≡ Failure.Stream) }
+{
+    'tries: for _ in 0..u64::MAX {
+        match input.read(piece) {
+            Ok(count) => return Ok(count),
+            Err(error) if error.kind() == ErrorKind::Interrupted => {}
+            Err(_) => return Err(Failure::Stream),
+        }
+    }
+    Err(Failure::Stream)
+}
+
+// Feeds a piece byte by byte, so that the replies to a line and the news after it are out before the next one is taken.
+fn feed_all<K: Desk, O: Output>(
+    alloc: Global,
+    session: &mut Session,
+    desk: &mut K,
+    shelf: &mut Shelf,
+    piece: &[u8],
+    output: &mut O,
+) -> Result<(), Failure>
+    requires fits { Fits (K.reached desk.old) shelf.old }
+    ensures fits { Fits (K.reached desk.new) shelf.new }
+    ensures served { OnOk result (ServesBytes K.does session.old piece.now session.new desk.old desk.new
+        (O.contents output.old) (O.contents output.new)) }
+    ensures asked { WasAsked K.does desk.old desk.new }
+    ensures only { IfErr result (λ e. e ≡ Failure.Stream) }
+{
+    for byte in piece {
+        feed_byte(alloc, session, desk, shelf, *byte, output)?;
+    }
+    Ok(())
+}
+
+fn feed_byte<K: Desk, O: Output>(
+    alloc: Global,
+    session: &mut Session,
+    desk: &mut K,
+    shelf: &mut Shelf,
+    byte: u8,
+    output: &mut O,
+) -> Result<(), Failure>
+    requires fits { Fits (K.reached desk.old) shelf.old }
+    ensures fits { Fits (K.reached desk.new) shelf.new }
+    ensures served { OnOk result (ServesBytes K.does session.old (byte ∷ []) session.new desk.old desk.new
+        (O.contents output.old) (O.contents output.new)) }
+    ensures asked { WasAsked K.does desk.old desk.new }
+    ensures only { IfErr result (λ e. e ≡ Failure.Stream) }
+{
+    let Ok(()) = session.feed(alloc, &[byte], output, desk, shelf) else {
+        return Err(Failure::Stream);
+    };
+    if byte != b'\n' {
+        return Ok(());
+    }
+    let Ok(_) = session.on_news(alloc, output, desk) else {
+        return Err(Failure::Stream);
+    };
+    flush(output)?;
+    Ok(())
+}
+
+fn flush<O: Output>(output: &mut O) -> Result<(), Failure>
+    ensures kept { Keeps (O.contents output.old) (O.contents output.new) }
+    ensures only { IfErr result (λ e. e ≡ Failure.Stream) }
+{
+    let Ok(()) = output.flush() else {
+        return Err(Failure::Stream);
+    };
+    Ok(())
+}

@@ -1,0 +1,182 @@
+//! Commits that free the journal where it is full, and milestones that are put as they are due.
+ghost use Rattle.std.specs.Prelude.{◌≤◌};
+
+use crate::crashes::is_beginning;
+use crate::rings::{LEFT, second, with_last_number};
+use crate::scripts::{
+    Move, Numbers, Script, batch, drawn_document, no_moves, push_change, script_device, take_move,
+};
+use crate::stopping::calls_before;
+use crate::stores::{SLOT, device_of, is_opened_as, open_store, part, with_bytes_at};
+use disk::{Disk, FaultDisk, FaultPlan, MemDisk};
+use journal::decode_batch;
+use recovery::Store;
+use refusal::Refusal;
+use std::process::Abort;
+
+/// A store commits the batch that these bytes spell, and frees the journal for it where it is full.
+pub fn commit_freeing<D: Disk>(
+    rt: &(impl Abort + AllocGlobal),
+    store: &mut Store<D>,
+    bytes: &[u8],
+) -> Result<(), Refusal> {
+    let found = decode_batch(rt.alloc(), bytes).expect(rt, "memory");
+    let batch = found.expect(rt, "a batch");
+    assert!(rt; 1 <= batch.len() && batch.len() <= 9);
+    assert!(rt; store.fits(&batch));
+    match store.commit_freeing(rt.alloc(), &batch) {
+        Ok(_) => Ok(()),
+        Err(refusal) => Err(refusal),
+    }
+}
+
+// Puts a milestone of a document where one is due.
+fn put_due<D: Disk>(
+    rt: &(impl Abort + AllocGlobal),
+    store: &mut Store<D>,
+    document: u32,
+    every: u64,
+) -> Result<bool, Refusal>
+    requires { 1 ≤ every }
+{
+    store.put_due(rt.alloc(), document, every)
+}
+
+// Frees the oldest segment.
+fn free_oldest<D: Disk>(
+    rt: &(impl Abort + AllocGlobal),
+    store: &mut Store<D>,
+) -> Result<(), Refusal> {
+    store.free_oldest(rt.alloc())
+}
+
+// The change that was drawn last is committed.
+fn feed<D: Disk>(rt: &(impl Abort + AllocGlobal), store: &mut Store<D>, script: &mut Script) {
+    let bytes = batch(rt, script, script.moves.len(), 1);
+    assert_eq!(rt; commit_freeing(rt, store, &bytes), Ok(()));
+    script.moves.push(Move::Commit(1)).expect(rt, "memory");
+}
+
+// The three slots have 768 bytes, and a record 47 at least.
+#[test]
+fn a_journal_is_fed_twenty_times_its_size(rt: HostRuntime) {
+    let mut store = open_store(&rt, script_device(&rt));
+    let mut numbers = Numbers { state: 20 };
+    let mut script = no_moves(&rt);
+    for _ in 0..330 {
+        let document = drawn_document(&mut numbers, &script);
+        push_change(&rt, &mut numbers, &mut script, document);
+        feed(&rt, &mut store, &mut script);
+    }
+    assert!(rt; !store.has_failed());
+    is_beginning(&rt, store.close().bytes(), &script, 330);
+}
+
+// A device on which the next move of a script finds the journal full. A commit makes eight calls at most.
+fn full_device(rt: &(impl Abort + AllocGlobal), script: &mut Script) -> MemDisk {
+    let mut numbers = Numbers { state: 7 };
+    let mut device = script_device(rt);
+    for _ in 0..40 {
+        let document = drawn_document(&mut numbers, script);
+        push_change(rt, &mut numbers, script, document);
+        let most = calls_before(rt, device.bytes()).saturating_add(8);
+        let mut store = open_store(rt, device_of(rt, device.bytes()));
+        feed(rt, &mut store, script);
+        let after = store.close();
+        if after.calls().len() as u64 > most {
+            drop(script.moves.pop());
+            return device;
+        }
+        device = after;
+    }
+    panic!(rt; "no move finds the journal full")
+}
+
+// A call of the freeing commit fails, and where it stops each later one.
+fn goes_wrong(rt: &(impl Abort + AllocGlobal), bytes: &[u8], script: &Script, plan: FaultPlan) {
+    let moves = script.moves.len();
+    let next = batch(rt, script, moves, 1);
+    let mut store = open_store(rt, FaultDisk::new(device_of(rt, bytes), plan));
+    let fault = Err(Refusal::Fault);
+    assert_eq!(rt; commit_freeing(rt, &mut store, &next), fault);
+    assert_eq!(rt; commit_freeing(rt, &mut store, &next), fault);
+    assert_eq!(rt; free_oldest(rt, &mut store), fault);
+    assert_eq!(rt; put_due(rt, &mut store, 0, 2), Err(Refusal::Fault));
+    let disk = store.close();
+    let after = disk.after_crash(rt.alloc()).expect(rt, "memory");
+    is_beginning(rt, after.bytes(), script, moves);
+    is_beginning(rt, disk.disk().bytes(), script, moves);
+}
+
+// How many calls the freeing commit ends with.
+fn calls_after(rt: &(impl Abort + AllocGlobal), bytes: &[u8], script: &Script) -> u64 {
+    let mut store = open_store(rt, device_of(rt, bytes));
+    let next = batch(rt, script, script.moves.len(), 1);
+    assert_eq!(rt; commit_freeing(rt, &mut store, &next), Ok(()));
+    store.close().calls().len() as u64
+}
+
+#[test]
+fn each_call_of_a_freeing_goes_wrong(rt: HostRuntime) {
+    let mut script = no_moves(&rt);
+    let device = full_device(&rt, &mut script);
+    for call in calls_before(&rt, device.bytes())..calls_after(&rt, device.bytes(), &script) {
+        for (left, _) in &LEFT {
+            goes_wrong(&rt, device.bytes(), &script, FaultPlan::stop(call, *left));
+            goes_wrong(&rt, device.bytes(), &script, FaultPlan::fail(call, *left));
+        }
+    }
+}
+
+// Every second revision of the only document is put, so its cells are never four below, and a segment is given up before each
+// slot is taken: no plain commit finds the journal full.
+#[test]
+fn a_milestone_is_put_where_it_is_due(rt: HostRuntime) {
+    let mut store = open_store(&rt, script_device(&rt));
+    let mut numbers = Numbers { state: 2 };
+    let mut script = no_moves(&rt);
+    assert_eq!(rt; put_due(&rt, &mut store, 0, 2), Ok(false));
+    for revision in 1..101 {
+        push_change(&rt, &mut numbers, &mut script, 0);
+        let next = Move::Commit(1);
+        let moves = script.moves.len();
+        assert_eq!(rt; take_move(&rt, &mut store, &script, moves, next), Ok(()));
+        script.moves.push(next).expect(&rt, "memory");
+        assert_eq!(rt; put_due(&rt, &mut store, 0, 2), Ok(revision % 2 == 0));
+        assert_eq!(rt; put_due(&rt, &mut store, 0, 2), Ok(false));
+    }
+    is_beginning(&rt, store.close().bytes(), &script, 100);
+}
+
+// No number is behind that of the only segment, and a second batch doesn't fit it. It is needed, and nothing is written.
+#[test]
+fn the_only_segment_is_not_freed(rt: HostRuntime) {
+    let bytes = with_last_number(&rt);
+    let mut store = open_store(&rt, device_of(&rt, &bytes));
+    let needed = Err(Refusal::StillNeeded);
+    assert_eq!(rt; free_oldest(&rt, &mut store), needed);
+    assert_eq!(rt; commit_freeing(&rt, &mut store, &second(&rt)), needed);
+    assert!(rt; !store.has_failed());
+    let disk = store.close();
+    assert_eq!(rt; disk.bytes(), bytes.as_slice());
+    is_opened_as(&rt, disk.bytes(), "d 2 zx\n");
+}
+
+// Of two segments the oldest is freed, but no number is behind that of the newer one, so no slot is opened.
+#[test]
+fn what_is_freed_may_not_be_enough(rt: HostRuntime) {
+    let bytes = with_bytes_at(&rt, &with_last_number(&rt), 1_089, &[254]);
+    let mut store = open_store(&rt, device_of(&rt, &bytes));
+    assert_eq!(rt; commit_freeing(&rt, &mut store, &second(&rt)), Ok(()));
+    let third = part(&rt, &SLOT, 64, 45);
+    let full = Err(Refusal::JournalFull);
+    assert_eq!(rt; commit_freeing(&rt, &mut store, &third), full);
+    let needed = Err(Refusal::StillNeeded);
+    assert_eq!(rt; commit_freeing(&rt, &mut store, &third), needed);
+    let disk = store.close();
+    is_opened_as(&rt, disk.bytes(), "d 3 zx\n");
+    assert_eq!(rt;
+        part(&rt, disk.bytes(), 1_088, 1).as_slice(),
+        [0].as_slice()
+    );
+}

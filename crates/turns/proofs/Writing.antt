@@ -1,0 +1,303 @@
+-- How what the flusher's thread does goes on from call to call.
+use Rattle.std.proofs.Common.{◌≡◌, ◌≢◌, ◌↔◌, ◌⊎◌, ◌≤◌, ◌+◌, inl, inr, ℕ, Bool, true, false, List, [], ◌∷◌, ◌++◌, length, refl, sym, ◌∙◌, ap, subst, arith, append_assoc, append-nil, length-append}
+use Rattle.std.specs.Prelude.{Result, Ok, Err, IfOk, IfErr, IsErrOf}
+use Rattle.std.proofs.lemmas.Bool.{false≢true}
+use Rattle.disk.specs.declared.device.Disk.{Ghosts}
+use Rattle.refusal.specs.declared.Refusal.{Refusal}
+use Rattle.refusal.specs.declared.Refusal.TheVariants.{JournalFull, Stranger, StillNeeded, StoreFailed, NoMemory, Fault}
+use Rattle.revision.specs.Command.{Taken}
+use Rattle.revision.specs.State.{State, fold, all_grow}
+use Rattle.recovery.specs.declared.store.Store.{Store}
+use Rattle.recovery.specs.Found.{commands_of, FoundAs}
+use Rattle.recovery.specs.Open.{IsWithOrWithout, state_of, has_failed, has_room}
+use Rattle.recovery.specs.Goes.{Goes}
+use Rattle.recovery.proofs.CallerLemmas.{goes_none, goes_map, goes_on, found_now, found_as, found_open}
+use Rattle.flusher.specs.declared.flusher.Flusher.{Flusher}
+use Rattle.flusher.specs.Batches.{IsBeginning}
+use Rattle.flusher.specs.Flushers.{IsUsedUp, IsWritten}
+use Rattle.flusher.specs.Holding.{IsLost, IsUncommitted, store_of, told_of, committed_of, waiting_of}
+use Rattle.flusher.proofs.CallerLemmas.{commands-append, fewer, longer, within_write}
+use Rattle.turns.specs.Writing.{IsKeptUp, IsFullFor, IsOneMore, IsTurnFailed, given_to, told_count, Writes}
+
+-- what the store of a flusher holds
+abbrev Kept : State → State → List (List Taken) → List (List Taken) → Type 0
+Kept start state told committed = state ≡ fold start (commands_of (told ++ committed))
+
+-- what is committed makes no fewer commands
+no_fewer : (told committed : List (List Taken)) → length (commands_of told) ≤ length (commands_of (told ++ committed))
+no_fewer told committed = omega (arith, ap length (commands-append told committed), length-append (commands_of told) (commands_of committed))
+
+-- a content that stands for what is published and committed, or for the batch that is held too
+held_found : (start state : State) (told committed waiting : List (List Taken)) (content : List ℕ) → Kept start state told committed
+    → IsWithOrWithout state (commands_of waiting) content → IsBeginning (length (commands_of told)) start (told ++ (committed ++ waiting)) content
+held_found start state told committed waiting content kept found =
+    within_write (length (commands_of told)) start state (told ++ (committed ++ waiting)) (told ++ committed) waiting content (sym (append_assoc told committed waiting)) (no_fewer told committed) kept found
+
+module _ {D J : Type 0} {disk : Ghosts D} where
+  -- some calls, and then others, where the first ones didn't fail
+  pub writes_on : (start : State) (old mid new : Flusher D J disk) → Writes start old mid → (has_failed (store_of old) ≡ false → has_failed (store_of mid) ≡ false) → Writes start mid new → Writes start old new
+  writes_on start old mid new first works second =
+      let more = second.more in
+      let ends : told_count mid ≡ told_count old + length (commands_of first.told.0) =
+      ap (λ (t : List (List Taken)). length (commands_of t)) first.told.1 ∙ ap length (commands-append (told_of old) first.told.0) ∙ length-append (commands_of (told_of old)) (commands_of first.told.0) in
+      let least : told_count old ≤ told_count mid = omega (arith, ends) in
+      record {
+        told = (
+          first.told.0 ++ second.told.0,
+          second.told.1 ∙ ap (λ (t : List (List Taken)). t ++ second.told.0) first.told.1 ∙ append_assoc (told_of old) first.told.0 second.told.0,
+        );
+        more = (
+          first.more.0 ++ more.0,
+          more.1 ∙ ap (λ (b : List (List Taken)). b ++ more.0) first.more.1 ∙ append_assoc (given_to old) first.more.0 more.0,
+        );
+        goes = goes_on
+            (goes_map (λ content found. longer (told_count old) start (given_to mid) (given_to new) more.0 content more.1 found) first.goes)
+            (goes_map (λ content found. fewer (told_count mid) (told_count old) start (given_to new) content least found) second.goes);
+        lasts = λ worked is_open. second.lasts (works worked) (first.goes.opens (works worked) is_open);
+      }
+
+  -- what was given is the same, and no more is published
+  pub writes_same : (start : State) (old new : Flusher D J disk) → Kept start (state_of (store_of old)) (told_of old) (committed_of old)
+      → Goes (IsWithOrWithout (state_of (store_of old)) (commands_of (waiting_of old))) (store_of old) (store_of new)
+      → told_of new ≡ told_of old → given_to new ≡ given_to old → Writes start old new
+  writes_same start old new kept goes tells same =
+      let mapped : Goes (IsBeginning (told_count old) start (given_to new)) (store_of old) (store_of new) =
+      goes_map (λ content found. subst (λ (b : List (List Taken)). IsBeginning (told_count old) start b content) (sym same)
+      (held_found start (state_of (store_of old)) (told_of old) (committed_of old) (waiting_of old) content kept found)) goes in
+      let count : told_count new ≡ told_count old = ap (λ (t : List (List Taken)). length (commands_of t)) tells in
+      record {
+        told = ([], tells ∙ sym (append-nil (told_of old)));
+        more = ([], same ∙ sym (append-nil (given_to old)));
+        goes = mapped;
+        lasts = λ works is_open content left.
+            fewer (told_count old) (told_count new) start (given_to new) content (omega (arith, count)) ((mapped.any_moment works is_open).last content left);
+      }
+
+  -- the store alone changes, and stands for the same
+  pub writes_still : (start : State) (old new : Flusher D J disk) → Kept start (state_of (store_of old)) (told_of old) (committed_of old)
+      → Goes (λ content. FoundAs content (state_of (store_of old))) (store_of old) (store_of new)
+      → told_of new ≡ told_of old → committed_of new ≡ committed_of old → waiting_of new ≡ waiting_of old → Writes start old new
+  writes_still start old new kept goes tells commits waits =
+      let same : given_to new ≡ given_to old =
+      ap (λ (t : List (List Taken)). t ++ (committed_of new ++ waiting_of new)) tells ∙ ap (λ (l : List (List Taken)). told_of old ++ (l ++ waiting_of new)) commits
+      ∙ ap (λ (l : List (List Taken)). told_of old ++ (committed_of old ++ l)) waits in
+      writes_same start old new kept (goes_map (λ content found. inl found) goes) tells same
+
+  -- what was held is written and published
+  pub writes_published : (start : State) (old new : Flusher D J disk) → Kept start (state_of (store_of old)) (told_of old) (committed_of old)
+      → Kept start (state_of (store_of new)) (told_of new) (committed_of new)
+      → Goes (IsWithOrWithout (state_of (store_of old)) (commands_of (waiting_of old))) (store_of old) (store_of new)
+      → (has_failed (store_of old) ≡ false → has_failed (store_of new) ≡ false)
+      → told_of new ≡ told_of old ++ (committed_of old ++ waiting_of old) → committed_of new ≡ [] → waiting_of new ≡ [] → Writes start old new
+  writes_published start old new kept after goes works tells none nothing =
+      let same : given_to new ≡ given_to old =
+      ap (λ (l : List (List Taken)). told_of new ++ (l ++ waiting_of new)) none ∙ ap (λ (l : List (List Taken)). told_of new ++ l) nothing ∙ append-nil (told_of new) ∙ tells in
+      record {
+        told = (committed_of old ++ waiting_of old, tells);
+        more = ([], same ∙ sym (append-nil (given_to old)));
+        goes = goes_map (λ content found. subst (λ (b : List (List Taken)). IsBeginning (told_count old) start b content) (sym same)
+            (held_found start (state_of (store_of old)) (told_of old) (committed_of old) (waiting_of old) content kept found)) goes;
+        lasts = λ worked is_open content left.
+            held_found start (state_of (store_of new)) (told_of new) (committed_of new) (waiting_of new) content after
+            (inl (found_now (store_of new) (goes.opens (works worked) is_open) content left));
+      }
+
+  -- a batch more is held
+  pub writes_held : (start : State) (old new : Flusher D J disk) (batch : List Taken) → Kept start (state_of (store_of old)) (told_of old) (committed_of old)
+      → store_of new ≡ store_of old → told_of new ≡ told_of old → committed_of new ≡ committed_of old → waiting_of old ≡ [] → waiting_of new ≡ batch ∷ [] → Writes start old new
+  writes_held start old new batch kept store tells commits nothing waits =
+      let more : given_to new ≡ given_to old ++ batch ∷ [] =
+      ap (λ (t : List (List Taken)). t ++ (committed_of new ++ waiting_of new)) tells ∙ ap (λ (l : List (List Taken)). told_of old ++ (l ++ waiting_of new)) commits
+      ∙ ap (λ (l : List (List Taken)). told_of old ++ (committed_of old ++ l)) (waits ∙ ap (λ (l : List (List Taken)). l ++ batch ∷ []) (sym nothing))
+      ∙ ap (λ (l : List (List Taken)). told_of old ++ l) (sym (append_assoc (committed_of old) (waiting_of old) (batch ∷ [])))
+      ∙ sym (append_assoc (told_of old) (committed_of old ++ waiting_of old) (batch ∷ [])) in
+      let found : (content : List ℕ) → FoundAs content (state_of (store_of old)) → IsBeginning (told_count old) start (given_to new) content =
+      λ content found. longer (told_count old) start (given_to old) (given_to new) (batch ∷ []) content more
+      (held_found start (state_of (store_of old)) (told_of old) (committed_of old) (waiting_of old) content kept (inl found)) in
+      let count : told_count new ≡ told_count old = ap (λ (t : List (List Taken)). length (commands_of t)) tells in
+      let still : Goes (IsBeginning (told_count old) start (given_to new)) (store_of old) (store_of new) =
+      subst (λ (s : Store D disk). Goes (IsBeginning (told_count old) start (given_to new)) (store_of old) s) (sym store)
+      (goes_none (store_of old) (λ is_open. found _ (found_as _ _ (found_open (store_of old) is_open)))) in
+      record {
+        told = ([], tells ∙ sym (append-nil (told_of old)));
+        more = (batch ∷ [], more);
+        goes = still;
+        lasts = λ works is_open content left.
+            fewer (told_count old) (told_count new) start (given_to new) content (omega (arith, count)) ((still.any_moment works is_open).last content left);
+      }
+
+  -- no call at all
+  pub writes_none : (start : State) (here : Flusher D J disk) → Kept start (state_of (store_of here)) (told_of here) (committed_of here) → Writes start here here
+  writes_none start here kept =
+      writes_still start here here kept (goes_none (store_of here) (λ is_open. found_as _ _ (found_open (store_of here) is_open))) refl refl refl
+
+-- an Ok is no refusal
+no_error : {A : Type 0} (answer : A) (refusal : Refusal) → IsErrOf (Ok answer) refusal → ⊥
+no_error answer refusal is = cc
+
+unfailed : (b : Bool) → (b ≡ true → ⊥) → b ≡ false
+unfailed true never = absurd (never refl)
+unfailed false never = refl
+
+-- the refusal of an answer, or this one where there is none
+abbrev refusal_in : {T : Type 0} → Refusal → Result T Refusal → Refusal
+refusal_in none (Ok answer) = none
+refusal_in none (Err refusal) = refusal
+
+pub same_refusal : {S T : Type 0} (one : Refusal) (two : Refusal) → IsErrOf {T = S} (Err one) two → IsErrOf {T = T} (Err one) two
+same_refusal one two is = ap (λ (e : Refusal). Err e) (ap (refusal_in one) is)
+
+-- whether a store that worked works, by an answer
+pub works_after : {A : Type 0} (answer : A) (old new : Bool) → (old ≡ false → (new ≡ true ↔ IsErrOf (Ok answer) Fault)) → old ≡ false → new ≡ false
+works_after answer old new fails works = unfailed new (λ failed. no_error answer Fault ((fails works).0 failed))
+
+pub works_refused : {A : Type 0} (refusal : Refusal) (old new : Bool) → (old ≡ false → (new ≡ true ↔ IsErrOf {T = A} (Err refusal) Fault)) → refusal ≢ Fault → old ≡ false → new ≡ false
+works_refused refusal old new fails other works = unfailed new (λ failed. other (ap (refusal_in refusal) ((fails works).0 failed)))
+
+pub fails_ok : {A : Type 0} (answer : A) (old new : Bool) → (old ≡ false → new ≡ false) → old ≡ false → new ≡ true ↔ IsErrOf (Ok answer) Fault
+fails_ok answer old new works worked = (λ failed. absurd (false≢true (sym (works worked) ∙ failed)), λ is. absurd (no_error answer Fault is))
+
+pub fails_err : {S T : Type 0} (refusal : Refusal) (old new : Bool) → (old ≡ false → (new ≡ true ↔ IsErrOf {T = S} (Err refusal) Fault)) → old ≡ false
+    → new ≡ true ↔ IsErrOf {T = T} (Err refusal) Fault
+fails_err refusal old new fails works = (λ failed. same_refusal refusal Fault ((fails works).0 failed), λ is. (fails works).1 (same_refusal refusal Fault is))
+
+pub fails_not : {T : Type 0} (refusal : Refusal) (old new : Bool) → (old ≡ false → new ≡ false) → refusal ≢ Fault → old ≡ false → new ≡ true ↔ IsErrOf {T = T} (Err refusal) Fault
+fails_not refusal old new works other worked = (λ failed. absurd (false≢true (sym (works worked) ∙ failed)), λ is. absurd (other (ap (refusal_in refusal) is)))
+
+pub memory_not_fault : (refusal : Refusal) → refusal ≡ NoMemory → refusal ≢ Fault
+memory_not_fault refusal is fault = cc
+
+pub stranger_not_fault : (refusal : Refusal) → refusal ≡ Stranger → refusal ≢ Fault
+stranger_not_fault refusal is fault = cc
+
+-- a batch that is held is one
+pub some_held : (committed waiting : List (List Taken)) (batch : List Taken) → waiting ≡ batch ∷ [] → committed ++ waiting ≢ []
+some_held [] waiting batch is none = cc
+some_held (first ∷ others) waiting batch is none = cc
+
+module _ {D : Type 0} {disk : Ghosts D} where
+  -- a store that is the same as one that was kept up
+  pub kept_up_same : (old mid new : Store D disk) → IsKeptUp old mid → new ≡ mid → IsKeptUp old new
+  kept_up_same old mid new first same = subst (λ (s : Store D disk). IsKeptUp old s) (sym same) first
+
+  pub kept_up_none : (store : Store D disk) → IsKeptUp store store
+  kept_up_none store = record { goes = goes_none store (λ is_open. found_as _ _ (found_open store is_open)); state = refl }
+
+  pub kept_up_on : (old mid new : Store D disk) → IsKeptUp old mid → IsKeptUp mid new → IsKeptUp old new
+  kept_up_on old mid new first second = record {
+    goes = goes_on first.goes (subst (λ (s : State). Goes (λ content. FoundAs content s) mid new) first.state second.goes);
+    state = second.state ∙ first.state;
+  }
+
+  -- what finds no room in a store that was kept up finds none in the one before
+  pub full_before : (batch : List Taken) (old mid : Store D disk) → IsKeptUp old mid → (has_failed old ≡ false → has_failed mid ≡ false) → IsFullFor batch mid → IsFullFor batch old
+  full_before batch old mid first works full = record {
+    between = full.between;
+    kept_up = kept_up_on old mid full.between first full.kept_up;
+    works = λ worked. full.works (works worked);
+    no_room = full.no_room;
+    last = full.last;
+  }
+
+module _ {D J : Type 0} {disk : Ghosts D} where
+  -- a store that was kept up, and nothing else
+  pub writes_kept_up : (start : State) (old new : Flusher D J disk) → Kept start (state_of (store_of old)) (told_of old) (committed_of old) → IsKeptUp (store_of old) (store_of new)
+      → told_of new ≡ told_of old → committed_of new ≡ committed_of old → waiting_of new ≡ waiting_of old → Writes start old new
+  writes_kept_up start old new kept kept_up tells commits waits = writes_still start old new kept kept_up.goes tells commits waits
+
+  -- a write that was refused
+  pub writes_refused : (start : State) (old new : Flusher D J disk) → Kept start (state_of (store_of old)) (told_of old) (committed_of old)
+      → Goes (IsWithOrWithout (state_of (store_of old)) (commands_of (waiting_of old))) (store_of old) (store_of new)
+      → told_of new ≡ told_of old → committed_of new ++ waiting_of new ≡ committed_of old ++ waiting_of old → Writes start old new
+  writes_refused start old new kept goes tells held =
+      writes_same start old new kept goes tells
+      (ap (λ (t : List (List Taken)). t ++ (committed_of new ++ waiting_of new)) tells ∙ ap (λ (l : List (List Taken)). told_of old ++ l) held)
+
+  -- a write that published what was held, as one batch
+  pub writes_written : (start : State) (old new : Flusher D J disk) (receipt : List Taken) (token : List (List Taken)) → Kept start (state_of (store_of old)) (told_of old) (committed_of old)
+      → Kept start (state_of (store_of new)) (told_of new) (committed_of new)
+      → Goes (IsWithOrWithout (state_of (store_of old)) (commands_of (waiting_of old))) (store_of old) (store_of new)
+      → (has_failed (store_of old) ≡ false → has_failed (store_of new) ≡ false)
+      → IsWritten (told_of old) (committed_of old ++ waiting_of old) (told_of new) receipt token → committed_of new ≡ [] → waiting_of new ≡ [] → Writes start old new
+  writes_written start old new receipt token kept after goes works written committed waiting = writes_published start old new kept after goes works written.published committed waiting
+
+  pub one_written : (old new : Flusher D J disk) (receipt : List Taken) (token : List (List Taken))
+      → IsWritten (told_of old) (committed_of old ++ waiting_of old) (told_of new) receipt token → IsOneMore old new
+  one_written old new receipt token written =
+      record { batch = receipt; told = written.published ∙ ap (λ (l : List (List Taken)). told_of old ++ l) written.batch }
+
+  -- a write of nothing
+  pub writes_nothing : (start : State) (old new : Flusher D J disk) → Kept start (state_of (store_of old)) (told_of old) (committed_of old)
+      → Goes (IsWithOrWithout (state_of (store_of old)) (commands_of (waiting_of old))) (store_of old) (store_of new)
+      → told_of new ≡ told_of old → committed_of old ++ waiting_of old ≡ [] → committed_of new ≡ [] → waiting_of new ≡ [] → Writes start old new
+  writes_nothing start old new kept goes tells none committed waiting =
+      writes_refused start old new kept goes tells (ap (λ (l : List (List Taken)). l ++ waiting_of new) committed ∙ waiting ∙ sym none)
+
+  -- why a turn fails whose write is refused
+  pub turn_failed : (old new : Flusher D J disk) (refusal : Refusal)
+      → (refusal ≡ JournalFull → (batch : List Taken) × (waiting_of old ≡ batch ∷ []) × (has_room (store_of old) batch ≡ false) × (has_room (store_of new) batch ≡ false))
+      → (refusal ≡ StillNeeded → (batch : List Taken) × (waiting_of old ≡ batch ∷ []) × (has_room (store_of old) batch ≡ false))
+      → ((refusal ≡ JournalFull) ⊎ (refusal ≡ StillNeeded) → IsUsedUp (store_of old))
+      → (refusal ≡ Stranger → all_grow (state_of (store_of old)) (commands_of (waiting_of old)) ≡ false)
+      → (refusal ≡ StoreFailed → IsLost old new)
+      → (refusal ≢ NoMemory → refusal ≢ StoreFailed → IsUncommitted old new)
+      → (((refusal ≡ JournalFull) ⊎ ((refusal ≡ StillNeeded) ⊎ (refusal ≡ Stranger))) ⊎ ((refusal ≡ NoMemory) ⊎ (refusal ≡ Fault))) ⊎ (refusal ≡ StoreFailed)
+      → refusal ≢ NoMemory → refusal ≢ Fault → IsTurnFailed old refusal new
+  turn_failed old new refusal full needed used stranger lost uncommitted only no_memory no_fault = by_case only
+    where
+      full_for : (batch : List Taken) → has_room (store_of old) batch ≡ false → (refusal ≡ JournalFull) ⊎ (refusal ≡ StillNeeded) → IsFullFor batch (store_of old)
+      full_for batch none told = record { between = store_of old; kept_up = kept_up_none (store_of old); works = λ works. works; no_room = none; last = used told }
+
+      by_case : (((refusal ≡ JournalFull) ⊎ ((refusal ≡ StillNeeded) ⊎ (refusal ≡ Stranger))) ⊎ ((refusal ≡ NoMemory) ⊎ (refusal ≡ Fault))) ⊎ (refusal ≡ StoreFailed)
+          → IsTurnFailed old refusal new
+      by_case (inl (inl (inl is_full))) =
+          let p = full is_full in
+          let same = uncommitted no_memory (λ failed. let no : ⊥ = cc in no) in
+          inl (inl is_full, (p.0, same.waiting ∙ p.1, full_for p.0 p.2 (inl is_full)))
+      by_case (inl (inl (inr (inl is_needed)))) =
+          let p = needed is_needed in
+          let same = uncommitted no_memory (λ failed. let no : ⊥ = cc in no) in
+          inl (inr is_needed, (p.0, same.waiting ∙ p.1, full_for p.0 p.2 (inr is_needed)))
+      by_case (inl (inl (inr (inr is_stranger)))) =
+          let same = uncommitted no_memory (λ failed. let no : ⊥ = cc in no) in
+          inr (inl (
+            is_stranger,
+            inl (ap (λ (s : State). all_grow s (commands_of (waiting_of new))) same.state ∙ ap (λ (l : List (List Taken)). all_grow (state_of (store_of old)) (commands_of l)) same.waiting ∙ stranger is_stranger),
+          ))
+      by_case (inl (inr (inl memory))) = absurd (no_memory memory)
+      by_case (inl (inr (inr fault))) = absurd (no_fault fault)
+      by_case (inr is_lost) = let l = lost is_lost in inr (inr (is_lost, (l.waiting, l.committed)))
+
+  -- what was published and isn't settled
+  pub turn_unsettled : (old new : Flusher D J disk) (refusal : Refusal) → refusal ≡ Stranger → IsOneMore old new → IsTurnFailed old refusal new
+  turn_unsettled old new refusal is one = inr (inl (is, inr one))
+
+  -- one batch more than before it was kept up and held
+  pub one_before : (old mid new : Flusher D J disk) → told_of mid ≡ told_of old → IsOneMore mid new → IsOneMore old new
+  one_before old mid new same one = record { batch = one.batch; told = one.told ∙ ap (λ (t : List (List Taken)). t ++ one.batch ∷ []) same }
+
+  -- why a turn failed that kept its store up before the write
+  pub failed_before : (old mid new : Flusher D J disk) (refusal : Refusal) → IsKeptUp (store_of old) (store_of mid)
+      → (has_failed (store_of old) ≡ false → has_failed (store_of mid) ≡ false) → told_of mid ≡ told_of old → IsTurnFailed mid refusal new → IsTurnFailed old refusal new
+  failed_before old mid new refusal first works same (inl (is, (batch, held, full))) = inl (is, (batch, held, full_before batch (store_of old) (store_of mid) first works full))
+  failed_before old mid new refusal first works same (inr (inl (is, inl grows))) = inr (inl (is, inl grows))
+  failed_before old mid new refusal first works same (inr (inl (is, inr one))) = inr (inl (is, inr (one_before old mid new same one)))
+  failed_before old mid new refusal first works same (inr (inr lost)) = inr (inr lost)
+
+  -- what a write answered, told of the flusher before it was kept up
+  pub one_after : {E : Type 0} (result : Result Bool E) (old mid new : Flusher D J disk) → told_of mid ≡ told_of old → IfOk result (λ settled. settled ≡ true → IsOneMore mid new)
+      → IfOk result (λ settled. settled ≡ true → IsOneMore old new)
+  one_after (Ok settled) old mid new same one = λ is. one_before old mid new same (one is)
+  one_after (Err refusal) old mid new same one = tt
+
+  pub causes_after : {A : Type 0} (result : Result A Refusal) (old mid new : Flusher D J disk) → IsKeptUp (store_of old) (store_of mid)
+      → (has_failed (store_of old) ≡ false → has_failed (store_of mid) ≡ false) → told_of mid ≡ told_of old
+      → IfErr result (λ e. e ≢ NoMemory → e ≢ Fault → IsTurnFailed mid e new) → IfErr result (λ e. e ≢ NoMemory → e ≢ Fault → IsTurnFailed old e new)
+  causes_after (Ok answer) old mid new first works same causes = tt
+  causes_after (Err refusal) old mid new first works same causes = λ no_memory no_fault. failed_before old mid new refusal first works same (causes no_memory no_fault)
+
+  -- where one is held, a write doesn't answer that none was
+  pub none_after : {E : Type 0} (result : Result Bool E) (old mid new : Flusher D J disk) → committed_of mid ++ waiting_of mid ≢ []
+      → IfOk result (λ settled. settled ≡ false → committed_of mid ++ waiting_of mid ≡ []) → IfOk result (λ settled. settled ≡ false → told_of new ≡ told_of old)
+  none_after (Ok settled) old mid new held none = λ is. absurd (held (none is))
+  none_after (Err refusal) old mid new held none = tt

@@ -1,0 +1,18 @@
+use Rattle.std.proofs.Common.{◌≡◌, false, rules}
+use Rattle.turns.proofs.Writing.{writes_none, writes_held}
+use Rattle.turns.proofs.turn.hold_next.Goals as goal
+
+pub returns-then-holds-clause-writes : goal.returns-then-holds-clause-writes
+returns-then-holds-clause-writes g c = writes_none g.J.Site.start c.args.flusher.now c.kept.ensures
+
+pub returns-in-Err-clause-writes : goal.returns-in-Err-clause-writes
+returns-in-Err-clause-writes g c = writes_none g.J.Site.start c.args.flusher.now c.kept.ensures
+
+pub returns-in-None-clause-writes : goal.returns-in-None-clause-writes
+returns-in-None-clause-writes g c = writes_none g.J.Site.start c.args.flusher.now c.kept.ensures
+
+pub returns-in-Some-clause-writes : goal.returns-in-Some-clause-writes
+returns-in-Some-clause-writes g c =
+    let none : c.holds.result ≡ false = search rules in
+    let e = c.hold.ensures in
+    writes_held g.J.Site.start c.args.flusher.now c.hold.new.self c.in-Some.run'.commands c.kept.ensures e.store e.told e.committed (c.holds.ensures.held none).1 e.waiting

@@ -1,0 +1,80 @@
+use Rattle.std.proofs.Common.{◌≡◌, ◌∙◌, ap, false, true, rules}
+use Rattle.recovery.specs.Open.{has_failed}
+use Rattle.flusher.specs.Holding.{store_of}
+use Rattle.turns.proofs.Writing.{kept_up_same, writes_kept_up, writes_on, works_after, fails_ok, fails_err, fails_not, memory_not_fault, one_after, none_after, causes_after}
+use Rattle.turns.proofs.turn.turn_made.Goals as goal
+
+-- the device failed at a milestone
+pub returns-in-Err-clause-writes : goal.returns-in-Err-clause-writes
+returns-in-Err-clause-writes g c =
+    let e = c.put_due.ensures in
+    writes_kept_up g.J.Site.start c.args.flusher.now c.put_due.new.flusher c.kept.ensures e.kept_up e.told e.committed e.waiting
+
+pub returns-in-Err-clause-fails : goal.returns-in-Err-clause-fails
+returns-in-Err-clause-fails g c = fails_err c.in-Err.refusal (has_failed (store_of c.args.flusher.now)) (has_failed (store_of c.put_due.new.flusher)) c.in-Err.ensures.fails
+
+pub returns-in-Err-clause-causes : goal.returns-in-Err-clause-causes
+returns-in-Err-clause-causes g c = λ no_memory no_fault. absurd (no_fault c.in-Err.ensures.only)
+
+-- memory is wanted for a run
+pub returns-in-Err-hold_next-clause-writes : goal.returns-in-Err-hold_next-clause-writes
+returns-in-Err-hold_next-clause-writes g c =
+    let e = c.put_due.ensures in
+    let first = writes_kept_up g.J.Site.start c.args.flusher.now c.put_due.new.flusher c.kept.ensures e.kept_up e.told e.committed e.waiting in
+    let works = works_after c.in_default.field-0 (has_failed (store_of c.args.flusher.now)) (has_failed (store_of c.put_due.new.flusher)) c.in_default.ensures.fails in
+    writes_on g.J.Site.start c.args.flusher.now c.put_due.new.flusher c.hold_next.new.flusher first works c.hold_next.ensures.writes
+
+pub returns-in-Err-hold_next-clause-fails : goal.returns-in-Err-hold_next-clause-fails
+returns-in-Err-hold_next-clause-fails g c =
+    let old = has_failed (store_of c.args.flusher.now) in
+    let works = works_after c.in_default.field-0 old (has_failed (store_of c.put_due.new.flusher)) c.in_default.ensures.fails in
+    let refusal = c.in-Err-hold_next.refusal in
+    fails_not refusal old (has_failed (store_of c.hold_next.new.flusher)) (λ worked. ap has_failed c.hold_next.ensures.store ∙ works worked) (memory_not_fault refusal c.in-Err-hold_next.ensures.only)
+
+pub returns-in-Err-hold_next-clause-causes : goal.returns-in-Err-hold_next-clause-causes
+returns-in-Err-hold_next-clause-causes g c = λ no_memory no_fault. absurd (no_memory c.in-Err-hold_next.ensures.only)
+
+-- there is no run
+pub returns-then-not-held-clause-writes : goal.returns-then-not-held-clause-writes
+returns-then-not-held-clause-writes g c =
+    let e = c.put_due.ensures in
+    let first = writes_kept_up g.J.Site.start c.args.flusher.now c.put_due.new.flusher c.kept.ensures e.kept_up e.told e.committed e.waiting in
+    let works = works_after c.in_default.field-0 (has_failed (store_of c.args.flusher.now)) (has_failed (store_of c.put_due.new.flusher)) c.in_default.ensures.fails in
+    writes_on g.J.Site.start c.args.flusher.now c.put_due.new.flusher c.hold_next.new.flusher first works c.hold_next.ensures.writes
+
+pub returns-then-not-held-clause-fails : goal.returns-then-not-held-clause-fails
+returns-then-not-held-clause-fails g c =
+    let old = has_failed (store_of c.args.flusher.now) in
+    let works = works_after c.in_default.field-0 old (has_failed (store_of c.put_due.new.flusher)) c.in_default.ensures.fails in
+    fails_ok false old (has_failed (store_of c.hold_next.new.flusher)) (λ worked. ap has_failed c.hold_next.ensures.store ∙ works worked)
+
+-- it is written
+pub returns-clause-writes : goal.returns-clause-writes
+returns-clause-writes g c =
+    let e = c.put_due.ensures in
+    let first = writes_kept_up g.J.Site.start c.args.flusher.now c.put_due.new.flusher c.kept.ensures e.kept_up e.told e.committed e.waiting in
+    let works = works_after c.in_default.field-0 (has_failed (store_of c.args.flusher.now)) (has_failed (store_of c.put_due.new.flusher)) c.in_default.ensures.fails in
+    let held = writes_on g.J.Site.start c.args.flusher.now c.put_due.new.flusher c.hold_next.new.flusher first works c.hold_next.ensures.writes in
+    writes_on g.J.Site.start c.args.flusher.now c.hold_next.new.flusher c.write_held.new.flusher held (λ worked. ap has_failed c.hold_next.ensures.store ∙ works worked)
+    c.write_held.ensures.writes
+
+pub returns-clause-one : goal.returns-clause-one
+returns-clause-one g c =
+    one_after c.write_held.result c.args.flusher.now c.hold_next.new.flusher c.write_held.new.flusher (c.hold_next.ensures.told ∙ c.put_due.ensures.told) c.write_held.ensures.one
+
+pub returns-clause-none : goal.returns-clause-none
+returns-clause-none g c =
+    let held : c.in-Ok.held ≡ true = search rules in
+    none_after c.write_held.result c.args.flusher.now c.hold_next.new.flusher c.write_held.new.flusher (c.in-Ok.ensures.held held) c.write_held.ensures.none
+
+pub returns-clause-fails : goal.returns-clause-fails
+returns-clause-fails g c worked =
+    let works = works_after c.in_default.field-0 (has_failed (store_of c.args.flusher.now)) (has_failed (store_of c.put_due.new.flusher)) c.in_default.ensures.fails in
+    c.write_held.ensures.fails (ap has_failed c.hold_next.ensures.store ∙ works worked)
+
+pub returns-clause-causes : goal.returns-clause-causes
+returns-clause-causes g c =
+    let works = works_after c.in_default.field-0 (has_failed (store_of c.args.flusher.now)) (has_failed (store_of c.put_due.new.flusher)) c.in_default.ensures.fails in
+    causes_after c.write_held.result c.args.flusher.now c.hold_next.new.flusher c.write_held.new.flusher
+    (kept_up_same (store_of c.args.flusher.now) (store_of c.put_due.new.flusher) (store_of c.hold_next.new.flusher) c.put_due.ensures.kept_up c.hold_next.ensures.store)
+    (λ worked. ap has_failed c.hold_next.ensures.store ∙ works worked) (c.hold_next.ensures.told ∙ c.put_due.ensures.told) c.write_held.ensures.causes

@@ -1,0 +1,72 @@
+use Rattle.std.proofs.Common.{⊎_elim, inl, inr, ap, false, true}
+use Rattle.refusal.specs.declared.Refusal.{Refusal}
+use Rattle.std.specs.Prelude.{Err}
+use Rattle.recovery.specs.Open.{has_failed}
+use Rattle.flusher.specs.Holding.{store_of}
+use Rattle.turns.proofs.Writing.{writes_refused, writes_nothing, writes_written, one_written, turn_failed, turn_unsettled, works_after, fails_ok, fails_err, fails_not, stranger_not_fault}
+use Rattle.turns.proofs.turn.write_held.Goals as goal
+
+-- the write is refused
+pub returns-in-Err-clause-writes : goal.returns-in-Err-clause-writes
+returns-in-Err-clause-writes g c =
+    let e = c.in-Err.ensures in
+    writes_refused g.J.Site.start c.args.flusher.now c.write.new.self c.kept.ensures c.write.ensures.goes e.told e.held
+
+pub returns-in-Err-clause-fails : goal.returns-in-Err-clause-fails
+returns-in-Err-clause-fails g c = fails_err c.in-Err.refusal (has_failed (store_of c.args.flusher.now)) (has_failed (store_of c.write.new.self)) c.in-Err.ensures.fails
+
+pub returns-in-Err-clause-causes : goal.returns-in-Err-clause-causes
+returns-in-Err-clause-causes g c =
+    let e = c.in-Err.ensures in
+    turn_failed c.args.flusher.now c.write.new.self c.in-Err.refusal (λ is. e.full (ap (λ (r : Refusal). Err r) is)) (λ is. e.needed (ap (λ (r : Refusal). Err r) is))
+    (λ told. e.never_full (⊎_elim (λ full. inl (ap (λ (r : Refusal). Err r) full)) (λ needed. inr (ap (λ (r : Refusal). Err r) needed)) told))
+    (λ is. e.stranger (ap (λ (r : Refusal). Err r) is)) (λ is. e.lost (ap (λ (r : Refusal). Err r) is)) e.uncommitted e.only
+
+-- nothing was held
+pub returns-in-None-clause-writes : goal.returns-in-None-clause-writes
+returns-in-None-clause-writes g c =
+    let e = c.in-Ok.ensures in
+    let none = rw c.in-None.is at e.none in
+    writes_nothing g.J.Site.start c.args.flusher.now c.write.new.self c.kept.ensures c.write.ensures.goes none.1 none.0 e.done.0 e.done.1
+
+pub returns-in-None-clause-fails : goal.returns-in-None-clause-fails
+returns-in-None-clause-fails g c =
+    let old = has_failed (store_of c.args.flusher.now) in
+    let new = has_failed (store_of c.write.new.self) in
+    fails_ok false old new (works_after c.in-Ok.written old new c.in-Ok.ensures.fails)
+
+-- it is written, and the board doesn't settle it
+pub returns-in-Err-settle-clause-writes : goal.returns-in-Err-settle-clause-writes
+returns-in-Err-settle-clause-writes g c =
+    let e = c.in-Ok.ensures in
+    writes_written g.J.Site.start c.args.flusher.now c.write.new.self c.in-Some.both.0 c.in-Some.both.1 c.kept.ensures c.kept-in-Some.ensures c.write.ensures.goes
+    (works_after c.in-Ok.written (has_failed (store_of c.args.flusher.now)) (has_failed (store_of c.write.new.self)) e.fails) (rw c.in-Some.is at e.some) e.done.0 e.done.1
+
+pub returns-in-Err-settle-clause-fails : goal.returns-in-Err-settle-clause-fails
+returns-in-Err-settle-clause-fails g c =
+    let old = has_failed (store_of c.args.flusher.now) in
+    let new = has_failed (store_of c.write.new.self) in
+    let refusal = c.in-Err-settle.refusal in
+    fails_not refusal old new (works_after c.in-Ok.written old new c.in-Ok.ensures.fails) (stranger_not_fault refusal c.in-Err-settle.ensures)
+
+pub returns-in-Err-settle-clause-causes : goal.returns-in-Err-settle-clause-causes
+returns-in-Err-settle-clause-causes g c = λ no_memory no_fault.
+    turn_unsettled c.args.flusher.now c.write.new.self c.in-Err-settle.refusal c.in-Err-settle.ensures
+    (one_written c.args.flusher.now c.write.new.self c.in-Some.both.0 c.in-Some.both.1 (rw c.in-Some.is at c.in-Ok.ensures.some))
+
+-- and it is settled
+pub returns-in_default-clause-writes : goal.returns-in_default-clause-writes
+returns-in_default-clause-writes g c =
+    let e = c.in-Ok.ensures in
+    writes_written g.J.Site.start c.args.flusher.now c.write.new.self c.in-Some.both.0 c.in-Some.both.1 c.kept.ensures c.kept-in-Some.ensures c.write.ensures.goes
+    (works_after c.in-Ok.written (has_failed (store_of c.args.flusher.now)) (has_failed (store_of c.write.new.self)) e.fails) (rw c.in-Some.is at e.some) e.done.0 e.done.1
+
+pub returns-in_default-clause-one : goal.returns-in_default-clause-one
+returns-in_default-clause-one g c =
+    λ settled. one_written c.args.flusher.now c.write.new.self c.in-Some.both.0 c.in-Some.both.1 (rw c.in-Some.is at c.in-Ok.ensures.some)
+
+pub returns-in_default-clause-fails : goal.returns-in_default-clause-fails
+returns-in_default-clause-fails g c =
+    let old = has_failed (store_of c.args.flusher.now) in
+    let new = has_failed (store_of c.write.new.self) in
+    fails_ok true old new (works_after c.in-Ok.written old new c.in-Ok.ensures.fails)

@@ -1,0 +1,68 @@
+-- What the flusher's thread does from one moment to a later one, with no word of the board, which other threads move meanwhile.
+use Rattle.std.specs.Prelude.{◌≡◌, ◌⊎◌, ℕ, false, List, [], ◌∷◌, ◌++◌, length}
+use Rattle.disk.specs.declared.device.Disk.{Ghosts}
+use Rattle.disk.specs.Crash.{MayLeaveNow}
+use Rattle.refusal.specs.declared.Refusal.{Refusal}
+use Rattle.refusal.specs.declared.Refusal.TheVariants.{JournalFull, Stranger, StillNeeded, StoreFailed}
+use Rattle.revision.specs.Command.{Taken}
+use Rattle.revision.specs.State.{State, all_grow}
+use Rattle.recovery.specs.declared.store.Store.{Store}
+use Rattle.recovery.specs.Found.{commands_of, FoundAs}
+use Rattle.recovery.specs.Open.{IsOpen, device_of, state_of, has_failed, has_room}
+use Rattle.recovery.specs.Goes.{Goes}
+use Rattle.flusher.specs.declared.flusher.Flusher.{Flusher}
+use Rattle.flusher.specs.Batches.{IsBeginning}
+use Rattle.flusher.specs.Flushers.{IsUsedUp}
+use Rattle.flusher.specs.Holding.{store_of, told_of, committed_of, waiting_of}
+
+module _ {D : Type 0} {disk : Ghosts D} where
+  -- Milestones were put and segments retired, and nothing else: the state is as it was, and a crash at any moment leaves it.
+  pub record IsKeptUp (old new : Store D disk) : Type 0 where
+    pub goes : Goes (λ content. FoundAs content (state_of old)) old new
+    pub state : state_of new ≡ state_of old
+
+  -- A batch finds no room in the journal, of which the last segment is opened, once it was kept up.
+  pub record IsFullFor (batch : List Taken) (old : Store D disk) : Type 0 where
+    pub between : Store D disk
+    pub kept_up : IsKeptUp old between
+    pub works : has_failed old ≡ false → has_failed between ≡ false
+    pub no_room : has_room between batch ≡ false
+    pub last : IsUsedUp between
+
+module _ {D J : Type 0} {disk : Ghosts D} where
+  -- all batches that the flusher was given so far, in order: what is published, what is committed, and what is held
+  abbrev pub given_to : Flusher D J disk → List (List Taken)
+  given_to flusher = told_of flusher ++ (committed_of flusher ++ waiting_of flusher)
+
+  -- how many commands are published
+  abbrev pub told_count : Flusher D J disk → ℕ
+  told_count flusher = length (commands_of (told_of flusher))
+
+  -- Nothing that was published is taken back, and no batch that was given is dropped. A crash at any moment between leaves some first
+  -- batches of those that were given by the end, and no fewer commands than were published at the beginning; and a crash at the end
+  -- no fewer than are published then.
+  pub record Writes (start : State) (old new : Flusher D J disk) : Type 0 where
+    pub told : (l : List (List Taken)) × (told_of new ≡ told_of old ++ l)
+    pub more : (l : List (List Taken)) × (given_to new ≡ given_to old ++ l)
+    pub goes : Goes (IsBeginning (told_count old) start (given_to new)) (store_of old) (store_of new)
+    pub lasts : has_failed (store_of old) ≡ false → IsOpen (store_of old)
+        → (content : List ℕ) → MayLeaveNow disk (device_of (store_of new)) content → IsBeginning (told_count new) start (given_to new) content
+
+  -- Just one batch was published.
+  pub record IsOneMore (old new : Flusher D J disk) : Type 0 where
+    pub batch : List Taken
+    pub told : told_of new ≡ told_of old ++ batch ∷ []
+
+  -- Why a turn fails the board, where the device didn't: its batch finds no room; or doesn't continue the state; or is committed, and the
+  -- log of what is published can't be made longer; or is committed and published, and isn't what the board has to settle next.
+  abbrev pub IsTurnFailed : Flusher D J disk → Refusal → Flusher D J disk → Type 0
+  IsTurnFailed old refusal new =
+      (((refusal ≡ JournalFull) ⊎ (refusal ≡ StillNeeded)) × ((batch : List Taken) × (waiting_of new ≡ batch ∷ []) × IsFullFor batch (store_of old)))
+      ⊎ (((refusal ≡ Stranger) × ((all_grow (state_of (store_of new)) (commands_of (waiting_of new)) ≡ false) ⊎ IsOneMore old new))
+      ⊎ ((refusal ≡ StoreFailed) × ((waiting_of new ≡ []) × (¬ (committed_of new ≡ [])))))
+
+  -- Some turns were made, and then one that failed the board for this reason.
+  pub record IsEndedBy (start : State) (old : Flusher D J disk) (refusal : Refusal) (new : Flusher D J disk) : Type 0 where
+    pub last : Flusher D J disk
+    pub before : Writes start old last
+    pub failed : IsTurnFailed last refusal new

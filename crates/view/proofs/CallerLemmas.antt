@@ -1,0 +1,82 @@
+-- What a viewer has may go to another thread: for a caller whose threads have viewers. It is a reader of two copies that threads share, so
+-- what is shown has to be fit for both. The search for it is too long in one piece.
+use denote.RattleType.{RattleType}
+use denote.Param.Send.{IsSend, IsSync, sendable}
+use Rattle.std.proofs.Crossing.{crosses, frees}
+use Rattle.std.proofs.MapsCrossing as maps
+use Rattle.core.specs.declared.ledger.Ledger as ledger
+use Rattle.logbook.proofs.tokens.Seen.TheSendSync as seen
+use Rattle.left_right.proofs.part.Part.TheSendSync as part
+use Rattle.atomic_table.proofs.shared.Seat.TheSendSync as place
+use Rattle.atomic_table.proofs.shared.Shared.TheSendSync as table
+use Rattle.atomic_table.proofs.send_lease.SendLease.TheSendSync as lease
+use Rattle.delta.specs.contracts.delta.Delta as delta
+use Rattle.document.specs.contracts.document.Document as document
+use Rattle.revision.specs.contracts.name.Name as name
+use Rattle.revision.specs.contracts.sources.Sources as sources
+use Rattle.revision.specs.contracts.source_table.SourceTable as kept
+use Rattle.revision.specs.contracts.past.Past as past
+use Rattle.revision.specs.contracts.doc_state.DocState as one
+use Rattle.revision.specs.contracts.state.State as state
+use Rattle.published.specs.declared.site.Site as site
+use Rattle.view.specs.contracts.shown.Shown as shown
+use Rattle.view.specs.contracts.viewer.Viewer as viewer
+
+pub name_send : IsSend name.the_row
+name_send = search (sendable, crosses, maps.crosses) depth 60 fits 20000
+
+pub delta_send : IsSend delta.the_row
+delta_send = search (sendable, crosses, maps.crosses) depth 60 fits 20000
+
+pub document_send : IsSend document.the_row
+document_send = search (sendable, crosses, maps.crosses) depth 60 fits 20000
+
+pub sources_send : IsSend sources.the_row
+sources_send = search (name_send, sendable, crosses) depth 60 fits 20000
+
+pub table_send : IsSend kept.the_row
+table_send = search (name_send, sources_send, sendable, crosses) depth 60 fits 20000
+
+pub past_send : IsSend past.the_row
+past_send = search (name_send, delta_send, document_send, sources_send, sendable, crosses) depth 60 fits 20000
+
+pub one_send : IsSend one.the_row
+one_send = search (name_send, past_send, document_send, table_send, sendable, crosses) depth 60 fits 20000
+
+pub state_send : IsSend state.the_row
+state_send = search (one_send, sendable, crosses, maps.crosses) depth 60 fits 20000
+
+pub name_sync : IsSync name.the_row
+name_sync = search (sendable, crosses, maps.crosses) depth 60 fits 20000
+
+pub delta_sync : IsSync delta.the_row
+delta_sync = search (sendable, crosses, maps.crosses) depth 60 fits 20000
+
+pub document_sync : IsSync document.the_row
+document_sync = search (sendable, crosses, maps.crosses) depth 60 fits 20000
+
+pub sources_sync : IsSync sources.the_row
+sources_sync = search (name_sync, sendable, crosses) depth 60 fits 20000
+
+pub table_sync : IsSync kept.the_row
+table_sync = search (name_sync, sources_sync, sendable, crosses) depth 60 fits 20000
+
+pub past_sync : IsSync past.the_row
+past_sync = search (name_sync, delta_sync, document_sync, sources_sync, sendable, crosses) depth 60 fits 20000
+
+pub one_sync : IsSync one.the_row
+one_sync = search (name_sync, past_sync, document_sync, table_sync, sendable, crosses) depth 60 fits 20000
+
+pub state_sync : IsSync state.the_row
+state_sync = search (one_sync, sendable, crosses, maps.crosses) depth 60 fits 20000
+
+pub shown_sync : IsSync shown.the_row
+shown_sync = search (state_sync, seen.the_sync, sendable, crosses) depth 60 fits 20000
+
+pub shown_send : IsSend shown.the_row
+shown_send = search (state_send, seen.the_send, sendable, crosses) depth 60 fits 20000
+
+pub viewer_send : (D T : RattleType) (s : site.Ghosts T.Denot) (l : ledger.Ghosts T.Denot) → IsSend T → IsSync T → IsSend (viewer.the_row D T s l)
+viewer_send D T s l a b =
+    let x = shown_sync in let y = shown_send in
+    search (seen.the_send, part.the_send, place.the_send, table.the_send, table.the_sync, lease.the_send, lease.the_sync, frees, sendable, crosses) depth 40 fits 20000
