@@ -85,7 +85,7 @@ impl<D, J: Site> Board<D, J> {
     pub fn ordered(&self) -> usize
         ensures { result ≡ length self.now.board.order }
     {
-        self.board.order().len()
+        self.board.ordered()
     }
 
     /// How many commands of the order are settled.

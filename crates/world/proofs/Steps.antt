@@ -7,12 +7,12 @@ use Rattle.revision.specs.Command.{Taken, Command}
 use Rattle.revision.specs.State.{Limits, State, grows, grown, all_grow, fold, last_of_all}
 use Rattle.revision.specs.Acceptance.{Answer, Takes, Repeats, Refuses, answer}
 use Rattle.revision.specs.Agree.{Agree}
-use Rattle.revision.proofs.CallerLemmas.{taken_grows, agrees, agreeing_grow}
+use Rattle.revision.proofs.CallerLemmas.{taken_grows, agreeing_grow}
 use Rattle.world.specs.Board.{Board, Ticket, submitted, submitted_by, ticket_of, ticket_by, reopened}
 use Rattle.world.specs.Event.{Submit, Publish, Compose}
 use Rattle.world.specs.World.{Entry, entry_of, takens, World}
 use Rattle.world.specs.Step.{revision_at, is_numbered, with_command, may_leave, may_pick, whole, opened, can_open, running_step}
-use Rattle.world.specs.Stepping.{empty_store, AreStepped, recovered, floors_left, are_reached}
+use Rattle.world.specs.Stepping.{empty_store, taken_of, AreStepped, recovered, floors_left, are_reached}
 use Rattle.world.proofs.Milestones.{recovered_picks, recovered_state, recovered_agrees}
 
 -- what is left of an order continues the start
@@ -40,11 +40,15 @@ fold-append state [] others = refl
 fold-append state (taken ∷ more) others = fold-append (grown state taken) more others
 
 -- one command more
-module _ (limits : Limits) (board : Board Entry) (shown without with_batch : ℕ) (stepped : AreStepped limits board shown without with_batch)
+module _ (limits : Limits) (board : Board Entry) (order : List Entry) (shown without with_batch : ℕ) (stepped : AreStepped limits board order shown without with_batch)
     (command : Command) (some : 1 ≤ command.number) (below : command.number < 2 ^ 53) where
-  answered : (due : Answer) → answer board.state command ≡ due → AreStepped limits (submitted_by (entry_of command) board due) shown without with_batch
-  answered (Refuses refusal) is = stepped
-  answered (Repeats revision) is = stepped
+  stays : AreStepped limits board (order ++ []) shown without with_batch
+  stays = subst (λ o. AreStepped limits board o shown without with_batch) (sym (append-nil order)) stepped
+
+  answered : (due : Answer) → answer board.state command ≡ due
+      → AreStepped limits (submitted_by (entry_of command) board due) (order ++ taken_of command due) shown without with_batch
+  answered (Refuses refusal) is = stays
+  answered (Repeats revision) is = stays
   answered (Takes taken) is = record {
     start = stepped.start;
     shown_taken = stepped.shown_taken;
@@ -53,6 +57,7 @@ module _ (limits : Limits) (board : Board Entry) (shown without with_batch : ℕ
     taken_long = omega (arith, stepped.taken_long, length-append board.order (entry_of command taken ∷ []));
     grow = ap (all_grow (empty_store limits)) more ∙ all_grow-append (empty_store limits) (takens board.order) (taken ∷ []) stepped.grow (sym next.0 ∙ here);
     agree = subst (Agree (grown board.state taken)) (sym (ap (fold (empty_store limits)) more ∙ fold-append (empty_store limits) (takens board.order) (taken ∷ []))) next.1;
+    kept = ap (λ o. o ++ entry_of command taken ∷ []) stepped.kept;
   }
     where
       more : takens (board.order ++ entry_of command taken ∷ []) ≡ takens board.order ++ taken ∷ []
@@ -65,14 +70,14 @@ module _ (limits : Limits) (board : Board Entry) (shown without with_batch : ℕ
           × Agree (fold board.state (taken ∷ [])) (fold (fold (empty_store limits) (takens board.order)) (taken ∷ []))
       next = agreeing_grow board.state (fold (empty_store limits) (takens board.order)) (taken ∷ []) stepped.agree
 
-  pub stepped-submitted : AreStepped limits (submitted (entry_of command) board command) shown without with_batch
+  pub stepped-submitted : AreStepped limits (submitted (entry_of command) board command) (order ++ taken_of command (answer board.state command)) shown without with_batch
   stepped-submitted = answered (answer board.state command) refl
 
 -- an opening
-pub stepped-opened : (limits : Limits) (board : Board Entry) (shown without with_batch : ℕ) (state : State) (kept : ℕ) (milestones : List ℕ)
-    → AreStepped limits board shown without with_batch → kept ≤ board.taken → state ≡ recovered (empty_store limits) (takens (take kept board.order)) milestones
-    → AreStepped limits (reopened board state kept) kept kept kept
-stepped-opened limits board shown without with_batch state kept milestones stepped within is = record {
+pub stepped-opened : (limits : Limits) (board : Board Entry) (order : List Entry) (shown without with_batch : ℕ) (state : State) (kept : ℕ) (milestones : List ℕ)
+    → AreStepped limits board order shown without with_batch → kept ≤ board.taken → state ≡ recovered (empty_store limits) (takens (take kept board.order)) milestones
+    → AreStepped limits (reopened board state kept) (take kept order) kept kept kept
+stepped-opened limits board order shown without with_batch state kept milestones stepped within is = record {
   start = stepped.start;
   shown_taken = omega arith;
   without_taken = omega arith;
@@ -81,6 +86,7 @@ stepped-opened limits board shown without with_batch state kept milestones stepp
   grow = left_grow limits kept board.order stepped.grow;
   agree = subst (λ s. Agree s (fold (empty_store limits) (takens (take kept board.order)))) (sym is)
       (recovered_agrees (empty_store limits) (takens (take kept board.order)) milestones);
+  kept = ap (take kept) stepped.kept;
 }
 
 module _ (world : World) (command : Command) (some : 1 ≤ command.number) (below : command.number < 2 ^ 53) where
@@ -196,9 +202,9 @@ module _ (world : World) (limits : Limits) (kept : ℕ) (milestones : List ℕ) 
   closed-steps out = sym (ap (λ b. cond b (opened world kept (floors_left world kept milestones)) world) (can ∙ out))
 
 -- what may be left is within what is taken off
-pub left-taken : (limits : Limits) (world : World) (shown kept : ℕ) → AreStepped limits world.board shown world.without world.with_batch
+pub left-taken : (limits : Limits) (world : World) (order : List Entry) (shown kept : ℕ) → AreStepped limits world.board order shown world.without world.with_batch
     → may_leave world kept ≡ true → kept ≤ world.board.taken
-left-taken limits world shown kept stepped may = elim (or_cases (kept == world.without) (kept == world.with_batch) may) [
+left-taken limits world order shown kept stepped may = elim (or_cases (kept == world.without) (kept == world.with_batch) may) [
   | inl e ↦ let is : kept ≡ world.without = eqb-true kept world.without e in omega (arith, is, stepped.without_taken)
   | inr e ↦ let is : kept ≡ world.with_batch = eqb-true kept world.with_batch e in omega (arith, is, stepped.with_taken)
 ]

@@ -1,6 +1,7 @@
 -- What the program that steps a world keeps of one, and which events its events are.
 use Rattle.std.specs.Prelude.{◌≡◌, ◌≤◌, ◌+◌, ◌-◌, ◌&&◌, nat_le, max, ℕ, Bool, true, List, [], ◌∷◌, length, map, take}
-use Rattle.revision.specs.Command.{Taken}
+use Rattle.revision.specs.Command.{Taken, Command}
+use Rattle.revision.specs.Acceptance.{Answer, Takes, Repeats, Refuses}
 use Rattle.revision.specs.Floors.{raised_each}
 use Rattle.revision.specs.State.{Limits, DocumentRecord, State, revision_of, all_grow, fold}
 use Rattle.revision.specs.Agree.{Agree}
@@ -11,7 +12,7 @@ use Rattle.world.specs.declared.stepping.Event as program
 use Rattle.world.specs.declared.stepping.Event.TheVariants as events
 use Rattle.world.specs.Event.{Outcome, Done, Failed, Stopped, Event, Submit, Take, Device, Publish, Settle, Ack, Compose, Crash, Open, Resend}
 use Rattle.world.specs.Board.{Board}
-use Rattle.world.specs.World.{Entry, takens, World, last_composed}
+use Rattle.world.specs.World.{Entry, entry_of, takens, World, last_composed}
 
 -- a store without documents
 abbrev pub empty_store : Limits → State
@@ -32,9 +33,15 @@ world_of w = record {
   crashed = w.crashed;
 }
 
--- It began with a store without documents; all lengths are within what is taken off; and each command of the order continues what
--- those before it make, with which the state agrees.
-pub record AreStepped (limits : Limits) (board : Board Entry) (shown without with_batch : ℕ) : Type 0 where
+-- what the order keeps of a command that was answered so
+abbrev pub taken_of : Command → Answer → List Entry
+taken_of command (Takes taken) = entry_of command taken ∷ []
+taken_of command (Repeats revision) = []
+taken_of command (Refuses refusal) = []
+
+-- It began with a store without documents; all lengths are within what is taken off; each command of the order continues what
+-- those before it make, with which the state agrees; and the order is kept as a whole, where the board lets go what is settled.
+pub record AreStepped (limits : Limits) (board : Board Entry) (order : List Entry) (shown without with_batch : ℕ) : Type 0 where
   pub start : board.start ≡ empty_store limits
   pub shown_taken : shown ≤ board.taken
   pub without_taken : without ≤ board.taken
@@ -42,9 +49,10 @@ pub record AreStepped (limits : Limits) (board : Board Entry) (shown without wit
   pub taken_long : board.taken ≤ length board.order
   pub grow : all_grow (empty_store limits) (takens board.order) ≡ true
   pub agree : Agree board.state (fold (empty_store limits) (takens board.order))
+  pub kept : order ≡ board.order
 
 abbrev pub IsStepped : Inside → Type 0
-IsStepped w = AreStepped w.limits w.board w.published w.without w.with_batch
+IsStepped w = AreStepped w.limits w.board w.order.items w.published w.without w.with_batch
 
 abbrev pub outcome_of : outcome.Outcome → Outcome
 outcome_of outcomes.Done = Done

@@ -1,10 +1,10 @@
 //! What stands behind the lock: the order of the commands that were taken, the state after them, and how far it is written.
 ghost use Rattle.std.specs.Prelude.{◌≡◌, ◌⊎◌, ◌+◌, ◌≤◌, [], Some, if◌then◌else◌, length, drop, IfOk, IfErr, OnOk, OnErr};
 ghost use Rattle.revision.specs.Acceptance.{answer, Refuses};
-ghost use Rattle.world.specs.Board.{begun_board, submitted, ticket_of, can_take, taken_more, can_settle, settled_more, taken_beyond, can_ack, reopened};
+ghost use Rattle.world.specs.Board.{begun_board, submitted, ticket_of, can_take, taken_more, can_settle, settled_more, can_ack, reopened};
 ghost use Rattle.world.specs.World.{entry_of};
 
-use crate::entry::Entry;
+use crate::entry::{Entry, Noted};
 use crate::ticket::Ticket;
 use refusal::Refusal;
 use revision::{Command, Plan, Reply, State};
@@ -13,18 +13,20 @@ use std::marker::Model;
 use std::snapshot::Snapshot;
 
 /// The order of the commands that were taken since a start state, the state after them, how many of them are taken off to be
-/// written, and how many of those are settled. The start state is there for contracts alone, and takes no memory.
+/// written, and how many of those are settled. The start state, and the order as a whole, are there for contracts alone and take
+/// no memory: a command that is settled is let go.
 #[derive(Drop)]
 pub struct Board {
     start: Snapshot<State>,
-    order: Vec<Entry>,
+    order: Vec<Noted>,
+    unsettled: Vec<Entry>,
     state: State,
     taken: usize,
     settled: usize,
 }
 
 impl Model for Board {
-    ghost use Rattle.std.specs.Prelude.{◌≤◌, length};
+    ghost use Rattle.std.specs.Prelude.{◌≡◌, ◌≤◌, length, drop};
     ghost use Rattle.world.specs.Board as spec;
     ghost use Rattle.world.specs.World.{Entry as Kept};
 
@@ -32,7 +34,7 @@ impl Model for Board {
 
     ghost view = { λ b. record { start = b.start.value; order = b.order.items; state = b.state; taken = b.taken; settled = b.settled } };
 
-    ghost invariant = { λ b. (b.settled ≤ b.taken) × (b.taken ≤ length b.order.items) };
+    ghost invariant = { λ b. (b.settled ≤ b.taken) × (b.taken ≤ length b.order.items) × (b.unsettled.items ≡ drop b.settled b.order.items) };
 }
 
 impl Board {
@@ -43,6 +45,7 @@ impl Board {
         Board {
             start: Snapshot::of(&state),
             order: Vec::new(alloc),
+            unsettled: Vec::new(alloc),
             state,
             taken: 0,
             settled: 0,
@@ -56,11 +59,11 @@ impl Board {
         &self.state
     }
 
-    /// The commands that were taken since the start, in order.
-    pub fn order(&self) -> &[Entry]
-        ensures { result.now ≡ self.now.order }
+    /// How many commands the order has.
+    pub fn ordered(&self) -> usize
+        ensures { result ≡ length self.now.order }
     {
-        self.order.as_slice()
+        self.order.len()
     }
 
     /// How many commands of the order are taken off to be written.
@@ -96,10 +99,13 @@ impl Board {
         };
         let rev = taken.revision();
         self.order.reserve(1)?;
+        self.unsettled.reserve(1)?;
         if let Err(refusal) = self.state.absorb(alloc, &taken) {
             return Err(refusal);
         }
-        self.order.push(Entry::new(command, taken))?;
+        let entry = Entry::new(command, taken);
+        self.order.push(Noted::of(&entry))?;
+        self.unsettled.push(entry)?;
         Ok(Ticket::new(command, Reply::Taken { rev }, ahead + 1))
     }
 
@@ -120,33 +126,26 @@ impl Board {
     pub fn untaken(&self) -> &[Entry]
         ensures { result.now ≡ drop self.now.taken self.now.order }
     {
-        &self.order.as_slice()[self.taken..]
+        &self.unsettled.as_slice()[self.taken - self.settled..]
     }
 
     /// The commands that are not settled yet.
     pub fn unsettled(&self) -> &[Entry]
         ensures { result.now ≡ drop self.now.settled self.now.order }
     {
-        &self.order.as_slice()[self.settled..]
-    }
-
-    /// What is taken off beyond what is shown: the first `shown` commands, no more than are taken off.
-    pub fn unshown(&self, shown: usize) -> &[Entry]
-        requires { shown ≤ self.now.taken }
-        ensures { result.now ≡ taken_beyond self.now shown }
-    {
-        let taken = &self.order.as_slice()[..self.taken];
-        &taken[shown..]
+        self.unsettled.as_slice()
     }
 
     /// Settles so many of the commands that are taken off, and says whether it did: there has to be at least one, no more may
-    /// be settled than are taken off, and `told`, the number of commands that were published, has to end with them.
+    /// be settled than are taken off, and `told`, the number of commands that were published, has to end with them. What is
+    /// settled is let go.
     pub fn settle(&mut self, count: usize, told: usize) -> bool
         ensures settled { result ≡ can_settle self.old count told }
         ensures board { self.new ≡ (if can_settle self.old count told then settled_more self.old count else self.old) }
     {
         let can = 0 < count && count <= self.taken - self.settled && told == self.settled + count;
         if can {
+            drop_first(&mut self.unsettled, count);
             self.settled += count;
         }
         can
@@ -165,8 +164,19 @@ impl Board {
         ensures { self.new ≡ reopened self.old state kept }
     {
         self.order.truncate(kept);
+        self.unsettled.clear();
         self.state = state;
         self.taken = kept;
         self.settled = kept;
     }
+}
+
+// Drops the first entries, so many.
+fn drop_first(entries: &mut Vec<Entry>, count: usize)
+    requires { count ≤ length entries.old.items }
+    ensures { entries.new.items ≡ drop count entries.old.items }
+{
+    let left = entries.len() - count;
+    entries.as_mut_slice().rotate_left(count);
+    entries.truncate(left);
 }

@@ -39,3 +39,23 @@ impl Entry {
         &self.taken
     }
 }
+
+/// An entry that is there for contracts alone. It takes no memory, in a list neither.
+#[derive(Drop)]
+pub(crate) struct Noted(Snapshot<Entry>);
+
+impl Model for Noted {
+    ghost use Rattle.world.specs.World as spec;
+
+    ghost Value = { spec.Entry };
+
+    ghost view = { λ n. n.0.value };
+}
+
+impl Noted {
+    pub(crate) fn of(entry: &Entry) -> Noted
+        ensures { result ≡ entry.now }
+    {
+        Noted(Snapshot::of(entry))
+    }
+}

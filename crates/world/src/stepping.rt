@@ -1,18 +1,20 @@
 //! A plain program that steps a world.
-ghost use Rattle.std.specs.Prelude.{◌≡◌, ◌≤◌, ◌&&◌, [], true, nat_le, length, map, slice_get, if◌then◌else◌, IfOk, OnOk, OnErr, IsOkUnless};
+ghost use Rattle.std.specs.Prelude.{◌≡◌, ◌<◌, ◌≤◌, ◌+◌, ◌++◌, ◌&&◌, [], true, nat_le, length, take, map, option_to_list, slice_get, if◌then◌else◌, IfOk, OnOk, OnErr, IsOkUnless};
+ghost use Rattle.std.specs.Vec.{vec_len, vec_capacity};
+ghost use Rattle.revision.specs.Acceptance.{answer};
 ghost use Rattle.revision.specs.Pending.{held};
 ghost use Rattle.revision.specs.State.{all_grow, fold};
 ghost use Rattle.world.specs.Event as spec_event;
 ghost use Rattle.world.specs.World.{takens, begun, last_composed as spec_last_composed};
 ghost use Rattle.world.specs.Step.{with_command, may_leave, stopped, acknowledged as spec_acknowledged, revision_at, can_open, opened, running_step, step as spec_step};
-ghost use Rattle.world.specs.Stepping.{empty_store, outcome_of, event_of, recovered as spec_recovered, floors_left, are_reached as spec_are_reached};
+ghost use Rattle.world.specs.Stepping.{empty_store, taken_of, outcome_of, event_of, recovered as spec_recovered, floors_left, are_reached as spec_are_reached};
 
 use crate::board::Board;
 use crate::entry::Entry;
 use crate::sent::{Sent, last_number};
 use crate::ticket::{Ack, Ticket};
 use refusal::Refusal;
-use revision::{Command, DocState, Limits, State};
+use revision::{Command, DocState, Limits, Plan, State};
 use std::alloc::Global;
 use std::marker::Model;
 
@@ -53,12 +55,13 @@ pub enum Event<'a> {
     Resend(&'a Command),
 }
 
-/// A world that began with a store without documents: the board, how much of the order is shown, the two lengths of it of which
+/// A world that began with a store without documents: the board, the whole of its order, how much of it is shown, the two lengths of it of which
 /// a crash leaves one, the tickets that are out, all acknowledgements, the commands that were sent, and what was composed.
 #[derive(Drop)]
 pub struct World {
     limits: Limits,
     board: Board,
+    order: Vec<Entry>,
     published: usize,
     without: usize,
     with_batch: usize,
@@ -89,6 +92,7 @@ impl World {
         World {
             limits,
             board: Board::new(alloc, State::new(alloc, limits)),
+            order: Vec::new(alloc),
             published: 0,
             without: 0,
             with_batch: 0,
@@ -186,12 +190,15 @@ impl World {
         // its number is in range
         let _ = command.number();
         let sent = Sent::of(alloc, command)?;
+        let entry = self.taken_of(alloc, command)?;
         self.sent.reserve(1)?;
         self.tickets.reserve(1)?;
+        self.order.reserve(1)?;
         match self.board.submit(alloc, command) {
             Ok(ticket) => {
                 self.tickets.push(ticket)?;
                 self.sent.push(sent)?;
+                add(&mut self.order, entry);
                 Ok(())
             }
             Err(refusal) => {
@@ -202,6 +209,27 @@ impl World {
                 Ok(())
             }
         }
+    }
+
+    // What the order keeps of a command where the board will take it.
+    fn taken_of(&self, alloc: Global, command: &Command) -> Result<Option<Entry>, Refusal>
+        ensures ok { IfOk result (λ entry. option_to_list entry ≡ taken_of command.now (answer self.now.board.state command.now)) }
+        ensures only { IsOkUnless result Refusal.NoMemory }
+    {
+        match self.board.state().plan(alloc, command) {
+            Ok(Plan::Taken(taken)) => Ok(Some(Entry::new(command, taken))),
+            Ok(Plan::Again { rev: _ }) => Ok(None),
+            Err(Refusal::NoMemory) => Err(Refusal::NoMemory),
+            Err(_) => Ok(None),
+        }
+    }
+
+    // The first commands of the order.
+    fn first(&self, count: usize) -> &[Entry]
+        requires { count ≤ length self.now.board.order }
+        ensures { result.now ≡ take count self.now.board.order }
+    {
+        &self.order.as_slice()[..count]
     }
 
     // A command comes again where it is its source's last one.
@@ -281,7 +309,7 @@ impl World {
         ensures only { IsOkUnless result Refusal.NoMemory }
         ensures unchanged { OnErr result (self.new ≡ self.old) }
     {
-        let state = folded(alloc, self.limits, &self.board.order()[..self.without])?;
+        let state = folded(alloc, self.limits, self.first(self.without))?;
         if !has_made(&state, document, revision) {
             return Ok(());
         }
@@ -322,11 +350,12 @@ impl World {
         if !self.may_leave(kept) {
             return Ok(());
         }
-        let state = recovered(alloc, self.limits, &self.board.order()[..kept], milestones)?;
+        let state = recovered(alloc, self.limits, self.first(kept), milestones)?;
         if !are_reached(keep, self.composed.as_slice(), state.documents()) {
             return Ok(());
         }
         self.board.reopen(state, kept);
+        self.order.truncate(kept);
         self.published = kept;
         self.without = kept;
         self.with_batch = kept;
@@ -334,6 +363,16 @@ impl World {
         self.failed = false;
         self.crashed = false;
         Ok(())
+    }
+}
+
+// Puts an entry behind the order, if there is one. There is room for it.
+fn add(order: &mut Vec<Entry>, entry: Option<Entry>)
+    requires { vec_len order.old < vec_capacity order.old }
+    ensures { order.new.items ≡ order.old.items ++ option_to_list entry }
+{
+    if let Some(entry) = entry {
+        let _ = order.push(entry);
     }
 }
 

@@ -99,7 +99,7 @@ fn a_retry_waits_for_its_edit(rt: HostRuntime) {
     ];
     go(&rt, &mut world, &lost);
     assert!(rt; has_tickets(world.tickets(), &[TAKEN]));
-    assert_eq!(rt; world.board().order().len(), 1);
+    assert_eq!(rt; world.board().ordered(), 1);
 }
 
 #[test]
