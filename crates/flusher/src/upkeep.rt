@@ -7,7 +7,7 @@ ghost use Rattle.recovery.specs.declared.run.StoreStep.TheVariants.{Milestone, R
 ghost use Rattle.recovery.specs.Due.{due_for, IsPutDue};
 ghost use Rattle.recovery.specs.Found.{FoundAs};
 ghost use Rattle.recovery.specs.Jobs.{IsJobTo, highest, no_job_for, with_job, without_job};
-ghost use Rattle.recovery.specs.Open.{IsOpen, IsPutNow, IsUnchanged, state_of, has_failed, kept_jobs};
+ghost use Rattle.recovery.specs.Open.{IsOpen, IsPutNow, IsUnchanged, device_of, state_of, has_failed, kept_jobs};
 ghost use Rattle.recovery.specs.Run.{IsTaken, IsWhy};
 ghost use Rattle.recovery.specs.Goes.{Goes};
 ghost use Rattle.flusher.specs.Holding.{store_of, told_of, committed_of, waiting_of};
@@ -54,6 +54,9 @@ impl<D: Disk, J: Site> Flusher<D, J> {
         ensures fails { has_failed (store_of self.old) ≡ false → (has_failed (store_of self.new) ≡ true ↔ IsErrOf result Fault) }
         ensures put { OnOk result (IsTaken (Milestone document revision) (store_of self.old) (store_of self.new)) }
         ensures refused { IfErr result (λ e. e ≢ NoMemory → e ≢ Fault → IsWhy (Milestone document revision) e (store_of self.old)) }
+        ensures untouched { IfErr result (λ e. e ≢ NoMemory → e ≢ Fault → IsUnchanged (store_of self.old) (store_of self.new)) }
+        ensures unwritten { IfErr result (λ e. e ≢ Fault → device_of (store_of self.new) ≡ device_of (store_of self.old)) }
+        ensures dropped { OnOk result (kept_jobs (store_of self.new) ≡ without_job document (kept_jobs (store_of self.old))) }
         ensures only { IfErr result (λ e. ((e ≡ NoDocument) ⊎ ((e ≡ Future) ⊎ (e ≡ TooOld))) ⊎ ((e ≡ NoMemory) ⊎ (e ≡ Fault))) }
         ensures told { told_of self.new ≡ told_of self.old }
         ensures committed { committed_of self.new ≡ committed_of self.old }
@@ -76,6 +79,7 @@ impl<D: Disk, J: Site> Flusher<D, J> {
         ensures failed { has_failed (store_of self.new) ≡ has_failed (store_of self.old) }
         ensures job { IfOk result (λ job. IsJobTo (state_of (store_of self.old)).documents document revision job) }
         ensures keeps { IfOk result (λ job. kept_jobs (store_of self.new) ≡ with_job job (kept_jobs (store_of self.old))) }
+        ensures device { device_of (store_of self.new) ≡ device_of (store_of self.old) }
         ensures untouched { OnErr result (IsUnchanged (store_of self.old) (store_of self.new)) }
         ensures refused { has_failed (store_of self.old) ≡ false → (is_open : IsOpen (store_of self.old)) → (why : Why)
             → no_job_for (slice_get (state_of (store_of self.old)).documents document) (highest (cells_at is_open.cells document)) revision ≡ Some why → IsErrOf result why }
@@ -96,6 +100,8 @@ impl<D: Disk, J: Site> Flusher<D, J> {
         ensures fails { has_failed (store_of self.old) ≡ false → (has_failed (store_of self.new) ≡ true ↔ IsErrOf result Fault) }
         ensures done { OnOk result ((is_open : IsOpen (store_of self.old)) → IsPutNow is_open.cells is_open.table composed.now (store_of self.new)) }
         ensures dropped { OnOk result (kept_jobs (store_of self.new) ≡ without_job composed.now.document (kept_jobs (store_of self.old))) }
+        ensures untouched { (IsErrOf result Stranger) ⊎ (IsErrOf result NoMemory) → IsUnchanged (store_of self.old) (store_of self.new) }
+        ensures jobs { OnErr result (kept_jobs (store_of self.new) ≡ kept_jobs (store_of self.old)) }
         ensures stranger { has_failed (store_of self.old) ≡ false → (IsErrOf result Stranger ↔ (¬ Contains (kept_jobs (store_of self.old)) composed.now)) }
         ensures only { IfErr result (λ e. (e ≡ Stranger) ⊎ ((e ≡ NoMemory) ⊎ (e ≡ Fault))) }
         ensures told { told_of self.new ≡ told_of self.old }

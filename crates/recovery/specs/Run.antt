@@ -13,7 +13,7 @@ use Rattle.recovery.specs.declared.run.StoreStep.TheVariants.{Commit, Milestone,
 use Rattle.recovery.specs.Found.{FoundAs}
 use Rattle.recovery.specs.Jobs.{IsJobTo, no_job_for, highest}
 use Rattle.recovery.specs.Marked.{MayRetire}
-use Rattle.recovery.specs.Open.{FitsSlot, IsOpen, IsPutNow, IsRetiredNow, state_of, has_failed, has_room}
+use Rattle.recovery.specs.Open.{FitsSlot, IsOpen, IsPutNow, IsRetiredNow, IsUnchanged, state_of, has_failed, has_room}
 
 -- the batch of a step, empty where it commits none
 abbrev pub batch_of : StoreStep → List Taken
@@ -71,7 +71,7 @@ module _ {D : Type 0} {disk : Ghosts D} where
   abbrev pub IsTaken : StoreStep → Store D disk → Store D disk → Type 0
   IsTaken (Commit batch) old new =
       (has_failed new ≡ false) × (all_grow (state_of old) batch.items ≡ true) × (state_of new ≡ fold (state_of old) batch.items)
-      × (IsOpen old → IsOpen new)
+      × (IsOpen old → IsOpen new) × (has_room old batch.items ≡ true)
   IsTaken (Milestone document revision) old new =
       (has_failed new ≡ false) × (state_of new ≡ state_of old) × ((is_open : IsOpen old) → IsPutAt document revision old is_open new)
   IsTaken Retire old new =
@@ -90,8 +90,10 @@ module _ {D : Type 0} {disk : Ghosts D} where
       (is_open : IsOpen store) → no_job_for (slice_get (state_of store).documents document) (highest (cells_at is_open.cells document)) revision ≡ Some refusal
   IsWhy Retire refusal store = (refusal ≡ StillNeeded) × ((is_open : IsOpen store) → ¬ MayRetire is_open.table is_open.cells)
 
-  -- A run stopped at a step: those before it were taken, and the store that they led to refused it for this reason.
-  pub record IsStopped (steps : List StoreStep) (at : ℕ) (refusal : Refusal) (old : Store D disk) : Type 0 where
+  -- A run stopped at a step: those before it were taken, and the store that they led to refused it for this reason, and was left
+  -- as it was, where neither its device failed nor memory ran out.
+  pub record IsStopped (steps : List StoreStep) (at : ℕ) (refusal : Refusal) (old new : Store D disk) : Type 0 where
     pub last : Store D disk
     pub taken : AreTaken (take at steps) old last
     pub why : refusal ≢ NoMemory → refusal ≢ Fault → IsWhy (get_or steps at Retire) refusal last
+    pub left : refusal ≢ NoMemory → refusal ≢ Fault → IsUnchanged last new

@@ -105,6 +105,9 @@ impl<D: Disk> Store<D> {
         ensures goes { Goes (IsWithOrWithout (state_of self.old) batch.now) self.old self.new }
         ensures any_moment { has_failed self.old ≡ false → IsOpen self.old
             → LeavesOnly ⟦<D as Disk>⟧ (IsWithOrWithout (state_of self.old) batch.now) (device_of self.old) (device_of self.new) }
+        // Where memory ran out nothing of the batch was written: a crash at any moment leaves the state before it.
+        ensures unwritten { IsErrOf result Refusal.NoMemory → has_failed self.old ≡ false → IsOpen self.old
+            → LeavesOnly ⟦<D as Disk>⟧ (λ content. FoundAs content (state_of self.old)) (device_of self.old) (device_of self.new) }
         // Once it is Ok, the device is synced and stands for the state with the batch.
         ensures done { OnOk result (IsOpen self.old → IsOpen self.new) }
         ensures kept { IfErr result (λ e. e ≢ Refusal.Fault → IsOpen self.old → IsOpen self.new) }

@@ -75,7 +75,8 @@ impl<D: Disk> Store<D> {
         }
     }
     /// Puts a milestone of a document at a revision: hands out its job, composes it here, and puts what came of it. The refusals are
-    /// those of `milestone_job`, and `NoMemory` and `Fault` while it is composed and put. The documents stay.
+    /// those of `milestone_job`, and `NoMemory` and `Fault` while it is composed and put. The documents stay. Where memory runs
+    /// out, the job may stay kept, in place of one that was handed out before.
     pub fn put_document(
         &mut self,
         alloc: Global,
@@ -91,6 +92,12 @@ impl<D: Disk> Store<D> {
         ensures fault { IsErrOf result Refusal.Fault → has_failed self.old ≡ false
             → Rose (D.faults (device_of self.old)) (D.faults (device_of self.new)) }
         ensures only { IfErr result (λ e. ((e ≡ Refusal.NoDocument) ⊎ ((e ≡ Refusal.Future) ⊎ (e ≡ Refusal.TooOld))) ⊎ ((e ≡ Refusal.NoMemory) ⊎ (e ≡ Refusal.Fault))) }
+
+        // A refusal for the document or its revision leaves all as it was; one for want of memory leaves the device, and may leave a
+        // kept job of the document.
+        ensures untouched { IfErr result (λ e. e ≢ Refusal.NoMemory → e ≢ Refusal.Fault → IsUnchanged self.old self.new) }
+        ensures unwritten { IfErr result (λ e. e ≢ Refusal.Fault → device_of self.new ≡ device_of self.old) }
+        ensures dropped { OnOk result (kept_jobs self.new ≡ without_job document (kept_jobs self.old)) }
 
         // What each answer leaves: the segments, what is known of them, and the kept jobs of other documents are as they were.
         ensures state { state_of self.new ≡ state_of self.old }

@@ -48,7 +48,7 @@ impl<D: Disk> Store<D> {
             × IfErr result (λ stop. (stop.at ≡ 0) × (stop.refusal ≡ Fault)) × IsUnchanged self.old self.new }
 
         // Why it stopped: by the store that the steps before led to, and by the one that it left.
-        ensures refused { IfErr result (λ stop. IsStopped steps.now stop.at stop.refusal self.old) }
+        ensures refused { IfErr result (λ stop. IsStopped steps.now stop.at stop.refusal self.old self.new) }
         ensures full { IfErr result (λ stop. stop.refusal ≡ JournalFull → has_room self.new (batch_at steps.now stop.at) ≡ false) }
         ensures stranger { IfErr result (λ stop. stop.refusal ≡ Stranger → all_grow (state_of self.new) (batch_at steps.now stop.at) ≡ false) }
         ensures fault { IfErr result (λ stop. stop.refusal ≡ Fault → has_failed self.old ≡ false
@@ -88,6 +88,7 @@ impl<D: Disk> Store<D> {
         ensures fault { IsErrOf result Fault → has_failed self.old ≡ false → Rose (D.faults (device_of self.old)) (D.faults (device_of self.new)) }
         ensures only { IfErr result (λ e. IsOfStep e) }
         ensures refused { IfErr result (λ e. e ≢ NoMemory → e ≢ Fault → IsWhy step.now e self.old) }
+        ensures untouched { IfErr result (λ e. e ≢ NoMemory → e ≢ Fault → IsUnchanged self.old self.new) }
 
         ensures taken { OnOk result (IsTaken step.now self.old self.new) }
         ensures state { OnOk result (state_of self.new ≡ fold (state_of self.old) (batch_of step.now)) }

@@ -8,6 +8,7 @@ use Rattle.revision.specs.State.{State, all_grow}
 use Rattle.journal.specs.BatchSpelling.{batch_width}
 use Rattle.segments.specs.declared.ring.Ring.{Ring}
 use Rattle.segments.specs.Room.{has_room_for}
+use Rattle.recovery.specs.Found.{FoundAs}
 use Rattle.recovery.specs.Goes.{Goes}
 use Rattle.recovery.specs.Open.{IsWithOrWithout, has_room}
 use Rattle.recovery.proofs.Refusals.{refusal_or}
@@ -88,6 +89,14 @@ returns-clause-goes g c =
 pub returns-clause-any_moment : goal.returns-clause-any_moment
 unfolding returns-clause-goes
 returns-clause-any_moment g c = (returns-clause-goes g c).any_moment
+
+-- where memory ran out, no call wrote anything of the batch
+pub returns-clause-unwritten : goal.returns-clause-unwritten
+returns-clause-unwritten g c told works is_open =
+    (goes_on c.free_oldest.ensures.goes
+    (subst (λ (s : State). Goes (λ content. FoundAs content s) c.free_oldest.new.self c.commit-2.new.self) c.free_oldest.ensures.state
+    (goes_call c.commit-2.result c.commit-2.ensures.failed_before c.commit-2.ensures.fails (λ works is_open. c.commit-2.ensures.unwritten told is_open) c.commit-2.ensures.done
+    c.commit-2.ensures.kept))).any_moment works is_open
 
 pub returns-clause-done : goal.returns-clause-done
 returns-clause-done g c = done_by c.args.self.now c.commit-2.new.self c.commit-2.result (c.commit-2.ensures.fails c.in_default.ensures.works) (returns-clause-goes g c)

@@ -1,4 +1,4 @@
-use Rattle.std.proofs.Common.{◌≡◌, ◌∙◌, ⊎_elim, inr, false, ap}
+use Rattle.std.proofs.Common.{◌≡◌, ◌∙◌, ⊎_elim, inl, inr, false, ap}
 use Rattle.std.specs.Prelude.{Err}
 use Rattle.refusal.specs.declared.Refusal.{Refusal}
 use Rattle.milestone.specs.Job.{Job}
@@ -120,5 +120,34 @@ returns-clause-others g c =
     let number = ap (λ (j : Job). j.document) composed ∙ c.in-Ok.ensures.job.number in
     ap (without_job document) c.in_default.ensures.dropped
     ∙ others_without document c.in-Ok-compose_job.composed.document (kept_jobs c.milestone_job.new.self) number
+    ∙ ap (without_job document) c.in-Ok.ensures.keeps
+    ∙ others_with document c.in-Ok.job (kept_jobs c.args.self.now) c.in-Ok.ensures.job.number
+
+-- the put has no refusal for the document or its revision
+pub returns-in-Err-put_milestone-clause-untouched : goal.returns-in-Err-put_milestone-clause-untouched
+returns-in-Err-put_milestone-clause-untouched g c memory fault =
+    let store = c.args.self.now in
+    let mid = c.milestone_job.new.self in
+    let works : has_failed mid ≡ false = c.milestone_job.ensures.failed ∙ had_not_failed c.in-Ok.job c.in-Ok.ensures.failed_before in
+    ⊎_elim
+    (λ stranger. absurd ((c.in-Err-put_milestone.ensures.stranger works).0 (ap (λ (r : Refusal). Err r) stranger)
+    (keeps_it c.in-Ok.job c.in-Ok-compose_job.composed (kept_jobs store) (kept_jobs mid) c.in-Ok.ensures.keeps c.in-Ok-compose_job.ensures.done)))
+    (⊎_elim (λ is. absurd (memory is)) (λ is. absurd (fault is))) c.in-Err-put_milestone.ensures.only
+
+-- no call of the device came before the put
+pub returns-in-Err-put_milestone-clause-unwritten : goal.returns-in-Err-put_milestone-clause-unwritten
+returns-in-Err-put_milestone-clause-unwritten g c fault =
+    let refused = c.in-Err-put_milestone.ensures in
+    ⊎_elim (λ is. (refused.untouched (inl (ap (λ (r : Refusal). Err r) is))).device ∙ c.milestone_job.ensures.device)
+    (⊎_elim (λ is. (refused.untouched (inr (ap (λ (r : Refusal). Err r) is))).device ∙ c.milestone_job.ensures.device) (λ is. absurd (fault is))) refused.only
+
+-- the job that was kept is dropped
+pub returns-clause-dropped : goal.returns-clause-dropped
+returns-clause-dropped g c =
+    let document = c.args.document in
+    let composed : c.in-Ok-compose_job.composed ≡ c.in-Ok.job = c.in-Ok-compose_job.ensures.done in
+    let number = ap (λ (j : Job). j.document) composed ∙ c.in-Ok.ensures.job.number in
+    c.in_default.ensures.dropped
+    ∙ ap (λ n. without_job n (kept_jobs c.milestone_job.new.self)) number
     ∙ ap (without_job document) c.in-Ok.ensures.keeps
     ∙ others_with document c.in-Ok.job (kept_jobs c.args.self.now) c.in-Ok.ensures.job.number

@@ -106,4 +106,5 @@ returns-in-Err-clause-refused g c =
       why = λ memory fault.
           subst (λ (s : StoreStep). IsWhy s c.in-Err.refusal c.loop-at.self) (c.index-steps-at.is ∙ get_or_default steps at step Retire c.loop-at-test.true)
           (c.in-Err.ensures.refused memory fault);
+      left = λ memory fault. c.in-Err.ensures.untouched memory fault;
     }
