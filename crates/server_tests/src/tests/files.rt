@@ -47,6 +47,24 @@ const FREED_REPLIES: &str = "{\"ok\":\"hello\"}\n\
     {\"code\":7,\"error\":\"Exists\"}\n\
     {\"doc\":\"d\",\"ok\":\"doc\",\"ops\":[{\"insert\":\"z\"}],\"rev\":3}\n";
 
+/// Sixteen removals of names of ten bytes make an entry of 249 bytes, which is too wide, and fifteen one of 236. A document of six
+/// letters by one source is too heavy, and one of five is not.
+const WIDE: &str = "{\"do\":\"hello\",\"source\":\"a\"}\n\
+    {\"do\":\"create\",\"doc\":\"d\",\"n\":1,\"ops\":[{\"insert\":\"z\"}]}\n\
+    {\"base\":1,\"do\":\"edit\",\"doc\":\"d\",\"n\":2,\"ops\":[{\"attributes\":{\"n000000001\":null,\"n000000002\":null,\"n000000003\":null,\"n000000004\":null,\"n000000005\":null,\"n000000006\":null,\"n000000007\":null,\"n000000008\":null,\"n000000009\":null,\"n000000010\":null,\"n000000011\":null,\"n000000012\":null,\"n000000013\":null,\"n000000014\":null,\"n000000015\":null,\"n000000016\":null},\"retain\":1}]}\n\
+    {\"base\":1,\"do\":\"edit\",\"doc\":\"d\",\"n\":2,\"ops\":[{\"attributes\":{\"n000000001\":null,\"n000000002\":null,\"n000000003\":null,\"n000000004\":null,\"n000000005\":null,\"n000000006\":null,\"n000000007\":null,\"n000000008\":null,\"n000000009\":null,\"n000000010\":null,\"n000000011\":null,\"n000000012\":null,\"n000000013\":null,\"n000000014\":null,\"n000000015\":null},\"retain\":1}]}\n\
+    {\"do\":\"create\",\"doc\":\"e\",\"n\":1,\"ops\":[{\"insert\":\"abcdef\"}]}\n\
+    {\"do\":\"create\",\"doc\":\"e\",\"n\":1,\"ops\":[{\"insert\":\"abcde\"}]}\n\
+    {\"do\":\"fetch\",\"doc\":\"e\"}\n";
+
+const WIDE_REPLIES: &str = "{\"ok\":\"hello\"}\n\
+    {\"doc\":\"d\",\"n\":1,\"ok\":\"taken\",\"rev\":1}\n\
+    {\"code\":17,\"error\":\"TooWide\"}\n\
+    {\"doc\":\"d\",\"n\":2,\"ok\":\"taken\",\"rev\":2}\n\
+    {\"code\":16,\"error\":\"TooHeavy\"}\n\
+    {\"doc\":\"e\",\"n\":1,\"ok\":\"taken\",\"rev\":1}\n\
+    {\"doc\":\"e\",\"ok\":\"doc\",\"ops\":[{\"insert\":\"abcde\"}],\"rev\":1}\n";
+
 /// The one slot that is open is the last one that can be: its number is the highest there is. What is there can be read.
 const LAST_REPLIES: &str = "{\"ok\":\"hello\"}\n\
     {\"doc\":\"d\",\"n\":1,\"ok\":\"again\",\"rev\":1}\n\
@@ -126,15 +144,31 @@ fn limits_hold_over_several_runs(rt: HostRuntime) -> Result<(), Fail> {
     Ok(())
 }
 
+/// A new small store, served with this input, gives these replies.
+fn serves_small<
+    R: Files<File = File>
+        + AllocGlobal
+        + Net<Listener = TcpListener, Stream = TcpStream>
+        + Threads
+        + Wait
+        + Sync
+        + Abort,
+>(rt: &R, path: &str, input: &str, replies: &str) -> Result<(), Fail> {
+    format_small(rt, path)?;
+    let serve = ["richd", "serve", path];
+    runs(rt, &serve, &mut input.as_bytes(), (0, replies, ""))?;
+    fs::remove_file(rt, path)?;
+    Ok(())
+}
+
 #[test]
 fn a_full_journal_is_freed(rt: HostRuntime) -> Result<(), Fail> {
-    let path = path(&rt, "full")?;
-    let path = path.as_str();
-    format_small(&rt, path)?;
-    let serve = ["richd", "serve", path];
-    runs(&rt, &serve, &mut FULL.as_bytes(), (0, FREED_REPLIES, ""))?;
-    fs::remove_file(&rt, path)?;
-    Ok(())
+    serves_small(&rt, path(&rt, "full")?.as_str(), FULL, FREED_REPLIES)
+}
+
+#[test]
+fn the_widest_and_the_heaviest_are_taken(rt: HostRuntime) -> Result<(), Fail> {
+    serves_small(&rt, path(&rt, "wide")?.as_str(), WIDE, WIDE_REPLIES)
 }
 
 /// The bytes of a small store, with the highest number there is as that of the first slot's segment.
