@@ -1,7 +1,9 @@
 //! Batches by their spelling, byte for byte.
 use crate::deltas::{Splice, spliced};
-use delta::{Delta, OpRef};
+use crate::jobs::inserts;
+use crate::stores::{are_bytes, is_text};
 use journal::{decode_batch, encode_batch};
+use revision::Taken;
 use std::process::Abort;
 
 // The source "a" creates the document "d" with the text "z".
@@ -13,14 +15,14 @@ const CREATION: [u8; 45] = [
     1, 0, 0, 0, 1, 1, 0, 0, 0, b'z', 0, 0, 0, 0, // the delta
 ];
 
-// the delta inserts the text "z" without attributes
-fn is_z(delta: &Delta) -> bool {
-    match delta.ops() {
-        [op] => match op.get() {
-            OpRef::Text(text, attrs) => text == "z" && attrs.entries().is_empty(),
-            _ => false,
-        },
-        _ => false,
+// A batch of one entry, by the source "a", which inserts "z".
+fn is_creation(rt: &impl Abort, batch: &[Taken]) {
+    match batch {
+        [taken] => {
+            is_text(rt, taken.source().as_str(), "a");
+            assert!(rt; inserts(taken.delta(), "z"));
+        }
+        _ => panic!(rt; "one entry"),
     }
 }
 
@@ -28,11 +30,9 @@ fn is_z(delta: &Delta) -> bool {
 fn a_creation_is_read_and_written(rt: HostRuntime) {
     let found = decode_batch(rt.alloc(), &CREATION).expect(&rt, "memory");
     let batch = found.expect(&rt, "a batch");
-    assert_eq!(rt; batch.len(), 1);
-    assert_eq!(rt; batch[0].source().as_str(), "a");
-    assert!(rt; is_z(batch[0].delta()));
+    is_creation(&rt, &batch);
     let bytes = encode_batch(rt.alloc(), &batch).expect(&rt, "memory");
-    assert_eq!(rt; bytes.as_slice(), CREATION.as_slice());
+    are_bytes(&rt, &bytes, &CREATION);
 }
 
 const OTHER_BYTES: [Splice; 14] = [

@@ -1,8 +1,7 @@
 //! Devices with open cells, byte for byte: shape S of docs/FORMATS.md, whose cells lie at 64, 320, 576 and 832.
 use crate::batches::EDIT;
 use crate::stores::{
-    answer_text, device_of, edit, is_opened_as, is_picked_as, open_store, small_device,
-    with_bytes_at,
+    EditRow, change, device_of, is_opened_as, is_picked_as, open_store, small_device, with_bytes_at,
 };
 use recovery::Pick;
 use std::process::Abort;
@@ -160,6 +159,8 @@ fn cells_of_two_documents(rt: HostRuntime) {
     );
 }
 
+const SPENT: EditRow = (2, 9_007_199_254_740_991, "x", "error 18 RevisionsSpent");
+
 // A document at the highest revision takes no edit more.
 #[test]
 fn revisions_are_spent(rt: HostRuntime) {
@@ -171,9 +172,5 @@ fn revisions_are_spent(rt: HostRuntime) {
         &[255, 255, 255, 255, 255, 255, 31],
     );
     let mut store = open_store(&rt, device_of(&rt, &device));
-    let command = edit(&rt, "a", "d", 2, 9_007_199_254_740_991, "x");
-    assert_eq!(&rt;
-        answer_text(&rt, &mut store, &command).as_str(),
-        "error 18 RevisionsSpent"
-    );
+    change(&rt, &mut store, &SPENT);
 }

@@ -2,7 +2,7 @@
 use crate::rings::LEFT;
 use crate::scripts::{Move, Script, script_device, script_of, take_move};
 use crate::stopping::calls_before;
-use crate::stores::{device_of, open_by, open_store, text_of};
+use crate::stores::{device_of, is_answer, is_text, line_of, open_by, open_store, push_text};
 use disk::{Disk, FaultDisk, FaultPlan, MemDisk};
 use recovery::{Pick, Store};
 use refusal::Refusal;
@@ -18,40 +18,48 @@ fn number_of(rt: &(impl Abort + AllocGlobal), record: &DocState, source: &str) -
     record.last(&source).number
 }
 
-// The documents of a state, each as a line of its name, its revision, its text, and the last numbers of the sources a and b.
+// A document as a line of its name, its revision, its text, and the last numbers of the sources a and b.
+fn numbered_line(rt: &(impl Abort + AllocGlobal), record: &DocState) -> String {
+    let first = number_of(rt, record, "a");
+    let second = number_of(rt, record, "b");
+    let line = line_of(rt, record);
+    format!(in rt.alloc(); "{line} {first} {second}\n").expect(rt, "memory")
+}
+
+// The lines of the documents of a state.
 fn lines_of(rt: &(impl Abort + AllocGlobal), state: &State) -> String {
     let mut lines = String::new(rt.alloc());
     for record in state.documents() {
-        let delta = record.document().as_delta(rt.alloc()).expect(rt, "memory");
-        let text = text_of(rt, &delta);
-        let name = record.name().as_str();
-        let revision = record.revision();
-        let first = number_of(rt, record, "a");
-        let second = number_of(rt, record, "b");
-        let line = format!(in rt.alloc(); "{name} {revision} {text} {first} {second}\n");
-        lines
-            .push_str(line.expect(rt, "memory").as_str())
-            .expect(rt, "memory");
+        push_text(rt, &mut lines, numbered_line(rt, record).as_str());
     }
     lines
 }
 
-// The plain program: the line of a document after the first moves.
-fn push_line(
+// The plain program: the text of a document after the first moves.
+fn text_after(
     rt: &(impl Abort + AllocGlobal),
-    lines: &mut String,
     script: &Script,
     moves: usize,
     document: u8,
-) {
+) -> String {
     let mut text = Vec::new(rt.alloc());
-    let (mut revision, mut first, mut second) = (0, 0, 0);
     for change in &script.changes {
         if change.at < moves && change.document == document {
             if change.replaces {
                 drop(text.pop());
             }
             text.push(change.letter).expect(rt, "memory");
+        }
+    }
+    text.reverse();
+    String::from_utf8(text).expect(rt, "letters")
+}
+
+// Its revision, and the last numbers of the sources a and b.
+fn numbers_after(script: &Script, moves: usize, document: u8) -> (u8, u8, u8) {
+    let (mut revision, mut first, mut second) = (0, 0, 0);
+    for change in &script.changes {
+        if change.at < moves && change.document == document {
             revision = change.revision;
             if change.source == b'a' {
                 first = change.number;
@@ -60,14 +68,23 @@ fn push_line(
             }
         }
     }
+    (revision, first, second)
+}
+
+// Its line.
+fn push_line(
+    rt: &(impl Abort + AllocGlobal),
+    lines: &mut String,
+    script: &Script,
+    moves: usize,
+    document: u8,
+) {
+    let (revision, first, second) = numbers_after(script, moves, document);
     if revision > 0 {
-        text.reverse();
-        let text = String::from_utf8(text).expect(rt, "letters");
+        let text = text_after(rt, script, moves, document);
         let name = char::from(b'd'.saturating_add(document));
         let line = format!(in rt.alloc(); "{name} {revision} {text} {first} {second}\n");
-        lines
-            .push_str(line.expect(rt, "memory").as_str())
-            .expect(rt, "memory");
+        push_text(rt, lines, line.expect(rt, "memory").as_str());
     }
 }
 
@@ -80,21 +97,40 @@ fn lines_after(rt: &(impl Abort + AllocGlobal), script: &Script, moves: usize) -
     lines
 }
 
+// Whether these are the lines after the first moves.
+fn is_after(rt: &(impl Abort + AllocGlobal), script: &Script, moves: usize, found: &str) -> bool {
+    lines_after(rt, script, moves).as_str() == found
+}
+
 // What a device of these bytes is opened as by a pick.
-fn lines_by(rt: &(impl Abort + AllocGlobal), bytes: &[u8], pick: Pick) -> String {
+pub fn lines_by(rt: &(impl Abort + AllocGlobal), bytes: &[u8], pick: Pick) -> String {
     lines_of(rt, open_by(rt, device_of(rt, bytes), pick).state())
 }
 
 /// By either pick bytes are the first moves, or these and the next one.
 pub fn is_beginning(rt: &(impl Abort + AllocGlobal), bytes: &[u8], script: &Script, moves: usize) {
     let found = lines_by(rt, bytes, Pick::Newer);
-    assert_eq!(rt; lines_by(rt, bytes, Pick::Older).as_str(), found.as_str());
-    let next = moves.saturating_add(1);
+    is_text(
+        rt,
+        lines_by(rt, bytes, Pick::Older).as_str(),
+        found.as_str(),
+    );
     assert!(rt;
-        lines_after(rt, script, moves).as_str() == found.as_str()
-            || lines_after(rt, script, next).as_str() == found.as_str(),
+        is_after(rt, script, moves, found.as_str())
+            || is_after(rt, script, moves.saturating_add(1), found.as_str()),
         "after {moves} moves: {found}"
     );
+}
+
+/// And so is what a crash of a device would leave.
+pub fn leaves_beginning(
+    rt: &(impl Abort + AllocGlobal),
+    disk: &FaultDisk,
+    script: &Script,
+    moves: usize,
+) {
+    let after = disk.after_crash(rt.alloc()).expect(rt, "memory");
+    is_beginning(rt, after.bytes(), script, moves);
 }
 
 // A store takes the moves of a script until a call of its device fails, and says how many it took.
@@ -115,10 +151,13 @@ fn answers_nothing<D: Disk>(
     script: &Script,
     at: usize,
 ) {
-    let fault = Err(Refusal::Fault);
     let next = script.moves.get(at).expect(rt, "a move that failed");
     for next in [*next, Move::Milestone(0, 1), Move::Retire] {
-        assert_eq!(rt; take_move(rt, store, script, at, next), fault);
+        is_answer(
+            rt,
+            take_move(rt, store, script, at, next),
+            Err(Refusal::Fault),
+        );
     }
     assert!(rt; store.has_failed());
 }
@@ -129,13 +168,13 @@ fn goes_wrong(rt: &(impl Abort + AllocGlobal), script: &Script, plan: FaultPlan)
     let mut store = open_store(rt, FaultDisk::new(script_device(rt), plan));
     let moves = taken(rt, &mut store, script);
     answers_nothing(rt, &mut store, script, moves);
-    assert_eq!(rt;
+    is_text(
+        rt,
         lines_of(rt, store.state()).as_str(),
-        lines_after(rt, script, moves).as_str()
+        lines_after(rt, script, moves).as_str(),
     );
     let disk = store.close();
-    let after = disk.after_crash(rt.alloc()).expect(rt, "memory");
-    is_beginning(rt, after.bytes(), script, moves);
+    leaves_beginning(rt, &disk, script, moves);
     if !plan.stops {
         is_beginning(rt, disk.disk().bytes(), script, moves);
     }

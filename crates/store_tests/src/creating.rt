@@ -19,7 +19,7 @@ fn what_is_created_is_found_again(rt: HostRuntime) {
         one.bytes(),
         empty.bytes(),
         1_088,
-        &part(&rt, &SLOT, 0, 59),
+        part(&rt, &SLOT, 0, 59),
     );
     let two = session(&rt, one.bytes(), &SECOND_RUN, "d 1 z\ne 1 y\n");
     differ_by(&rt, two.bytes(), empty.bytes(), 1_088, &SLOT);

@@ -95,7 +95,7 @@ fn a_record_is_damaged(rt: HostRuntime) {
         &rt,
         &bytes,
         1_147,
-        &part(&rt, &SLOT, 9, 50),
+        part(&rt, &SLOT, 9, 50),
         "error 32 Damaged",
     );
 }

@@ -1,4 +1,5 @@
 //! Deltas by their spelling, byte for byte.
+use crate::stores::{are_bytes, extend, with_bytes_at};
 use attributes::{Attrs, Change, Key, Value};
 use delta::{Builder, Delta, Op};
 use journal::{read_delta, write_delta};
@@ -70,7 +71,7 @@ fn is_written(rt: &(impl Abort + AllocGlobal), delta: &Delta, bytes: &[u8]) {
     assert!(rt; delta_width(delta) < 1 << 32);
     let mut out = Vec::new(rt.alloc());
     write_delta(&mut out, delta).expect(rt, "memory");
-    assert_eq!(rt; out.as_slice(), bytes);
+    are_bytes(rt, &out, bytes);
 }
 
 #[test]
@@ -83,15 +84,10 @@ fn deltas_are_written(rt: HostRuntime) {
 
 /// The bytes and two more are read, and what was read is written as the bytes.
 fn is_read(rt: &(impl Abort + AllocGlobal), bytes: &[u8]) {
-    let longer: Vec<u8> = bytes
-        .iter()
-        .chain(&[7, 9])
-        .copied()
-        .collect(rt.alloc())
-        .expect(rt, "memory");
+    let longer = with_bytes_at(rt, bytes, bytes.len(), &[7, 9]);
     let found = read_delta(rt.alloc(), &longer).expect(rt, "memory");
     let (delta, rest) = found.expect(rt, "a delta");
-    assert_eq!(rt; rest, [7, 9].as_slice());
+    are_bytes(rt, rest, &[7, 9]);
     is_written(rt, &delta, bytes);
 }
 
@@ -109,21 +105,21 @@ pub type Splice = (&'static str, usize, usize, &'static [u8]);
 
 /// The bytes with others in the place of some.
 pub fn spliced(rt: &(impl Abort + AllocGlobal), bytes: &[u8], row: &Splice) -> Vec<u8> {
-    let (_, start, end, other) = row;
-    let head = bytes.iter().take(*start);
-    let back = bytes.iter().skip(*end);
-    head.chain(*other)
-        .chain(back)
-        .copied()
-        .collect(rt.alloc())
-        .expect(rt, "memory")
+    let head = bytes.get(..row.1).expect(rt, "so many bytes");
+    let mut all = head.to_vec(rt.alloc()).expect(rt, "memory");
+    extend(rt, &mut all, row.3);
+    extend(rt, &mut all, bytes.get(row.2..).expect(rt, "so many bytes"));
+    all
+}
+
+fn is_no_delta(rt: &(impl Abort + AllocGlobal), bytes: &[u8], what: &str) {
+    let found = read_delta(rt.alloc(), bytes).expect(rt, "memory");
+    assert!(rt; found.is_none(), "{what}");
 }
 
 fn spell_no_delta(rt: &(impl Abort + AllocGlobal), bytes: &[u8], rows: &[Splice]) {
     for row in rows {
-        let bytes = spliced(rt, bytes, row);
-        let found = read_delta(rt.alloc(), &bytes).expect(rt, "memory");
-        assert!(rt; found.is_none(), "{}", row.0);
+        is_no_delta(rt, &spliced(rt, bytes, row), row.0);
     }
 }
 
@@ -170,7 +166,6 @@ fn other_bytes_are_no_delta(rt: HostRuntime) {
 #[test]
 fn a_delta_that_is_cut_is_none(rt: HostRuntime) {
     for len in 0..IMAGE.len() {
-        let found = read_delta(rt.alloc(), &IMAGE[..len]).expect(&rt, "memory");
-        assert!(rt; found.is_none(), "cut at {len}");
+        is_no_delta(&rt, &IMAGE[..len], "a delta that is cut");
     }
 }

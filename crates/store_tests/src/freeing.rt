@@ -1,13 +1,15 @@
 //! Commits that free the journal where it is full, and milestones that are put as they are due.
 ghost use Rattle.std.specs.Prelude.{◌≤◌};
 
-use crate::crashes::is_beginning;
+use crate::crashes::{is_beginning, leaves_beginning};
 use crate::rings::{LEFT, second, with_last_number};
 use crate::scripts::{
     Move, Numbers, Script, batch, drawn_document, no_moves, push_change, script_device, take_move,
 };
 use crate::stopping::calls_before;
-use crate::stores::{SLOT, device_of, is_opened_as, open_store, part, with_bytes_at};
+use crate::stores::{
+    SLOT, are_bytes, device_of, is_answer, is_opened_as, open_store, part, with_bytes_at,
+};
 use disk::{Disk, FaultDisk, FaultPlan, MemDisk};
 use journal::decode_batch;
 use recovery::Store;
@@ -30,6 +32,16 @@ pub fn commit_freeing<D: Disk>(
     }
 }
 
+// And is answered like this.
+fn is_freed_for<D: Disk>(
+    rt: &(impl Abort + AllocGlobal),
+    store: &mut Store<D>,
+    bytes: &[u8],
+    wanted: Result<(), Refusal>,
+) {
+    is_answer(rt, commit_freeing(rt, store, bytes), wanted);
+}
+
 // Puts a milestone of a document where one is due.
 fn put_due<D: Disk>(
     rt: &(impl Abort + AllocGlobal),
@@ -40,6 +52,15 @@ fn put_due<D: Disk>(
     requires { 1 ≤ every }
 {
     store.put_due(rt.alloc(), document, every)
+}
+
+// Every second revision of document 0 is put.
+fn is_due<D: Disk>(
+    rt: &(impl Abort + AllocGlobal),
+    store: &mut Store<D>,
+    wanted: Result<bool, Refusal>,
+) {
+    assert_eq!(rt; put_due(rt, store, 0, 2), wanted);
 }
 
 // Frees the oldest segment.
@@ -53,7 +74,7 @@ fn free_oldest<D: Disk>(
 // The change that was drawn last is committed.
 fn feed<D: Disk>(rt: &(impl Abort + AllocGlobal), store: &mut Store<D>, script: &mut Script) {
     let bytes = batch(rt, script, script.moves.len(), 1);
-    assert_eq!(rt; commit_freeing(rt, store, &bytes), Ok(()));
+    is_freed_for(rt, store, &bytes, Ok(()));
     script.moves.push(Move::Commit(1)).expect(rt, "memory");
 }
 
@@ -92,19 +113,23 @@ fn full_device(rt: &(impl Abort + AllocGlobal), script: &mut Script) -> MemDisk 
     panic!(rt; "no move finds the journal full")
 }
 
+// A store fails in the next move, and answers nothing more.
+fn fails_in_next<D: Disk>(rt: &(impl Abort + AllocGlobal), store: &mut Store<D>, script: &Script) {
+    let next = batch(rt, script, script.moves.len(), 1);
+    for _ in 0..2 {
+        is_freed_for(rt, store, &next, Err(Refusal::Fault));
+    }
+    is_answer(rt, free_oldest(rt, store), Err(Refusal::Fault));
+    is_due(rt, store, Err(Refusal::Fault));
+}
+
 // A call of the freeing commit fails, and where it stops each later one.
 fn goes_wrong(rt: &(impl Abort + AllocGlobal), bytes: &[u8], script: &Script, plan: FaultPlan) {
-    let moves = script.moves.len();
-    let next = batch(rt, script, moves, 1);
     let mut store = open_store(rt, FaultDisk::new(device_of(rt, bytes), plan));
-    let fault = Err(Refusal::Fault);
-    assert_eq!(rt; commit_freeing(rt, &mut store, &next), fault);
-    assert_eq!(rt; commit_freeing(rt, &mut store, &next), fault);
-    assert_eq!(rt; free_oldest(rt, &mut store), fault);
-    assert_eq!(rt; put_due(rt, &mut store, 0, 2), Err(Refusal::Fault));
+    fails_in_next(rt, &mut store, script);
     let disk = store.close();
-    let after = disk.after_crash(rt.alloc()).expect(rt, "memory");
-    is_beginning(rt, after.bytes(), script, moves);
+    let moves = script.moves.len();
+    leaves_beginning(rt, &disk, script, moves);
     is_beginning(rt, disk.disk().bytes(), script, moves);
 }
 
@@ -112,7 +137,7 @@ fn goes_wrong(rt: &(impl Abort + AllocGlobal), bytes: &[u8], script: &Script, pl
 fn calls_after(rt: &(impl Abort + AllocGlobal), bytes: &[u8], script: &Script) -> u64 {
     let mut store = open_store(rt, device_of(rt, bytes));
     let next = batch(rt, script, script.moves.len(), 1);
-    assert_eq!(rt; commit_freeing(rt, &mut store, &next), Ok(()));
+    is_freed_for(rt, &mut store, &next, Ok(()));
     store.close().calls().len() as u64
 }
 
@@ -128,6 +153,18 @@ fn each_call_of_a_freeing_goes_wrong(rt: HostRuntime) {
     }
 }
 
+// The change that was drawn last is committed, with no freeing.
+fn take_change<D: Disk>(
+    rt: &(impl Abort + AllocGlobal),
+    store: &mut Store<D>,
+    script: &mut Script,
+) {
+    let next = Move::Commit(1);
+    let moves = script.moves.len();
+    is_answer(rt, take_move(rt, store, script, moves, next), Ok(()));
+    script.moves.push(next).expect(rt, "memory");
+}
+
 // Every second revision of the only document is put, so its cells are never four below, and a segment is given up before each
 // slot is taken: no plain commit finds the journal full.
 #[test]
@@ -135,15 +172,12 @@ fn a_milestone_is_put_where_it_is_due(rt: HostRuntime) {
     let mut store = open_store(&rt, script_device(&rt));
     let mut numbers = Numbers { state: 2 };
     let mut script = no_moves(&rt);
-    assert_eq!(rt; put_due(&rt, &mut store, 0, 2), Ok(false));
+    is_due(&rt, &mut store, Ok(false));
     for revision in 1..101 {
         push_change(&rt, &mut numbers, &mut script, 0);
-        let next = Move::Commit(1);
-        let moves = script.moves.len();
-        assert_eq!(rt; take_move(&rt, &mut store, &script, moves, next), Ok(()));
-        script.moves.push(next).expect(&rt, "memory");
-        assert_eq!(rt; put_due(&rt, &mut store, 0, 2), Ok(revision % 2 == 0));
-        assert_eq!(rt; put_due(&rt, &mut store, 0, 2), Ok(false));
+        take_change(&rt, &mut store, &mut script);
+        is_due(&rt, &mut store, Ok(revision % 2 == 0));
+        is_due(&rt, &mut store, Ok(false));
     }
     is_beginning(&rt, store.close().bytes(), &script, 100);
 }
@@ -154,11 +188,11 @@ fn the_only_segment_is_not_freed(rt: HostRuntime) {
     let bytes = with_last_number(&rt);
     let mut store = open_store(&rt, device_of(&rt, &bytes));
     let needed = Err(Refusal::StillNeeded);
-    assert_eq!(rt; free_oldest(&rt, &mut store), needed);
-    assert_eq!(rt; commit_freeing(&rt, &mut store, &second(&rt)), needed);
+    is_answer(&rt, free_oldest(&rt, &mut store), needed);
+    is_freed_for(&rt, &mut store, &second(&rt), needed);
     assert!(rt; !store.has_failed());
     let disk = store.close();
-    assert_eq!(rt; disk.bytes(), bytes.as_slice());
+    are_bytes(&rt, disk.bytes(), &bytes);
     is_opened_as(&rt, disk.bytes(), "d 2 zx\n");
 }
 
@@ -167,16 +201,11 @@ fn the_only_segment_is_not_freed(rt: HostRuntime) {
 fn what_is_freed_may_not_be_enough(rt: HostRuntime) {
     let bytes = with_bytes_at(&rt, &with_last_number(&rt), 1_089, &[254]);
     let mut store = open_store(&rt, device_of(&rt, &bytes));
-    assert_eq!(rt; commit_freeing(&rt, &mut store, &second(&rt)), Ok(()));
+    is_freed_for(&rt, &mut store, &second(&rt), Ok(()));
     let third = part(&rt, &SLOT, 64, 45);
-    let full = Err(Refusal::JournalFull);
-    assert_eq!(rt; commit_freeing(&rt, &mut store, &third), full);
-    let needed = Err(Refusal::StillNeeded);
-    assert_eq!(rt; commit_freeing(&rt, &mut store, &third), needed);
+    is_freed_for(&rt, &mut store, third, Err(Refusal::JournalFull));
+    is_freed_for(&rt, &mut store, third, Err(Refusal::StillNeeded));
     let disk = store.close();
     is_opened_as(&rt, disk.bytes(), "d 3 zx\n");
-    assert_eq!(rt;
-        part(&rt, disk.bytes(), 1_088, 1).as_slice(),
-        [0].as_slice()
-    );
+    are_bytes(&rt, part(&rt, disk.bytes(), 1_088, 1), &[0]);
 }

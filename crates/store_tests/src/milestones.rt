@@ -1,12 +1,10 @@
 //! Milestones that are put: which bytes a cell then has, which jobs are refused, and what a stop within leaves.
-ghost use Rattle.std.specs.Prelude.{◌≤◌, ◌<◌, ◌^◌};
-
-use crate::jobs::{append, is_refused, job};
+use crate::jobs::{JobRow, has_jobs, job};
 use crate::picks::{FIRST, SECOND, written};
 use crate::stopping::{LEFT, calls_before};
 use crate::stores::{
-    Row, create, device_of, differ_by, has_documents, is_opened_as, open_by, open_store, session,
-    small_device,
+    Row, change, device_of, differ_by, has_documents, is_answer, is_opened_as, open_by, open_store,
+    session, small_device,
 };
 use disk::{Disk, FaultDisk, FaultPlan, Left};
 use milestone::{Composed, Job, compose_job};
@@ -20,6 +18,15 @@ fn composed(rt: &(impl Abort + AllocGlobal), job: Job) -> Composed {
         Ok(composed) => composed,
         Err(back) => panic!(rt; "{}", back.refusal),
     }
+}
+
+// What comes of a job of document 0 to a revision.
+fn composed_at<D: Disk>(
+    rt: &(impl Abort + AllocGlobal),
+    store: &mut Store<D>,
+    revision: u64,
+) -> Composed {
+    composed(rt, job(rt, store, revision))
 }
 
 // Puts what came of a job.
@@ -38,8 +45,8 @@ fn is_put<D: Disk>(
     revision: u64,
     wanted: Result<(), Refusal>,
 ) {
-    let done = composed(rt, job(rt, store, revision));
-    assert_eq!(rt; put(rt, store, &done), wanted);
+    let done = composed_at(rt, store, revision);
+    is_answer(rt, put(rt, store, &done), wanted);
 }
 
 const CREATED: [Row; 1] = [("a", "d", "z", "taken 1")];
@@ -60,19 +67,26 @@ fn the_first_cell_is_put(rt: HostRuntime) {
     is_opened_as(&rt, disk.bytes(), "d 1 z\n");
 }
 
+// The milestone of an earlier job is a stranger once a second job is made, which is put. The kept copy is dropped then.
+fn second_is_put<D: Disk>(rt: &(impl Abort + AllocGlobal), store: &mut Store<D>, first: &Composed) {
+    let second = composed_at(rt, store, 2);
+    is_answer(rt, put(rt, store, first), Err(Refusal::Stranger));
+    is_answer(rt, put(rt, store, &second), Ok(()));
+    is_answer(rt, put(rt, store, &second), Err(Refusal::Stranger));
+}
+
+fn first_is_a_stranger<D: Disk>(rt: &(impl Abort + AllocGlobal), store: &mut Store<D>) {
+    let first = composed_at(rt, store, 1);
+    second_is_put(rt, store, &first);
+}
+
 #[test]
 fn a_milestone_of_another_job_is_a_stranger(rt: HostRuntime) {
     let before = created(&rt);
     let mut store = open_store(&rt, device_of(&rt, &before));
-    append(&rt, &mut store, 2, "x");
-    let first = composed(&rt, job(&rt, &mut store, 1));
-    let second = composed(&rt, job(&rt, &mut store, 2));
-    let stranger = Err(Refusal::Stranger);
-    assert_eq!(&rt; put(&rt, &mut store, &first), stranger);
-    assert_eq!(&rt; put(&rt, &mut store, &second), Ok(()));
-    // The kept copy is dropped once it is put.
-    assert_eq!(&rt; put(&rt, &mut store, &second), stranger);
-    assert!(&rt; !store.has_failed());
+    change(&rt, &mut store, &(2, 1, "x", "taken 2"));
+    first_is_a_stranger(&rt, &mut store);
+    assert!(rt; !store.has_failed());
     has_documents(&rt, store.state(), "d 2 xz\n");
 }
 
@@ -84,15 +98,16 @@ fn has_floor(rt: &(impl Abort + AllocGlobal), bytes: &[u8], pick: Pick, floor: u
     assert_eq!(rt; documents[0].floor(), floor);
 }
 
+const JOBS_BEHIND: [JobRow; 2] = [(0, 1, "error 13 TooOld"), (0, 4, "error 12 Future")];
+
 // A milestone below the newest revision: the cell has the sources of its own revision, and what is behind it is read again.
 #[test]
 fn a_milestone_of_an_older_revision(rt: HostRuntime) {
     let before = written(&rt);
     let mut store = open_store(&rt, device_of(&rt, &before));
-    append(&rt, &mut store, 3, "q");
+    change(&rt, &mut store, &(3, 2, "q", "taken 3"));
     is_put(&rt, &mut store, 2, Ok(()));
-    is_refused(&rt, &mut store, 0, 1, Refusal::TooOld);
-    is_refused(&rt, &mut store, 0, 4, Refusal::Future);
+    has_jobs(&rt, &mut store, &JOBS_BEHIND);
     let disk = store.close();
     differ_by(
         &rt,
@@ -118,7 +133,7 @@ fn device_that_stopped(rt: &(impl Abort + AllocGlobal), call: u64, left: Left) -
     let mut store = open_store(rt, FaultDisk::new(disk, plan));
     is_put(rt, &mut store, 2, Err(Refusal::Fault));
     assert!(rt; store.has_failed());
-    is_refused(rt, &mut store, 0, 2, Refusal::Fault);
+    has_jobs(rt, &mut store, &[(0, 2, "error 34 Fault")]);
     store.close()
 }
 

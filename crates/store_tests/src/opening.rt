@@ -1,8 +1,9 @@
 //! Devices that are formatted and opened.
 use crate::stores::{
-    SMALL, device_of, differ_by, is_opened_as, is_opened_with, part, small_device,
+    SMALL, are_bytes, device_of, differ_by, format, is_answer, is_opened_as, is_opened_with, part,
+    small_device,
 };
-use recovery::{Shape, format_device};
+use recovery::Shape;
 use refusal::Refusal;
 use std::process::Abort;
 
@@ -20,16 +21,15 @@ fn a_store_begins_without_documents(rt: HostRuntime) {
     is_opened_as(&rt, bytes, "");
     is_opened_as(&rt, &[0; 1_600], "error 30 NotFormatted");
     // The last byte is missing, and there is one more.
-    is_opened_as(&rt, &part(&rt, bytes, 0, 1_599), "error 32 Damaged");
+    is_opened_as(&rt, part(&rt, bytes, 0, 1_599), "error 32 Damaged");
     is_opened_with(&rt, bytes, 1_600, &[0xa5], "");
 }
 
 // A device of these bytes is not formatted, and stays as it is.
 fn is_refused(rt: &(impl Abort + AllocGlobal), bytes: &[u8], shape: Shape, refusal: Refusal) {
     let mut disk = device_of(rt, bytes);
-    let refused = format_device(rt.alloc(), &mut disk, shape);
-    assert_eq!(rt; refused, Err(refusal), "at {shape:?}");
-    assert_eq!(rt; disk.bytes(), bytes);
+    is_answer(rt, format(rt, &mut disk, shape), Err(refusal));
+    are_bytes(rt, disk.bytes(), bytes);
 }
 
 #[test]

@@ -1,5 +1,6 @@
 //! Devices that fail or stop where a plan says.
 use crate::devices::try_out;
+use crate::stores::are_bytes;
 use disk::{Disk, FaultDisk, FaultPlan, Left, MemDisk};
 use std::process::Abort;
 
@@ -29,16 +30,37 @@ fn a_plan_that_never_comes_changes_nothing(rt: HostRuntime) {
     assert!(rt; disk.has_stopped());
 }
 
+// Whether a write to a device of four bytes went well.
+fn is_written(rt: &impl Abort, disk: &mut FaultDisk, at: u64, bytes: &[u8]) -> bool {
+    assert!(rt; disk.len() == 4 && at <= 2 && (bytes.len() <= 2 || at == 0 && bytes.len() <= 4));
+    disk.write_at(at, bytes).is_ok()
+}
+
+// Whether a read of its four bytes went well. Then they are as they are wanted.
+fn is_read(rt: &impl Abort, disk: &mut FaultDisk, wanted: &[u8]) -> bool {
+    assert_eq!(rt; disk.len(), 4);
+    let mut bytes = [0; 4];
+    let is_read = disk.read(0, &mut bytes).is_ok();
+    if is_read {
+        are_bytes(rt, &bytes, wanted);
+    }
+    is_read
+}
+
+// A crash leaves these bytes, and no call.
+fn is_left(rt: &(impl Abort + AllocGlobal), disk: &FaultDisk, wanted: &[u8]) {
+    let after = disk.after_crash(rt.alloc()).expect(rt, "memory");
+    are_bytes(rt, after.bytes(), wanted);
+    assert_eq!(rt; after.calls().len(), 0);
+}
+
 /// The second call, a write, fails and leaves this.
 fn a_failed_write_leaves(rt: &(impl Abort + AllocGlobal), left: Left, expected: &[u8; 4]) {
     let mut disk = under_plan(rt, FaultPlan::fail(1, left));
     disk.sync().expect(rt, "a sync");
-    assert_eq!(rt; disk.len(), 4);
-    assert!(rt; disk.write_at(0, b"abcd").is_err());
+    assert!(rt; !is_written(rt, &mut disk, 0, b"abcd"));
     assert_eq!(rt; disk.failures(), 1);
-    let mut bytes = [0; 4];
-    disk.read(0, &mut bytes).expect(rt, "a read");
-    assert_eq!(rt; bytes, *expected);
+    assert!(rt; is_read(rt, &mut disk, expected));
     disk.sync().expect(rt, "a sync");
 }
 
@@ -53,13 +75,12 @@ fn a_write_that_fails_leaves_what_was_chosen(rt: HostRuntime) {
 fn a_stop_leaves(rt: &(impl Abort + AllocGlobal), call: u64, left: Left, expected: &[u8; 4]) {
     let mut disk = under_plan(rt, FaultPlan::stop(call, left));
     disk.sync().expect(rt, "a sync");
-    assert_eq!(rt; disk.len(), 4);
-    assert_eq!(rt; disk.write_at(0, b"abcd").is_ok(), call == 2);
-    assert!(rt; disk.sync().is_err());
-    assert!(rt; disk.read(0, &mut [0; 4]).is_err());
+    let is_there = is_written(rt, &mut disk, 0, b"abcd");
+    let is_synced = disk.sync().is_ok();
+    let is_read = is_read(rt, &mut disk, expected);
+    assert!(rt; is_there == (call == 2) && !is_synced && !is_read);
     assert_eq!(rt; disk.failures(), if call == 2 { 2 } else { 3 });
-    let after = disk.after_crash(rt.alloc()).expect(rt, "memory");
-    assert_eq!(rt; after.bytes(), expected.as_slice());
+    is_left(rt, &disk, expected);
 }
 
 #[test]
@@ -73,13 +94,10 @@ fn a_stop_leaves_what_was_chosen(rt: HostRuntime) {
 #[test]
 fn a_stop_leaves_what_was_synced(rt: HostRuntime) {
     let mut disk = under_plan(&rt, FaultPlan::stop(4, Left::Nothing));
-    assert_eq!(rt; disk.len(), 4);
-    disk.write_at(0, b"ab").expect(&rt, "a write");
+    assert!(rt; is_written(&rt, &mut disk, 0, b"ab"));
     disk.sync().expect(&rt, "a sync");
-    disk.write_at(1, b"xy").expect(&rt, "a write");
-    disk.write_at(2, b"uv").expect(&rt, "a write");
+    assert!(rt; is_written(&rt, &mut disk, 1, b"xy"));
+    assert!(rt; is_written(&rt, &mut disk, 2, b"uv"));
     assert!(rt; disk.sync().is_err());
-    let after = disk.after_crash(rt.alloc()).expect(&rt, "memory");
-    assert_eq!(rt; after.bytes(), b"ab34".as_slice());
-    assert_eq!(rt; after.calls().len(), 0);
+    is_left(&rt, &disk, b"ab34");
 }

@@ -2,7 +2,8 @@
 use crate::batches::EDIT;
 use crate::picks::{FIRST, SECOND};
 use crate::stores::{
-    device_of, differ_by, is_opened_as, is_opened_with, open_store, small_device, with_bytes_at,
+    are_bytes, device_of, differ_by, is_answer, is_opened_as, is_opened_with, open_store,
+    small_device, with_bytes_at,
 };
 use disk::Disk;
 use recovery::Store;
@@ -31,16 +32,16 @@ fn retire<D: Disk>(store: &mut Store<D>) -> Result<(), Refusal> {
 // The segment is still needed, and nothing is written.
 fn is_needed(rt: &(impl Abort + AllocGlobal), bytes: &[u8]) {
     let mut store = open_store(rt, device_of(rt, bytes));
-    assert_eq!(rt; retire(&mut store), Err(Refusal::StillNeeded));
+    is_answer(rt, retire(&mut store), Err(Refusal::StillNeeded));
     assert!(rt; !store.has_failed());
-    assert_eq!(rt; store.close().bytes(), bytes);
+    are_bytes(rt, store.close().bytes(), bytes);
 }
 
 // It is retired: the gate of its slot alone is closed. The other segment is the only one then, and is needed.
 fn is_retired(rt: &(impl Abort + AllocGlobal), bytes: &[u8]) {
     let mut store = open_store(rt, device_of(rt, bytes));
-    assert_eq!(rt; retire(&mut store), Ok(()));
-    assert_eq!(rt; retire(&mut store), Err(Refusal::StillNeeded));
+    is_answer(rt, retire(&mut store), Ok(()));
+    is_answer(rt, retire(&mut store), Err(Refusal::StillNeeded));
     let device = store.close();
     differ_by(rt, device.bytes(), bytes, 1_088, &[0]);
     is_opened_as(rt, device.bytes(), "d 2 zx\n");

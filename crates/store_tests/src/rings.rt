@@ -1,12 +1,13 @@
 //! Batches over two slots, byte for byte: shape S of docs/FORMATS.md, whose second batch opens slot 1.
 use crate::batches::EDIT;
-use crate::running::{run_steps, step};
+use crate::running::{is_run, is_run_of, run_steps, step};
+use crate::stopping::calls_before;
 use crate::stores::{
-    SLOT, device_of, differ_by, has_documents, is_opened_as, is_opened_with, open_store, part,
-    small_device, with_bytes_at,
+    SLOT, are_bytes, device_of, differ_by, extend, has_documents, is_opened_as, is_opened_with,
+    open_store, part, small_device, with_bytes_at,
 };
-use disk::{FaultDisk, FaultPlan, Left};
-use recovery::Stop;
+use disk::{Disk, FaultDisk, FaultPlan, Left};
+use recovery::{Stop, Store};
 use refusal::Refusal;
 use std::process::Abort;
 
@@ -24,16 +25,11 @@ const WITHOUT_NAMES: [u8; 45] = [
     3, 0, 0, 0, // three names
 ];
 
-/// Puts more bytes behind others.
-pub fn extend(rt: &(impl Abort + AllocGlobal), bytes: &mut Vec<u8>, more: &[u8]) {
-    bytes.extend_from_slice(more).expect(rt, "memory");
-}
-
 // The first batch, of 96 bytes: the source a creates d with z, an entry of 41, and puts x behind it, one of 51.
 fn first(rt: &(impl Abort + AllocGlobal)) -> Vec<u8> {
     let mut bytes = [2, 0, 0, 0].to_vec(rt.alloc()).expect(rt, "memory");
-    extend(rt, &mut bytes, &part(rt, &SLOT, 18, 41));
-    extend(rt, &mut bytes, &part(rt, &EDIT, 4, 51));
+    extend(rt, &mut bytes, part(rt, &SLOT, 18, 41));
+    extend(rt, &mut bytes, part(rt, &EDIT, 4, 51));
     bytes
 }
 
@@ -62,22 +58,27 @@ fn with_first(rt: &(impl Abort + AllocGlobal)) -> Vec<u8> {
     with_bytes_at(rt, small_device(rt).bytes(), 1_088, &bytes)
 }
 
+// A run of three batches stops at the third one.
+fn is_full_at_third<D: Disk>(rt: &(impl Abort + AllocGlobal), store: &mut Store<D>) {
+    let steps = [
+        step(rt, store, &first(rt)),
+        step(rt, store, &second(rt)),
+        step(rt, store, part(rt, &SLOT, 64, 45)),
+    ];
+    let refusal = Refusal::JournalFull;
+    is_run(
+        rt,
+        run_steps(rt, store, &steps),
+        Err(Stop { at: 2, refusal }),
+    );
+}
+
 // The first batch leaves the next gate at 101 of slot 0's area, the second opens slot 1 and leaves it at 245. Then a batch
 // of 45 bytes finds no room, and changes nothing.
 #[test]
 fn a_second_slot_is_opened_and_filled(rt: HostRuntime) {
     let mut store = open_store(&rt, small_device(&rt));
-    let third = part(&rt, &SLOT, 64, 45);
-    let steps = [
-        step(&rt, &store, &first(&rt)),
-        step(&rt, &store, &second(&rt)),
-        step(&rt, &store, &third),
-    ];
-    let refusal = Refusal::JournalFull;
-    assert_eq!(rt;
-        run_steps(&rt, &mut store, &steps),
-        Err(Stop { at: 2, refusal })
-    );
+    is_full_at_third(&rt, &mut store);
     assert!(rt; !store.has_failed());
     has_documents(&rt, store.state(), "d 3 zx\n");
     let disk = store.close();
@@ -112,13 +113,9 @@ fn no_number_is_behind_the_last(rt: HostRuntime) {
     let bytes = with_last_number(&rt);
     let mut store = open_store(&rt, device_of(&rt, &bytes));
     has_documents(&rt, store.state(), "d 2 zx\n");
-    let steps = [step(&rt, &store, &second(&rt))];
     let refusal = Refusal::JournalFull;
-    assert_eq!(rt;
-        run_steps(&rt, &mut store, &steps),
-        Err(Stop { at: 0, refusal })
-    );
-    assert_eq!(rt; store.close().bytes(), bytes.as_slice());
+    is_run_of(&rt, &mut store, &second(&rt), Err(Stop { at: 0, refusal }));
+    are_bytes(&rt, store.close().bytes(), &bytes);
 }
 
 /// What is left of the unsynced ranges, and whether a gate that was being opened then stands open.
@@ -134,15 +131,10 @@ pub const LEFT: [(Left, bool); 6] = [
 // A stop at a call of the second commit leaves the first batch, with the second one or without it.
 fn is_stopped(rt: &(impl Abort + AllocGlobal), call: u64, left: Left, wanted: &str) {
     let bytes = with_first(rt);
-    let before = open_store(rt, device_of(rt, &bytes)).close().calls().len() as u64;
-    let plan = FaultPlan::stop(before.saturating_add(call), left);
+    let plan = FaultPlan::stop(calls_before(rt, &bytes).saturating_add(call), left);
     let mut store = open_store(rt, FaultDisk::new(device_of(rt, &bytes), plan));
-    let steps = [step(rt, &store, &second(rt))];
     let refusal = Refusal::Fault;
-    assert_eq!(rt;
-        run_steps(rt, &mut store, &steps),
-        Err(Stop { at: 0, refusal })
-    );
+    is_run_of(rt, &mut store, &second(rt), Err(Stop { at: 0, refusal }));
     let after = store.close().after_crash(rt.alloc()).expect(rt, "memory");
     is_opened_as(rt, after.bytes(), wanted);
 }

@@ -5,7 +5,8 @@ ghost use Rattle.recovery.specs.Run.{CanTake};
 
 use crate::batches::EDIT;
 use crate::stores::{
-    Row, SLOT, differ_by, formatted_device, has_documents, open_store, part, session, small_device,
+    Row, SLOT, differ_by, extend, formatted_device, has_documents, open_store, part, push_text,
+    session, small_device,
 };
 use disk::Disk;
 use journal::decode_batch;
@@ -64,10 +65,10 @@ const RUNS: [[Row; 3]; 7] = [
 
 // The plain program: a line for each creation that is taken.
 fn push_taken(rt: &(impl Abort + AllocGlobal), lines: &mut String, row: &Row) {
-    let (_, doc, text, answer) = row;
-    if *answer == "taken 1" {
+    let (_, doc, text, answer) = *row;
+    if answer == "taken 1" {
         let line = format!(in rt.alloc(); "{doc} 1 {text}\n").expect(rt, "memory");
-        lines.push_str(line.as_str()).expect(rt, "memory");
+        push_text(rt, lines, line.as_str());
     }
 }
 
@@ -105,31 +106,50 @@ pub fn run_steps<D: Disk>(
     store.run(rt.alloc(), steps)
 }
 
-// The step that creates the document d so many times.
-fn repeated<D: Disk>(rt: &(impl Abort + AllocGlobal), store: &Store<D>, count: u8) -> StoreStep
-    ensures { CanTake (state_of store.now) result }
-{
+/// A run stops or doesn't, as it is wanted.
+pub fn is_run(rt: &impl Abort, found: Result<(), Stop>, wanted: Result<(), Stop>) {
+    assert_eq!(rt; found, wanted);
+}
+
+/// A run of one step, which commits the batch that these bytes spell, stops at it or doesn't.
+pub fn is_run_of<D: Disk>(
+    rt: &(impl Abort + AllocGlobal),
+    store: &mut Store<D>,
+    bytes: &[u8],
+    wanted: Result<(), Stop>,
+) {
+    let steps = [step(rt, store, bytes)];
+    is_run(rt, run_steps(rt, store, &steps), wanted);
+}
+
+// The batch that creates the document d so many times.
+fn repeated(rt: &(impl Abort + AllocGlobal), count: u8) -> Vec<u8> {
     let mut bytes = [count, 0, 0, 0].to_vec(rt.alloc()).expect(rt, "memory");
     for _ in 0..count {
-        bytes
-            .extend_from_slice(&part(rt, &SLOT, 18, 41))
-            .expect(rt, "memory");
+        extend(rt, &mut bytes, part(rt, &SLOT, 18, 41));
     }
-    step(rt, store, &bytes)
+    bytes
+}
+
+// A run of two steps, of which the first creates the document d, and the second does so so many times again.
+fn is_run_twice<D: Disk>(
+    rt: &(impl Abort + AllocGlobal),
+    store: &mut Store<D>,
+    count: u8,
+    wanted: Result<(), Stop>,
+) {
+    let again = step(rt, store, &repeated(rt, count));
+    let steps = [step(rt, store, &repeated(rt, 1)), again];
+    is_run(rt, run_steps(rt, store, &steps), wanted);
 }
 
 // A run creates the document d, and stops where it is created so many times again; the store works on.
 fn is_stopped(rt: &(impl Abort + AllocGlobal), count: u8) {
     let mut store = open_store(rt, small_device(rt));
-    let steps = [repeated(rt, &store, 1), repeated(rt, &store, count)];
     let refusal = Refusal::Stranger;
-    assert_eq!(rt;
-        run_steps(rt, &mut store, &steps),
-        Err(Stop { at: 1, refusal })
-    );
+    is_run_twice(rt, &mut store, count, Err(Stop { at: 1, refusal }));
     has_documents(rt, store.state(), "d 1 z\n");
-    let second = [step(rt, &store, &part(rt, &SLOT, 64, 45))];
-    assert_eq!(rt; run_steps(rt, &mut store, &second), Ok(()));
+    is_run_of(rt, &mut store, part(rt, &SLOT, 64, 45), Ok(()));
     differ_by(
         rt,
         store.close().bytes(),
@@ -148,31 +168,25 @@ fn a_run_stops_at_the_first_refusal(rt: HostRuntime) {
     is_stopped(&rt, 5);
 }
 
+// Whether the batch that these bytes spell fits a slot of a store.
+fn fits<D: Disk>(rt: &(impl Abort + AllocGlobal), store: &Store<D>, bytes: &[u8]) -> bool {
+    let found = decode_batch(rt.alloc(), bytes).expect(rt, "memory");
+    store.fits(&found.expect(rt, "a batch"))
+}
+
 // A batch of 241 bytes fits a slot, one of more doesn't. Five entries are a batch of 209, six one of 250.
 #[test]
 fn a_batch_fits_a_slot_or_none(rt: HostRuntime) {
     let store = open_store(&rt, small_device(&rt));
-    for count in 1..6 {
-        repeated(&rt, &store, count);
+    for count in 1..7 {
+        assert_eq!(rt; fits(&rt, &store, &repeated(&rt, count)), count < 6);
     }
-    let mut bytes = [6, 0, 0, 0].to_vec(rt.alloc()).expect(&rt, "memory");
-    for _ in 0..6 {
-        bytes
-            .extend_from_slice(&part(&rt, &SLOT, 18, 41))
-            .expect(&rt, "memory");
-    }
-    let found = decode_batch(rt.alloc(), &bytes).expect(&rt, "memory");
-    assert!(rt; !store.fits(&found.expect(&rt, "a batch")));
 }
 
 // An edit of a document that isn't there.
 #[test]
 fn an_edit_of_nothing_is_not_committed(rt: HostRuntime) {
     let mut store = open_store(&rt, small_device(&rt));
-    let steps = [step(&rt, &store, &EDIT)];
     let refusal = Refusal::Stranger;
-    assert_eq!(rt;
-        run_steps(&rt, &mut store, &steps),
-        Err(Stop { at: 0, refusal })
-    );
+    is_run_of(&rt, &mut store, &EDIT, Err(Stop { at: 0, refusal }));
 }

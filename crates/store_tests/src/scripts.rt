@@ -3,9 +3,8 @@ ghost use Rattle.std.specs.Prelude.{◌<◌};
 ghost use Rattle.recovery.specs.Open.{state_of};
 ghost use Rattle.recovery.specs.Run.{CanTake};
 
-use crate::rings::extend;
 use crate::running::{run_steps, step};
-use crate::stores::{device_of, formatted_device, open_store};
+use crate::stores::{device_of, extend, formatted_device, open_store};
 use disk::{Disk, MemDisk};
 use recovery::{Shape, Store, StoreStep};
 use refusal::Refusal;
@@ -111,22 +110,17 @@ pub fn batch(rt: &(impl Abort + AllocGlobal), script: &Script, at: usize, count:
     bytes
 }
 
-// The step of a move at a place.
-fn step_of<D: Disk>(
+// A store takes one step.
+fn take_step<D: Disk>(
     rt: &(impl Abort + AllocGlobal),
-    store: &Store<D>,
-    script: &Script,
-    at: usize,
-    next: Move,
-) -> StoreStep
-    ensures { CanTake (state_of store.now) result }
+    store: &mut Store<D>,
+    next: StoreStep,
+) -> Result<(), Refusal>
+    requires { CanTake (state_of store.old) next }
 {
-    match next {
-        Move::Commit(count) => step(rt, store, &batch(rt, script, at, count)),
-        Move::Milestone(document, revision) => {
-            StoreStep::Milestone(u32::from(document), u64::from(revision))
-        }
-        Move::Retire => StoreStep::Retire,
+    match run_steps(rt, store, &[next]) {
+        Ok(()) => Ok(()),
+        Err(stop) => Err(stop.refusal),
     }
 }
 
@@ -138,10 +132,16 @@ pub fn take_move<D: Disk>(
     at: usize,
     next: Move,
 ) -> Result<(), Refusal> {
-    let steps = [step_of(rt, store, script, at, next)];
-    match run_steps(rt, store, &steps) {
-        Ok(()) => Ok(()),
-        Err(stop) => Err(stop.refusal),
+    match next {
+        Move::Commit(count) => {
+            let next = step(rt, store, &batch(rt, script, at, count));
+            take_step(rt, store, next)
+        }
+        Move::Milestone(document, revision) => {
+            let next = StoreStep::Milestone(u32::from(document), u64::from(revision));
+            take_step(rt, store, next)
+        }
+        Move::Retire => take_step(rt, store, StoreStep::Retire),
     }
 }
 

@@ -1,6 +1,7 @@
 //! Devices that stop or fail in a commit.
 use crate::stores::{
-    Row, create, device_of, has_documents, is_opened_as, open_store, part, session, small_device,
+    Row, are_bytes, create, device_of, has_documents, is_opened_as, open_store, part, session,
+    small_device,
 };
 use disk::{FaultDisk, FaultPlan, Left};
 use recovery::Store;
@@ -99,10 +100,7 @@ fn is_left_in_the_gate(rt: &(impl Abort + AllocGlobal), byte: u8) {
     let disk = device_that_failed(rt, 6, true, Left::Byte(byte));
     let after = disk.after_crash(rt.alloc()).expect(rt, "memory");
     let gates = part(rt, after.bytes(), 1_088, 11);
-    assert_eq!(rt;
-        gates.as_slice(),
-        [0xa5, 1, 0, 0, 0, 0, 0, 0, 0, byte, 45].as_slice()
-    );
+    are_bytes(rt, gates, &[0xa5, 1, 0, 0, 0, 0, 0, 0, 0, byte, 45]);
 }
 
 #[test]

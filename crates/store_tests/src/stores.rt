@@ -1,12 +1,13 @@
 //! Stores on devices in memory. What they are to hold stands in docs/FORMATS.md, and is written out by hand here.
-ghost use Rattle.std.specs.Prelude.{◌≤◌, ◌<◌, ◌^◌};
+ghost use Rattle.std.specs.Prelude.{◌≤◌, ◌<◌, ◌^◌, length};
+ghost use Rattle.recovery.specs.Open.{FitsSlot, state_of};
 
 use attributes::Attrs;
 use delta::{Builder, Delta, Op, OpRef};
 use disk::{Disk, MemDisk};
-use recovery::{OpenFault, Pick, Shape, Store, format_device};
+use recovery::{OpenFault, Pick, Receipt, Shape, Store, format_device};
 use refusal::Refusal;
-use revision::{Command, Name, Plan, State, Taken};
+use revision::{Command, DocState, Name, Plan, State, Taken};
 use std::process::Abort;
 
 /// A device of 1,600 bytes: cells at 64, 320, 576 and 832, slots at 1,088 and 1,344.
@@ -44,14 +45,35 @@ pub const SLOT: [u8; 110] = [
 pub type Row = (&'static str, &'static str, &'static str, &'static str);
 
 /// So many bytes from a place on.
-pub fn part(rt: &(impl Abort + AllocGlobal), bytes: &[u8], at: usize, len: usize) -> Vec<u8> {
+pub fn part<'a>(rt: &impl Abort, bytes: &'a [u8], at: usize, len: usize) -> &'a [u8] {
     bytes
-        .iter()
-        .skip(at)
-        .take(len)
-        .copied()
-        .collect(rt.alloc())
-        .expect(rt, "memory")
+        .get(at..at.saturating_add(len))
+        .expect(rt, "so many bytes")
+}
+
+/// Bytes are as they are wanted. One assertion for all, since each is proved.
+pub fn are_bytes(rt: &impl Abort, found: &[u8], wanted: &[u8]) {
+    assert_eq!(rt; found, wanted);
+}
+
+/// A text is as it is wanted.
+pub fn is_text(rt: &impl Abort, found: &str, wanted: &str) {
+    assert_eq!(rt; found, wanted);
+}
+
+/// An answer of a store is as it is wanted.
+pub fn is_answer(rt: &impl Abort, found: Result<(), Refusal>, wanted: Result<(), Refusal>) {
+    assert_eq!(rt; found, wanted);
+}
+
+/// Puts more bytes behind others.
+pub fn extend(rt: &(impl Abort + AllocGlobal), bytes: &mut Vec<u8>, more: &[u8]) {
+    bytes.extend_from_slice(more).expect(rt, "memory");
+}
+
+/// Puts a text behind another one.
+pub fn push_text(rt: &(impl Abort + AllocGlobal), text: &mut String, more: &str) {
+    text.push_str(more).expect(rt, "memory");
 }
 
 /// The bytes with others from a place on, which may reach past their end.
@@ -61,18 +83,29 @@ pub fn with_bytes_at(
     at: usize,
     other: &[u8],
 ) -> Vec<u8> {
-    let head = bytes.iter().take(at).chain(other);
-    let mut all: Vec<u8> = head.copied().collect(rt.alloc()).expect(rt, "memory");
-    for byte in bytes.iter().skip(all.len()) {
-        all.push(*byte).expect(rt, "memory");
+    let head = bytes.get(..at).expect(rt, "so many bytes");
+    let mut all = head.to_vec(rt.alloc()).expect(rt, "memory");
+    extend(rt, &mut all, other);
+    let end = all.len();
+    if let Some(rest) = bytes.get(end..) {
+        extend(rt, &mut all, rest);
     }
     all
+}
+
+/// Formats a device. No clause is kept of what comes of it, so callers are checked faster.
+pub fn format(
+    rt: &(impl Abort + AllocGlobal),
+    disk: &mut MemDisk,
+    shape: Shape,
+) -> Result<(), Refusal> {
+    format_device(rt.alloc(), disk, shape)
 }
 
 /// A device of so many zeros that is formatted.
 pub fn formatted_device(rt: &(impl Abort + AllocGlobal), len: usize, shape: Shape) -> MemDisk {
     let mut disk = MemDisk::new(rt.alloc(), len).expect(rt, "memory");
-    assert_eq!(rt; format_device(rt.alloc(), &mut disk, shape), Ok(()));
+    is_answer(rt, format(rt, &mut disk, shape), Ok(()));
     disk
 }
 
@@ -113,30 +146,34 @@ pub fn text_of(rt: &(impl Abort + AllocGlobal), delta: &Delta) -> String {
     let mut all = String::new(rt.alloc());
     for op in delta.ops() {
         if let OpRef::Text(text, _) = op.get() {
-            all.push_str(text).expect(rt, "memory");
+            push_text(rt, &mut all, text);
         }
     }
     all
 }
 
-/// The documents of a state, each as a line of its name, its revision and its text.
+/// A document as its name, its revision and its text.
+pub fn line_of(rt: &(impl Abort + AllocGlobal), record: &DocState) -> String {
+    let delta = record.document().as_delta(rt.alloc()).expect(rt, "memory");
+    let text = text_of(rt, &delta);
+    let name = record.name().as_str();
+    let revision = record.revision();
+    format!(in rt.alloc(); "{name} {revision} {text}").expect(rt, "memory")
+}
+
+/// The documents of a state, each as a line.
 pub fn lines_of(rt: &(impl Abort + AllocGlobal), state: &State) -> String {
     let mut lines = String::new(rt.alloc());
     for record in state.documents() {
-        let delta = record.document().as_delta(rt.alloc()).expect(rt, "memory");
-        let name = record.name().as_str();
-        let text = text_of(rt, &delta);
-        let line = format!(in rt.alloc(); "{name} {} {text}\n", record.revision());
-        lines
-            .push_str(line.expect(rt, "memory").as_str())
-            .expect(rt, "memory");
+        push_text(rt, &mut lines, line_of(rt, record).as_str());
+        push_text(rt, &mut lines, "\n");
     }
     lines
 }
 
 /// A state has these documents.
 pub fn has_documents(rt: &(impl Abort + AllocGlobal), state: &State, lines: &str) {
-    assert_eq!(rt; lines_of(rt, state).as_str(), lines);
+    is_text(rt, lines_of(rt, state).as_str(), lines);
 }
 
 /// A device of these bytes is opened by either pick, with these documents or this refusal. Opening it changes nothing.
@@ -145,17 +182,25 @@ pub fn is_opened_as(rt: &(impl Abort + AllocGlobal), bytes: &[u8], wanted: &str)
     is_picked_as(rt, bytes, Pick::Older, wanted);
 }
 
+/// A refusal is told as this.
+pub fn is_told_as(rt: &(impl Abort + AllocGlobal), refusal: Refusal, wanted: &str) {
+    let text = format!(in rt.alloc(); "{refusal}").expect(rt, "memory");
+    is_text(rt, text.as_str(), wanted);
+}
+
+// A store has these documents, and gives back the device with these bytes.
+fn holds(rt: &(impl Abort + AllocGlobal), store: Store<MemDisk>, bytes: &[u8], wanted: &str) {
+    has_documents(rt, store.state(), wanted);
+    are_bytes(rt, store.close().bytes(), bytes);
+}
+
 /// And by this pick.
 pub fn is_picked_as(rt: &(impl Abort + AllocGlobal), bytes: &[u8], pick: Pick, wanted: &str) {
     match opened(rt, device_of(rt, bytes), pick) {
-        Ok(store) => {
-            has_documents(rt, store.state(), wanted);
-            assert_eq!(rt; store.close().bytes(), bytes);
-        }
+        Ok(store) => holds(rt, store, bytes, wanted),
         Err(fault) => {
-            let text = format!(in rt.alloc(); "{}", fault.refusal).expect(rt, "memory");
-            assert_eq!(rt; text.as_str(), wanted);
-            assert_eq!(rt; fault.disk.bytes(), bytes);
+            is_told_as(rt, fault.refusal, wanted);
+            are_bytes(rt, fault.disk.bytes(), bytes);
         }
     }
 }
@@ -179,7 +224,7 @@ pub fn differ_by(
     at: usize,
     other: &[u8],
 ) {
-    assert_eq!(rt; bytes, with_bytes_at(rt, before, at, other).as_slice());
+    are_bytes(rt, bytes, &with_bytes_at(rt, before, at, other));
 }
 
 /// The delta that inserts a text.
@@ -197,21 +242,26 @@ fn creation(rt: &(impl Abort + AllocGlobal), source: &str, doc: &str, text: &str
     Command::create(doc, source, 1, insert_of(rt, text)).expect(rt, "a creation")
 }
 
-/// An edit of a source by its number of 1 to 2^53 - 1, made on a revision, that inserts a text at the beginning.
-pub fn edit(
-    rt: &(impl Abort + AllocGlobal),
-    source: &str,
-    doc: &str,
-    number: u64,
-    base: u64,
-    text: &str,
-) -> Command
-    requires first { 1 ≤ number }
-    requires last { number < 2 ^ 53 }
-{
-    let source = Name::source(rt.alloc(), source).expect(rt, "a source");
-    let doc = Name::doc(rt.alloc(), doc).expect(rt, "a document");
+// An edit of the document "d" by the source "a", by a number of 1 to 2^53 - 1, made on a revision: it inserts a text at the
+// beginning.
+fn edit(rt: &(impl Abort + AllocGlobal), number: u64, base: u64, text: &str) -> Command {
+    assert!(rt; 1 <= number && number < 1 << 53);
+    let source = Name::source(rt.alloc(), "a").expect(rt, "a source");
+    let doc = Name::doc(rt.alloc(), "d").expect(rt, "a document");
     Command::edit(doc, source, number, base, insert_of(rt, text)).expect(rt, "an edit")
+}
+
+// Commits a batch. No clause is kept of what comes of it, so callers are checked faster.
+fn commit<D: Disk>(
+    rt: &(impl Abort + AllocGlobal),
+    store: &mut Store<D>,
+    batch: &[Taken],
+) -> Result<Receipt<D>, Refusal>
+    requires some { 1 ≤ length batch.now }
+    requires short { length batch.now < 2 ^ 32 }
+    requires fits { FitsSlot (state_of store.old) batch.now }
+{
+    store.commit(rt.alloc(), batch)
 }
 
 // Commits what was taken of a command.
@@ -222,7 +272,7 @@ fn commit_taken<D: Disk>(
 ) -> Result<(), Refusal> {
     let batch = [taken];
     assert!(rt; store.fits(&batch));
-    match store.commit(rt.alloc(), &batch) {
+    match commit(rt, store, &batch) {
         Ok(_) => Ok(()),
         Err(refusal) => Err(refusal),
     }
@@ -262,13 +312,17 @@ pub fn answer_text<D: Disk>(
 
 /// Asks for a creation, and compares the answer.
 pub fn create<D: Disk>(rt: &(impl Abort + AllocGlobal), store: &mut Store<D>, row: &Row) {
-    let (source, doc, text, wanted) = row;
-    let command = creation(rt, source, doc, text);
-    assert_eq!(rt;
-        answer_text(rt, store, &command).as_str(),
-        *wanted,
-        "at {doc}"
-    );
+    let command = creation(rt, row.0, row.1, row.2);
+    is_text(rt, answer_text(rt, store, &command).as_str(), row.3);
+}
+
+/// An edit by its number, the revision that it is made on, the text that it inserts, and the answer.
+pub type EditRow = (u64, u64, &'static str, &'static str);
+
+/// Asks for an edit of "d" by "a", and compares the answer.
+pub fn change<D: Disk>(rt: &(impl Abort + AllocGlobal), store: &mut Store<D>, row: &EditRow) {
+    let command = edit(rt, row.0, row.1, row.2);
+    is_text(rt, answer_text(rt, store, &command).as_str(), row.3);
 }
 
 /// One run: opens a device of these bytes, asks for creations, and closes. The store is to hold these documents then,

@@ -1,14 +1,15 @@
 //! Runs that commit, put milestones and retire: a journal whose oldest segment is given up, and a stop within.
 use crate::batches::EDIT;
-use crate::running::{run_steps, step};
+use crate::running::{is_run, run_steps, step};
 use crate::stopping::LEFT;
 use crate::stores::{
-    SLOT, device_of, has_documents, is_opened_as, open_by, open_store, part, small_device,
+    SLOT, are_bytes, device_of, extend, has_documents, is_opened_as, open_by, open_store, part,
+    small_device,
 };
 use disk::{Disk, FaultDisk, FaultPlan, Left};
 use recovery::{Pick, Stop, Store, StoreStep};
 use refusal::Refusal;
-use revision::Name;
+use revision::{DocState, Name};
 use std::process::Abort;
 
 // Batch 3 deletes the first unit, by number 3 of the source a.
@@ -40,9 +41,9 @@ const INSERTION: [u8; 42] = [
 fn removals(rt: &(impl Abort + AllocGlobal)) -> Vec<u8> {
     let mut bytes = WITHOUT_NAMES.to_vec(rt.alloc()).expect(rt, "memory");
     for letter in [b'a', b'b', b'c', b'd', b'e'] {
-        bytes.extend_from_slice(&[10, 0]).expect(rt, "memory");
-        bytes.extend_from_slice(&[letter; 10]).expect(rt, "memory");
-        bytes.push(0).expect(rt, "memory");
+        extend(rt, &mut bytes, &[10, 0]);
+        extend(rt, &mut bytes, &[letter; 10]);
+        extend(rt, &mut bytes, &[0]);
     }
     bytes
 }
@@ -57,7 +58,7 @@ fn run<D: Disk + Drop>(
 ) -> Store<D> {
     let mut store = open_store(rt, disk);
     let steps = [
-        step(rt, &store, &part(rt, &SLOT, 14, 45)),
+        step(rt, &store, part(rt, &SLOT, 14, 45)),
         step(rt, &store, &EDIT),
         step(rt, &store, &DELETION),
         StoreStep::Milestone(0, 3),
@@ -67,20 +68,25 @@ fn run<D: Disk + Drop>(
         StoreStep::Milestone(0, 5),
         StoreStep::Retire,
     ];
-    assert_eq!(rt; run_steps(rt, &mut store, &steps), wanted);
+    is_run(rt, run_steps(rt, &mut store, &steps), wanted);
     store
+}
+
+// The last change of a document is number 5 of its source.
+fn is_last_of(rt: &(impl Abort + AllocGlobal), record: &DocState) {
+    let source = Name::source(rt.alloc(), "a").expect(rt, "a source");
+    let last = record.last(&source);
+    assert!(rt; last.number == 5 && last.revision == 5);
 }
 
 // By a pick the document's last change is number 5 of its source.
 fn is_last(rt: &(impl Abort + AllocGlobal), bytes: &[u8], pick: Pick) {
     let store = open_by(rt, device_of(rt, bytes), pick);
     has_documents(rt, store.state(), "d 5 qx\n");
-    let source = Name::source(rt.alloc(), "a").expect(rt, "a source");
-    let documents = store.state().documents();
-    assert_eq!(rt; documents.len(), 1);
-    let last = documents[0].last(&source);
-    assert_eq!(rt; last.number, 5);
-    assert_eq!(rt; last.revision, 5);
+    match store.state().documents() {
+        [record] => is_last_of(rt, record),
+        _ => panic!(rt; "one document"),
+    }
 }
 
 // By each pick a device of these bytes has all that was committed.
@@ -95,30 +101,28 @@ fn byte_at(rt: &(impl Abort + AllocGlobal), bytes: &[u8], at: usize) -> u8 {
     *bytes.get(at).expect(rt, "a byte")
 }
 
+/// What is left of the device: a place, and what stands there.
+const LEFT_BEHIND: [(usize, &[u8]); 7] = [
+    // The first cell is at revision 5, the second at 4.
+    (64, &[0xa5]),
+    (76, &[5]),
+    (320, &[0xa5]),
+    (332, &[4]),
+    // Slot 0 is closed, and slot 1 open, with segment 2 and its two records.
+    (1_088, &[0]),
+    (1_344, &[0xa5, 2, 0, 0, 0, 0, 0, 0, 0, 0xa5, 110, 0, 0, 0]),
+    (1_468, &[0xa5, 42, 0, 0, 0]),
+];
+
 #[test]
 fn a_run_gives_up_the_oldest_segment(rt: HostRuntime) {
     let store = run(&rt, device_of(&rt, small_device(&rt).bytes()), Ok(()));
     has_documents(&rt, store.state(), "d 5 qx\n");
     let disk = store.close();
     is_whole(&rt, disk.bytes());
-    // The first cell is at revision 5, the second at 4.
-    assert_eq!(rt;
-        part(&rt, disk.bytes(), 64, 1).as_slice(),
-        [0xa5].as_slice()
-    );
-    assert_eq!(rt; byte_at(&rt, disk.bytes(), 76), 5);
-    assert_eq!(rt; byte_at(&rt, disk.bytes(), 320), 0xa5);
-    assert_eq!(rt; byte_at(&rt, disk.bytes(), 332), 4);
-    // Slot 0 is closed, and slot 1 open, with segment 2 and its two records.
-    assert_eq!(rt; byte_at(&rt, disk.bytes(), 1_088), 0);
-    assert_eq!(rt;
-        part(&rt, disk.bytes(), 1_344, 14).as_slice(),
-        [0xa5, 2, 0, 0, 0, 0, 0, 0, 0, 0xa5, 110, 0, 0, 0].as_slice()
-    );
-    assert_eq!(rt;
-        part(&rt, disk.bytes(), 1_468, 5).as_slice(),
-        [0xa5, 42, 0, 0, 0].as_slice()
-    );
+    for (at, wanted) in &LEFT_BEHIND {
+        are_bytes(&rt, part(&rt, disk.bytes(), *at, wanted.len()), wanted);
+    }
 }
 
 // The run goes wrong at one of its last calls, counted from the end, in the step of a number. What a crash leaves is whole.
@@ -165,38 +169,56 @@ fn a_stop_in_the_write_of_a_gate(rt: HostRuntime) {
     }
 }
 
+// A run that ends with a retirement stops at it.
+fn is_needed<D: Disk>(rt: &(impl Abort + AllocGlobal), store: &mut Store<D>) {
+    let steps = [
+        step(rt, store, part(rt, &SLOT, 14, 45)),
+        step(rt, store, &EDIT),
+        StoreStep::Milestone(0, 2),
+        step(rt, store, &DELETION),
+        step(rt, store, &removals(rt)),
+        StoreStep::Retire,
+    ];
+    let refusal = Refusal::StillNeeded;
+    is_run(
+        rt,
+        run_steps(rt, store, &steps),
+        Err(Stop { at: 5, refusal }),
+    );
+}
+
 // Where the first milestone is put before batch 3, the oldest segment has an entry above that cell.
 #[test]
 fn a_segment_above_a_cell_is_still_needed(rt: HostRuntime) {
     let mut store = open_store(&rt, small_device(&rt));
-    let steps = [
-        step(&rt, &store, &part(&rt, &SLOT, 14, 45)),
-        step(&rt, &store, &EDIT),
-        StoreStep::Milestone(0, 2),
-        step(&rt, &store, &DELETION),
-        step(&rt, &store, &removals(&rt)),
-        StoreStep::Retire,
-    ];
-    let refusal = Refusal::StillNeeded;
-    assert_eq!(rt;
-        run_steps(&rt, &mut store, &steps),
-        Err(Stop { at: 5, refusal })
-    );
+    is_needed(&rt, &mut store);
     assert!(rt; !store.has_failed());
     is_opened_as(&rt, store.close().bytes(), "d 4 x\n");
+}
+
+// A run that creates the document, puts a milestone, and retires the oldest segment.
+fn stops_at_milestone<D: Disk>(
+    rt: &(impl Abort + AllocGlobal),
+    store: &mut Store<D>,
+    at: (u32, u64),
+    wanted: Result<(), Stop>,
+) {
+    let steps = [
+        step(rt, store, part(rt, &SLOT, 14, 45)),
+        StoreStep::Milestone(at.0, at.1),
+        StoreStep::Retire,
+    ];
+    is_run(rt, run_steps(rt, store, &steps), wanted);
 }
 
 // A run stops at a milestone that can't be.
 fn is_refused(rt: &(impl Abort + AllocGlobal), document: u32, revision: u64, refusal: Refusal) {
     let mut store = open_store(rt, small_device(rt));
-    let steps = [
-        step(rt, &store, &part(rt, &SLOT, 14, 45)),
-        StoreStep::Milestone(document, revision),
-        StoreStep::Retire,
-    ];
-    assert_eq!(rt;
-        run_steps(rt, &mut store, &steps),
-        Err(Stop { at: 1, refusal })
+    stops_at_milestone(
+        rt,
+        &mut store,
+        (document, revision),
+        Err(Stop { at: 1, refusal }),
     );
     assert!(rt; !store.has_failed());
     has_documents(rt, store.state(), "d 1 z\n");
