@@ -22,6 +22,8 @@ mod freeing;
 #[cfg(test)]
 mod jobs;
 #[cfg(test)]
+mod large;
+#[cfg(test)]
 mod milestones;
 #[cfg(test)]
 mod opening;

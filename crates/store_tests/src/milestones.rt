@@ -38,8 +38,8 @@ fn put<D: Disk>(
     store.put_milestone(rt.alloc(), done)
 }
 
-// A milestone of document 0 at a revision is put, or refused.
-fn is_put<D: Disk>(
+/// A milestone of document 0 at a revision is put, or refused.
+pub fn is_put<D: Disk>(
     rt: &(impl Abort + AllocGlobal),
     store: &mut Store<D>,
     revision: u64,

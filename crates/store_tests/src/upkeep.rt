@@ -230,3 +230,23 @@ fn a_run_stops_at_a_milestone_that_is_refused(rt: HostRuntime) {
     is_refused(&rt, 0, 2, Refusal::Future);
     is_refused(&rt, 0, 0, Refusal::TooOld);
 }
+
+// A run in which slot 0 is retired while one cell alone is open, at the revision of its last batch.
+fn retires_by_one_cell<D: Disk>(rt: &(impl Abort + AllocGlobal), store: &mut Store<D>) {
+    let steps = [
+        step(rt, store, part(rt, &SLOT, 14, 45)),
+        step(rt, store, &EDIT),
+        step(rt, store, &DELETION),
+        StoreStep::Milestone(0, 3),
+        step(rt, store, &removals(rt)),
+        StoreStep::Retire,
+    ];
+    is_run(rt, run_steps(rt, store, &steps), Ok(()));
+}
+
+#[test]
+fn one_cell_is_enough_to_retire(rt: HostRuntime) {
+    let mut store = open_store(&rt, small_device(&rt));
+    retires_by_one_cell(&rt, &mut store);
+    is_opened_as(&rt, store.close().bytes(), "d 4 x\n");
+}
