@@ -55,20 +55,26 @@ fn text_after(
     String::from_utf8(text).expect(rt, "letters")
 }
 
-// Its revision, and the last numbers of the sources a and b.
-fn numbers_after(script: &Script, moves: usize, document: u8) -> (u8, u8, u8) {
-    let (mut revision, mut first, mut second) = (0, 0, 0);
+// Its revision.
+fn revision_after(script: &Script, moves: usize, document: u8) -> u8 {
+    let mut revision = 0;
     for change in &script.changes {
         if change.at < moves && change.document == document {
             revision = change.revision;
-            if change.source == b'a' {
-                first = change.number;
-            } else {
-                second = change.number;
-            }
         }
     }
-    (revision, first, second)
+    revision
+}
+
+// The last number of a source in it.
+fn number_after(script: &Script, moves: usize, document: u8, source: u8) -> u8 {
+    let mut number = 0;
+    for change in &script.changes {
+        if change.at < moves && change.document == document && change.source == source {
+            number = change.number;
+        }
+    }
+    number
 }
 
 // Its line.
@@ -79,7 +85,9 @@ fn push_line(
     moves: usize,
     document: u8,
 ) {
-    let (revision, first, second) = numbers_after(script, moves, document);
+    let revision = revision_after(script, moves, document);
+    let first = number_after(script, moves, document, b'a');
+    let second = number_after(script, moves, document, b'b');
     if revision > 0 {
         let text = text_after(rt, script, moves, document);
         let name = char::from(b'd'.saturating_add(document));

@@ -54,13 +54,18 @@ fn put_due<D: Disk>(
     store.put_due(rt.alloc(), document, every)
 }
 
+// A milestone was put or not, or an error came.
+fn is_put(rt: &impl Abort, found: Result<bool, Refusal>, wanted: Result<bool, Refusal>) {
+    assert!(rt; found == wanted);
+}
+
 // Every second revision of document 0 is put.
 fn is_due<D: Disk>(
     rt: &(impl Abort + AllocGlobal),
     store: &mut Store<D>,
     wanted: Result<bool, Refusal>,
 ) {
-    assert_eq!(rt; put_due(rt, store, 0, 2), wanted);
+    is_put(rt, put_due(rt, store, 0, 2), wanted);
 }
 
 // Frees the oldest segment.

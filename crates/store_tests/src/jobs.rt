@@ -10,7 +10,7 @@ use disk::{Disk, Left};
 use milestone::{Job, Milestone, compose_job};
 use recovery::{Pick, Store};
 use refusal::Refusal;
-use revision::Sources;
+use revision::{LastTaken, Name};
 use std::process::Abort;
 
 // Asks for a job.
@@ -43,13 +43,11 @@ pub fn inserts(delta: &Delta, wanted: &str) -> bool {
 }
 
 // The only source is `a`, whose last number made the revision of that number.
-fn is_only_source(rt: &impl Abort, sources: &Sources, revision: u64) {
-    match sources.entries() {
-        [(name, last)] => {
-            is_text(rt, name.as_str(), "a");
-            assert!(rt; last.number == revision && last.revision == revision);
-        }
-        _ => panic!(rt; "one source"),
+fn is_only_source(rt: &impl Abort, sources: &[(Name, LastTaken)], revision: u64) {
+    assert_eq!(rt; sources.len(), 1);
+    for (name, last) in sources {
+        is_text(rt, name.as_str(), "a");
+        assert!(rt; last.number == revision && last.revision == revision);
     }
 }
 
@@ -57,7 +55,7 @@ fn is_only_source(rt: &impl Abort, sources: &Sources, revision: u64) {
 fn is_milestone(rt: &(impl Abort + AllocGlobal), milestone: &Milestone, revision: u64, text: &str) {
     is_text(rt, milestone.name().as_str(), "d");
     assert_eq!(rt; milestone.revision(), revision);
-    is_only_source(rt, milestone.sources(), revision);
+    is_only_source(rt, milestone.sources().entries(), revision);
     let content = milestone.document().as_delta(rt.alloc());
     let content = content.expect(rt, "memory");
     assert!(rt; inserts(&content, text), "at {revision}");
@@ -134,14 +132,12 @@ fn no_job_below_an_open_cell(rt: HostRuntime) {
     has_jobs(&rt, &mut store, &JOBS_OF_CELLS);
 }
 
+const FAULTS: [JobRow; 2] = [(0, 1, "error 34 Fault"), (0, 0, "error 34 Fault")];
+
 #[test]
 fn no_job_after_a_failure(rt: HostRuntime) {
     let mut store = store_under_plan(&rt, 0, false, Left::Nothing);
     has_job(&rt, &mut store, &(0, 1, "error 6 NoDocument"));
     create(&rt, &mut store, &("a", "d", "z", "error 34 Fault"));
-    has_jobs(
-        &rt,
-        &mut store,
-        &[(0, 1, "error 34 Fault"), (0, 0, "error 34 Fault")],
-    );
+    has_jobs(&rt, &mut store, &FAULTS);
 }

@@ -245,7 +245,7 @@ fn creation(rt: &(impl Abort + AllocGlobal), source: &str, doc: &str, text: &str
 // An edit of the document "d" by the source "a", by a number of 1 to 2^53 - 1, made on a revision: it inserts a text at the
 // beginning.
 pub fn edit(rt: &(impl Abort + AllocGlobal), number: u64, base: u64, text: &str) -> Command {
-    assert!(rt; 1 <= number && number < 1 << 53);
+    assert!(rt; 1 <= number && number < 9_007_199_254_740_992);
     let source = Name::source(rt.alloc(), "a").expect(rt, "a source");
     let doc = Name::doc(rt.alloc(), "d").expect(rt, "a document");
     Command::edit(doc, source, number, base, insert_of(rt, text)).expect(rt, "an edit")
