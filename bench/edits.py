@@ -1,7 +1,7 @@
 #!/usr/bin/env python3
 """Times edits through `richd serve`: single letters typed into one document. Each edit is one batch, with two syncs of the file.
 
-usage: bench/edits.py [COUNT]     (default: 2,000 edits a row)
+usage: bench/edits.py [COUNT]     (default: 5,000 edits a row)
 
 Each row is a new store: how many letters the document has before, how many revisions are kept, where the letters are typed (at
 the beginning or at the end), and how many revisions back the base of each edit lies. The time of a run that takes the document
@@ -18,7 +18,7 @@ import tempfile
 import time
 
 richd = os.path.join(os.path.dirname(os.path.abspath(__file__)), "../crates/richd/out/richd")
-count = int(sys.argv[1]) if len(sys.argv) > 1 else 2000
+count = int(sys.argv[1]) if len(sys.argv) > 1 else 5000
 line_bound = 60_000
 
 rows = [
