@@ -16,7 +16,7 @@ use std::alloc::Global;
 use std::convert::AsStr;
 use std::fs::{self, File};
 use std::io::{Read, Write};
-use std::net::{Net, TcpListener, TcpStream};
+use std::net::{Net, SocketAddr, TcpListener, TcpStream};
 use std::rt::Files;
 use std::sync::Wait;
 use std::thread::Threads;
@@ -142,8 +142,7 @@ fn listen<
     every: u32,
     output: &mut O,
 ) -> Result<(), Failure> {
-    let listener = bind(rt, address)?;
-    let bound = listener.local_addr().map_err(|_| Fault)?;
+    let (listener, bound) = bind(rt, address)?;
     if writeln!(output, "listening {bound}").is_err() || output.flush().is_err() {
         return Err(Failure::Stream);
     }
@@ -156,8 +155,10 @@ fn listen<
 fn bind<R: Net<Listener = TcpListener, Stream = TcpStream>>(
     rt: &R,
     address: &str,
-) -> Result<TcpListener, Fault> {
-    TcpListener::bind(rt, address).map_err(|_| Fault)
+) -> Result<(TcpListener, SocketAddr), Fault> {
+    let listener = TcpListener::bind(rt, address)?;
+    let bound = listener.local_addr()?;
+    Ok((listener, bound))
 }
 
 fn open<R: Files<File = File> + AllocGlobal>(
