@@ -1,4 +1,5 @@
 //! Bytes that are no store, and bytes that do not matter.
+use crate::batches::EDIT;
 use crate::stores::{SLOT, is_opened_with, part, small_device, with_bytes_at};
 use std::process::Abort;
 
@@ -98,6 +99,34 @@ fn a_record_is_damaged(rt: HostRuntime) {
         part(&rt, &SLOT, 9, 50),
         "error 32 Damaged",
     );
+}
+
+// A small device that holds a creation and, behind it, an edit.
+fn edited(rt: &(impl Abort + AllocGlobal)) -> Vec<u8> {
+    let mut bytes = with_bytes_at(rt, small_device(rt).bytes(), 1_088, part(rt, &SLOT, 0, 59));
+    for (at, other) in [(1_147, [0xa5, 55, 0, 0, 0].as_slice()), (1_152, &EDIT)] {
+        bytes = with_bytes_at(rt, &bytes, at, other);
+    }
+    bytes
+}
+
+/// What damages the edit: a place, and what is written there. Its batch stands at 1,152.
+const EDITED: [(usize, u8); 5] = [
+    // Document 1, revisions 1 and 3, and numbers 1 and 3 of its source.
+    (1_157, 1),
+    (1_161, 1),
+    (1_161, 3),
+    (1_172, 1),
+    (1_172, 3),
+];
+
+#[test]
+fn an_edit_out_of_turn_is_damage(rt: HostRuntime) {
+    let bytes = edited(&rt);
+    is_opened_with(&rt, &bytes, 1_161, &[2], "d 2 zx\n");
+    for (at, byte) in &EDITED {
+        is_opened_with(&rt, &bytes, *at, &[*byte], "error 32 Damaged");
+    }
 }
 
 /// The places of gates, and what is opened where one is closed.
