@@ -1,16 +1,21 @@
 //! How each layer is called.
-ghost use Rattle.std.specs.Prelude.{◌≡◌, ◌+◌, ◌≤◌, ◌<◌, ◌^◌, ℕ, List, [], ◌∷◌, ◌++◌, length, false, OnOk};
+ghost use Rattle.std.specs.Prelude.{◌≡◌, ◌+◌, ◌≤◌, ◌<◌, ◌^◌, ℕ, List, [], ◌∷◌, ◌++◌, Option, length, false, OnOk, IfOk, IfErr};
+ghost use Rattle.compose.specs.Many.{applied};
 ghost use Rattle.disk.specs.Device.{overwritten};
 ghost use Rattle.disk.specs.Crash.{LeavesOnly};
 ghost use Rattle.journal.specs.Area.{Stands};
 ghost use Rattle.journal.specs.BatchSpelling as spelling;
+ghost use Rattle.segments.specs.Slot.{Segment};
+ghost use Rattle.segments.specs.Ring.{Fits, IsLeftByAppend, end_of};
 ghost use Rattle.recovery.specs.Open.{FitsSlot, IsOpen, IsWithOrWithout, device_of, state_of, has_failed};
 
 use disk::{Disk, Fault};
 use journal::{Area, encode_batch};
+use milestone::{Job, Uncomposed, compose_job};
 use recovery::{Receipt, Store};
 use refusal::Refusal;
 use revision::Taken;
+use segments::Ring;
 use std::alloc::Global;
 
 /// Puts bytes onto a device so that they last.
@@ -39,6 +44,31 @@ pub fn keep<D: Disk>(
     let body = encode_batch(alloc, batch)?;
     area.append(alloc, disk, &body)?;
     Ok(())
+}
+
+/// Appends one byte. A crash at any moment leaves the table before, with a slot opened for it, or with it.
+pub fn append_byte<D: Disk>(
+    alloc: Global,
+    ring: &mut Ring,
+    disk: &mut D,
+    byte: u8,
+) -> Result<(), Refusal>
+    requires within { end_of ring.old ≤ length (D.seen disk.old) }
+    ensures any_moment { (table : List (Option Segment)) → D.unsynced disk.old ≡ [] → Fits (D.seen disk.old) ring.old table
+        → LeavesOnly ⟦<D as Disk>⟧ (IsLeftByAppend (D.seen disk.old) ring.old table (byte ∷ [])) disk.old disk.new }
+{
+    ring.append(alloc, disk, &[byte])
+}
+
+/// How many units a document has at the revision of a job. Refused for want of memory alone, and then the job comes back.
+pub fn length_of(alloc: Global, job: Job) -> Result<u64, Uncomposed>
+    ensures length { IfOk result (λ len. len ≡ length (applied [] job.deltas)) }
+    ensures back { IfErr result (λ back. back.job ≡ job) }
+{
+    match compose_job(alloc, job) {
+        Ok(composed) => Ok(composed.milestone().document().len16()),
+        Err(back) => Err(back),
+    }
 }
 
 /// Commits one command. A crash at any moment leaves the state without it or with it, and at Ok the store goes on.
