@@ -11,7 +11,7 @@
 //! specs/OneCell.antt, and what a crash at any moment of a call leaves of them in specs/Cells.antt. The crate stands on `history`,
 //! whose cells it holds, on `revision` and `compose`, and on `journal` and `disk`.
 //!
-//! A caller, with its contract:
+//! A caller, with its contract, which `store_tests` proves as it stands:
 //!
 //! ```text
 //! ghost use Rattle.std.specs.Prelude.{◌≡◌, [], length, IfOk, IfErr};

@@ -5,7 +5,7 @@
 //! moment of a call leaves of the table of slots. It knows bytes alone: what a body stands for is the layer's above. It
 //! stands on `journal` and `disk`.
 //!
-//! A caller, with its contract:
+//! A caller, with its contract, which `store_tests` proves as it stands:
 //!
 //! ```text
 //! ghost use Rattle.std.specs.Prelude.{◌≡◌, ◌≤◌, [], ◌∷◌, Option, List, length};
