@@ -8,7 +8,7 @@ use Rattle.revision.specs.State.{Limits, State, grows, grown, all_grow, fold, la
 use Rattle.revision.specs.Acceptance.{Answer, Takes, Repeats, Refuses, answer}
 use Rattle.revision.specs.Agree.{Agree}
 use Rattle.revision.proofs.CallerLemmas.{taken_grows, agreeing_grow}
-use Rattle.world.specs.Board.{Board, Ticket, submitted, submitted_by, ticket_of, ticket_by, reopened}
+use Rattle.world.specs.Board.{Board, Ticket, submitted, submitted_by, ticket_of, reopened}
 use Rattle.world.specs.Event.{Submit, Publish, Compose}
 use Rattle.world.specs.World.{Entry, entry_of, takens, World}
 use Rattle.world.specs.Step.{revision_at, is_numbered, with_command, may_leave, may_pick, whole, opened, can_open, running_step}
@@ -119,15 +119,6 @@ module _ (world : World) (command : Command) (some : 1 ≤ command.number) (belo
         tickets = world.tickets ++ option_to_list (is i);
         sent = world.sent ++ command ∷ [];
       }) ∙ sym comes
-
-  -- one that is refused
-  pub refuse-steps : (due : Answer) → answer world.board.state command ≡ due → (refusal : _) → due ≡ Refuses refusal
-      → record world { sent = world.sent ++ command ∷ [] } ≡ running_step world (Submit command)
-  refuse-steps due is refusal refused = sym (comes ∙ ap (λ (a : Answer). record world {
-    board = submitted_by (entry_of command) world.board a;
-    tickets = world.tickets ++ option_to_list (ticket_by world.board command a);
-    sent = world.sent ++ command ∷ [];
-  }) (is ∙ refused) ∙ (λ i. record world { tickets = append-nil world.tickets i; sent = world.sent ++ command ∷ [] }))
 
 -- a batch that is done is shown
 pub publish-steps : (world : World) (n end : ℕ) → end ≡ world.board.taken → world.published ≡ takens (take n world.board.order) → n < world.board.taken
