@@ -19,17 +19,15 @@ told each revision once, and 64 sessions find places.
 Run ./demo first, which builds crates/richd/out/richd, or name another program in RICHD. The store lies in a temporary folder (TMPDIR).
 """
 import json
-import os
 import random
 import socket
 import struct
-import subprocess
 import sys
 import tempfile
 import threading
 import time
 
-richd = os.environ.get("RICHD") or os.path.join(os.path.dirname(os.path.abspath(__file__)), "../crates/richd/out/richd")
+from serving import served_anew
 cuts = int(sys.argv[1]) if len(sys.argv) > 1 else 1000
 clients = int(sys.argv[2]) if len(sys.argv) > 2 else 16
 
@@ -205,11 +203,7 @@ class Client:
 
 failures = []
 with tempfile.TemporaryDirectory() as folder:
-    store = os.path.join(folder, "store")
-    subprocess.run([richd, "format", store], check=True)
-    server = subprocess.Popen([richd, "serve", store, "--listen", "127.0.0.1:0"], stdout=subprocess.PIPE, text=True)
-    host, port = server.stdout.readline().split()[1].rsplit(":", 1)
-    address = host, int(port)
+    server, address = served_anew(folder)
     first = Connection("first")
     reply = first.ask({"do": "create", "doc": DOC, "n": 1, "ops": [{"insert": "begin;"}]})
     assert reply["ok"] == "taken", reply

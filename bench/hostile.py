@@ -9,15 +9,13 @@ before the end of the script 64 sessions have to find places again. A row that f
 Run ./demo first, which builds crates/richd/out/richd, or name another program in RICHD. The store lies in a temporary folder (TMPDIR).
 """
 import json
-import os
 import socket
 import struct
-import subprocess
 import sys
 import tempfile
 import time
 
-richd = os.environ.get("RICHD") or os.path.join(os.path.dirname(os.path.abspath(__file__)), "../crates/richd/out/richd")
+from serving import served_anew
 
 PLACES = 64
 PATIENCE = 30  # seconds
@@ -223,11 +221,7 @@ def use(number):
 
 failed = 0
 with tempfile.TemporaryDirectory() as folder:
-    store = os.path.join(folder, "store")
-    subprocess.run([richd, "format", store], check=True)
-    server = subprocess.Popen([richd, "serve", store, "--listen", "127.0.0.1:0"], stdout=subprocess.PIPE, text=True)
-    host, port = server.stdout.readline().split()[1].rsplit(":", 1)
-    address = host, int(port)
+    server, address = served_anew(folder)
     for number, row in enumerate(rows):
         if len(sys.argv) > 1 and row.__name__ not in sys.argv[1:]:
             continue

@@ -26,7 +26,7 @@ import tempfile
 import threading
 import time
 
-richd = os.environ.get("RICHD") or os.path.join(os.path.dirname(os.path.abspath(__file__)), "../crates/richd/out/richd")
+from serving import richd, served
 rounds = int(sys.argv[1]) if len(sys.argv) > 1 else 50
 sessions = int(sys.argv[2]) if len(sys.argv) > 2 else 16
 
@@ -119,12 +119,6 @@ class Client:
         self.socket.close()
 
 
-def start(store, options):
-    server = subprocess.Popen([richd, "serve", store, "--listen", "127.0.0.1:0", *options], stdout=subprocess.PIPE, text=True)
-    host, port = server.stdout.readline().split()[1].rsplit(":", 1)
-    return server, (host, int(port))
-
-
 def end(server):
     server.kill()
     server.wait()
@@ -161,7 +155,7 @@ def once(folder, number):
     shape, options = KINDS[number % len(KINDS)]
     store = os.path.join(folder, "store")
     subprocess.run([richd, "format", store, "--docs", str(sessions + 1), "--cell", "524288", *shape], check=True)
-    server, address = start(store, options)
+    server, address = served(store, *options)
     clients = [Client(i) for i in range(sessions)]
     for client in clients:
         client.connect(address)
@@ -181,7 +175,7 @@ def once(folder, number):
     acknowledged = sum(len(client.acknowledged) for client in clients)
     pending = [word in held[doc] for client in clients for doc, (word, _) in client.pending.items()]
 
-    server, address = start(store, options)
+    server, address = served(store, *options)
     for client in clients:
         client.connect(address)
         client.go_on(held)
