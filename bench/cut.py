@@ -34,6 +34,7 @@ clients = int(sys.argv[2]) if len(sys.argv) > 2 else 16
 DOC = "all"
 PLACES = 64
 PATIENCE = 30  # seconds
+QUIET = 2  # seconds without news, after which nobody is taken to write any more
 
 
 class Connection:
@@ -173,10 +174,15 @@ class Client:
         connection.send(line)
         reply_is_due, until = True, self.random.randrange(1, 12)
         while reply_is_due or until:
-            message = connection.read()
+            try:
+                message = connection.read()
+            except TimeoutError:
+                assert not reply_is_due, "no reply came"
+                break  # the other clients are done
             if message.get("ok"):
                 assert message["ok"] == "taken", message
                 reply_is_due = False
+                connection.socket.settimeout(QUIET)
             else:
                 assert message["news"] == self.followed + 1, (message, self.followed)
                 self.followed += 1
