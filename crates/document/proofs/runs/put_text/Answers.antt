@@ -1,4 +1,4 @@
-use Rattle.std.proofs.Common.{◌≡◌, ◌<◌, Bool, true, false, MatchBool, length, refl, sym, subst, arith}
+use Rattle.std.proofs.Common.{◌≡◌, ◌<◌, Bool, true, false, MatchBool, length, refl, sym, subst, arith, ◌∙◌}
 use Rattle.std.proofs.lemmas.Bool.{false≢true}
 use Rattle.utf16.specs.Units.{units_of}
 use Rattle.delta.specs.Element.{letters}
@@ -29,13 +29,13 @@ returns-then-branch-clause-kept c =
 pub returns-clause-ok : goal.returns-clause-ok
 returns-clause-ok c =
     let missed = on_false _ _ _ c.if-branch.false c.in_ok-merge_last.ensures.ok in
-    units_more c.args.runs.now.items _ _ _ (rw missed.1 at c.in_ok-push.ensures.items) c.in_ok-run.ensures.run
+    units_more c.args.runs.now.items _ _ _ (rw missed.1 at c.in_ok-push.ensures.items) (c.in_ok-new.ensures.run ∙ c.in_ok-run.ensures.run)
 
 pub returns-clause-kept : goal.returns-clause-kept
 returns-clause-kept c =
     let missed = on_false _ _ _ c.if-branch.false c.in_ok-merge_last.ensures.ok in
     let us = units_of c.args.text.now in
     let some : 0 < length (letters us c.args.attrs) = omega (arith, length-letters us c.args.attrs, c.if-units-eq0.false, c.requires.counted) in
-    AreRuns-one_more c.args.runs.now.items _ _ _ (rw missed.1 at c.in_ok-push.ensures.items) c.in_ok-run.ensures.run c.requires.kept (some, IsWellFormed-text c.args.text.now c.args.attrs c.utf8.text)
+    AreRuns-one_more c.args.runs.now.items _ _ _ (rw missed.1 at c.in_ok-push.ensures.items) (c.in_ok-new.ensures.run ∙ c.in_ok-run.ensures.run) c.requires.kept (some, IsWellFormed-text c.args.text.now c.args.attrs c.utf8.text)
     (subst (IsApart (last_attributes c.args.runs.now.items)) (sym (text_attributes-letters us c.args.attrs _ refl some))
     (apart_from_text (last_attributes c.args.runs.now.items) c.args.attrs missed.0))
