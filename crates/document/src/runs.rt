@@ -2,7 +2,7 @@
 ghost use Rattle.std.specs.Prelude.{◌≡◌, ◌≢◌, Some, ◌+◌, ◌<◌, ◌^◌, ◌++◌, [], ◌∷◌, length, OnOk, OnErr, IsOkUnless, IfOk, MatchBool};
 ghost use Rattle.utf16.specs.Units.{units_of};
 ghost use Rattle.delta.specs.Element.{letters, embedded};
-ghost use Rattle.document.specs.steps.Runs.{units_of_runs, AreRuns, IsRun, TakesText, last_attributes};
+ghost use Rattle.document.specs.steps.Runs.{units_of_runs, AreRuns, IsRun, IsApart, TakesText, last_attributes, text_attributes};
 
 use crate::run::{Piece, Run};
 use crate::shared::SharedRun;
@@ -67,13 +67,31 @@ pub fn put_run(alloc: Global, runs: &mut Vec<SharedRun>, run: &SharedRun) -> Res
     ensures err { OnErr result (runs.new.items ≡ runs.old.items) }
     ensures only { IsOkUnless result Refusal.NoMemory }
 {
-    if let Piece::Text(text, units, attrs) = run.piece()
-        && merge_last(alloc, runs, text, units, attrs)?
-    {
+    if merge_run(alloc, runs, run)? {
         return Ok(());
     }
     runs.push(run.share()?)?;
     Ok(())
+}
+
+// takes a run's text into the last run, where both are texts of equal attributes, and says whether they are
+fn merge_run(alloc: Global, runs: &mut Vec<SharedRun>, run: &SharedRun) -> Result<bool, Refusal>
+    requires run { IsRun run.now }
+    requires bound { length (units_of_runs runs.old.items) + length run.now < 2 ^ 64 }
+    requires kept { AreRuns runs.old.items }
+    ensures ok { IfOk result (λ yes. MatchBool yes
+        ((units_of_runs runs.new.items ≡ units_of_runs runs.old.items ++ run.now) × AreRuns runs.new.items)
+        (IsApart (last_attributes runs.old.items) (text_attributes run.now) × (runs.new.items ≡ runs.old.items))) }
+    ensures err { OnErr result (runs.new.items ≡ runs.old.items) }
+    ensures only { IsOkUnless result Refusal.NoMemory }
+{
+    match run.piece() {
+        Piece::Text(text, units, attrs) => {
+            let merged = merge_last(alloc, runs, text, units, attrs)?;
+            Ok(merged)
+        }
+        Piece::Embed(_, _, _) => Ok(false),
+    }
 }
 
 // takes a text into the last run, where that is a text of equal attributes, and says whether it is

@@ -47,41 +47,67 @@ pub fn keep(
 {
     let mut left = len;
     while left > 0 {
-        left -= match cursor.next_run(left) {
-            Some(run) => keep_run(alloc, run, change, out)?,
-            None => keep_part(alloc, cursor, left, change, out)?,
-        };
+        left -= keep_next(alloc, cursor, left, change, out)?;
     }
     Ok(())
 }
 
-// puts a whole run out with a change of its attributes, and says how many code units it has
+// steps over the next run, or a piece of one, of at most so many code units, puts it out with a change of its attributes, and
+// says how many it has
+fn keep_next(
+    alloc: Global,
+    cursor: &mut Cursor<'_>,
+    most: u64,
+    change: &Change,
+    out: &mut Vec<SharedRun>,
+) -> Result<u64, Refusal>
+    requires some { 0 < most }
+    requires there { most ≤ length cursor.old }
+    requires whole { ¬ (IsWithinPair cursor.old most) }
+    requires bound { length (units_of_runs out.old.items) + most < 2 ^ 64 }
+    requires runs { AreRuns out.old.items }
+    ensures kept { IfOk result (λ len.
+        IsKept cursor.old cursor.new len change.now (units_of_runs out.old.items) (units_of_runs out.new.items)) }
+    ensures some { IfOk result (λ len. 0 < len) }
+    ensures most { IfOk result (λ len. len ≤ most) }
+    ensures runs { OnOk result (AreRuns out.new.items) }
+    ensures only { IsOkUnless result Refusal.NoMemory }
+{
+    if let Some(run) = cursor.next_run(most) {
+        keep_run(alloc, run, change, out)?;
+        return Ok(run.units());
+    }
+    let len = keep_part(alloc, cursor, most, change, out)?;
+    Ok(len)
+}
+
+// puts a whole run out with a change of its attributes; the run itself where that changes nothing
 fn keep_run(
     alloc: Global,
     run: &SharedRun,
     change: &Change,
     out: &mut Vec<SharedRun>,
-) -> Result<u64, Refusal>
+) -> Result<(), Refusal>
     requires run { IsRun run.now }
     requires bound { length (units_of_runs out.old.items) + length run.now < 2 ^ 64 }
     requires runs { AreRuns out.old.items }
-    ensures len { IfOk result (λ len. len ≡ length run.now) }
-    ensures units { OnOk result (units_of_runs out.new.items ≡ units_of_runs out.old.items ++ with_change change.now run.now) }
+    ensures units { OnOk result
+        (units_of_runs out.new.items ≡ units_of_runs out.old.items ++ with_change change.now run.now) }
     ensures runs { OnOk result (AreRuns out.new.items) }
     ensures only { IsOkUnless result Refusal.NoMemory }
 {
     if change.is_empty() {
         put_run(alloc, out, run)?;
-        return Ok(run.units());
+        return Ok(());
     }
     let piece = run.piece();
     let attrs = apply(alloc, piece.attrs(), change)?;
     if attrs == *piece.attrs() {
         put_run(alloc, out, run)?;
-    } else {
-        put(alloc, out, piece, attrs)?;
+        return Ok(());
     }
-    Ok(run.units())
+    put(alloc, out, piece, attrs)?;
+    Ok(())
 }
 
 // steps over a piece of at most so many code units, puts it out with a change of its attributes, and says how many it has
@@ -97,7 +123,8 @@ fn keep_part(
     requires whole { ¬ (IsWithinPair cursor.old most) }
     requires bound { length (units_of_runs out.old.items) + most < 2 ^ 64 }
     requires runs { AreRuns out.old.items }
-    ensures kept { IfOk result (λ len. IsKept cursor.old cursor.new len change.now (units_of_runs out.old.items) (units_of_runs out.new.items)) }
+    ensures kept { IfOk result (λ len.
+        IsKept cursor.old cursor.new len change.now (units_of_runs out.old.items) (units_of_runs out.new.items)) }
     ensures some { IfOk result (λ len. 0 < len) }
     ensures most { IfOk result (λ len. len ≤ most) }
     ensures runs { OnOk result (AreRuns out.new.items) }

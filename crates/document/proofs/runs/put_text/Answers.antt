@@ -1,22 +1,12 @@
-use Rattle.std.proofs.Common.{◌≡◌, ◌<◌, Bool, true, false, MatchBool, length, refl, sym, subst, arith, ◌∙◌}
-use Rattle.std.proofs.lemmas.Bool.{false≢true}
+use Rattle.std.proofs.Common.{◌<◌, length, refl, sym, subst, arith, ◌∙◌}
 use Rattle.utf16.specs.Units.{units_of}
 use Rattle.delta.specs.Element.{letters}
 use Rattle.document.specs.steps.Runs.{last_attributes, IsApart}
 use Rattle.document.proofs.Letters.{length-letters, text_attributes-letters}
 use Rattle.document.proofs.Characters.{IsWellFormed-text}
-use Rattle.document.proofs.Ended.{units_more, AreRuns-one_more, apart_from_text, units-taken, AreRuns-taken}
+use Rattle.document.proofs.Ended.{units_more, AreRuns-one_more, apart_from_text, units-taken, AreRuns-taken, on_true, on_false}
 use Rattle.document.proofs.runs.put_text.Goals as goal
 use Rattle.document.proofs.runs.put_text.Goals.{In_ok-push}
-
--- the case that a test tells
-on_true : (P Q : Type 0) (b : Bool) → b ≡ true → MatchBool b P Q → P
-on_true P Q true e p = p
-on_true P Q false e q = absurd (false≢true e)
-
-on_false : (P Q : Type 0) (b : Bool) → b ≡ false → MatchBool b P Q → Q
-on_false P Q true e p = absurd (false≢true (sym e))
-on_false P Q false e q = q
 
 pub returns-then-branch-clause-ok : goal.returns-then-branch-clause-ok
 returns-then-branch-clause-ok c =

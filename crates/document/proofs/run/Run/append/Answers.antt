@@ -1,6 +1,6 @@
 use Rattle.std.proofs.Common.{ap, sym, ◌∙◌, arith, length}
 use Rattle.document.specs.steps.Pieces.{content_units}
-use Rattle.document.proofs.Letters.{takes_text, appended}
+use Rattle.document.proofs.Letters.{appended}
 use Rattle.document.proofs.run.Run.append.Goals as goal
 
 pub returns-clause-ok : goal.returns-clause-ok

@@ -1,6 +1,6 @@
 use Rattle.std.proofs.Common.{ap, sym, ◌∙◌, arith, length}
 use Rattle.document.specs.steps.Pieces.{content_units}
-use Rattle.document.proofs.Letters.{takes_text, appended}
+use Rattle.document.proofs.Letters.{takes_text}
 use Rattle.document.proofs.run.Run.takes.Goals as goal
 
 pub returns-in-Text : goal.returns-in-Text
