@@ -13,8 +13,9 @@ ghost use Rattle.document.specs.Outcome.{IsAccepted, IsTooLong, IsRefused};
 
 use crate::appending::text_behind;
 use crate::applying::{applied, parts_pair};
-use crate::run::{Piece, Run};
+use crate::run::Piece;
 use crate::runs::put_text;
+use crate::shared::SharedRun;
 use crate::weights::{runs_weight, weighed};
 use delta::{Builder, Delta, MAX_LEN, Op};
 use refusal::Refusal;
@@ -25,7 +26,7 @@ use std::marker::Model;
 /// most 2^48 units.
 #[derive(Drop)]
 pub struct Document {
-    runs: Vec<Run>,
+    runs: Vec<SharedRun>,
 }
 
 impl Model for Document {

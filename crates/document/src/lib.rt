@@ -38,6 +38,7 @@ mod document;
 pub mod laws;
 mod run;
 mod runs;
+mod shared;
 mod walk;
 mod weights;
 

@@ -12,13 +12,14 @@ ghost use Rattle.document.specs.steps.Runs.{units_of_runs, AreRuns};
 ghost use Rattle.document.specs.steps.Weighing.{kept_weight, set_weight, IsKeptWeighed, IsWeighed};
 
 use crate::cursor::Cursor;
-use crate::run::{Piece, Run, named_weight};
+use crate::run::{Piece, named_weight};
+use crate::shared::SharedRun;
 use crate::walk::skip;
 use attributes::{Attrs, Change, Key, Value};
 use delta::{Op, OpRef};
 
 /// The weight of the runs after the operations.
-pub fn weighed(runs: &[Run], ops: &[Op]) -> u64
+pub fn weighed(runs: &[SharedRun], ops: &[Op]) -> u64
     requires runs { AreRuns runs.now }
     requires there { base_of ops.now ≤ length (units_of_runs runs.now) }
     requires whole { ¬ (StopsInPair (units_of_runs runs.now) ops.now) }
@@ -33,7 +34,7 @@ pub fn weighed(runs: &[Run], ops: &[Op]) -> u64
 }
 
 /// The weight of runs.
-pub fn runs_weight(runs: &[Run]) -> u64
+pub fn runs_weight(runs: &[SharedRun]) -> u64
     ensures { result ≡ min (weight_of (units_of_runs runs.now)) (2 ^ 64 - 1) }
 {
     let mut weight: u64 = 0;
