@@ -111,3 +111,18 @@ pub kept_whole : (mid new made more : List Element) (c : Changes) (k m n : ℕ) 
     → ¬ (IsWithinPair new m)
 kept_whole mid new made more c k m n keeps whole e =
     whole_after mid new keeps.passed.taken m n whole (sym keeps.passed.parts) (omega (arith, keeps.passed.count, e))
+
+-- units passed after others
+abbrev pub passed_on : (old mid new : List Element) (m k n : ℕ) → IsSteppedOver old mid m → IsSteppedOver mid new k → n ≡ m + k → IsSteppedOver old new n
+passed_on old mid new m k n first second e =
+    passed_more old mid new second.taken m n first (sym second.parts) second.formed (omega (arith, e, second.count))
+
+pub passed_left : (mid new : List Element) (k : ℕ) → IsSteppedOver mid new k → length mid ≡ k + length new
+passed_left mid new k passed = omega (arith, length-parts mid new passed.taken (sym passed.parts), passed.count)
+
+abbrev pub passed_run : (old new run : List Element) (n : ℕ) → run ++ new ≡ old → IsWellFormed run → n ≡ length run → IsSteppedOver old new n
+passed_run old new run n parts formed count = record { taken = run; parts = sym parts; count = sym count; formed = formed }
+
+pub passed_whole_on : (mid new : List Element) (k m n : ℕ) → IsSteppedOver mid new k → ¬ (IsWithinPair mid n) → n ≡ k + m → ¬ (IsWithinPair new m)
+passed_whole_on mid new k m n passed whole e =
+    whole_after mid new passed.taken m n whole (sym passed.parts) (omega (arith, passed.count, e))

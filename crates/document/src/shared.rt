@@ -12,14 +12,18 @@ use std::alloc::Global;
 use std::marker::Model;
 use std::sync::Arc;
 
-/// A run that any number of documents own together, seen as its units. Only a run with one owner is changed in place.
+/// A run that any number of documents own together, seen as its units. Only a run with one owner is changed in place. Its number
+/// of code units and its weight stand beside it, so that who passes a run doesn't look into it.
 #[derive(Drop)]
 pub struct SharedRun {
     run: Arc<Run>,
+    units: u64,
+    weight: u64,
 }
 
 impl Model for SharedRun {
-    ghost use Rattle.std.specs.Prelude.{List};
+    ghost use Rattle.std.specs.Prelude.{◌≡◌, ◌<◌, ◌-◌, ◌^◌, min, length, List};
+    ghost use Rattle.document.specs.Weight.{weight_of};
     ghost use Rattle.std.specs.Coded.{coded_list};
     ghost use Rattle.std.specs.Arc.{arc_value};
     ghost use Rattle.delta.specs.Element.{Element};
@@ -30,6 +34,9 @@ impl Model for SharedRun {
     ghost coded = { coded_list element_code };
 
     ghost view = { λ r. arc_value r.run };
+
+    ghost invariant = { λ r. (r.units ≡ length (arc_value r.run)) × (0 < r.units)
+        × (r.weight ≡ min (weight_of (arc_value r.run)) (2 ^ 64 - 1)) };
 }
 
 impl SharedRun {
@@ -40,8 +47,10 @@ impl SharedRun {
         ensures run { IfOk result (λ shared. shared ≡ run) }
         ensures only { IsOkUnless result Refusal.NoMemory }
     {
+        let units = run.units();
+        let weight = run.weight();
         match Arc::new(alloc, run) {
-            Ok(run) => Ok(SharedRun { run }),
+            Ok(run) => Ok(SharedRun { run, units, weight }),
             Err(_) => Err(Refusal::NoMemory),
         }
     }
@@ -52,7 +61,11 @@ impl SharedRun {
         ensures only { IsOkUnless result Refusal.NoMemory }
     {
         let run = Arc::try_clone(&self.run)?;
-        Ok(SharedRun { run })
+        Ok(SharedRun {
+            run,
+            units: self.units,
+            weight: self.weight,
+        })
     }
 
     /// How many code units it has.
@@ -60,7 +73,7 @@ impl SharedRun {
         ensures units { result ≡ length self.now }
         ensures some { 0 < result }
     {
-        self.run.units()
+        self.units
     }
 
     /// The whole run as a piece.
@@ -75,7 +88,7 @@ impl SharedRun {
     pub fn weight(&self) -> u64
         ensures { result ≡ min (weight_of self.now) (2 ^ 64 - 1) }
     {
-        self.run.weight()
+        self.weight
     }
 
     /// Takes a text in at the end where the run is a text with equal attributes, and says whether it is. The run is changed in
@@ -100,6 +113,8 @@ impl SharedRun {
         }
         if let Some(run) = Arc::get_mut(&mut self.run) {
             run.append(text, units)?;
+            self.weight = run.weight();
+            self.units += units;
             return Ok(true);
         }
         let mut run = self.run.copy(alloc, text.len())?;

@@ -23,10 +23,27 @@ pub fn skip(cursor: &mut Cursor<'_>, len: u64) -> Result<(), Cut>
 {
     let mut left = len;
     while left > 0 {
-        let piece = cursor.next(left)?;
-        left -= piece.units();
+        left -= skip_next(cursor, left)?;
     }
     Ok(())
+}
+
+// steps over the next run, or a piece of one, of at most so many code units, and says how many it has; refused where that would
+// part a pair
+fn skip_next(cursor: &mut Cursor<'_>, most: u64) -> Result<u64, Cut>
+    requires some { 0 < most }
+    requires there { most ≤ length cursor.old }
+    ensures passed { IfOk result (λ len. IsSteppedOver cursor.old cursor.new len) }
+    ensures some { IfOk result (λ len. 0 < len) }
+    ensures most { IfOk result (λ len. len ≤ most) }
+    ensures parted { OnErr result (IsWithinPair cursor.old most) }
+    ensures only { IsOkUnless result Cut.InPair }
+{
+    if let Some(run) = cursor.next_run(most) {
+        return Ok(run.units());
+    }
+    let piece = cursor.next(most)?;
+    Ok(piece.units())
 }
 
 /// Steps over so many code units, and puts them out with a change of their attributes.
