@@ -17,4 +17,5 @@ pub mod Ends
 pub mod Shortest
 pub mod Trimmed
 pub mod LeftOver
+pub mod Leads
 pub mod CallerLemmas

@@ -1,6 +1,7 @@
 pub mod Element
 pub mod ElementCode
 pub mod Operation
+pub mod Lead
 pub mod Kind
 pub mod Parts
 pub mod Cursor

@@ -1,5 +1,6 @@
 //! Deltas.
-ghost use Rattle.std.specs.Prelude.{◌≡◌, IfOk, IsOkUnless};
+ghost use Rattle.std.specs.Prelude.{◌≡◌, ◌<◌, IfOk, IsOkUnless};
+ghost use Rattle.delta.specs.Lead.{with_lead};
 ghost use Rattle.delta.specs.Operation.{base_of, out_of, IsBounded};
 ghost use Rattle.delta.specs.Normal.{IsNormal};
 ghost use Rattle.delta.specs.steps.Building.{IsDelta};
@@ -76,6 +77,22 @@ impl Delta {
         ensures { result ≡ out_of self.now }
     {
         self.out
+    }
+
+    /// Gives the retain that is first another length in code units, in place; without one the delta stays. Constant time.
+    pub fn set_lead(&mut self, len: u64)
+        requires some { 0 < len }
+        requires bounded { IsBounded (with_lead len self.old) }
+        ensures lead { self.new ≡ with_lead len self.old }
+        ensures normal { IsNormal self.new }
+    {
+        if self.ops.is_empty() {
+            return;
+        }
+        if let Some(old) = self.ops[0].lengthen(len) {
+            self.base = self.base - old + len;
+            self.out = self.out - old + len;
+        }
     }
 
     /// An equal delta.

@@ -5,6 +5,7 @@ ghost use Rattle.std.specs.Str.{bytes_eq};
 ghost use Rattle.utf16.specs.Units.{units_of};
 ghost use Rattle.attributes.specs.Attributes.{IsKey};
 ghost use Rattle.attributes.specs.Map.{empty};
+ghost use Rattle.delta.specs.Lead.{IsLengthened, IsLeft};
 ghost use Rattle.delta.specs.Operation.{insert_text, insert_embed, retain, delete, then_changed, op_len, op_base, op_out, is_insert, is_delete, is_plain, merged};
 
 use crate::part::Part;
@@ -179,6 +180,20 @@ impl Op {
         ensures { MatchOption result (is_plain self.now ≡ false) (λ len. self.now ≡ retain len empty) }
     {
         Part::whole(self).plain_len()
+    }
+
+    // gives a retain another length, and says which it had; any other operation stays
+    pub(crate) fn lengthen(&mut self, len: u64) -> Option<u64>
+        ensures { MatchOption result (IsLeft self.old self.new) (IsLengthened len self.old self.new) }
+    {
+        match &self.kind {
+            Kind::Retain(_) => {
+                let old = self.len;
+                self.len = len;
+                Some(old)
+            }
+            Kind::Text(_, _) | Kind::Embed(_, _, _) | Kind::Delete => None,
+        }
     }
 
     // takes the next operation in, where they merge, and says whether they do

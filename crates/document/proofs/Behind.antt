@@ -1,10 +1,10 @@
 -- A text that operations put behind a document.
-use Rattle.std.proofs.Common.{◌≡◌, ℕ, zero, suc, Bool, true, false, Option, Some, None, List, [], ◌∷◌, ◌++◌, length, get_or, inl, inr, refl, sym, ap, ap₂, ◌∙◌, arith, append-nil}
+use Rattle.std.proofs.Common.{◌≡◌, ℕ, true, false, Option, Some, None, List, [], ◌∷◌, ◌++◌, length, get_or, inl, inr, sym, ap, ap₂, ◌∙◌, arith, append-nil}
 use Rattle.std.specs.Prelude.{MatchOption, is_some}
 use Rattle.std.proofs.lemmas.Bool.{false≢true}
 use Rattle.attributes.specs.Attributes.{Attributes}
 use Rattle.attributes.specs.Map.{empty}
-use Rattle.delta.specs.Element.{Element, letters}
+use Rattle.delta.specs.Element.{letters}
 use Rattle.delta.specs.Operation.{Operation, insert_text, retain, base_of, is_plain}
 use Rattle.delta.specs.Gaps.{counted, apply}
 use Rattle.delta.proofs.CallerLemmas.{effect_of_text, effect_of_retain}

@@ -1,5 +1,6 @@
 -- The last of a list of runs: one more, or one that takes a text in.
 use Rattle.std.proofs.Common.{◌≡◌, ◌≢◌, ℕ, zero, suc, ◌+◌, Bool, true, false, MatchBool, List, [], ◌∷◌, ◌++◌, length, get_or, set, Option, Some, None, refl, sym, ap, subst, ◌∙◌, arith, length-append, append_assoc}
+use Rattle.std.proofs.lemmas.Bool.{false≢true}
 use Rattle.std.proofs.Math.Seq.{set-append_seam}
 use Rattle.attributes.specs.Attributes.{Attributes}
 use Rattle.delta.specs.Element.{Element}
@@ -95,3 +96,25 @@ units_more rs new r s e is = ap units_of_runs e ∙ (units_of_runs-last rs r ∙
 pub AreRuns-one_more : (rs new : List (List Element)) (r s : List Element) → new ≡ rs ++ r ∷ [] → r ≡ s → AreRuns rs → IsRun s → IsApart (last_attributes rs) (text_attributes s) → AreRuns new
 AreRuns-one_more rs new r s e is merged some apart =
     subst AreRuns (sym (e ∙ ap (λ l. rs ++ l ∷ []) is)) (AreRuns-more rs s merged some apart)
+
+-- a run of text after all runs: taken into the last one, or apart from it
+pub merged_run : (yes : Bool) (old new : List (List Element)) (r more : List Element) (a : Attributes) → more ≡ r → text_attributes r ≡ Some a
+    → IsRun r → AreRuns old → MatchBool yes (TakesText old new more a) ((last_attributes old ≢ Some a) × (new ≡ old))
+    → MatchBool yes ((units_of_runs new ≡ units_of_runs old ++ r) × AreRuns new) (IsApart (last_attributes old) (text_attributes r) × (new ≡ old))
+merged_run true old new r more a is attributes run merged takes = (
+  units-taken old new more a takes ∙ ap (λ l. units_of_runs old ++ l) is,
+  AreRuns-taken old new more a takes (subst IsWellFormed (sym is) run.1) merged,
+)
+merged_run false old new r more a is attributes run merged missed = (
+  subst (IsApart (last_attributes old)) (sym attributes) (apart_from_text (last_attributes old) a missed.0),
+  missed.1,
+)
+
+-- the case that a test tells
+pub on_true : (P Q : Type 0) (b : Bool) → b ≡ true → MatchBool b P Q → P
+on_true P Q true e p = p
+on_true P Q false e q = absurd (false≢true e)
+
+pub on_false : (P Q : Type 0) (b : Bool) → b ≡ false → MatchBool b P Q → Q
+on_false P Q true e p = absurd (false≢true (sym e))
+on_false P Q false e q = q

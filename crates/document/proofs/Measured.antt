@@ -3,11 +3,13 @@ use Rattle.std.proofs.Common.{◌≡◌, ℕ, ◌+◌, ◌*◌, ◌-◌, ◌^◌
 use Rattle.std.proofs.lemmas.List.{map-append}
 use Rattle.utf16.specs.Units.{units_of}
 use Rattle.attributes.specs.Attributes.{Attributes, Changes, changed}
+use Rattle.attributes.specs.Map.{empty}
 use Rattle.attributes.specs.Scalar.{Scalar}
 use Rattle.delta.specs.Element.{Element, letters, embedded}
 use Rattle.delta.specs.Gaps.{counted, apply}
 use Rattle.delta.specs.Operation.{Operation, insert_text, insert_embed, retain, delete, base_of}
 use Rattle.delta.proofs.CallerLemmas.{base_of-append, effect_of_parts, effect_past_end, effect_of_retain, effect_of_delete}
+use Rattle.document.specs.Pairs.{IsWellFormed}
 use Rattle.document.specs.Weight.{weight_of, attributes_weight}
 use Rattle.document.specs.declared.run.Piece.{Piece}
 use Rattle.document.specs.declared.run.Piece.TheVariants as piece
@@ -15,7 +17,8 @@ use Rattle.document.specs.steps.Passes.{IsSteppedOver, with_change}
 use Rattle.document.specs.steps.Pieces.{piece_units, piece_attributes, piece_dressed, IsCounted, IsPiece}
 use Rattle.document.specs.steps.Weighing.{piece_weight, IsKeptWeighed, IsWeighed}
 use Rattle.document.proofs.Letters.{length-letters}
-use Rattle.document.proofs.Passing.{passed_none, passed_more, kept-piece}
+use Rattle.document.proofs.Passing.{passed_none, passed_more, passed_on, passed_run, kept-piece}
+use Rattle.document.proofs.Progress.{kept_same}
 use Rattle.document.proofs.Weighing.{letters_weight, weight_of-append, saturated_sum, saturated_product}
 
 -- a piece
@@ -61,6 +64,25 @@ kept_more old mid new p c m n before attributes weight more kept parts is_piece 
     record {
       passed = passed_more old mid new (piece_units p) m n kept.passed parts is_piece.1 count;
       weighs = omega (arith, sum, kept.weighs, of_piece, both);
+    }
+
+-- a whole run, and units kept after others
+pub kept_run : (old new run : List Element) (c : Changes) (n weight : ℕ) → run ++ new ≡ old → IsWellFormed run → n ≡ length run → c ≡ empty
+    → weight ≡ min (weight_of run) (2 ^ 64 - 1) → IsKeptWeighed old new n c weight
+kept_run old new run c n weight parts formed count none weighs = record {
+  passed = passed_run old new run n parts formed count;
+  weighs = weighs ∙ ap (λ l. min (weight_of l) (2 ^ 64 - 1)) (sym (kept_same run) ∙ ap (λ d. with_change d run) (sym none));
+}
+
+pub kept_on : (old mid new : List Element) (c : Changes) (m k n before weight more : ℕ) → IsKeptWeighed old mid m c before → IsKeptWeighed mid new k c weight
+    → n ≡ m + k → more ≡ min (before + weight) (2 ^ 64 - 1) → IsKeptWeighed old new n c more
+kept_on old mid new c m k n before weight more first second e sum =
+    let both : weight_of (with_change c (first.passed.taken ++ second.passed.taken)) ≡ weight_of (with_change c first.passed.taken) + weight_of (with_change c second.passed.taken) =
+    ap weight_of (map-append (λ (x : Element). record x { attributes = changed x.attributes c }) first.passed.taken second.passed.taken)
+    ∙ weight_of-append (with_change c first.passed.taken) (with_change c second.passed.taken) in
+    record {
+      passed = passed_on old mid new m k n first.passed second.passed e;
+      weighs = omega (arith, sum, first.weighs, second.weighs, both);
     }
 
 -- what one operation makes

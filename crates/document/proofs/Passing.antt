@@ -77,3 +77,52 @@ length-parts mid new piece parts = sym (ap length parts) ∙ length-append piece
 
 pub length-put : (made more : List Element) (p : Piece) (b : Attributes) → more ≡ made ++ piece_dressed p b → length more ≡ length made + length (piece_units p)
 length-put made more p b put = omega (arith, ap length put, length-append made (piece_dressed p b), length-dressed p b)
+
+-- a whole run, and units kept after others
+pub kept_run : (old new out more run : List Element) (c : Changes) (n : ℕ) → run ++ new ≡ old → IsWellFormed run → n ≡ length run
+    → more ≡ out ++ with_change c run → IsKept old new n c out more
+kept_run old new out more run c n parts formed count put = record {
+  passed = record { taken = run; parts = sym parts; count = sym count; formed = formed };
+  made_of = put;
+}
+
+pub kept_on : (old mid new out made more : List Element) (c : Changes) (m k n : ℕ) → IsKept old mid m c out made → IsKept mid new k c made more
+    → n ≡ m + k → IsKept old new n c out more
+kept_on old mid new out made more c m k n first second e = record {
+  passed = passed_more old mid new second.passed.taken m n first.passed (sym second.passed.parts) second.passed.formed (omega (arith, e, second.passed.count));
+  made_of =
+      second.made_of
+      ∙ (ap (λ l. l ++ with_change c second.passed.taken) first.made_of
+      ∙ (append_assoc out (with_change c first.passed.taken) (with_change c second.passed.taken)
+      ∙ ap (λ l. out ++ l) (sym (map-append (λ (x : Element). record x { attributes = changed x.attributes c }) first.passed.taken second.passed.taken))));
+}
+
+pub kept_left : (mid new made more : List Element) (c : Changes) (k : ℕ) → IsKept mid new k c made more → length mid ≡ k + length new
+kept_left mid new made more c k keeps =
+    omega (arith, length-parts mid new keeps.passed.taken (sym keeps.passed.parts), keeps.passed.count)
+
+pub kept_length : (mid new made more : List Element) (c : Changes) (k : ℕ) → IsKept mid new k c made more → length more ≡ length made + k
+kept_length mid new made more c k keeps =
+    let changed_ones = with_change c keeps.passed.taken in
+    let same : length changed_ones ≡ length keeps.passed.taken = length-map _ _ in
+    omega (arith, ap length keeps.made_of, length-append made changed_ones, same, keeps.passed.count)
+
+pub kept_whole : (mid new made more : List Element) (c : Changes) (k m n : ℕ) → IsKept mid new k c made more → ¬ (IsWithinPair mid n) → n ≡ k + m
+    → ¬ (IsWithinPair new m)
+kept_whole mid new made more c k m n keeps whole e =
+    whole_after mid new keeps.passed.taken m n whole (sym keeps.passed.parts) (omega (arith, keeps.passed.count, e))
+
+-- units passed after others
+abbrev pub passed_on : (old mid new : List Element) (m k n : ℕ) → IsSteppedOver old mid m → IsSteppedOver mid new k → n ≡ m + k → IsSteppedOver old new n
+passed_on old mid new m k n first second e =
+    passed_more old mid new second.taken m n first (sym second.parts) second.formed (omega (arith, e, second.count))
+
+pub passed_left : (mid new : List Element) (k : ℕ) → IsSteppedOver mid new k → length mid ≡ k + length new
+passed_left mid new k passed = omega (arith, length-parts mid new passed.taken (sym passed.parts), passed.count)
+
+abbrev pub passed_run : (old new run : List Element) (n : ℕ) → run ++ new ≡ old → IsWellFormed run → n ≡ length run → IsSteppedOver old new n
+passed_run old new run n parts formed count = record { taken = run; parts = sym parts; count = sym count; formed = formed }
+
+pub passed_whole_on : (mid new : List Element) (k m n : ℕ) → IsSteppedOver mid new k → ¬ (IsWithinPair mid n) → n ≡ k + m → ¬ (IsWithinPair new m)
+passed_whole_on mid new k m n passed whole e =
+    whole_after mid new passed.taken m n whole (sym passed.parts) (omega (arith, passed.count, e))

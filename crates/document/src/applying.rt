@@ -7,8 +7,8 @@ ghost use Rattle.document.specs.steps.Passes.{StopsInPair, IsOneApplied};
 ghost use Rattle.document.specs.steps.Runs.{units_of_runs, AreRuns};
 
 use crate::cursor::Cursor;
-use crate::run::Run;
 use crate::runs::{put_embed, put_text};
+use crate::shared::SharedRun;
 use crate::walk::{keep, skip};
 use attributes::Change;
 use delta::{Op, OpRef};
@@ -16,7 +16,7 @@ use refusal::Refusal;
 use std::alloc::Global;
 
 /// Whether an operation ends between the two units of a pair.
-pub fn parts_pair(runs: &[Run], ops: &[Op]) -> bool
+pub fn parts_pair(runs: &[SharedRun], ops: &[Op]) -> bool
     requires runs { AreRuns runs.now }
     requires there { base_of ops.now ≤ length (units_of_runs runs.now) }
     ensures { IsTrue result ↔ StopsInPair (units_of_runs runs.now) ops.now }
@@ -31,7 +31,12 @@ pub fn parts_pair(runs: &[Run], ops: &[Op]) -> bool
 }
 
 /// The runs after the operations, which leave so many code units behind them as they are.
-pub fn applied(alloc: Global, runs: &[Run], ops: &[Op], behind: u64) -> Result<Vec<Run>, Refusal>
+pub fn applied(
+    alloc: Global,
+    runs: &[SharedRun],
+    ops: &[Op],
+    behind: u64,
+) -> Result<Vec<SharedRun>, Refusal>
     requires runs { AreRuns runs.now }
     requires there { length (units_of_runs runs.now) ≡ base_of ops.now + behind }
     requires whole { ¬ (StopsInPair (units_of_runs runs.now) ops.now) }
@@ -52,7 +57,12 @@ pub fn applied(alloc: Global, runs: &[Run], ops: &[Op], behind: u64) -> Result<V
 }
 
 // one operation
-fn step(alloc: Global, cursor: &mut Cursor<'_>, op: &Op, made: &mut Vec<Run>) -> Result<(), Refusal>
+fn step(
+    alloc: Global,
+    cursor: &mut Cursor<'_>,
+    op: &Op,
+    made: &mut Vec<SharedRun>,
+) -> Result<(), Refusal>
     requires there { op_base op.now ≤ length cursor.old }
     requires whole { ¬ (IsWithinPair cursor.old (op_base op.now)) }
     requires bound { length (units_of_runs made.old.items) + op_out op.now < 2 ^ 64 }
@@ -67,6 +77,7 @@ fn step(alloc: Global, cursor: &mut Cursor<'_>, op: &Op, made: &mut Vec<Run>) ->
         }
         OpRef::Embed(key, value, attrs) => {
             put_embed(
+                alloc,
                 made,
                 key.copy(alloc)?,
                 value.copy(alloc)?,

@@ -1,11 +1,12 @@
 //! A walk over the units of runs, piece by piece.
-ghost use Rattle.std.specs.Prelude.{◌≡◌, ◌-◌, ◌^◌, min, ◌≤◌, ◌<◌, ◌++◌, length, IfOk, OnErr, IsOkUnless};
+ghost use Rattle.std.specs.Prelude.{◌≡◌, ◌-◌, ◌^◌, min, ◌≤◌, ◌<◌, ◌++◌, length, IfOk, IfSome, OnErr, None, IsOkUnless};
 ghost use Rattle.document.specs.Pairs.{IsWithinPair};
 ghost use Rattle.document.specs.Weight.{weight_of};
 ghost use Rattle.document.specs.steps.Pieces.{piece_units, begun_units, IsPiece, IsBegun};
-ghost use Rattle.document.specs.steps.Runs.{units_of_runs, AreRuns};
+ghost use Rattle.document.specs.steps.Runs.{units_of_runs, AreRuns, IsRun};
 
-use crate::run::{Piece, Run};
+use crate::run::Piece;
+use crate::shared::SharedRun;
 use crate::weights::runs_weight;
 use std::marker::Model;
 use utf16::{Cut, split_counted};
@@ -14,7 +15,7 @@ use utf16::{Cut, split_counted};
 #[derive(Drop)]
 pub struct Cursor<'a> {
     begun: Option<Piece<'a>>,
-    rest: &'a [Run],
+    rest: &'a [SharedRun],
 }
 
 impl<'a> Model for Cursor<'a> {
@@ -36,7 +37,7 @@ impl<'a> Model for Cursor<'a> {
 
 impl<'a> Cursor<'a> {
     /// The start of the runs.
-    pub fn new(runs: &'a [Run]) -> Self
+    pub fn new(runs: &'a [SharedRun]) -> Self
         requires { AreRuns runs.now }
         ensures { result ≡ units_of_runs runs.now }
     {
@@ -63,6 +64,24 @@ impl<'a> Cursor<'a> {
         Ok(piece)
     }
 
+    /// The next run, and steps over it, where it stands there as a whole and has at most so many code units.
+    pub fn next_run(&mut self, most: u64) -> Option<&'a SharedRun>
+        ensures parts { IfSome result (λ run. run.now ++ self.new ≡ self.old) }
+        ensures run { IfSome result (λ run. IsRun run.now) }
+        ensures most { IfSome result (λ run. length run.now ≤ most) }
+        ensures none { (result ≡ None) → (self.new ≡ self.old) }
+    {
+        if self.begun.is_some() || self.rest.is_empty() {
+            return None;
+        }
+        let run = &self.rest[0];
+        if run.units() > most {
+            return None;
+        }
+        self.rest = &self.rest[1..];
+        Some(run)
+    }
+
     /// The weight of the units from there on, and 2^64 - 1 where that is more.
     pub fn weight(&self) -> u64
         ensures { result ≡ min (weight_of self.now) (2 ^ 64 - 1) }
@@ -76,7 +95,7 @@ impl<'a> Cursor<'a> {
 }
 
 // what is left of the run begun, or the next run, and the runs after it
-fn first<'a>(begun: Option<Piece<'a>>, rest: &'a [Run]) -> (Piece<'a>, &'a [Run])
+fn first<'a>(begun: Option<Piece<'a>>, rest: &'a [SharedRun]) -> (Piece<'a>, &'a [SharedRun])
     requires some { 0 < length (begun_units begun ++ units_of_runs rest.now) }
     requires begun { IsBegun begun }
     requires rest { AreRuns rest.now }

@@ -13,8 +13,9 @@ ghost use Rattle.document.specs.Outcome.{IsAccepted, IsTooLong, IsRefused};
 
 use crate::appending::text_behind;
 use crate::applying::{applied, parts_pair};
-use crate::run::{Piece, Run};
+use crate::run::Piece;
 use crate::runs::put_text;
+use crate::shared::SharedRun;
 use crate::weights::{runs_weight, weighed};
 use delta::{Builder, Delta, MAX_LEN, Op};
 use refusal::Refusal;
@@ -25,7 +26,7 @@ use std::marker::Model;
 /// most 2^48 units.
 #[derive(Drop)]
 pub struct Document {
-    runs: Vec<Run>,
+    runs: Vec<SharedRun>,
 }
 
 impl Model for Document {
@@ -105,7 +106,8 @@ impl Document {
         Ok(weighed(self.runs.as_slice(), delta.ops()))
     }
 
-    /// An equal document.
+    /// An equal document, which shares its runs with this one: no text or attribute is copied. Linear in the runs. Refused as
+    /// NoMemory, which also comes where a run can have no more owners.
     pub fn copy(&self, alloc: Global) -> Result<Self, Refusal>
         ensures same { IfOk result (λ document. document ≡ self.now) }
         ensures only { IsOkUnless result Refusal.NoMemory }
@@ -133,8 +135,9 @@ impl Document {
 
     /// Applies a delta. It is refused as PastEnd where the delta reaches past the end, else as CutsPair where it parts a
     /// surrogate pair, else as BadOps where the document would have more than 2^48 code units, and as NoMemory; the
-    /// document is then as it was. Linear in the runs and the operations, and no text is copied more than once. Where it only
-    /// puts a text behind the whole document, no other text is copied.
+    /// document is then as it was. Linear in the runs, the operations and the texts of the runs that it cuts or changes; no text
+    /// is copied more than once, and none of a run that it leaves whole. Where it only puts a text behind the whole document,
+    /// no other text is copied.
     pub fn apply(&mut self, alloc: Global, delta: &Delta) -> Result<(), Refusal>
         ensures ok { OnOk result (self.new ≡ apply self.old (counted delta.now)) }
         ensures well_formed { OnOk result (IsWellFormed self.new) }

@@ -1,7 +1,8 @@
 //! Documents of rich text: text and embeds with attributes, and deltas applied to them.
 //!
 //! A document is kept as runs, texts and embeds with their attributes, of which no two neighbours are texts of equal
-//! attributes. Every contract sees it as its list of units, UTF-16 code units and embeds, which is always well formed:
+//! attributes. Documents that come of one another share the runs that they have in common, and a run is changed in place
+//! only where one document alone has it. Every contract sees it as its list of units, UTF-16 code units and embeds, which is always well formed:
 //! each high surrogate stands directly before a low one with the same attributes. To the layer above the crate promises
 //! that applying a delta gives exactly the units that the definition gives, that each refusal comes exactly where it
 //! belongs and changes nothing, and the document's length, weight, copy and delta. The definitions stand in specs/
@@ -38,6 +39,7 @@ mod document;
 pub mod laws;
 mod run;
 mod runs;
+mod shared;
 mod walk;
 mod weights;
 

@@ -1,5 +1,5 @@
 //! Runs of a document.
-ghost use Rattle.std.specs.Prelude.{◌≡◌, ◌≢◌, ◌+◌, ◌-◌, ◌*◌, min, ◌<◌, ◌^◌, ◌++◌, [], ◌∷◌, length, IfOk, OnErr, IsOkUnless, MatchBool, Some, string_bytes};
+ghost use Rattle.std.specs.Prelude.{◌≡◌, ◌≢◌, ◌+◌, ◌-◌, ◌*◌, min, ◌<◌, ◌↔◌, ◌^◌, ◌++◌, [], ◌∷◌, length, IfOk, IfSome, OnOk, OnErr, IsOkUnless, IsTrue, Some, None, string_bytes};
 ghost use Rattle.utf16.specs.Units.{units_of};
 ghost use Rattle.delta.specs.Element.{letters, embedded};
 ghost use Rattle.document.specs.steps.Runs.{text_attributes};
@@ -36,7 +36,21 @@ pub enum Piece<'a> {
 }
 
 impl Content {
-    ghost use Rattle.document.specs.steps.Pieces.{content_weight};
+    ghost use Rattle.document.specs.steps.Pieces.{content_weight, IsSameContent};
+
+    // an equal content, whose text has room for so many bytes more
+    fn copy(&self, alloc: Global, more: usize) -> Result<Self, Refusal>
+        ensures same { IfOk result (λ content. IsSameContent content self.now) }
+        ensures only { IsOkUnless result Refusal.NoMemory }
+    {
+        match self {
+            Content::Text(text) => Ok(Content::Text(with_room(alloc, text.as_str(), more)?)),
+            Content::Embed(key, value) => {
+                let key = key.copy(alloc)?;
+                Ok(Content::Embed(key, value.copy(alloc)?))
+            }
+        }
+    }
 
     // the weight of an embed's value; a text has none
     fn weight(&self) -> u64
@@ -133,7 +147,7 @@ impl Run {
         ensures only { IsOkUnless result Refusal.NoMemory }
     {
         Ok(Run {
-            content: Content::Text(with_spare(alloc, text)?),
+            content: Content::Text(with_room(alloc, text, 0)?),
             attrs,
             units,
         })
@@ -177,36 +191,58 @@ impl Run {
         each.saturating_mul(self.units)
     }
 
-    /// Takes a text in at the end where the run is a text with equal attributes, and says whether it is.
-    pub fn merge(&mut self, text: &str, units: u64, attrs: &Attrs) -> Result<bool, Refusal>
+    /// An equal run, whose text has room for so many bytes more.
+    pub fn copy(&self, alloc: Global, more: usize) -> Result<Self, Refusal>
+        ensures same { IfOk result (λ run. run ≡ self.now) }
+        ensures only { IsOkUnless result Refusal.NoMemory }
+    {
+        let content = self.content.copy(alloc, more)?;
+        let attrs = self.attrs.copy(alloc)?;
+        Ok(Run {
+            content,
+            attrs,
+            units: self.units,
+        })
+    }
+
+    /// Whether it is a text with these attributes, which alone takes a text with them in.
+    pub fn takes(&self, attrs: &Attrs) -> bool
+        ensures { IsTrue result ↔ (text_attributes self.now ≡ Some attrs.now) }
+    {
+        match &self.content {
+            Content::Text(_) => self.attrs == *attrs,
+            Content::Embed(_, _) => false,
+        }
+    }
+
+    /// Takes a text in at the end of a text, with its attributes.
+    pub fn append(&mut self, text: &str, units: u64) -> Result<(), Refusal>
         requires counted { units ≡ length (units_of text.now) }
+        requires text { text_attributes self.old ≢ None }
         requires bound { length self.old + units < 2 ^ 64 }
-        ensures ok { IfOk result (λ yes. MatchBool yes
-            ((self.new ≡ self.old ++ letters (units_of text.now) attrs.now) × (text_attributes self.old ≡ Some attrs.now))
-            ((self.new ≡ self.old) × (text_attributes self.old ≢ Some attrs.now))) }
+        ensures ok { OnOk result (IfSome (text_attributes self.old) (λ a. self.new ≡ self.old ++ letters (units_of text.now) a)) }
         ensures err { OnErr result (self.new ≡ self.old) }
         ensures only { IsOkUnless result Refusal.NoMemory }
     {
         match &mut self.content {
             Content::Text(mine) => {
-                let same = self.attrs == *attrs;
-                if same {
-                    append(mine, text)?;
-                    self.units += units;
-                }
-                Ok(same)
+                append(mine, text)?;
+                self.units += units;
+                Ok(())
             }
-            Content::Embed(_, _) => Ok(false),
+            Content::Embed(_, _) => unreachable!(),
         }
     }
 }
 
-// a text with room for a few more bytes, since what is put behind a run is mostly short: so its text isn't moved for it
-fn with_spare(alloc: Global, text: &str) -> Result<String, Refusal>
+// a text with room for so many bytes more, and a few besides, since what is put behind a run is mostly short: so its text
+// isn't moved for it
+fn with_room(alloc: Global, text: &str, more: usize) -> Result<String, Refusal>
     ensures same { IfOk result (λ made. string_bytes made ≡ text.now) }
     ensures only { IsOkUnless result Refusal.NoMemory }
 {
-    let mut made = String::with_capacity(alloc, text.len().saturating_add(SPARE))?;
+    let room = text.len().saturating_add(more).saturating_add(SPARE);
+    let mut made = String::with_capacity(alloc, room)?;
     made.push_str(text)?;
     Ok(made)
 }

@@ -2,9 +2,10 @@
 ghost use Rattle.std.specs.Prelude.{◌≡◌, ◌≢◌, Some, ◌+◌, ◌<◌, ◌^◌, ◌++◌, [], ◌∷◌, length, OnOk, OnErr, IsOkUnless, IfOk, MatchBool};
 ghost use Rattle.utf16.specs.Units.{units_of};
 ghost use Rattle.delta.specs.Element.{letters, embedded};
-ghost use Rattle.document.specs.steps.Runs.{units_of_runs, AreRuns, TakesText, last_attributes};
+ghost use Rattle.document.specs.steps.Runs.{units_of_runs, AreRuns, IsRun, IsApart, TakesText, last_attributes, text_attributes};
 
-use crate::run::Run;
+use crate::run::{Piece, Run};
+use crate::shared::SharedRun;
 use attributes::{Attrs, Key, Value};
 use refusal::Refusal;
 use std::alloc::Global;
@@ -12,7 +13,7 @@ use std::alloc::Global;
 /// Puts a text with so many code units at the end: into the last run where that is a text of equal attributes.
 pub fn put_text(
     alloc: Global,
-    runs: &mut Vec<Run>,
+    runs: &mut Vec<SharedRun>,
     text: &str,
     units: u64,
     attrs: Attrs,
@@ -28,28 +29,79 @@ pub fn put_text(
     if units == 0 {
         return Ok(());
     }
-    if merge_last(runs, text, units, &attrs)? {
+    if merge_last(alloc, runs, text, units, &attrs)? {
         return Ok(());
     }
     let run = Run::text(alloc, text, units, attrs)?;
-    runs.push(run)?;
+    runs.push(SharedRun::new(alloc, run)?)?;
     Ok(())
 }
 
 /// Puts an embed at the end.
-pub fn put_embed(runs: &mut Vec<Run>, key: Key, value: Value, attrs: Attrs) -> Result<(), Refusal>
+pub fn put_embed(
+    alloc: Global,
+    runs: &mut Vec<SharedRun>,
+    key: Key,
+    value: Value,
+    attrs: Attrs,
+) -> Result<(), Refusal>
     requires kept { AreRuns runs.old.items }
     ensures ok { OnOk result (units_of_runs runs.new.items ≡ units_of_runs runs.old.items ++ embedded key value attrs ∷ []) }
     ensures kept { AreRuns runs.new.items }
     ensures err { OnErr result (runs.new.items ≡ runs.old.items) }
     ensures only { IsOkUnless result Refusal.NoMemory }
 {
-    runs.push(Run::embed(key, value, attrs))?;
+    let run = Run::embed(key, value, attrs);
+    runs.push(SharedRun::new(alloc, run)?)?;
     Ok(())
 }
 
+/// Puts a run at the end: its text into the last run where that is a text of equal attributes, and else the run itself, which
+/// takes no memory but its place.
+pub fn put_run(alloc: Global, runs: &mut Vec<SharedRun>, run: &SharedRun) -> Result<(), Refusal>
+    requires run { IsRun run.now }
+    requires bound { length (units_of_runs runs.old.items) + length run.now < 2 ^ 64 }
+    requires kept { AreRuns runs.old.items }
+    ensures ok { OnOk result (units_of_runs runs.new.items ≡ units_of_runs runs.old.items ++ run.now) }
+    ensures kept { AreRuns runs.new.items }
+    ensures err { OnErr result (runs.new.items ≡ runs.old.items) }
+    ensures only { IsOkUnless result Refusal.NoMemory }
+{
+    if merge_run(alloc, runs, run)? {
+        return Ok(());
+    }
+    runs.push(run.share()?)?;
+    Ok(())
+}
+
+// takes a run's text into the last run, where both are texts of equal attributes, and says whether they are
+fn merge_run(alloc: Global, runs: &mut Vec<SharedRun>, run: &SharedRun) -> Result<bool, Refusal>
+    requires run { IsRun run.now }
+    requires bound { length (units_of_runs runs.old.items) + length run.now < 2 ^ 64 }
+    requires kept { AreRuns runs.old.items }
+    ensures ok { IfOk result (λ yes. MatchBool yes
+        ((units_of_runs runs.new.items ≡ units_of_runs runs.old.items ++ run.now) × AreRuns runs.new.items)
+        (IsApart (last_attributes runs.old.items) (text_attributes run.now) × (runs.new.items ≡ runs.old.items))) }
+    ensures err { OnErr result (runs.new.items ≡ runs.old.items) }
+    ensures only { IsOkUnless result Refusal.NoMemory }
+{
+    match run.piece() {
+        Piece::Text(text, units, attrs) => {
+            let merged = merge_last(alloc, runs, text, units, attrs)?;
+            Ok(merged)
+        }
+        Piece::Embed(_, _, _) => Ok(false),
+    }
+}
+
 // takes a text into the last run, where that is a text of equal attributes, and says whether it is
-fn merge_last(runs: &mut Vec<Run>, text: &str, units: u64, attrs: &Attrs) -> Result<bool, Refusal>
+fn merge_last(
+    alloc: Global,
+    runs: &mut Vec<SharedRun>,
+    text: &str,
+    units: u64,
+    attrs: &Attrs,
+) -> Result<bool, Refusal>
     requires counted { units ≡ length (units_of text.now) }
     requires bound { length (units_of_runs runs.old.items) + units < 2 ^ 64 }
     ensures ok { IfOk result (λ yes. MatchBool yes
@@ -62,6 +114,6 @@ fn merge_last(runs: &mut Vec<Run>, text: &str, units: u64, attrs: &Attrs) -> Res
     if len == 0 {
         return Ok(false);
     }
-    let merged = runs[len - 1].merge(text, units, attrs)?;
+    let merged = runs[len - 1].merge(alloc, text, units, attrs)?;
     Ok(merged)
 }

@@ -1,13 +1,14 @@
 //! Steps over units of runs: past them, or out with a change.
 ghost use Rattle.std.specs.Prelude.{◌≡◌, ◌+◌, ◌≤◌, ◌<◌, ◌^◌, ◌++◌, length, IfOk, OnOk, OnErr, IsOkUnless};
 ghost use Rattle.document.specs.Pairs.{IsWithinPair};
-ghost use Rattle.document.specs.steps.Passes.{IsSteppedOver, IsKept};
+ghost use Rattle.document.specs.steps.Passes.{IsSteppedOver, IsKept, with_change};
 ghost use Rattle.document.specs.steps.Pieces.{piece_dressed, IsPiece};
-ghost use Rattle.document.specs.steps.Runs.{units_of_runs, AreRuns};
+ghost use Rattle.document.specs.steps.Runs.{units_of_runs, IsRun, AreRuns};
 
 use crate::cursor::Cursor;
-use crate::run::{Piece, Run};
-use crate::runs::{put_embed, put_text};
+use crate::run::Piece;
+use crate::runs::{put_embed, put_run, put_text};
+use crate::shared::SharedRun;
 use attributes::{Attrs, Change, apply};
 use refusal::Refusal;
 use std::alloc::Global;
@@ -22,10 +23,27 @@ pub fn skip(cursor: &mut Cursor<'_>, len: u64) -> Result<(), Cut>
 {
     let mut left = len;
     while left > 0 {
-        let piece = cursor.next(left)?;
-        left -= piece.units();
+        left -= skip_next(cursor, left)?;
     }
     Ok(())
+}
+
+// steps over the next run, or a piece of one, of at most so many code units, and says how many it has; refused where that would
+// part a pair
+fn skip_next(cursor: &mut Cursor<'_>, most: u64) -> Result<u64, Cut>
+    requires some { 0 < most }
+    requires there { most ≤ length cursor.old }
+    ensures passed { IfOk result (λ len. IsSteppedOver cursor.old cursor.new len) }
+    ensures some { IfOk result (λ len. 0 < len) }
+    ensures most { IfOk result (λ len. len ≤ most) }
+    ensures parted { OnErr result (IsWithinPair cursor.old most) }
+    ensures only { IsOkUnless result Cut.InPair }
+{
+    if let Some(run) = cursor.next_run(most) {
+        return Ok(run.units());
+    }
+    let piece = cursor.next(most)?;
+    Ok(piece.units())
 }
 
 /// Steps over so many code units, and puts them out with a change of their attributes.
@@ -34,7 +52,7 @@ pub fn keep(
     cursor: &mut Cursor<'_>,
     len: u64,
     change: &Change,
-    out: &mut Vec<Run>,
+    out: &mut Vec<SharedRun>,
 ) -> Result<(), Refusal>
     requires there { len ≤ length cursor.old }
     requires whole { ¬ (IsWithinPair cursor.old len) }
@@ -46,19 +64,105 @@ pub fn keep(
 {
     let mut left = len;
     while left > 0 {
-        let piece = match cursor.next(left) {
-            Ok(piece) => piece,
-            Err(_) => unreachable!(),
-        };
-        let attrs = apply(alloc, piece.attrs(), change)?;
-        put(alloc, out, piece, attrs)?;
-        left -= piece.units();
+        left -= keep_next(alloc, cursor, left, change, out)?;
     }
     Ok(())
 }
 
+// steps over the next run, or a piece of one, of at most so many code units, puts it out with a change of its attributes, and
+// says how many it has
+fn keep_next(
+    alloc: Global,
+    cursor: &mut Cursor<'_>,
+    most: u64,
+    change: &Change,
+    out: &mut Vec<SharedRun>,
+) -> Result<u64, Refusal>
+    requires some { 0 < most }
+    requires there { most ≤ length cursor.old }
+    requires whole { ¬ (IsWithinPair cursor.old most) }
+    requires bound { length (units_of_runs out.old.items) + most < 2 ^ 64 }
+    requires runs { AreRuns out.old.items }
+    ensures kept { IfOk result (λ len.
+        IsKept cursor.old cursor.new len change.now (units_of_runs out.old.items) (units_of_runs out.new.items)) }
+    ensures some { IfOk result (λ len. 0 < len) }
+    ensures most { IfOk result (λ len. len ≤ most) }
+    ensures runs { OnOk result (AreRuns out.new.items) }
+    ensures only { IsOkUnless result Refusal.NoMemory }
+{
+    if let Some(run) = cursor.next_run(most) {
+        keep_run(alloc, run, change, out)?;
+        return Ok(run.units());
+    }
+    let len = keep_part(alloc, cursor, most, change, out)?;
+    Ok(len)
+}
+
+// puts a whole run out with a change of its attributes; the run itself where that changes nothing
+fn keep_run(
+    alloc: Global,
+    run: &SharedRun,
+    change: &Change,
+    out: &mut Vec<SharedRun>,
+) -> Result<(), Refusal>
+    requires run { IsRun run.now }
+    requires bound { length (units_of_runs out.old.items) + length run.now < 2 ^ 64 }
+    requires runs { AreRuns out.old.items }
+    ensures units { OnOk result
+        (units_of_runs out.new.items ≡ units_of_runs out.old.items ++ with_change change.now run.now) }
+    ensures runs { OnOk result (AreRuns out.new.items) }
+    ensures only { IsOkUnless result Refusal.NoMemory }
+{
+    if change.is_empty() {
+        put_run(alloc, out, run)?;
+        return Ok(());
+    }
+    let piece = run.piece();
+    let attrs = apply(alloc, piece.attrs(), change)?;
+    if attrs == *piece.attrs() {
+        put_run(alloc, out, run)?;
+        return Ok(());
+    }
+    put(alloc, out, piece, attrs)?;
+    Ok(())
+}
+
+// steps over a piece of at most so many code units, puts it out with a change of its attributes, and says how many it has
+fn keep_part(
+    alloc: Global,
+    cursor: &mut Cursor<'_>,
+    most: u64,
+    change: &Change,
+    out: &mut Vec<SharedRun>,
+) -> Result<u64, Refusal>
+    requires some { 0 < most }
+    requires there { most ≤ length cursor.old }
+    requires whole { ¬ (IsWithinPair cursor.old most) }
+    requires bound { length (units_of_runs out.old.items) + most < 2 ^ 64 }
+    requires runs { AreRuns out.old.items }
+    ensures kept { IfOk result (λ len.
+        IsKept cursor.old cursor.new len change.now (units_of_runs out.old.items) (units_of_runs out.new.items)) }
+    ensures some { IfOk result (λ len. 0 < len) }
+    ensures most { IfOk result (λ len. len ≤ most) }
+    ensures runs { OnOk result (AreRuns out.new.items) }
+    ensures only { IsOkUnless result Refusal.NoMemory }
+{
+    let piece = match cursor.next(most) {
+        Ok(piece) => piece,
+        Err(_) => unreachable!(),
+    };
+    let attrs = apply(alloc, piece.attrs(), change)?;
+    put(alloc, out, piece, attrs)?;
+    Ok(piece.units())
+}
+
 // puts a piece out with other attributes
-fn put(alloc: Global, out: &mut Vec<Run>, piece: Piece<'_>, attrs: Attrs) -> Result<(), Refusal>
+fn put(
+    alloc: Global,
+    out: &mut Vec<SharedRun>,
+    piece: Piece<'_>,
+    attrs: Attrs,
+) -> Result<(), Refusal>
     requires piece { IsPiece piece }
     requires bound { length (units_of_runs out.old.items) + length (piece_dressed piece attrs) < 2 ^ 64 }
     requires runs { AreRuns out.old.items }
@@ -69,7 +173,7 @@ fn put(alloc: Global, out: &mut Vec<Run>, piece: Piece<'_>, attrs: Attrs) -> Res
     match piece {
         Piece::Text(text, units, _) => put_text(alloc, out, text, units, attrs),
         Piece::Embed(key, value, _) => {
-            put_embed(out, key.copy(alloc)?, value.copy(alloc)?, attrs)
+            put_embed(alloc, out, key.copy(alloc)?, value.copy(alloc)?, attrs)
         }
     }
 }

@@ -12,13 +12,14 @@ ghost use Rattle.document.specs.steps.Runs.{units_of_runs, AreRuns};
 ghost use Rattle.document.specs.steps.Weighing.{kept_weight, set_weight, IsKeptWeighed, IsWeighed};
 
 use crate::cursor::Cursor;
-use crate::run::{Piece, Run, named_weight};
+use crate::run::{Piece, named_weight};
+use crate::shared::SharedRun;
 use crate::walk::skip;
 use attributes::{Attrs, Change, Key, Value};
 use delta::{Op, OpRef};
 
 /// The weight of the runs after the operations.
-pub fn weighed(runs: &[Run], ops: &[Op]) -> u64
+pub fn weighed(runs: &[SharedRun], ops: &[Op]) -> u64
     requires runs { AreRuns runs.now }
     requires there { base_of ops.now ≤ length (units_of_runs runs.now) }
     requires whole { ¬ (StopsInPair (units_of_runs runs.now) ops.now) }
@@ -33,7 +34,7 @@ pub fn weighed(runs: &[Run], ops: &[Op]) -> u64
 }
 
 /// The weight of runs.
-pub fn runs_weight(runs: &[Run]) -> u64
+pub fn runs_weight(runs: &[SharedRun]) -> u64
     ensures { result ≡ min (weight_of (units_of_runs runs.now)) (2 ^ 64 - 1) }
 {
     let mut weight: u64 = 0;
@@ -80,15 +81,50 @@ fn kept_units_weight(cursor: &mut Cursor<'_>, len: u64, change: &Change) -> u64
     let mut weight: u64 = 0;
     let mut left = len;
     while left > 0 {
-        let piece = match cursor.next(left) {
-            Ok(piece) => piece,
-            Err(_) => unreachable!(),
-        };
-        let attributes = changed_weight(piece.attrs(), change);
-        weight = weight.saturating_add(piece.weight_with(attributes));
-        left -= piece.units();
+        let (units, more) = kept_next_weight(cursor, left, change);
+        weight = weight.saturating_add(more);
+        left -= units;
     }
     weight
+}
+
+// steps over the next run, or a piece of one, of at most so many code units: how many it has, and its weight with a change of its
+// attributes
+fn kept_next_weight(cursor: &mut Cursor<'_>, most: u64, change: &Change) -> (u64, u64)
+    requires some { 0 < most }
+    requires there { most ≤ length cursor.old }
+    requires whole { ¬ (IsWithinPair cursor.old most) }
+    ensures kept { IsKeptWeighed cursor.old cursor.new result.0 change.now result.1 }
+    ensures some { 0 < result.0 }
+    ensures most { result.0 ≤ most }
+{
+    if !change.is_empty() {
+        let (units, weight) = kept_piece_weight(cursor, most, change);
+        return (units, weight);
+    }
+    // no run that stays whole is looked into
+    if let Some(run) = cursor.next_run(most) {
+        return (run.units(), run.weight());
+    }
+    let (units, weight) = kept_piece_weight(cursor, most, change);
+    (units, weight)
+}
+
+// the same of a piece
+fn kept_piece_weight(cursor: &mut Cursor<'_>, most: u64, change: &Change) -> (u64, u64)
+    requires some { 0 < most }
+    requires there { most ≤ length cursor.old }
+    requires whole { ¬ (IsWithinPair cursor.old most) }
+    ensures kept { IsKeptWeighed cursor.old cursor.new result.0 change.now result.1 }
+    ensures some { 0 < result.0 }
+    ensures most { result.0 ≤ most }
+{
+    let piece = match cursor.next(most) {
+        Ok(piece) => piece,
+        Err(_) => unreachable!(),
+    };
+    let attributes = changed_weight(piece.attrs(), change);
+    (piece.units(), piece.weight_with(attributes))
 }
 
 // the weight of attributes after a change

@@ -65,7 +65,7 @@ impl<D: Disk> Store<D> {
     ghost use Rattle.recovery.specs.Found.{Found, FoundAs};
     ghost use Rattle.revision.specs.Agree.{Agree};
     ghost use Rattle.revision.specs.State.{fold, all_grow};
-    ghost use Rattle.recovery.specs.Open.{FitsSlot, IsOpen, IsUnchanged, IsWithOrWithout, device_of, ring_of, state_of, has_failed, has_room, kept_jobs, fits_newest_segment};
+    ghost use Rattle.recovery.specs.Open.{FitsSlot, IsOpen, IsUnchanged, IsWithOrWithout, device_of, ring_of, state_of, has_failed, has_room, kept_jobs, known_cells, fits_newest_segment};
 
     /// Opens a formatted device, by the newer or the older cell of each document: syncs it, then reads, and writes nothing.
     /// `NotFormatted` comes just where the superblock's gate is closed or the device has less than 64 bytes, `Damaged` just
@@ -184,6 +184,7 @@ impl<D: Disk> Store<D> {
         ensures state { OnOk result (state_of self.new ≡ fold (state_of self.old) batch.now) }
         ensures same_state { OnErr result (state_of self.new ≡ state_of self.old) }
         ensures jobs { kept_jobs self.new ≡ kept_jobs self.old }
+        ensures cells { known_cells self.new ≡ known_cells self.old }
         ensures fails { has_failed self.old ≡ false → (has_failed self.new ≡ true ↔ IsErrOf result Refusal.Fault) }
         ensures works { OnOk result (has_failed self.new ≡ false) }
         ensures untouched { (IsErrOf result Refusal.JournalFull) ⊎ (IsErrOf result Refusal.Stranger) → IsUnchanged self.old self.new }

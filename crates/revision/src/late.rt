@@ -5,26 +5,21 @@ ghost use Rattle.revision.specs.Late.{late as late_edit, past_one as past_one_ed
 use delta::Delta;
 use refusal::Refusal;
 use std::alloc::Global;
-use xform::transform;
+use xform::move_past;
 
 /// An edit past the deltas that were taken since its base, in turn from the oldest, each with priority. With room for it,
 /// which a command's delta has past all deltas that a document holds (`laws::late_room`), it is refused for want of memory
-/// alone. Where nothing was taken since, it is a copy; else each delta passed makes a new one, and the edit isn't copied.
+/// alone. The edit is copied once.
 pub(crate) fn late(alloc: Global, edit: &Delta, since: &[Delta]) -> Result<Delta, Refusal>
     requires { HasRoom edit.now since.now }
     ensures late { IfOk result (λ made. made ≡ late_edit edit.now since.now) }
     ensures only { IsOkUnless result Refusal.NoMemory }
 {
-    match since.split_first() {
-        None => edit.copy(alloc),
-        Some((oldest, others)) => {
-            let made = past_one(alloc, oldest, edit)?;
-            past_all(alloc, made, others)
-        }
-    }
+    past_all(alloc, edit.copy(alloc)?, since)
 }
 
-/// The same of an edit that is given away: it is what comes back where nothing was taken since.
+/// The same of an edit that is given away: it is what comes back where nothing was taken since. Only a delta that reaches
+/// to where the edit changes something makes a new one; past all others the edit is moved in place, in constant time each.
 pub(crate) fn past_all(alloc: Global, edit: Delta, since: &[Delta]) -> Result<Delta, Refusal>
     requires { HasRoom edit since.now }
     ensures late { IfOk result (λ made. made ≡ late_edit edit since.now) }
@@ -32,18 +27,18 @@ pub(crate) fn past_all(alloc: Global, edit: Delta, since: &[Delta]) -> Result<De
 {
     let mut made = edit;
     for taken in since {
-        made = past_one(alloc, taken, &made)?;
+        made = past_one(alloc, taken, made)?;
     }
     Ok(made)
 }
 
 // an edit past one delta, which has priority
-fn past_one(alloc: Global, taken: &Delta, edit: &Delta) -> Result<Delta, Refusal>
-    requires { HasRoom edit.now (taken.now ∷ []) }
-    ensures late { IfOk result (λ made. made ≡ past_one_edit taken.now edit.now) }
+fn past_one(alloc: Global, taken: &Delta, edit: Delta) -> Result<Delta, Refusal>
+    requires { HasRoom edit (taken.now ∷ []) }
+    ensures late { IfOk result (λ made. made ≡ past_one_edit taken.now edit) }
     ensures only { IsOkUnless result Refusal.NoMemory }
 {
-    match transform(alloc, taken, edit, true) {
+    match move_past(alloc, taken, edit) {
         Ok(past) => Ok(past),
         Err(refusal) => Err(refusal),
     }

@@ -6,23 +6,24 @@ ghost use Rattle.revision.specs.Name.{is_name_byte, is_name, is_document_name, i
 use refusal::Refusal;
 use std::alloc::Global;
 use std::marker::Model;
+use std::sync::ArcStr;
 
-/// A name of 1 to 64 characters of `A-Z a-z 0-9 . _ -`, seen as its bytes.
+/// A name of 1 to 64 characters of `A-Z a-z 0-9 . _ -`, seen as its bytes. Its copies share one text.
 #[derive(Debug, Drop)]
 pub struct Name {
-    text: String,
+    text: ArcStr,
 }
 
 impl Model for Name {
     ghost use Rattle.std.specs.Prelude.{◌≡◌, List, ℕ, true};
-    ghost use Rattle.std.specs.String.{string_bytes};
+    ghost use Rattle.std.specs.Arc.{arc_str_bytes};
     ghost use Rattle.revision.specs.Name.{is_document_name};
 
     ghost Value = { List ℕ };
 
-    ghost view = { λ n. string_bytes n.text };
+    ghost view = { λ n. arc_str_bytes n.text };
 
-    ghost invariant = { λ n. is_document_name (string_bytes n.text) ≡ true };
+    ghost invariant = { λ n. is_document_name (arc_str_bytes n.text) ≡ true };
 }
 
 impl Name {
@@ -36,7 +37,7 @@ impl Name {
             return Err(Refusal::BadName);
         }
         Ok(Name {
-            text: String::from_str(alloc, text)?,
+            text: ArcStr::from_str(alloc, text)?,
         })
     }
 
@@ -69,13 +70,13 @@ impl Name {
         self.text.len() as u64
     }
 
-    /// An equal name, or `NoMemory`.
-    pub fn copy(&self, alloc: Global) -> Result<Name, Refusal>
+    /// An equal name, which shares its text, or `NoMemory`. It asks for no memory, and is refused only where no more copies can be counted.
+    pub fn copy(&self, _alloc: Global) -> Result<Name, Refusal>
         ensures ok { IfOk result (λ name. name ≡ self.now) }
         ensures only { IfErr result (λ e. e ≡ Refusal.NoMemory) }
     {
         Ok(Name {
-            text: String::from_str(alloc, self.text.as_str())?,
+            text: self.text.clone()?,
         })
     }
 }

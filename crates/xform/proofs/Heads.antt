@@ -80,10 +80,10 @@ after-kept (suc k) c e g h priority =
     ∙ ap (Gap [] (fate_after c e priority)) (after-kept k c e g h priority)
 
 -- after nothing
-front-End : (ys : List Element) → front ys (End []) ≡ End ys
+pub front-End : (ys : List Element) → front ys (End []) ≡ End ys
 front-End ys = ap End (append-nil ys)
 
-front-Gap : (ys : List Element) (f : Fate) (g : Gaps) → front ys (Gap [] f g) ≡ Gap ys f g
+pub front-Gap : (ys : List Element) (f : Fate) (g : Gaps) → front ys (Gap [] f g) ≡ Gap ys f g
 front-Gap ys f g = ap (λ l. Gap l f g) (append-nil ys)
 
 pub after-nothing : (h : Gaps) (priority : Bool) → after (End []) h priority ≡ h

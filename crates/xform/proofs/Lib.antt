@@ -3,6 +3,7 @@ pub mod AtEachPlace
 pub mod Between
 pub mod Places
 pub mod Heads
+pub mod Apart
 pub mod Steps
 pub mod Partly
 pub mod CallerLemmas

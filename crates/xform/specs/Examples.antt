@@ -4,6 +4,7 @@ use Rattle.attributes.specs.Map.{empty, insert, retain as retained}
 use Rattle.attributes.specs.Attributes.{Changes, changed_by}
 use Rattle.attributes.specs.Scalar.{text_scalar, flag_scalar}
 use Rattle.delta.specs.Element.{Element, letters}
+use Rattle.delta.specs.Lead.{with_lead}
 use Rattle.delta.specs.Operation.{Operation, insert_text, retain, delete}
 use Rattle.delta.specs.Gaps.{counted, apply}
 use Rattle.delta.specs.Normal.{nf}
@@ -89,3 +90,33 @@ color_kept = refl
 uncolored : nf (after (counted (retain 1 (insert empty (codes "color") None) ∷ [])) (counted (retain 1 dyed ∷ [])) true) ≡ []
 unfolding insert retained
 uncolored = refl
+
+-- what ends before the first begins stays: ret 4, ins "x" and ret 2, del 2 after ret 5, ins "a", del 1
+abbrev behind : List Operation
+behind = ret 5 ∷ ins (codes "a") ∷ delete 1 ∷ []
+
+insert_stays : nf (after (counted behind) (counted (ret 4 ∷ ins (codes "x") ∷ [])) true) ≡ ret 4 ∷ ins (codes "x") ∷ []
+unfolding retained
+insert_stays = refl
+
+delete_stays : nf (after (counted behind) (counted (ret 2 ∷ delete 2 ∷ [])) true) ≡ ret 2 ∷ delete 2 ∷ []
+unfolding retained
+delete_stays = refl
+
+-- and not where it ends just there: ret 5, ins "x" goes behind "a"
+insert_at_border : nf (after (counted behind) (counted (ret 5 ∷ ins (codes "x") ∷ [])) true) ≡ ret 6 ∷ ins (codes "x") ∷ []
+unfolding retained
+insert_at_border = refl
+
+-- what begins behind the first is moved by as much as the first lengthens the document: del 3 and ins "a", del 2 move
+-- ret 3, ins "x" and ret 4, del 1
+moved_back : nf (after (counted cutting) (counted (ret 4 ∷ delete 1 ∷ [])) true) ≡ with_lead 1 (ret 4 ∷ delete 1 ∷ [])
+moved_back = refl
+
+moved_on : nf (after (counted (ins (codes "abc") ∷ delete 2 ∷ [])) (counted (ret 2 ∷ ins (codes "x") ∷ [])) true)
+    ≡ with_lead 3 (ret 2 ∷ ins (codes "x") ∷ [])
+moved_on = refl
+
+-- and where nothing is left before it, it begins the document
+moved_to_start : nf (after (counted cutting) (counted (ret 3 ∷ ins (codes "x") ∷ [])) true) ≡ ins (codes "x") ∷ []
+moved_to_start = refl

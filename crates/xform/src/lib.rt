@@ -41,9 +41,11 @@
 #![tactic(auto)]
 
 pub mod laws;
+mod moving;
 mod position;
 mod stepping;
 mod transforming;
 
+pub use moving::move_past;
 pub use position::transform_position;
 pub use transforming::transform;

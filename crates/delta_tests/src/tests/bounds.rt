@@ -6,13 +6,13 @@ use delta::{Builder, Delta, MAX_LEN, Op};
 use refusal::Refusal;
 use std::alloc::Global;
 use std::process::Abort;
-use xform::transform;
+use xform::{move_past, transform};
 
 /// How many units are retained, whether in bold, the text that is inserted behind them, and how many units are deleted.
-type Edit = (u64, bool, &'static str, u64);
+pub(super) type Edit = (u64, bool, &'static str, u64);
 
 /// Two deltas, and what comes of them.
-type Row = (Edit, Edit, &'static str);
+pub(super) type Row = (Edit, Edit, &'static str);
 
 fn bold(alloc: Global) -> Result<Change, Refusal> {
     let mut change = Change::new(alloc);
@@ -99,11 +99,14 @@ const COMPOSED: [Row; 3] = [
     ),
 ];
 
-fn transforms(rt: &impl Abort, alloc: Global, row: &Row) {
+// both from a borrowed delta and from one that is given away
+pub(super) fn transforms(rt: &impl Abort, alloc: Global, row: &Row) {
     let first = delta_of(alloc, &row.0).expect(rt, "first");
     let second = delta_of(alloc, &row.1).expect(rt, "second");
     let after = transform(alloc, &first, &second, true);
     assert_eq!(rt; told(alloc, after).expect(rt, "told").as_str(), row.2);
+    let moved = move_past(alloc, &first, second);
+    assert_eq!(rt; told(alloc, moved).expect(rt, "told").as_str(), row.2);
 }
 
 fn composes(rt: &impl Abort, alloc: Global, row: &Row) {

@@ -15,6 +15,10 @@ abbrev pub content_units : Content → Attributes → List Element
 content_units (content.Text text) a = letters (units_of (string_bytes text)) a
 content_units (content.Embed key value) a = embedded key value a ∷ []
 
+-- the same text or embed, whatever its attributes
+abbrev pub IsSameContent : Content → Content → Type 0
+IsSameContent c d = (a : Attributes) → content_units c a ≡ content_units d a
+
 -- a piece, with its attributes
 abbrev pub piece_units : Piece → List Element
 piece_units (piece.Text text units a) = letters (units_of text.now) a.now

@@ -1,22 +1,12 @@
-use Rattle.std.proofs.Common.{◌≡◌, ◌<◌, Bool, true, false, MatchBool, length, refl, sym, subst, arith}
-use Rattle.std.proofs.lemmas.Bool.{false≢true}
+use Rattle.std.proofs.Common.{◌<◌, length, refl, sym, subst, arith, ◌∙◌}
 use Rattle.utf16.specs.Units.{units_of}
 use Rattle.delta.specs.Element.{letters}
 use Rattle.document.specs.steps.Runs.{last_attributes, IsApart}
 use Rattle.document.proofs.Letters.{length-letters, text_attributes-letters}
 use Rattle.document.proofs.Characters.{IsWellFormed-text}
-use Rattle.document.proofs.Ended.{units_more, AreRuns-one_more, apart_from_text, units-taken, AreRuns-taken}
+use Rattle.document.proofs.Ended.{units_more, AreRuns-one_more, apart_from_text, units-taken, AreRuns-taken, on_true, on_false}
 use Rattle.document.proofs.runs.put_text.Goals as goal
 use Rattle.document.proofs.runs.put_text.Goals.{In_ok-push}
-
--- the case that a test tells
-on_true : (P Q : Type 0) (b : Bool) → b ≡ true → MatchBool b P Q → P
-on_true P Q true e p = p
-on_true P Q false e q = absurd (false≢true e)
-
-on_false : (P Q : Type 0) (b : Bool) → b ≡ false → MatchBool b P Q → Q
-on_false P Q true e p = absurd (false≢true (sym e))
-on_false P Q false e q = q
 
 pub returns-then-branch-clause-ok : goal.returns-then-branch-clause-ok
 returns-then-branch-clause-ok c =
@@ -29,13 +19,13 @@ returns-then-branch-clause-kept c =
 pub returns-clause-ok : goal.returns-clause-ok
 returns-clause-ok c =
     let missed = on_false _ _ _ c.if-branch.false c.in_ok-merge_last.ensures.ok in
-    units_more c.args.runs.now.items _ _ _ (rw missed.1 at c.in_ok-push.ensures.items) c.in_ok-run.ensures.run
+    units_more c.args.runs.now.items _ _ _ (rw missed.1 at c.in_ok-push.ensures.items) (c.in_ok-new.ensures.run ∙ c.in_ok-run.ensures.run)
 
 pub returns-clause-kept : goal.returns-clause-kept
 returns-clause-kept c =
     let missed = on_false _ _ _ c.if-branch.false c.in_ok-merge_last.ensures.ok in
     let us = units_of c.args.text.now in
     let some : 0 < length (letters us c.args.attrs) = omega (arith, length-letters us c.args.attrs, c.if-units-eq0.false, c.requires.counted) in
-    AreRuns-one_more c.args.runs.now.items _ _ _ (rw missed.1 at c.in_ok-push.ensures.items) c.in_ok-run.ensures.run c.requires.kept (some, IsWellFormed-text c.args.text.now c.args.attrs c.utf8.text)
+    AreRuns-one_more c.args.runs.now.items _ _ _ (rw missed.1 at c.in_ok-push.ensures.items) (c.in_ok-new.ensures.run ∙ c.in_ok-run.ensures.run) c.requires.kept (some, IsWellFormed-text c.args.text.now c.args.attrs c.utf8.text)
     (subst (IsApart (last_attributes c.args.runs.now.items)) (sym (text_attributes-letters us c.args.attrs _ refl some))
     (apart_from_text (last_attributes c.args.runs.now.items) c.args.attrs missed.0))

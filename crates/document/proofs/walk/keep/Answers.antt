@@ -1,9 +1,7 @@
-use Rattle.std.proofs.Common.{◌-◌, ◌∙◌, arith, ap, subst}
-use Rattle.attributes.specs.Attributes.{changed}
+use Rattle.std.proofs.Common.{◌-◌, arith, subst}
 use Rattle.document.specs.steps.Passes.{IsKept}
-use Rattle.document.specs.steps.Pieces.{piece_units}
 use Rattle.document.specs.steps.Runs.{units_of_runs}
-use Rattle.document.proofs.Passing.{kept_none, kept_more, whole_after, length-parts, length-put}
+use Rattle.document.proofs.Passing.{kept_none, kept_on, kept_left, kept_length, kept_whole}
 use Rattle.document.proofs.walk.keep.Goals as goal
 
 pub loop-left-init : goal.loop-left-init
@@ -18,19 +16,17 @@ loop-left-init c = record {
 
 pub loop-left-preserved : goal.loop-left-preserved
 loop-left-preserved c =
-    let ahead = length-parts c.loop-left.cursor c.next.new.self (piece_units c.in-Ok.piece) c.in-Ok.ensures.parts in
-    let longer = length-put (units_of_runs c.loop-left.out.items) (units_of_runs c.put.new.out.items) c.in-Ok.piece c.in_ok-attrs.attrs c.in_ok-put.ensures.units in
+    let step = c.in_ok-left.ensures.kept in
+    let stepped = c.in_ok-left.field-0 in
     record {
       kept =
-          kept_more c.args.cursor.now c.loop-left.cursor c.next.new.self (units_of_runs c.args.out.now.items) (units_of_runs c.loop-left.out.items) (units_of_runs c.put.new.out.items) c.in-Ok.piece c.in_ok-attrs.attrs c.args.change.now
-          (c.args.len - c.loop-left.left) (c.args.len - (c.loop-left.left - c.units-left.result)) c.loop-left.invariant.kept c.in-Ok.ensures.parts c.in-Ok.ensures.piece.1
-          (omega (arith, c.units-left.ensures.units, c.in-Ok.ensures.most, c.loop-left.invariant.less))
-          (c.in_ok-attrs.ensures.value ∙ ap (λ a. changed a c.args.change.now) c.attrs.ensures) c.in_ok-put.ensures.units;
+          kept_on _ _ _ _ _ _ _ (c.args.len - c.loop-left.left) stepped _ c.loop-left.invariant.kept step
+          (omega (arith, c.in_ok-left.ensures.most, c.loop-left.invariant.less));
       less = omega (arith, c.loop-left.invariant.less);
-      there = omega (arith, ahead, c.units-left.ensures.units, c.loop-left.invariant.there);
-      whole = whole_after c.loop-left.cursor c.next.new.self (piece_units c.in-Ok.piece) (c.loop-left.left - c.units-left.result) c.loop-left.left c.loop-left.invariant.whole c.in-Ok.ensures.parts (omega (arith, c.units-left.ensures.units, c.in-Ok.ensures.most));
-      bound = omega (arith, longer, c.units-left.ensures.units, c.in-Ok.ensures.most, c.loop-left.invariant.bound);
-      runs = c.in_ok-put.ensures.runs;
+      there = omega (arith, kept_left _ _ _ _ _ _ step, c.loop-left.invariant.there, c.in_ok-left.ensures.most);
+      whole = kept_whole _ _ _ _ _ stepped _ _ step c.loop-left.invariant.whole (omega (arith, c.in_ok-left.ensures.most));
+      bound = omega (arith, kept_length _ _ _ _ _ _ step, c.in_ok-left.ensures.most, c.loop-left.invariant.bound);
+      runs = c.in_ok-left.ensures.runs;
     }
 
 pub returns-clause-kept : goal.returns-clause-kept

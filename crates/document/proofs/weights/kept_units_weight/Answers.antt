@@ -1,10 +1,7 @@
-use Rattle.std.proofs.Common.{◌-◌, ◌^◌, ◌∙◌, min, arith, ap, subst}
-use Rattle.attributes.specs.Attributes.{changed}
-use Rattle.document.specs.Weight.{attributes_weight}
-use Rattle.document.specs.steps.Pieces.{piece_units}
+use Rattle.std.proofs.Common.{◌-◌, arith, subst}
 use Rattle.document.specs.steps.Weighing.{IsKeptWeighed}
-use Rattle.document.proofs.Measured.{kept_none, kept_more}
-use Rattle.document.proofs.Passing.{whole_after, length-parts}
+use Rattle.document.proofs.Measured.{kept_none, kept_on}
+use Rattle.document.proofs.Passing.{passed_left, passed_whole_on}
 use Rattle.document.proofs.weights.kept_units_weight.Goals as goal
 
 pub loop-left-init : goal.loop-left-init
@@ -17,18 +14,16 @@ loop-left-init c = record {
 
 pub loop-left-preserved : goal.loop-left-preserved
 loop-left-preserved c =
-    let ahead = length-parts c.loop-left.cursor c.next.new.self (piece_units c.in-Ok.piece) c.in-Ok.ensures.parts in
+    let step = c.kept_next_weight-units.ensures.kept in
+    let most = c.kept_next_weight-units.ensures.most in
+    let stepped = c.kept_next_weight-units.result.0 in
     record {
       kept =
-          kept_more c.args.cursor.now c.loop-left.cursor c.next.new.self c.in-Ok.piece c.args.change.now
-          (c.args.len - c.loop-left.left) (c.args.len - (c.loop-left.left - c.units-left.result)) c.loop-left.weight c.changed_weight-attributes.result c.weight_with.result c.saturating_add-weight.result
-          c.loop-left.invariant.kept c.in-Ok.ensures.parts c.in-Ok.ensures.piece
-          (omega (arith, c.units-left.ensures.units, c.in-Ok.ensures.most, c.loop-left.invariant.less))
-          (c.changed_weight-attributes.ensures ∙ ap (λ a. min (attributes_weight (changed a c.args.change.now)) (2 ^ 64 - 1)) c.attrs.ensures)
-          c.weight_with.ensures c.saturating_add-weight.ensures;
+          kept_on _ _ _ _ (c.args.len - c.loop-left.left) stepped _ c.loop-left.weight _ _ c.loop-left.invariant.kept step
+          (omega (arith, most, c.loop-left.invariant.less)) c.saturating_add-weight.ensures;
       less = omega (arith, c.loop-left.invariant.less);
-      there = omega (arith, ahead, c.units-left.ensures.units, c.loop-left.invariant.there);
-      whole = whole_after c.loop-left.cursor c.next.new.self (piece_units c.in-Ok.piece) (c.loop-left.left - c.units-left.result) c.loop-left.left c.loop-left.invariant.whole c.in-Ok.ensures.parts (omega (arith, c.units-left.ensures.units, c.in-Ok.ensures.most));
+      there = omega (arith, passed_left _ _ _ step.passed, most, c.loop-left.invariant.there);
+      whole = passed_whole_on _ _ stepped _ _ step.passed c.loop-left.invariant.whole (omega (arith, most));
     }
 
 pub returns : goal.returns

@@ -1,0 +1,18 @@
+use Rattle.document.proofs.Ended.{units_more, AreRuns-one_more, on_true, on_false}
+use Rattle.document.proofs.runs.put_run.Goals as goal
+
+pub returns-then-branch-clause-ok : goal.returns-then-branch-clause-ok
+returns-then-branch-clause-ok c = (on_true _ _ _ c.if-branch.true c.in_ok-merge_run.ensures.ok).0
+
+pub returns-then-branch-clause-kept : goal.returns-then-branch-clause-kept
+returns-then-branch-clause-kept c = (on_true _ _ _ c.if-branch.true c.in_ok-merge_run.ensures.ok).1
+
+pub returns-clause-ok : goal.returns-clause-ok
+returns-clause-ok c =
+    let missed = on_false _ _ _ c.if-branch.false c.in_ok-merge_run.ensures.ok in
+    units_more c.args.runs.now.items _ _ _ (rw missed.1 at c.in_ok-push.ensures.items) c.in_ok-share.ensures.same
+
+pub returns-clause-kept : goal.returns-clause-kept
+returns-clause-kept c =
+    let missed = on_false _ _ _ c.if-branch.false c.in_ok-merge_run.ensures.ok in
+    AreRuns-one_more c.args.runs.now.items _ _ _ (rw missed.1 at c.in_ok-push.ensures.items) c.in_ok-share.ensures.same c.requires.kept c.requires.run missed.0
