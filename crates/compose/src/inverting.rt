@@ -17,7 +17,8 @@ use std::alloc::Global;
 /// document would have more than 2^48 units after the delta is refused by `Document::apply` alone.) Linear in the runs of the document and the operations; the document's text is copied once.
 pub fn invert(alloc: Global, delta: &Delta, document: &Document) -> Result<Delta, Refusal>
     ensures one { IfOk result (λ back. back ≡ nf (inverse (counted delta.now) document.now)) }
-    ensures undoes { IfOk result (λ back. apply (apply document.now (counted delta.now)) (counted back) ≡ document.now) }
+    ensures undoes { IfOk result (λ back. apply (apply document.now (counted delta.now)) (counted back)
+        ≡ document.now) }
     ensures past_end { (result ≡ Err Refusal.PastEnd) ↔ ¬ (IsDefined document.now (counted delta.now)) }
     ensures accepted { OnOk result (CanInvert document.now (counted delta.now)) }
     ensures only { IfErr result (IsInvertRefused document.now (counted delta.now)) }

@@ -21,8 +21,11 @@ pub fn lay<'b>(
 ) -> Result<Cursor<'b>, Refusal>
     requires first { NoneIsEmpty (operations_left first) }
     requires second { IsNormal (operations_left second) }
-    ensures on { IfOk result (λ rest. ComposesFurther out.old (operations_left first.entry) (operations_left second.entry) out.new [] (operations_left rest)) }
-    ensures refused { IfErr result (IsRefusedPartway out.old (operations_left first.entry) (operations_left second.entry)) }
+    ensures on { IfOk result
+        (λ rest. ComposesFurther out.old (operations_left first.entry) (operations_left second.entry) out.new []
+        (operations_left rest)) }
+    ensures refused { IfErr result
+        (IsRefusedPartway out.old (operations_left first.entry) (operations_left second.entry)) }
 {
     while let Some((op, tail)) = first.split_first() {
         let step = next_step(alloc, op, tail, second)?;
@@ -43,7 +46,8 @@ pub fn lay_over<'b>(
 ) -> Result<Cursor<'b>, Refusal>
     requires first { 0 < op_len op }
     requires second { IsNormal (operations_left second) }
-    ensures on { IfOk result (λ rest. ComposesFurther out.old (op ∷ []) (operations_left second.entry) out.new [] (operations_left rest)) }
+    ensures on { IfOk result
+        (λ rest. ComposesFurther out.old (op ∷ []) (operations_left second.entry) out.new [] (operations_left rest)) }
     ensures refused { IfErr result (IsRefusedPartway out.old (op ∷ []) (operations_left second.entry)) }
 {
     if op.is_delete() {
@@ -76,7 +80,8 @@ fn pass_inserts<'b>(
     out: &mut Builder,
 ) -> Result<Cursor<'b>, Refusal>
     requires second { IsNormal (operations_left second) }
-    ensures on { IfOk result (λ rest. ComposesFurther out.old [] (operations_left second.entry) out.new [] (operations_left rest)) }
+    ensures on { IfOk result
+        (λ rest. ComposesFurther out.old [] (operations_left second.entry) out.new [] (operations_left rest)) }
     ensures second { IfOk result (λ rest. IsNormal (operations_left rest)) }
     ensures refused { IfErr result (IsRefusedPartway out.old [] (operations_left second.entry)) }
 {

@@ -42,7 +42,8 @@ pub fn next_step<'a, 'b>(
     requires first { NoneIsEmpty (operation_of_part op ∷ tail.now) }
     requires second { IsNormal (operations_left second) }
     ensures step { IfOk result (IsStepOf (operation_of_part op.entry ∷ tail.entry.now) (operations_left second.entry)) }
-    ensures cut { result ≡ Err Refusal.CutsPair → CutsBefore (operation_of_part op.entry ∷ tail.entry.now) (operations_left second.entry) }
+    ensures cut { result ≡ Err Refusal.CutsPair
+        → CutsBefore (operation_of_part op.entry ∷ tail.entry.now) (operations_left second.entry) }
     ensures only { IfErr result (λ e. (e ≡ Refusal.CutsPair) ⊎ (e ≡ Refusal.NoMemory)) }
 {
     match second.split_first() {
@@ -90,7 +91,8 @@ fn pass_second<'a, 'b>(
     requires first { NoneIsEmpty (operation_of_part op ∷ tail.now) }
     requires second { IsNormal (operation_of_part next ∷ rest.now) }
     requires inserts { is_insert (operation_of_part next) ≡ true }
-    ensures step { IfOk result (IsStepOf (operation_of_part op.entry ∷ tail.entry.now) (operation_of_part next.entry ∷ rest.entry.now)) }
+    ensures step { IfOk result
+        (IsStepOf (operation_of_part op.entry ∷ tail.entry.now) (operation_of_part next.entry ∷ rest.entry.now)) }
     ensures only { IsOkUnless result Refusal.NoMemory }
 {
     Ok(Step {
@@ -112,8 +114,10 @@ fn meet<'a, 'b>(
     requires second { IsNormal (operation_of_part next ∷ rest.now) }
     requires stays { is_delete (operation_of_part op) ≡ false }
     requires stands { is_insert (operation_of_part next) ≡ false }
-    ensures step { IfOk result (IsStepOf (operation_of_part op.entry ∷ tail.entry.now) (operation_of_part next.entry ∷ rest.entry.now)) }
-    ensures cut { result ≡ Err Refusal.CutsPair → CutsBefore (operation_of_part op.entry ∷ tail.entry.now) (operation_of_part next.entry ∷ rest.entry.now) }
+    ensures step { IfOk result
+        (IsStepOf (operation_of_part op.entry ∷ tail.entry.now) (operation_of_part next.entry ∷ rest.entry.now)) }
+    ensures cut { result ≡ Err Refusal.CutsPair
+        → CutsBefore (operation_of_part op.entry ∷ tail.entry.now) (operation_of_part next.entry ∷ rest.entry.now) }
     ensures only { IfErr result (λ e. (e ≡ Refusal.CutsPair) ⊎ (e ≡ Refusal.NoMemory)) }
 {
     let len = op.len16().min(next.len16());
@@ -127,7 +131,8 @@ fn meet<'a, 'b>(
 
 // the second operation after the first, on the same units
 fn both(alloc: Global, op: Part<'_>, next: Part<'_>) -> Result<Option<Op>, Refusal>
-    ensures made { IfOk result (λ made. option_to_list made ≡ made_in_turn (operation_of_part op.entry) (operation_of_part next.entry)) }
+    ensures made { IfOk result (λ made. option_to_list made
+        ≡ made_in_turn (operation_of_part op.entry) (operation_of_part next.entry)) }
     ensures only { IsOkUnless result Refusal.NoMemory }
 {
     match next.get() {

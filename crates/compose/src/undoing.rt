@@ -49,8 +49,11 @@ fn next_step_back<'a>(
     requires ops { IsNormal (operations_left ops) }
     requires inserted { AllInsert (operations_left base) }
     requires defined { base_of (operations_left ops) ≤ out_of (operations_left base) }
-    ensures made { IfOk result (λ step. MatchOption step (operations_left ops.entry ≡ []) (λ s. IsStepBack (operations_left base.entry) (operations_left ops.entry) (option_to_list s.made) (operations_left s.first) (operations_left s.second))) }
-    ensures cut { result ≡ Err Refusal.CutsPair → IsTrue (cuts (counted (operations_left base.entry)) (counted (operations_left ops.entry))) }
+    ensures made { IfOk result (λ step. MatchOption step (operations_left ops.entry
+        ≡ []) (λ s. IsStepBack (operations_left base.entry) (operations_left ops.entry) (option_to_list s.made)
+        (operations_left s.first) (operations_left s.second))) }
+    ensures cut { result ≡ Err Refusal.CutsPair
+        → IsTrue (cuts (counted (operations_left base.entry)) (counted (operations_left ops.entry))) }
     ensures only { IfErr result (λ e. (e ≡ Refusal.CutsPair) ⊎ (e ≡ Refusal.NoMemory)) }
 {
     match ops.split_first() {
@@ -74,7 +77,8 @@ fn take_out<'a>(base: Cursor<'a>, next: Part<'a>, tail: &'a [Op]) -> Step<'a, 'a
     requires inserted { AllInsert (operations_left base) }
     requires defined { base_of (operation_of_part next ∷ tail.now) ≤ out_of (operations_left base) }
     requires inserts { is_insert (operation_of_part next) ≡ true }
-    ensures { IsStepBack (operations_left base.entry) (operation_of_part next.entry ∷ tail.entry.now) (option_to_list result.made) (operations_left result.first) (operations_left result.second) }
+    ensures { IsStepBack (operations_left base.entry) (operation_of_part next.entry ∷ tail.entry.now)
+        (option_to_list result.made) (operations_left result.first) (operations_left result.second) }
 {
     Step {
         made: Some(Op::delete(next.len16())),
@@ -96,8 +100,12 @@ fn turn<'a>(
     requires inserted { AllInsert (operation_of_part op ∷ tail.now) }
     requires defined { base_of (operation_of_part next ∷ rest.now) ≤ out_of (operation_of_part op ∷ tail.now) }
     requires stands { is_insert (operation_of_part next) ≡ false }
-    ensures made { IfOk result (λ s. IsStepBack (operation_of_part op.entry ∷ tail.entry.now) (operation_of_part next.entry ∷ rest.entry.now) (option_to_list s.made) (operations_left s.first) (operations_left s.second)) }
-    ensures cut { result ≡ Err Refusal.CutsPair → IsTrue (cuts (counted (operation_of_part op.entry ∷ tail.entry.now)) (counted (operation_of_part next.entry ∷ rest.entry.now))) }
+    ensures made { IfOk result
+        (λ s. IsStepBack (operation_of_part op.entry ∷ tail.entry.now) (operation_of_part next.entry ∷ rest.entry.now)
+        (option_to_list s.made) (operations_left s.first) (operations_left s.second)) }
+    ensures cut { result ≡ Err Refusal.CutsPair
+        → IsTrue (cuts (counted (operation_of_part op.entry ∷ tail.entry.now))
+        (counted (operation_of_part next.entry ∷ rest.entry.now))) }
     ensures only { IfErr result (λ e. (e ≡ Refusal.CutsPair) ⊎ (e ≡ Refusal.NoMemory)) }
 {
     let len = op.len16().min(next.len16());
@@ -111,7 +119,8 @@ fn turn<'a>(
 
 // the change back, or the units again
 fn back(alloc: Global, op: Part<'_>, next: Part<'_>) -> Result<Option<Op>, Refusal>
-    ensures made { IfOk result (λ made. option_to_list made ≡ turned_back (operation_of_part op.entry) (operation_of_part next.entry)) }
+    ensures made { IfOk result (λ made. option_to_list made
+        ≡ turned_back (operation_of_part op.entry) (operation_of_part next.entry)) }
     ensures only { IsOkUnless result Refusal.NoMemory }
 {
     match (op.get(), next.get()) {

@@ -67,7 +67,8 @@ fn step(
     requires whole { ¬ (IsWithinPair cursor.old (op_base op.now)) }
     requires bound { length (units_of_runs made.old.items) + op_out op.now < 2 ^ 64 }
     requires runs { AreRuns made.old.items }
-    ensures done { OnOk result (IsOneApplied cursor.old cursor.new op.now (units_of_runs made.old.items) (units_of_runs made.new.items)) }
+    ensures done { OnOk result
+        (IsOneApplied cursor.old cursor.new op.now (units_of_runs made.old.items) (units_of_runs made.new.items)) }
     ensures runs { OnOk result (AreRuns made.new.items) }
     ensures only { IsOkUnless result Refusal.NoMemory }
 {

@@ -99,7 +99,8 @@ fn first<'a>(begun: Option<Piece<'a>>, rest: &'a [SharedRun]) -> (Piece<'a>, &'a
     requires some { 0 < length (begun_units begun ++ units_of_runs rest.now) }
     requires begun { IsBegun begun }
     requires rest { AreRuns rest.now }
-    ensures parts { piece_units result.0 ++ units_of_runs result.1.now ≡ begun_units begun.entry ++ units_of_runs rest.now }
+    ensures parts { piece_units result.0 ++ units_of_runs result.1.now ≡ begun_units begun.entry
+        ++ units_of_runs rest.now }
     ensures piece { IsPiece result.0 }
     ensures rest { AreRuns result.1.now }
 {

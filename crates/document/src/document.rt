@@ -97,9 +97,11 @@ impl Document {
     /// the end, else as CutsPair where it parts a surrogate pair. It makes no document: linear in the runs, their attributes
     /// and the operations, and it takes no memory.
     pub fn weigh(&self, delta: &Delta) -> Result<u64, Refusal>
-        ensures ok { IfOk result (λ weight. weight ≡ min (weight_of (apply self.now (counted delta.now))) (2 ^ 64 - 1)) }
+        ensures ok { IfOk result (λ weight. weight
+            ≡ min (weight_of (apply self.now (counted delta.now))) (2 ^ 64 - 1)) }
         ensures past_end { (result ≡ Err Refusal.PastEnd) ↔ ¬ (IsDefined self.now (counted delta.now)) }
-        ensures cuts { (result ≡ Err Refusal.CutsPair) ↔ (IsDefined self.now (counted delta.now) × Cuts self.now (counted delta.now)) }
+        ensures cuts { (result ≡ Err Refusal.CutsPair)
+            ↔ (IsDefined self.now (counted delta.now) × Cuts self.now (counted delta.now)) }
         ensures only { IfErr result (λ e. (e ≡ Refusal.PastEnd) ⊎ (e ≡ Refusal.CutsPair)) }
     {
         self.fits(delta)?;
@@ -143,7 +145,8 @@ impl Document {
         ensures well_formed { OnOk result (IsWellFormed self.new) }
         ensures err { OnErr result (self.new ≡ self.old) }
         ensures past_end { (result ≡ Err Refusal.PastEnd) ↔ ¬ (IsDefined self.old (counted delta.now)) }
-        ensures cuts { (result ≡ Err Refusal.CutsPair) ↔ (IsDefined self.old (counted delta.now) × Cuts self.old (counted delta.now)) }
+        ensures cuts { (result ≡ Err Refusal.CutsPair)
+            ↔ (IsDefined self.old (counted delta.now) × Cuts self.old (counted delta.now)) }
         ensures bad { (result ≡ Err Refusal.BadOps) ↔ IsTooLong self.old (counted delta.now) }
         ensures only { IfErr result (IsRefused self.old (counted delta.now)) }
     {
@@ -167,7 +170,8 @@ impl Document {
         ensures ok { IfOk result (λ after. after ≡ apply self.now (counted delta.now)) }
         ensures well_formed { IfOk result (λ after. IsWellFormed after) }
         ensures past_end { (result ≡ Err Refusal.PastEnd) ↔ ¬ (IsDefined self.now (counted delta.now)) }
-        ensures cuts { (result ≡ Err Refusal.CutsPair) ↔ (IsDefined self.now (counted delta.now) × Cuts self.now (counted delta.now)) }
+        ensures cuts { (result ≡ Err Refusal.CutsPair)
+            ↔ (IsDefined self.now (counted delta.now) × Cuts self.now (counted delta.now)) }
         ensures bad { (result ≡ Err Refusal.BadOps) ↔ IsTooLong self.now (counted delta.now) }
         ensures only { IfErr result (IsRefused self.now (counted delta.now)) }
     {
@@ -204,7 +208,8 @@ impl Document {
         ensures defined { OnOk result (IsDefined self.now (counted delta.now)) }
         ensures whole { OnOk result (¬ (Cuts self.now (counted delta.now))) }
         ensures past_end { (result ≡ Err Refusal.PastEnd) ↔ ¬ (IsDefined self.now (counted delta.now)) }
-        ensures cuts { (result ≡ Err Refusal.CutsPair) ↔ (IsDefined self.now (counted delta.now) × Cuts self.now (counted delta.now)) }
+        ensures cuts { (result ≡ Err Refusal.CutsPair)
+            ↔ (IsDefined self.now (counted delta.now) × Cuts self.now (counted delta.now)) }
         ensures only { IfErr result (λ e. (e ≡ Refusal.PastEnd) ⊎ (e ≡ Refusal.CutsPair)) }
     {
         let ops = delta.ops();

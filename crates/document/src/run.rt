@@ -101,7 +101,9 @@ impl<'a> Piece<'a> {
     /// Its weight with other attributes, by their weight.
     pub fn weight_with(&self, attributes: u64) -> u64
         requires { IsCounted self.now }
-        ensures { result ≡ min (min (attributes + (12 + piece_weight self.now)) (2 ^ 64 - 1) * length (piece_units self.now)) (2 ^ 64 - 1) }
+        ensures { result
+            ≡ min (min (attributes + (12 + piece_weight self.now)) (2 ^ 64 - 1) * length (piece_units self.now))
+            (2 ^ 64 - 1) }
     {
         let each = attributes.saturating_add(12 + self.embed_weight());
         each.saturating_mul(self.units())
@@ -220,7 +222,8 @@ impl Run {
         requires counted { units ≡ length (units_of text.now) }
         requires text { text_attributes self.old ≢ None }
         requires bound { length self.old + units < 2 ^ 64 }
-        ensures ok { OnOk result (IfSome (text_attributes self.old) (λ a. self.new ≡ self.old ++ letters (units_of text.now) a)) }
+        ensures ok { OnOk result (IfSome (text_attributes self.old) (λ a. self.new ≡ self.old
+            ++ letters (units_of text.now) a)) }
         ensures err { OnErr result (self.new ≡ self.old) }
         ensures only { IsOkUnless result Refusal.NoMemory }
     {

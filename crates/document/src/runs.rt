@@ -21,7 +21,8 @@ pub fn put_text(
     requires counted { units ≡ length (units_of text.now) }
     requires bound { length (units_of_runs runs.old.items) + units < 2 ^ 64 }
     requires kept { AreRuns runs.old.items }
-    ensures ok { OnOk result (units_of_runs runs.new.items ≡ units_of_runs runs.old.items ++ letters (units_of text.now) attrs) }
+    ensures ok { OnOk result (units_of_runs runs.new.items ≡ units_of_runs runs.old.items
+        ++ letters (units_of text.now) attrs) }
     ensures kept { AreRuns runs.new.items }
     ensures err { OnErr result (runs.new.items ≡ runs.old.items) }
     ensures only { IsOkUnless result Refusal.NoMemory }
@@ -46,7 +47,8 @@ pub fn put_embed(
     attrs: Attrs,
 ) -> Result<(), Refusal>
     requires kept { AreRuns runs.old.items }
-    ensures ok { OnOk result (units_of_runs runs.new.items ≡ units_of_runs runs.old.items ++ embedded key value attrs ∷ []) }
+    ensures ok { OnOk result (units_of_runs runs.new.items ≡ units_of_runs runs.old.items
+        ++ embedded key value attrs ∷ []) }
     ensures kept { AreRuns runs.new.items }
     ensures err { OnErr result (runs.new.items ≡ runs.old.items) }
     ensures only { IsOkUnless result Refusal.NoMemory }

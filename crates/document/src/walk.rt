@@ -58,7 +58,8 @@ pub fn keep(
     requires whole { ¬ (IsWithinPair cursor.old len) }
     requires bound { length (units_of_runs out.old.items) + len < 2 ^ 64 }
     requires runs { AreRuns out.old.items }
-    ensures kept { OnOk result (IsKept cursor.old cursor.new len change.now (units_of_runs out.old.items) (units_of_runs out.new.items)) }
+    ensures kept { OnOk result
+        (IsKept cursor.old cursor.new len change.now (units_of_runs out.old.items) (units_of_runs out.new.items)) }
     ensures runs { OnOk result (AreRuns out.new.items) }
     ensures only { IsOkUnless result Refusal.NoMemory }
 {
@@ -166,7 +167,8 @@ fn put(
     requires piece { IsPiece piece }
     requires bound { length (units_of_runs out.old.items) + length (piece_dressed piece attrs) < 2 ^ 64 }
     requires runs { AreRuns out.old.items }
-    ensures units { OnOk result (units_of_runs out.new.items ≡ units_of_runs out.old.items ++ piece_dressed piece.entry attrs) }
+    ensures units { OnOk result (units_of_runs out.new.items ≡ units_of_runs out.old.items
+        ++ piece_dressed piece.entry attrs) }
     ensures runs { OnOk result (AreRuns out.new.items) }
     ensures only { IsOkUnless result Refusal.NoMemory }
 {

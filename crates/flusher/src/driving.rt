@@ -48,7 +48,8 @@ fn submit_one<D: Disk, J: Site>(
     command: &Command,
 ) -> Result<Answer<D, J>, Refusal>
     requires works { board.old.failed ≡ false }
-    ensures gives { (cap : ℕ) (store : Store D ⟦<D as Disk>⟧) → IfOk result (λ reply. Gives cap (record { board = board.old; tickets = tickets.old.items; store = store })
+    ensures gives { (cap : ℕ) (store : Store D ⟦<D as Disk>⟧)
+        → IfOk result (λ reply. Gives cap (record { board = board.old; tickets = tickets.old.items; store = store })
         (Call.Submit command.now) reply (record { board = board.new; tickets = tickets.new.items; store = store })) }
     ensures step { OnOk result (board.new.board ≡ submitted (entry_of command.now) board.old.board command.now) }
     ensures same { OnErr result ((board.new ≡ board.old) × (tickets.new.items ≡ tickets.old.items)) }
@@ -88,7 +89,8 @@ fn ack_one<D, J: Site>(board: &Board<D, J>, tickets: &[Ticket], at: usize) -> Op
 
 // What a refusal answers: itself, but for want of memory and a fault, at which a run stops.
 fn answered<D, J: Site>(refusal: Refusal) -> Result<Answer<D, J>, Refusal>
-    ensures answer { IfOk result (λ reply. (reply ≡ Answer.Refused refusal) × (refusal ≢ Refusal.NoMemory) × (refusal ≢ Refusal.Fault)) }
+    ensures answer { IfOk result (λ reply. (reply ≡ Answer.Refused refusal) × (refusal ≢ Refusal.NoMemory)
+        × (refusal ≢ Refusal.Fault)) }
     ensures stops { IfErr result (λ e. (e ≡ refusal) × ((e ≡ Refusal.NoMemory) ⊎ (e ≡ Refusal.Fault))) }
 {
     if refusal == Refusal::NoMemory {
@@ -108,11 +110,14 @@ fn put_one<D: Disk, J: Site>(
     revision: u64,
 ) -> Result<Answer<D, J>, Refusal>
     requires works { has_failed (store_of flusher.old) ≡ false }
-    ensures goes { Goes (λ content. FoundAs content (state_of (store_of flusher.old))) (store_of flusher.old) (store_of flusher.new) }
+    ensures goes { Goes (λ content. FoundAs content (state_of (store_of flusher.old))) (store_of flusher.old)
+        (store_of flusher.new) }
     ensures state { state_of (store_of flusher.new) ≡ state_of (store_of flusher.old) }
     ensures works { OnOk result (has_failed (store_of flusher.new) ≡ false) }
-    ensures answer { IfOk result (λ reply. ((reply ≡ Answer.Put) × IsTaken (PutsMilestone document revision) (store_of flusher.old) (store_of flusher.new))
-        ⊎ ((refusal : Why) × (reply ≡ Answer.Refused refusal) × IsWhy (PutsMilestone document revision) refusal (store_of flusher.old))) }
+    ensures answer { IfOk result (λ reply. ((reply ≡ Answer.Put)
+        × IsTaken (PutsMilestone document revision) (store_of flusher.old) (store_of flusher.new))
+        ⊎ ((refusal : Why) × (reply ≡ Answer.Refused refusal)
+        × IsWhy (PutsMilestone document revision) refusal (store_of flusher.old))) }
     ensures fails { has_failed (store_of flusher.new) ≡ true ↔ IsErrOf result Refusal.Fault }
     ensures only { IfErr result (λ e. (e ≡ Refusal.NoMemory) ⊎ (e ≡ Refusal.Fault)) }
     ensures told { told_of flusher.new ≡ told_of flusher.old }
@@ -128,11 +133,14 @@ fn put_one<D: Disk, J: Site>(
 // Retires the oldest segment. Stops at a fault alone; that the segment is still needed is an answer.
 fn retire_one<D: Disk, J: Site>(flusher: &mut Flusher<D, J>) -> Result<Answer<D, J>, Refusal>
     requires works { has_failed (store_of flusher.old) ≡ false }
-    ensures goes { Goes (λ content. FoundAs content (state_of (store_of flusher.old))) (store_of flusher.old) (store_of flusher.new) }
+    ensures goes { Goes (λ content. FoundAs content (state_of (store_of flusher.old))) (store_of flusher.old)
+        (store_of flusher.new) }
     ensures state { state_of (store_of flusher.new) ≡ state_of (store_of flusher.old) }
     ensures works { OnOk result (has_failed (store_of flusher.new) ≡ false) }
-    ensures answer { IfOk result (λ reply. ((reply ≡ Answer.Retired) × IsTaken Retires (store_of flusher.old) (store_of flusher.new))
-        ⊎ ((refusal : Why) × (reply ≡ Answer.Refused refusal) × IsUnchanged (store_of flusher.old) (store_of flusher.new) × IsWhy Retires refusal (store_of flusher.old))) }
+    ensures answer { IfOk result (λ reply. ((reply ≡ Answer.Retired)
+        × IsTaken Retires (store_of flusher.old) (store_of flusher.new))
+        ⊎ ((refusal : Why) × (reply ≡ Answer.Refused refusal)
+        × IsUnchanged (store_of flusher.old) (store_of flusher.new) × IsWhy Retires refusal (store_of flusher.old))) }
     ensures fails { has_failed (store_of flusher.new) ≡ true ↔ IsErrOf result Refusal.Fault }
     ensures only { IfErr result (λ e. e ≡ Refusal.Fault) }
     ensures told { told_of flusher.new ≡ told_of flusher.old }
@@ -161,13 +169,16 @@ fn call_one<D: Disk, J: Site, R: Wait>(
     ensures goes { RunGoes J.start (standing board.old flusher.old) (standing board.new flusher.new) }
     ensures calm { OnOk result (IsCalm J.start (standing board.new flusher.new)) }
     ensures works { OnOk result (has_failed (store_of flusher.new) ≡ false) }
-    ensures gives { IfOk result (λ reply. Gives (cap_of J.start) (between board.old tickets.old.items flusher.old) call.now reply (between board.new tickets.new.items flusher.new)) }
+    ensures gives { IfOk result
+        (λ reply. Gives (cap_of J.start) (between board.old tickets.old.items flusher.old) call.now reply
+        (between board.new tickets.new.items flusher.new)) }
     ensures same { OnErr result (tickets.new.items ≡ tickets.old.items) }
     ensures order { OnErr result (board.new.board.order ≡ board.old.board.order) }
     ensures failed { board.new.failed ≡ board.old.failed }
     ensures fails { has_failed (store_of flusher.new) ≡ true ↔ IsErrOf result Refusal.Fault }
     ensures stops { IfErr result (λ e. ((e ≡ Refusal.NoMemory) ⊎ (e ≡ Refusal.Fault))
-        ⊎ ((call.now ≡ Call.Turn) × IsTurnRefused (cap_of J.start) board.old (store_of flusher.old) e (store_of flusher.new))) }
+        ⊎ ((call.now ≡ Call.Turn)
+        × IsTurnRefused (cap_of J.start) board.old (store_of flusher.old) e (store_of flusher.new))) }
 {
     match call {
         Call::Submit(command) => submit_one(alloc, board, seat, tickets, command),
@@ -199,10 +210,14 @@ fn drive_all<D: Disk, J: Site, R: Wait>(
     ensures goes { RunGoes J.start (standing board.old flusher.old) (standing board.new flusher.new) }
     ensures calm { OnOk result (IsCalm J.start (standing board.new flusher.new)) }
     ensures works { OnOk result (has_failed (store_of flusher.new) ≡ false) }
-    ensures answered { IsAnswered (cap_of J.start) (between board.old [] flusher.old) (between board.new tickets.new.items flusher.new) calls.now answers.new.items }
-    ensures stops { IfErr result (λ e. Stops (cap_of J.start) (between board.old [] flusher.old) calls.now answers.new.items e (store_of flusher.new)) }
+    ensures answered { IsAnswered (cap_of J.start) (between board.old [] flusher.old)
+        (between board.new tickets.new.items flusher.new) calls.now answers.new.items }
+    ensures stops { IfErr result
+        (λ e. Stops (cap_of J.start) (between board.old [] flusher.old) calls.now answers.new.items e
+        (store_of flusher.new)) }
     ensures whole { OnOk result ((length answers.new.items ≡ length calls.now)
-        × Answered (cap_of J.start) (between board.old [] flusher.old) calls.now answers.new.items (between board.new tickets.new.items flusher.new)) }
+        × Answered (cap_of J.start) (between board.old [] flusher.old) calls.now answers.new.items
+        (between board.new tickets.new.items flusher.new)) }
     ensures failed { board.new.failed ≡ board.old.failed }
     ensures fails { has_failed (store_of flusher.new) ≡ true ↔ IsErrOf result Refusal.Fault }
 {
@@ -245,17 +260,26 @@ pub fn drive<D: Disk, J: Site, R: Wait>(
     // What a crash leaves: at any moment of the run, and after its return.
     ensures goes { RunGoes J.start (standing board.old flusher.old) (standing board.new flusher.new) }
     ensures any_moment { IsOpen (store_of flusher.old)
-        → LeavesOnly ⟦<D as Disk>⟧ (IsFirst board.old.board.settled J.start (takens board.new.board.order) (batches_of (standing board.new flusher.new)))
+        → LeavesOnly ⟦<D as Disk>⟧
+        (IsFirst board.old.board.settled J.start (takens board.new.board.order)
+        (batches_of (standing board.new flusher.new)))
         (device_of (store_of flusher.old)) (device_of (store_of flusher.new)) }
-    ensures holds { IsOpen (store_of flusher.old) → (content : List ℕ) → MayLeaveNow ⟦<D as Disk>⟧ (device_of (store_of flusher.new)) content
-        → IsFirst board.new.board.settled J.start (takens board.new.board.order) (batches_of (standing board.new flusher.new)) content }
-    ensures acknowledged { AreHeld board.new.board.settled result.tickets.items (take (length result.answers.items) calls.now) result.answers.items }
+    ensures holds { IsOpen (store_of flusher.old) → (content : List ℕ)
+        → MayLeaveNow ⟦<D as Disk>⟧ (device_of (store_of flusher.new)) content
+        → IsFirst board.new.board.settled J.start (takens board.new.board.order)
+        (batches_of (standing board.new flusher.new)) content }
+    ensures acknowledged { AreHeld board.new.board.settled result.tickets.items
+        (take (length result.answers.items) calls.now) result.answers.items }
 
     // What the calls gave.
-    ensures answered { IsAnswered (cap_of J.start) (between board.old [] flusher.old) (between board.new result.tickets.items flusher.new) calls.now result.answers.items }
-    ensures stops { IfSome result.stopped (λ refusal. Stops (cap_of J.start) (between board.old [] flusher.old) calls.now result.answers.items refusal (store_of flusher.new)) }
+    ensures answered { IsAnswered (cap_of J.start) (between board.old [] flusher.old)
+        (between board.new result.tickets.items flusher.new) calls.now result.answers.items }
+    ensures stops { IfSome result.stopped
+        (λ refusal. Stops (cap_of J.start) (between board.old [] flusher.old) calls.now result.answers.items refusal
+        (store_of flusher.new)) }
     ensures whole { result.stopped ≡ None → (length result.answers.items ≡ length calls.now)
-        × Answered (cap_of J.start) (between board.old [] flusher.old) calls.now result.answers.items (between board.new result.tickets.items flusher.new) }
+        × Answered (cap_of J.start) (between board.old [] flusher.old) calls.now result.answers.items
+        (between board.new result.tickets.items flusher.new) }
     ensures fails { has_failed (store_of flusher.new) ≡ true ↔ result.stopped ≡ Some Refusal.Fault }
 
     // The next run may go on from there.

@@ -51,7 +51,8 @@ impl<D: Disk, J: Site> Flusher<D, J> {
 
     /// What the store holds is what the batches make of the start that are published, or committed and not published yet.
     pub fn kept(&self)
-        ensures { state_of (store_of self.now) ≡ fold J.start (commands_of (told_of self.now ++ committed_of self.now)) }
+        ensures { state_of (store_of self.now)
+            ≡ fold J.start (commands_of (told_of self.now ++ committed_of self.now)) }
     {
         self.begun.is_start();
     }
@@ -78,24 +79,33 @@ impl<D: Disk, J: Site> Flusher<D, J> {
     /// new.
     pub fn commit_held(&mut self, alloc: Global) -> Result<(), Refusal>
         // A crash at any moment leaves the state before it, or the one with the batch.
-        ensures goes { Goes (IsWithOrWithout (state_of (store_of self.old)) (commands_of (waiting_of self.old))) (store_of self.old) (store_of self.new) }
+        ensures goes { Goes (IsWithOrWithout (state_of (store_of self.old)) (commands_of (waiting_of self.old)))
+            (store_of self.old) (store_of self.new) }
 
         // What each answer leaves.
         ensures told { told_of self.new ≡ told_of self.old }
-        ensures ok { OnOk result ((committed_of self.new ≡ committed_of self.old ++ waiting_of self.old) × (waiting_of self.new ≡ [])) }
-        ensures held { OnErr result ((committed_of self.new ≡ committed_of self.old) × (waiting_of self.new ≡ waiting_of self.old)) }
-        ensures state { OnOk result (state_of (store_of self.new) ≡ fold (state_of (store_of self.old)) (commands_of (waiting_of self.old))) }
+        ensures ok { OnOk result ((committed_of self.new ≡ committed_of self.old ++ waiting_of self.old)
+            × (waiting_of self.new ≡ [])) }
+        ensures held { OnErr result ((committed_of self.new ≡ committed_of self.old)
+            × (waiting_of self.new ≡ waiting_of self.old)) }
+        ensures state { OnOk result (state_of (store_of self.new)
+            ≡ fold (state_of (store_of self.old)) (commands_of (waiting_of self.old))) }
         ensures same_state { OnErr result (state_of (store_of self.new) ≡ state_of (store_of self.old)) }
 
         // When each refusal comes.
-        ensures fails { has_failed (store_of self.old) ≡ false → (has_failed (store_of self.new) ≡ true ↔ IsErrOf result Refusal.Fault) }
+        ensures fails { has_failed (store_of self.old) ≡ false
+            → (has_failed (store_of self.new) ≡ true ↔ IsErrOf result Refusal.Fault) }
         ensures none { waiting_of self.old ≡ [] → OnErr result ⊥ }
         ensures full { IsErrOf result Refusal.JournalFull → (batch : List Taken) × (waiting_of self.old ≡ batch ∷ [])
             × (has_room (store_of self.old) batch ≡ false) × (has_room (store_of self.new) batch ≡ false) }
-        ensures needed { IsErrOf result Refusal.StillNeeded → (batch : List Taken) × (waiting_of self.old ≡ batch ∷ []) × (has_room (store_of self.old) batch ≡ false) }
-        ensures never_full { (IsErrOf result Refusal.JournalFull) ⊎ (IsErrOf result Refusal.StillNeeded) → IsUsedUp (store_of self.old) }
-        ensures stranger { IsErrOf result Refusal.Stranger → all_grow (state_of (store_of self.old)) (commands_of (waiting_of self.old)) ≡ false }
-        ensures only { IfErr result (λ e. ((e ≡ Refusal.JournalFull) ⊎ ((e ≡ Refusal.StillNeeded) ⊎ (e ≡ Refusal.Stranger)))
+        ensures needed { IsErrOf result Refusal.StillNeeded → (batch : List Taken) × (waiting_of self.old ≡ batch ∷ [])
+            × (has_room (store_of self.old) batch ≡ false) }
+        ensures never_full { (IsErrOf result Refusal.JournalFull) ⊎ (IsErrOf result Refusal.StillNeeded)
+            → IsUsedUp (store_of self.old) }
+        ensures stranger { IsErrOf result Refusal.Stranger
+            → all_grow (state_of (store_of self.old)) (commands_of (waiting_of self.old)) ≡ false }
+        ensures only { IfErr result (λ e. ((e ≡ Refusal.JournalFull)
+            ⊎ ((e ≡ Refusal.StillNeeded) ⊎ (e ≡ Refusal.Stranger)))
             ⊎ ((e ≡ Refusal.NoMemory) ⊎ (e ≡ Refusal.Fault))) }
     {
         match self.waiting.take() {
@@ -125,30 +135,42 @@ impl<D: Disk, J: Site> Flusher<D, J> {
         gate: &mut G,
     ) -> Result<Option<(Receipt<D>, Told<D, J>)>, Refusal>
         // A crash at any moment leaves the state before it, or the one with the batch.
-        ensures goes { Goes (IsWithOrWithout (state_of (store_of self.old)) (commands_of (waiting_of self.old))) (store_of self.old) (store_of self.new) }
+        ensures goes { Goes (IsWithOrWithout (state_of (store_of self.old)) (commands_of (waiting_of self.old)))
+            (store_of self.old) (store_of self.new) }
 
         // What each answer leaves.
-        ensures some { IfOk result (λ answer. IfSome answer (λ both. IsWritten (told_of self.old) (committed_of self.old ++ waiting_of self.old) (told_of self.new) both.0 both.1)) }
-        ensures none { IfOk result (λ answer. IfNone answer ((committed_of self.old ++ waiting_of self.old ≡ []) × (told_of self.new ≡ told_of self.old))) }
+        ensures some { IfOk result
+            (λ answer. IfSome answer (λ both. IsWritten (told_of self.old) (committed_of self.old
+            ++ waiting_of self.old) (told_of self.new) both.0 both.1)) }
+        ensures none { IfOk result (λ answer. IfNone answer ((committed_of self.old ++ waiting_of self.old ≡ [])
+            × (told_of self.new ≡ told_of self.old))) }
         ensures done { OnOk result ((committed_of self.new ≡ []) × (waiting_of self.new ≡ [])) }
         ensures told { OnErr result (told_of self.new ≡ told_of self.old) }
-        ensures held { OnErr result (committed_of self.new ++ waiting_of self.new ≡ committed_of self.old ++ waiting_of self.old) }
-        ensures state { OnOk result (state_of (store_of self.new) ≡ fold (state_of (store_of self.old)) (commands_of (waiting_of self.old))) }
+        ensures held { OnErr result (committed_of self.new ++ waiting_of self.new ≡ committed_of self.old
+            ++ waiting_of self.old) }
+        ensures state { OnOk result (state_of (store_of self.new)
+            ≡ fold (state_of (store_of self.old)) (commands_of (waiting_of self.old))) }
 
         // Whether the batch is committed after a refusal: after `StoreFailed` it is, and isn't published, after `NoMemory` it may be, and
         // after any other it isn't.
         ensures lost { IsErrOf result Refusal.StoreFailed → IsLost self.old self.new }
-        ensures uncommitted { IfErr result (λ e. e ≢ Refusal.NoMemory → e ≢ Refusal.StoreFailed → IsUncommitted self.old self.new) }
+        ensures uncommitted { IfErr result (λ e. e ≢ Refusal.NoMemory → e ≢ Refusal.StoreFailed
+            → IsUncommitted self.old self.new) }
 
         // A failure of the device is told as such, and nothing else is.
-        ensures fails { has_failed (store_of self.old) ≡ false → (has_failed (store_of self.new) ≡ true ↔ IsErrOf result Refusal.Fault) }
+        ensures fails { has_failed (store_of self.old) ≡ false
+            → (has_failed (store_of self.new) ≡ true ↔ IsErrOf result Refusal.Fault) }
         // When each other refusal comes.
         ensures full { IsErrOf result Refusal.JournalFull → (batch : List Taken) × (waiting_of self.old ≡ batch ∷ [])
             × (has_room (store_of self.old) batch ≡ false) × (has_room (store_of self.new) batch ≡ false) }
-        ensures needed { IsErrOf result Refusal.StillNeeded → (batch : List Taken) × (waiting_of self.old ≡ batch ∷ []) × (has_room (store_of self.old) batch ≡ false) }
-        ensures never_full { (IsErrOf result Refusal.JournalFull) ⊎ (IsErrOf result Refusal.StillNeeded) → IsUsedUp (store_of self.old) }
-        ensures stranger { IsErrOf result Refusal.Stranger → all_grow (state_of (store_of self.old)) (commands_of (waiting_of self.old)) ≡ false }
-        ensures only { IfErr result (λ e. (((e ≡ Refusal.JournalFull) ⊎ ((e ≡ Refusal.StillNeeded) ⊎ (e ≡ Refusal.Stranger)))
+        ensures needed { IsErrOf result Refusal.StillNeeded → (batch : List Taken) × (waiting_of self.old ≡ batch ∷ [])
+            × (has_room (store_of self.old) batch ≡ false) }
+        ensures never_full { (IsErrOf result Refusal.JournalFull) ⊎ (IsErrOf result Refusal.StillNeeded)
+            → IsUsedUp (store_of self.old) }
+        ensures stranger { IsErrOf result Refusal.Stranger
+            → all_grow (state_of (store_of self.old)) (commands_of (waiting_of self.old)) ≡ false }
+        ensures only { IfErr result (λ e. (((e ≡ Refusal.JournalFull)
+            ⊎ ((e ≡ Refusal.StillNeeded) ⊎ (e ≡ Refusal.Stranger)))
             ⊎ ((e ≡ Refusal.NoMemory) ⊎ (e ≡ Refusal.Fault))) ⊎ (e ≡ Refusal.StoreFailed)) }
     {
         gate.pass(Moment::BeforeCommit);

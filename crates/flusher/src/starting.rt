@@ -39,8 +39,10 @@ pub fn start<D: Disk, J: Site>(
     requires seats { blank.parts ≡ seats + 1 }
     requires begin { state_of store ≡ J.start }
     ensures store { IfOk result (λ both. store_of both.0 ≡ store) }
-    ensures nothing { IfOk result (λ both. (told_of both.0 ≡ []) × (committed_of both.0 ≡ []) × (waiting_of both.0 ≡ [])) }
-    ensures board { IfOk result (λ both. both.1 ≡ record { board = begun_board J.start; failed = false; told = []; left = seats }) }
+    ensures nothing { IfOk result (λ both. (told_of both.0 ≡ []) × (committed_of both.0 ≡ [])
+        × (waiting_of both.0 ≡ [])) }
+    ensures board { IfOk result (λ both. both.1
+        ≡ record { board = begun_board J.start; failed = false; told = []; left = seats }) }
     ensures calm { IfOk result (λ both. IsCalm J.start (standing both.1 both.0)) }
     ensures back { IfErr result (λ fault. fault.store ≡ store) }
     ensures only { IfErr result (λ fault. fault.refusal ≡ Refusal.NoMemory) }

@@ -34,11 +34,15 @@ pub fn turn<D: Disk, J: Site, R: Wait>(
     ensures goes { RunGoes J.start (standing board.old flusher.old) (standing board.new flusher.new) }
     ensures calm { OnOk result (IsCalm J.start (standing board.new flusher.new)) }
     ensures works { OnOk result (has_failed (store_of flusher.new) ≡ false) }
-    ensures run { IfOk result (λ count. IsLongest (cap_of (state_of (store_of flusher.old))) (untaken board.old.board) count) }
+    ensures run { IfOk result
+        (λ count. IsLongest (cap_of (state_of (store_of flusher.old))) (untaken board.old.board) count) }
     ensures settled { IfOk result (λ count. board.new ≡ turned board.old count) }
-    ensures state { IfOk result (λ count. state_of (store_of flusher.new) ≡ fold (state_of (store_of flusher.old)) (takens (next_run board.old.board count))) }
+    ensures state { IfOk result (λ count. state_of (store_of flusher.new)
+        ≡ fold (state_of (store_of flusher.old)) (takens (next_run board.old.board count))) }
     ensures fails { has_failed (store_of flusher.new) ≡ true ↔ IsErrOf result Refusal.Fault }
-    ensures refused { IfErr result (λ e. ((e ≡ Refusal.NoMemory) ⊎ (e ≡ Refusal.Fault)) ⊎ IsTurnRefused (cap_of (state_of (store_of flusher.old))) board.old (store_of flusher.old) e (store_of flusher.new)) }
+    ensures refused { IfErr result (λ e. ((e ≡ Refusal.NoMemory) ⊎ (e ≡ Refusal.Fault))
+        ⊎ IsTurnRefused (cap_of (state_of (store_of flusher.old))) board.old (store_of flusher.old) e
+        (store_of flusher.new)) }
     ensures failed { board.new.failed ≡ board.old.failed }
     ensures order { board.new.board.order ≡ board.old.board.order }
 {

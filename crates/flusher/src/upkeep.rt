@@ -24,13 +24,18 @@ impl<D: Disk, J: Site> Flusher<D, J> {
     /// `Store::put_due` does. What is held, and what is published, stays. Refused for want of memory, and with `Fault`.
     pub fn put_due(&mut self, alloc: Global, document: u32, every: u64) -> Result<bool, Refusal>
         requires { 1 ≤ every }
-        ensures failed_before { has_failed (store_of self.old) ≡ true → (IsErrOf result Fault) × IsUnchanged (store_of self.old) (store_of self.new) }
-        ensures goes { Goes (λ content. FoundAs content (state_of (store_of self.old))) (store_of self.old) (store_of self.new) }
+        ensures failed_before { has_failed (store_of self.old) ≡ true → (IsErrOf result Fault)
+            × IsUnchanged (store_of self.old) (store_of self.new) }
+        ensures goes { Goes (λ content. FoundAs content (state_of (store_of self.old))) (store_of self.old)
+            (store_of self.new) }
         ensures state { state_of (store_of self.new) ≡ state_of (store_of self.old) }
-        ensures fails { has_failed (store_of self.old) ≡ false → (has_failed (store_of self.new) ≡ true ↔ IsErrOf result Fault) }
-        ensures put { IfOk result (λ put. put ≡ true → (is_open : IsOpen (store_of self.old)) → IsPutDue every document (store_of self.old) is_open (store_of self.new)) }
+        ensures fails { has_failed (store_of self.old) ≡ false
+            → (has_failed (store_of self.new) ≡ true ↔ IsErrOf result Fault) }
+        ensures put { IfOk result (λ put. put ≡ true → (is_open : IsOpen (store_of self.old))
+            → IsPutDue every document (store_of self.old) is_open (store_of self.new)) }
         ensures none { IfOk result (λ put. put ≡ false → (is_open : IsOpen (store_of self.old))
-            → due_for every (slice_get (state_of (store_of self.old)).documents document) (highest (cells_at is_open.cells document)) ≡ None) }
+            → due_for every (slice_get (state_of (store_of self.old)).documents document)
+            (highest (cells_at is_open.cells document)) ≡ None) }
         ensures untouched { IfOk result (λ put. put ≡ false → IsUnchanged (store_of self.old) (store_of self.new)) }
         ensures only { IfErr result (λ e. (e ≡ NoMemory) ⊎ (e ≡ Fault)) }
         ensures told { told_of self.new ≡ told_of self.old }
@@ -48,16 +53,24 @@ impl<D: Disk, J: Site> Flusher<D, J> {
         document: u32,
         revision: u64,
     ) -> Result<(), Refusal>
-        ensures failed_before { has_failed (store_of self.old) ≡ true → (IsErrOf result Fault) × IsUnchanged (store_of self.old) (store_of self.new) }
-        ensures goes { Goes (λ content. FoundAs content (state_of (store_of self.old))) (store_of self.old) (store_of self.new) }
+        ensures failed_before { has_failed (store_of self.old) ≡ true → (IsErrOf result Fault)
+            × IsUnchanged (store_of self.old) (store_of self.new) }
+        ensures goes { Goes (λ content. FoundAs content (state_of (store_of self.old))) (store_of self.old)
+            (store_of self.new) }
         ensures state { state_of (store_of self.new) ≡ state_of (store_of self.old) }
-        ensures fails { has_failed (store_of self.old) ≡ false → (has_failed (store_of self.new) ≡ true ↔ IsErrOf result Fault) }
+        ensures fails { has_failed (store_of self.old) ≡ false
+            → (has_failed (store_of self.new) ≡ true ↔ IsErrOf result Fault) }
         ensures put { OnOk result (IsTaken (Milestone document revision) (store_of self.old) (store_of self.new)) }
-        ensures refused { IfErr result (λ e. e ≢ NoMemory → e ≢ Fault → IsWhy (Milestone document revision) e (store_of self.old)) }
-        ensures untouched { IfErr result (λ e. e ≢ NoMemory → e ≢ Fault → IsUnchanged (store_of self.old) (store_of self.new)) }
-        ensures unwritten { IfErr result (λ e. e ≢ Fault → device_of (store_of self.new) ≡ device_of (store_of self.old)) }
-        ensures dropped { OnOk result (kept_jobs (store_of self.new) ≡ without_job document (kept_jobs (store_of self.old))) }
-        ensures only { IfErr result (λ e. ((e ≡ NoDocument) ⊎ ((e ≡ Future) ⊎ (e ≡ TooOld))) ⊎ ((e ≡ NoMemory) ⊎ (e ≡ Fault))) }
+        ensures refused { IfErr result (λ e. e ≢ NoMemory → e ≢ Fault
+            → IsWhy (Milestone document revision) e (store_of self.old)) }
+        ensures untouched { IfErr result (λ e. e ≢ NoMemory → e ≢ Fault
+            → IsUnchanged (store_of self.old) (store_of self.new)) }
+        ensures unwritten { IfErr result (λ e. e ≢ Fault
+            → device_of (store_of self.new) ≡ device_of (store_of self.old)) }
+        ensures dropped { OnOk result (kept_jobs (store_of self.new)
+            ≡ without_job document (kept_jobs (store_of self.old))) }
+        ensures only { IfErr result (λ e. ((e ≡ NoDocument) ⊎ ((e ≡ Future) ⊎ (e ≡ TooOld)))
+            ⊎ ((e ≡ NoMemory) ⊎ (e ≡ Fault))) }
         ensures told { told_of self.new ≡ told_of self.old }
         ensures committed { committed_of self.new ≡ committed_of self.old }
         ensures waiting { waiting_of self.new ≡ waiting_of self.old }
@@ -73,18 +86,24 @@ impl<D: Disk, J: Site> Flusher<D, J> {
         document: u32,
         revision: u64,
     ) -> Result<Job, Refusal>
-        ensures failed_before { has_failed (store_of self.old) ≡ true → (IsErrOf result Fault) × IsUnchanged (store_of self.old) (store_of self.new) }
-        ensures goes { Goes (λ content. FoundAs content (state_of (store_of self.old))) (store_of self.old) (store_of self.new) }
+        ensures failed_before { has_failed (store_of self.old) ≡ true → (IsErrOf result Fault)
+            × IsUnchanged (store_of self.old) (store_of self.new) }
+        ensures goes { Goes (λ content. FoundAs content (state_of (store_of self.old))) (store_of self.old)
+            (store_of self.new) }
         ensures state { state_of (store_of self.new) ≡ state_of (store_of self.old) }
         ensures failed { has_failed (store_of self.new) ≡ has_failed (store_of self.old) }
         ensures job { IfOk result (λ job. IsJobTo (state_of (store_of self.old)).documents document revision job) }
-        ensures keeps { IfOk result (λ job. kept_jobs (store_of self.new) ≡ with_job job (kept_jobs (store_of self.old))) }
+        ensures keeps { IfOk result (λ job. kept_jobs (store_of self.new)
+            ≡ with_job job (kept_jobs (store_of self.old))) }
         ensures device { device_of (store_of self.new) ≡ device_of (store_of self.old) }
         ensures untouched { OnErr result (IsUnchanged (store_of self.old) (store_of self.new)) }
         ensures refused { has_failed (store_of self.old) ≡ false → (is_open : IsOpen (store_of self.old)) → (why : Why)
-            → no_job_for (slice_get (state_of (store_of self.old)).documents document) (highest (cells_at is_open.cells document)) revision ≡ Some why → IsErrOf result why }
-        ensures refusal { IfErr result (λ e. e ≢ NoMemory → has_failed (store_of self.old) ≡ false → (is_open : IsOpen (store_of self.old))
-            → no_job_for (slice_get (state_of (store_of self.old)).documents document) (highest (cells_at is_open.cells document)) revision ≡ Some e) }
+            → no_job_for (slice_get (state_of (store_of self.old)).documents document)
+            (highest (cells_at is_open.cells document)) revision ≡ Some why → IsErrOf result why }
+        ensures refusal { IfErr result (λ e. e ≢ NoMemory → has_failed (store_of self.old) ≡ false
+            → (is_open : IsOpen (store_of self.old))
+            → no_job_for (slice_get (state_of (store_of self.old)).documents document)
+            (highest (cells_at is_open.cells document)) revision ≡ Some e) }
         ensures told { told_of self.new ≡ told_of self.old }
         ensures committed { committed_of self.new ≡ committed_of self.old }
         ensures waiting { waiting_of self.new ≡ waiting_of self.old }
@@ -94,15 +113,22 @@ impl<D: Disk, J: Site> Flusher<D, J> {
 
     /// Puts the milestone that came of a job, as `Store::put_milestone` does. What is held, and what is published, stays.
     pub fn put_milestone(&mut self, alloc: Global, composed: &Composed) -> Result<(), Refusal>
-        ensures failed_before { has_failed (store_of self.old) ≡ true → (IsErrOf result Fault) × IsUnchanged (store_of self.old) (store_of self.new) }
-        ensures goes { Goes (λ content. FoundAs content (state_of (store_of self.old))) (store_of self.old) (store_of self.new) }
+        ensures failed_before { has_failed (store_of self.old) ≡ true → (IsErrOf result Fault)
+            × IsUnchanged (store_of self.old) (store_of self.new) }
+        ensures goes { Goes (λ content. FoundAs content (state_of (store_of self.old))) (store_of self.old)
+            (store_of self.new) }
         ensures state { state_of (store_of self.new) ≡ state_of (store_of self.old) }
-        ensures fails { has_failed (store_of self.old) ≡ false → (has_failed (store_of self.new) ≡ true ↔ IsErrOf result Fault) }
-        ensures done { OnOk result ((is_open : IsOpen (store_of self.old)) → IsPutNow is_open.cells is_open.table composed.now (store_of self.new)) }
-        ensures dropped { OnOk result (kept_jobs (store_of self.new) ≡ without_job composed.now.document (kept_jobs (store_of self.old))) }
-        ensures untouched { (IsErrOf result Stranger) ⊎ (IsErrOf result NoMemory) → IsUnchanged (store_of self.old) (store_of self.new) }
+        ensures fails { has_failed (store_of self.old) ≡ false
+            → (has_failed (store_of self.new) ≡ true ↔ IsErrOf result Fault) }
+        ensures done { OnOk result ((is_open : IsOpen (store_of self.old))
+            → IsPutNow is_open.cells is_open.table composed.now (store_of self.new)) }
+        ensures dropped { OnOk result (kept_jobs (store_of self.new)
+            ≡ without_job composed.now.document (kept_jobs (store_of self.old))) }
+        ensures untouched { (IsErrOf result Stranger) ⊎ (IsErrOf result NoMemory)
+            → IsUnchanged (store_of self.old) (store_of self.new) }
         ensures jobs { OnErr result (kept_jobs (store_of self.new) ≡ kept_jobs (store_of self.old)) }
-        ensures stranger { has_failed (store_of self.old) ≡ false → (IsErrOf result Stranger ↔ (¬ Contains (kept_jobs (store_of self.old)) composed.now)) }
+        ensures stranger { has_failed (store_of self.old) ≡ false
+            → (IsErrOf result Stranger ↔ (¬ Contains (kept_jobs (store_of self.old)) composed.now)) }
         ensures only { IfErr result (λ e. (e ≡ Stranger) ⊎ ((e ≡ NoMemory) ⊎ (e ≡ Fault))) }
         ensures told { told_of self.new ≡ told_of self.old }
         ensures committed { committed_of self.new ≡ committed_of self.old }
@@ -113,10 +139,13 @@ impl<D: Disk, J: Site> Flusher<D, J> {
 
     /// Retires the oldest segment of the store, as `Store::retire` does. It takes no memory. What is held, and what is published, stays.
     pub fn retire(&mut self) -> Result<(), Refusal>
-        ensures failed_before { has_failed (store_of self.old) ≡ true → (IsErrOf result Fault) × IsUnchanged (store_of self.old) (store_of self.new) }
-        ensures goes { Goes (λ content. FoundAs content (state_of (store_of self.old))) (store_of self.old) (store_of self.new) }
+        ensures failed_before { has_failed (store_of self.old) ≡ true → (IsErrOf result Fault)
+            × IsUnchanged (store_of self.old) (store_of self.new) }
+        ensures goes { Goes (λ content. FoundAs content (state_of (store_of self.old))) (store_of self.old)
+            (store_of self.new) }
         ensures state { state_of (store_of self.new) ≡ state_of (store_of self.old) }
-        ensures fails { has_failed (store_of self.old) ≡ false → (has_failed (store_of self.new) ≡ true ↔ IsErrOf result Fault) }
+        ensures fails { has_failed (store_of self.old) ≡ false
+            → (has_failed (store_of self.new) ≡ true ↔ IsErrOf result Fault) }
         ensures retired { OnOk result (IsTaken Retire (store_of self.old) (store_of self.new)) }
         ensures needed { IfErr result (λ e. e ≢ Fault → IsWhy Retire e (store_of self.old)) }
         ensures untouched { IsErrOf result StillNeeded → IsUnchanged (store_of self.old) (store_of self.new) }

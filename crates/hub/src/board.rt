@@ -40,7 +40,8 @@ impl<D, J: Site> Model for Board<D, J> {
 
     ghost view = { λ b. record { board = b.board; failed = b.failed; told = b.told; left = b.left } };
 
-    ghost invariant = { λ b. spec.IsHistory b.board × spec.IsWithin b.board b.told × (b.board.start ≡ J.start) × (b.seats.total ≡ length b.board.order) × (b.spare.parts ≡ b.left + 1) };
+    ghost invariant = { λ b. spec.IsHistory b.board × spec.IsWithin b.board b.told × (b.board.start ≡ J.start)
+        × (b.seats.total ≡ length b.board.order) × (b.spare.parts ≡ b.left + 1) };
 }
 
 impl<D, J: Site> Board<D, J> {
@@ -149,13 +150,15 @@ impl<D, J: Site> Board<D, J> {
         seat: &mut Seat<J>,
         command: &Command,
     ) -> Result<Ticket, Refusal>
-        ensures ok { OnOk result (self.new ≡ record self.old { board = submitted (entry_of command.now) self.old.board command.now }) }
+        ensures ok { OnOk result (self.new
+            ≡ record self.old { board = submitted (entry_of command.now) self.old.board command.now }) }
         ensures ticket { IfOk result (λ ticket. Some ticket ≡ ticket_of self.old.board command.now) }
         ensures command { IfOk result (λ ticket. ticket.command ≡ command.now) }
         ensures counts { IfOk result (λ ticket. seat.new ≡ counted seat.old ticket.reply) }
         ensures works { OnOk result (self.old.failed ≡ false) }
         ensures failed { self.old.failed ≡ true → IsErrOf result Refusal.StoreFailed }
-        ensures refused { self.old.failed ≡ false → IfErr result (λ e. (e ≡ Refusal.NoMemory) ⊎ (answer self.old.board.state command.now ≡ Refuses e)) }
+        ensures refused { self.old.failed ≡ false
+            → IfErr result (λ e. (e ≡ Refusal.NoMemory) ⊎ (answer self.old.board.state command.now ≡ Refuses e)) }
         ensures unchanged { OnErr result (self.new ≡ self.old) }
         ensures uncounted { OnErr result (seat.new ≡ seat.old) }
         ensures start { self.old.board.start ≡ J.start }
@@ -184,7 +187,8 @@ impl<D, J: Site> Board<D, J> {
         ensures longest { IfOk result (λ run. IsLongest cap (untaken self.old.board) (length run.commands)) }
         ensures run { IfOk result (λ run. run.commands ≡ takens (next_run self.old.board (length run.commands))) }
         ensures cap { IfOk result (λ run. run.cap ≡ cap) }
-        ensures board { IfOk result (λ run. self.new ≡ record self.old { board = taken_more self.old.board (length run.commands) }) }
+        ensures board { IfOk result (λ run. self.new
+            ≡ record self.old { board = taken_more self.old.board (length run.commands) }) }
         ensures only { IfErr result (λ e. e ≡ Refusal.NoMemory) }
         ensures unchanged { OnErr result (self.new ≡ self.old) }
     {
@@ -199,7 +203,8 @@ impl<D, J: Site> Board<D, J> {
     /// next part of the order after what is settled, some of it isn't taken off, it is empty, or what was published doesn't end with
     /// it; nothing has changed then. It takes no memory.
     pub fn settle(&mut self, receipt: &Receipt<D>, told: Told<D, J>) -> Result<(), Refusal>
-        ensures ok { OnOk result (self.new ≡ record self.old { board = settled_more self.old.board (length receipt.now); told = told }) }
+        ensures ok { OnOk result (self.new
+            ≡ record self.old { board = settled_more self.old.board (length receipt.now); told = told }) }
         ensures may { OnOk result (MaySettle self.old.board receipt.now (length (commands_of told))) }
         ensures stranger { MaySettle self.old.board receipt.now (length (commands_of told)) → IsOk result }
         ensures only { IfErr result (λ e. e ≡ Refusal.Stranger) }

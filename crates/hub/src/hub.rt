@@ -37,7 +37,11 @@ impl<D, J: Site> Kept<D, J> {
         seat: &mut Seat<J>,
         command: &Command,
     ) -> Result<Ticket, Refusal>
-        ensures ok { OnOk result (self.new ≡ record self.old { board = record self.old.board { board = submitted (entry_of command.now) self.old.board.board command.now } }) }
+        ensures ok { OnOk result (self.new
+            ≡ record self.old {
+              board = record
+                  self.old.board { board = submitted (entry_of command.now) self.old.board.board command.now };
+            }) }
         ensures unchanged { OnErr result (self.new ≡ self.old) }
         ensures given { WasGiven J.start command.now result }
         ensures command { IfOk result (λ ticket. ticket.command ≡ command.now) }
@@ -45,7 +49,8 @@ impl<D, J: Site> Kept<D, J> {
         ensures uncounted { OnErr result (seat.new ≡ seat.old) }
         ensures ended { self.old.ended ≡ true → IsErrOf result Refusal.StoreFailed }
         ensures failed { self.old.board.failed ≡ true → IsErrOf result Refusal.StoreFailed }
-        ensures refused { self.old.ended ≡ false → self.old.board.failed ≡ false → IfErr result (λ e. (e ≡ Refusal.NoMemory) ⊎ (answer self.old.board.board.state command.now ≡ Refuses e)) }
+        ensures refused { self.old.ended ≡ false → self.old.board.failed ≡ false
+            → IfErr result (λ e. (e ≡ Refusal.NoMemory) ⊎ (answer self.old.board.board.state command.now ≡ Refuses e)) }
     {
         if self.ended {
             return Err(Refusal::StoreFailed);
@@ -59,9 +64,11 @@ impl<D, J: Site> Kept<D, J> {
         receipt: &Receipt<D>,
         told: Told<D, J>,
     ) -> (Result<(), Refusal>, [bool; 64])
-        ensures board { OnOk result.0 (self.new.board ≡ record self.old.board { board = settled_more self.old.board.board (length receipt.now); told = told }) }
+        ensures board { OnOk result.0 (self.new.board
+            ≡ record self.old.board { board = settled_more self.old.board.board (length receipt.now); told = told }) }
         ensures others { self.new.ended ≡ self.old.ended }
-        ensures wakes { OnOk result.0 (AreWoken self.new.board.board.settled self.old.awaited self.new.awaited result.1) }
+        ensures wakes { OnOk result.0
+            (AreWoken self.new.board.board.settled self.old.awaited self.new.awaited result.1) }
         ensures stranger { MaySettle self.old.board.board receipt.now (length (commands_of told)) → IsOk result.0 }
         ensures only { IfErr result.0 (λ e. e ≡ Refusal.Stranger) }
         ensures unchanged { OnErr result.0 (self.new ≡ self.old) }
@@ -76,7 +83,8 @@ impl<D, J: Site> Kept<D, J> {
     // notes that somebody waits at a place for so many commands to be settled
     fn await_at(&mut self, place: usize, length: usize)
         requires { place < 64 }
-        ensures { self.new ≡ record self.old { awaited = set self.old.awaited place (min length (get_or self.old.awaited place 0)) } }
+        ensures { self.new
+            ≡ record self.old { awaited = set self.old.awaited place (min length (get_or self.old.awaited place 0)) } }
     {
         if length < self.awaited[place] {
             self.awaited[place] = length;

@@ -117,7 +117,8 @@ impl<D, J: Site, R: Wait> HubDesk<'_, D, J, R> {
     ) -> Result<Vec<Result<Ticket, Refusal>>, Refusal>
         ensures of_these { IfOk result (λ tickets. AreOf J.start (ahead.commands_of sent.now) tickets.items) }
         ensures as_many { IfOk result (λ tickets. vec_len tickets ≡ length sent.now) }
-        ensures counts { IfOk result (λ tickets. self.new ≡ with_count self.old (counted_all self.old.counted tickets.items)) }
+        ensures counts { IfOk result (λ tickets. self.new
+            ≡ with_count self.old (counted_all self.old.counted tickets.items)) }
         ensures only { IfErr result (λ e. e ≡ Refusal.NoMemory) }
         ensures unchanged { OnErr result (self.new ≡ self.old) }
     {
@@ -177,7 +178,8 @@ impl<D, J: Site, R: Wait> HubDesk<'_, D, J, R> {
         requires as_many { length tickets.now ≡ vec_len sent.old }
         ensures commands { ahead.commands_of sent.new.items ≡ ahead.commands_of sent.old.items }
         ensures others { self.new ≡ record self.old { told = self.new.told } }
-        ensures answered { (count : ℕ) → Asks (PassesAtHub J.start) (with_count self.old count) (ahead.exchanges_of sent.new.items)
+        ensures answered { (count : ℕ)
+            → Asks (PassesAtHub J.start) (with_count self.old count) (ahead.exchanges_of sent.new.items)
             (with_count self.new (counted_all count tickets.now)) }
     {
         for i in 0..sent.len() {
@@ -263,7 +265,8 @@ fn push_in_room(tickets: &mut Vec<Result<Ticket, Refusal>>, submitted: Result<Ti
 fn refuse_all(sent: &mut Vec<Sent>, refusal: Refusal)
     requires memory { refusal ≡ Refusal.NoMemory }
     ensures commands { ahead.commands_of sent.new.items ≡ ahead.commands_of sent.old.items }
-    ensures refused { (start : state.State) (desk : at_hub.Desk) → Asks (PassesAtHub start) desk (ahead.exchanges_of sent.new.items) desk }
+    ensures refused { (start : state.State) (desk : at_hub.Desk)
+        → Asks (PassesAtHub start) desk (ahead.exchanges_of sent.new.items) desk }
 {
     for i in 0..sent.len() {
         sent[i].answer = Err(refusal);

@@ -119,12 +119,14 @@ impl Area {
         requires some { 0 < length body.now }
 
         ensures no_room { IsErrOf result AppendError.NoRoom ↔ (self.old.size < self.old.next + 6 + length body.now) }
-        ensures untouched { (result ≡ Err AppendError.NoRoom) ⊎ (result ≡ Err AppendError.NoMemory) → disk.new ≡ disk.old }
+        ensures untouched { (result ≡ Err AppendError.NoRoom) ⊎ (result ≡ Err AppendError.NoMemory)
+            → disk.new ≡ disk.old }
         ensures err { OnErr result (self.new ≡ self.old) }
         ensures place { OnOk result (self.new ≡ record self.old { next = self.old.next + 5 + length body.now }) }
 
         // Whatever bodies the area stood for: a crash at any moment leaves them with the new one or without.
-        ensures any_moment { (bodies : List (List ℕ)) → D.unsynced disk.old ≡ [] → Stands (D.seen disk.old) self.old bodies
+        ensures any_moment { (bodies : List (List ℕ)) → D.unsynced disk.old ≡ []
+            → Stands (D.seen disk.old) self.old bodies
             → LeavesOnly ⟦<D as Disk>⟧ (IsLeftByAppend (D.seen disk.old) self.old bodies body.now) disk.old disk.new }
         ensures done { OnOk result ((bodies : List (List ℕ)) → Stands (D.seen disk.old) self.old bodies
             → IsAppended (D.seen disk.old) self.old bodies body.now (D.seen disk.new) self.new) }

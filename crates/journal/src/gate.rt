@@ -20,8 +20,10 @@ pub fn write_gated<D: Disk>(disk: &mut D, gate: u64, bytes: &[u8]) -> Result<(),
     requires bound { gate + 1 < 2 ^ 64 }
 
     // From a synced device on, a crash at any moment leaves the gate as it was, or the bytes behind it.
-    ensures any_moment { D.unsynced disk.old ≡ [] → LeavesOnly ⟦<D as Disk>⟧ (IsGated gate bytes.now (D.seen disk.old)) disk.old disk.new }
-    ensures seen { OnOk result (D.seen disk.new ≡ overwritten (overwritten (D.seen disk.old) (gate + 1) bytes.now) gate (open_gate ∷ [])) }
+    ensures any_moment { D.unsynced disk.old ≡ []
+        → LeavesOnly ⟦<D as Disk>⟧ (IsGated gate bytes.now (D.seen disk.old)) disk.old disk.new }
+    ensures seen { OnOk result (D.seen disk.new
+        ≡ overwritten (overwritten (D.seen disk.old) (gate + 1) bytes.now) gate (open_gate ∷ [])) }
     ensures synced { OnOk result (D.unsynced disk.new ≡ []) }
     ensures only_written { HasOnlyWritten ⟦<D as Disk>⟧ disk.old disk.new }
 

@@ -40,11 +40,14 @@ pub fn delta_width()
 
 /// Two texts of less than 2^16 bytes whose spellings begin one list of bytes are equal, and so is what is behind them.
 pub fn one_text_spelling()
-    ensures { (a b x y : List ℕ) → length a < 2 ^ 16 → length b < 2 ^ 16 → fields.text16 a ++ x ≡ fields.text16 b ++ y → (a ≡ b) × (x ≡ y) }
+    ensures { (a b x y : List ℕ) → length a < 2 ^ 16 → length b < 2 ^ 16 → fields.text16 a ++ x ≡ fields.text16 b ++ y
+        → (a ≡ b) × (x ≡ y) }
 {}
 
 /// And so are two numbers of four bytes, and two of eight.
 pub fn one_number_spelling()
-    ensures four { (m n : ℕ) (x y : List ℕ) → m < 2 ^ 32 → n < 2 ^ 32 → fields.number w32 m ++ x ≡ fields.number w32 n ++ y → (m ≡ n) × (x ≡ y) }
-    ensures eight { (m n : ℕ) (x y : List ℕ) → m < 2 ^ 64 → n < 2 ^ 64 → fields.number w64 m ++ x ≡ fields.number w64 n ++ y → (m ≡ n) × (x ≡ y) }
+    ensures four { (m n : ℕ) (x y : List ℕ) → m < 2 ^ 32 → n < 2 ^ 32
+        → fields.number w32 m ++ x ≡ fields.number w32 n ++ y → (m ≡ n) × (x ≡ y) }
+    ensures eight { (m n : ℕ) (x y : List ℕ) → m < 2 ^ 64 → n < 2 ^ 64
+        → fields.number w64 m ++ x ≡ fields.number w64 n ++ y → (m ≡ n) × (x ≡ y) }
 {}

@@ -68,7 +68,8 @@ impl From<ScanError> for Refusal {
 fn next_record(bytes: &[u8]) -> Result<Option<(&[u8], &[u8])>, ScanError>
     ensures found { IfOk result (λ o. IfSome o (λ r. IsBody r.0.now × (bytes.now ≡ entry r.0.now ++ r.1.now))) }
     ensures end { result ≡ Ok None → BeginsClosed bytes.now }
-    ensures damaged { IfErr result (λ e. (e ≡ ScanError.Damaged) × ((bodies : List (List ℕ)) → ¬ HoldsBodies bodies bytes.now)) }
+    ensures damaged { IfErr result (λ e. (e ≡ ScanError.Damaged)
+        × ((bodies : List (List ℕ)) → ¬ HoldsBodies bodies bytes.now)) }
 {
     match bytes {
         [] => Err(ScanError::Damaged),
@@ -88,7 +89,8 @@ fn next_record(bytes: &[u8]) -> Result<Option<(&[u8], &[u8])>, ScanError>
 fn records_of(alloc: Global, bytes: &[u8]) -> Result<(Vec<Vec<u8>>, u64), ScanError>
     ensures found { IfOk result (λ r. HoldsBodies (items_of r.0.items) bytes.now) }
     ensures next { IfOk result (λ r. (r.1 ≡ length (entries (items_of r.0.items))) × (r.1 < length bytes.now)) }
-    ensures damaged { IfErr result (λ e. e ≡ ScanError.Damaged → (bodies : List (List ℕ)) → ¬ HoldsBodies bodies bytes.now) }
+    ensures damaged { IfErr result (λ e. e ≡ ScanError.Damaged → (bodies : List (List ℕ))
+        → ¬ HoldsBodies bodies bytes.now) }
     ensures no_fault { IfErr result (λ e. e ≢ ScanError.Fault) }
 {
     let mut bodies = Vec::new(alloc);
@@ -118,7 +120,8 @@ impl Area {
         requires size { size < 2 ^ 32 }
         requires within { at + size ≤ length (D.seen disk.old) }
 
-        ensures found { IfOk result (λ s. D.honest disk.new → Stands (D.seen disk.old) s.area (items_of s.bodies.items)) }
+        ensures found { IfOk result (λ s. D.honest disk.new
+            → Stands (D.seen disk.old) s.area (items_of s.bodies.items)) }
         ensures place { IfOk result (λ s. (s.area.at ≡ at) × (s.area.size ≡ size)) }
         ensures damaged { IfErr result (λ e. e ≡ ScanError.Damaged → D.honest disk.new
             → (bodies : List (List ℕ)) → ¬ HoldsBodies bodies (take size (drop at (D.seen disk.old)))) }

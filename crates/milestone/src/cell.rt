@@ -19,7 +19,8 @@ pub(crate) fn close<D: Disk>(disk: &mut D, gate: u64) -> Result<(), Fault>
     requires within { gate < length (D.seen disk.old) }
     requires bound { gate < 2 ^ 62 }
 
-    ensures any_moment { D.unsynced disk.old ≡ [] → LeavesOnly ⟦<D as Disk>⟧ (SameOutside gate 1 (D.seen disk.old)) disk.old disk.new }
+    ensures any_moment { D.unsynced disk.old ≡ []
+        → LeavesOnly ⟦<D as Disk>⟧ (SameOutside gate 1 (D.seen disk.old)) disk.old disk.new }
     ensures seen { OnOk result (D.seen disk.new ≡ overwritten (D.seen disk.old) gate (0 ∷ [])) }
     ensures synced { OnOk result (D.unsynced disk.new ≡ []) }
     ensures calls { length (D.past disk.new) ≤ length (D.past disk.old) + 2 }

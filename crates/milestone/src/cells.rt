@@ -174,7 +174,8 @@ impl Cells {
         ensures untouched { IsErrOf result Refusal.NoMemory → disk.new ≡ disk.old }
         ensures err { OnErr result (self.new ≡ self.old) }
         ensures same { SameCells self.old self.new }
-        ensures revisions { OnOk result (revisions_of self.new ≡ with_revision milestone.now.revision (revisions_of self.old)) }
+        ensures revisions { OnOk result (revisions_of self.new
+            ≡ with_revision milestone.now.revision (revisions_of self.old)) }
 
         // Whatever the cells held: a crash at any moment leaves that, or that with the milestone.
         ensures any_moment { (pair : Pair) → D.unsynced disk.old ≡ [] → Fits (D.seen disk.old) self.old pair
@@ -209,11 +210,13 @@ impl Cells {
         ensures only { IfErr result (λ e. (e ≡ Refusal.NoMemory) ⊎ (e ≡ Refusal.Fault)) }
         ensures untouched { IsErrOf result Refusal.NoMemory → (disk.new ≡ disk.old) × (self.new ≡ self.old) }
         ensures same { SameCells self.old self.new }
-        ensures revisions { OnOk result (revisions_of self.new ≡ with_revision milestone.now.revision (freed_of (revisions_of self.old))) }
+        ensures revisions { OnOk result (revisions_of self.new
+            ≡ with_revision milestone.now.revision (freed_of (revisions_of self.old))) }
 
         // Whatever the cells held: a crash at any moment leaves that, or that without the older cell, or with the milestone there.
         ensures any_moment { (pair : Pair) → D.unsynced disk.old ≡ [] → Fits (D.seen disk.old) self.old pair
-            → LeavesOnly ⟦<D as Disk>⟧ (IsLeftByReplacing (D.seen disk.old) self.old pair milestone.now) disk.old disk.new }
+            → LeavesOnly ⟦<D as Disk>⟧ (IsLeftByReplacing (D.seen disk.old) self.old pair milestone.now) disk.old
+            disk.new }
         ensures done { OnOk result ((pair : Pair) → Fits (D.seen disk.old) self.old pair
             → FitsNow (D.seen disk.old) self.old (D.seen disk.new) self.new (with_cell milestone.now (freed pair))) }
         ensures synced { OnOk result (D.unsynced disk.new ≡ []) }
@@ -245,7 +248,8 @@ impl Cells {
         ensures only { IfErr result (λ e. e ≡ Refusal.Fault) }
         ensures err { OnErr result (self.new ≡ self.old) }
         ensures same { SameCells self.old self.new }
-        ensures revisions { OnOk result (revisions_of self.new ≡ with_revision milestone.now.revision (revisions_of self.old)) }
+        ensures revisions { OnOk result (revisions_of self.new
+            ≡ with_revision milestone.now.revision (revisions_of self.old)) }
         ensures any_moment { (pair : Pair) → D.unsynced disk.old ≡ [] → Fits (D.seen disk.old) self.old pair
             → LeavesOnly ⟦<D as Disk>⟧ (IsLeftByPut (D.seen disk.old) self.old pair milestone.now) disk.old disk.new }
         ensures done { OnOk result ((pair : Pair) → Fits (D.seen disk.old) self.old pair

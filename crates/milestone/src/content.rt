@@ -17,7 +17,8 @@ impl Milestone {
     pub fn content(&self, alloc: Global) -> Result<Delta, Refusal>
         ensures delta { IfOk result (λ delta. delta ≡ inserts_of self.now.content.units) }
         ensures spellable { IfOk result (λ _. IsSpellable (inserts_of self.now.content.units)) }
-        ensures is_cell { IfOk result (λ _. (number : ℕ) → number < 2 ^ 32 → count_of self.now.sources < 2 ^ 32 → IsCell number self.now) }
+        ensures is_cell { IfOk result (λ _. (number : ℕ) → number < 2 ^ 32 → count_of self.now.sources < 2 ^ 32
+            → IsCell number self.now) }
         ensures heavy { IsErrOf result Refusal.TooHeavy → 2 ^ 32 ≤ width_of (inserts_of self.now.content.units) }
         ensures light { OnOk result (width_of (inserts_of self.now.content.units) < 2 ^ 32) }
         ensures only { IfErr result (λ e. (e ≡ Refusal.TooHeavy) ⊎ (e ≡ Refusal.NoMemory)) }

@@ -50,7 +50,15 @@ impl Job {
         requires first { 1 ≤ revision }
         requires last { revision ≤ last_of_all }
         requires sources { are_sources revision sources.entries ≡ true }
-        ensures { result ≡ record { document = document; name = name; revision = revision; deltas = deltas.items; sources = sources } }
+        ensures { result
+            ≡ record {
+              document = document;
+              name = name;
+              revision = revision;
+              deltas = deltas.items;
+              sources =
+                  sources;
+            } }
     {
         let _ = name.as_str();
         let _ = sources.entries();

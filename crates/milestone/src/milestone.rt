@@ -49,7 +49,8 @@ impl Milestone {
         requires first { 1 ≤ revision }
         requires last { revision ≤ last_of_all }
         requires sources { are_sources revision sources.entries ≡ true }
-        ensures { result ≡ record { name = name; revision = revision; content = record { units = document }; sources = sources } }
+        ensures { result
+            ≡ record { name = name; revision = revision; content = record { units = document }; sources = sources } }
     {
         let _ = name.as_str();
         let _ = sources.entries();
@@ -93,7 +94,14 @@ impl Milestone {
 
     /// What it is made of. It takes no memory.
     pub fn into_parts(self) -> MilestoneParts
-        ensures { result ≡ record { name = self.name; revision = self.revision; document = self.content.units; sources = self.sources } }
+        ensures { result
+            ≡ record {
+              name = self.name;
+              revision = self.revision;
+              document = self.content.units;
+              sources =
+                  self.sources;
+            } }
     {
         MilestoneParts {
             name: self.name,

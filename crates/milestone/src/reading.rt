@@ -50,7 +50,8 @@ pub(crate) fn read_body(
     bytes: &[u8],
 ) -> Result<Option<Milestone>, Refusal>
     ensures found { IfOk result (λ found. IfSome found (λ m. IsCell number m × (bytes.now ≡ cell_body number m))) }
-    ensures none { IfOk result (λ found. IfNone found ((cell : Cell) → IsCell number cell → bytes.now ≡ cell_body number cell → ⊥)) }
+    ensures none { IfOk result (λ found. IfNone found ((cell : Cell) → IsCell number cell
+        → bytes.now ≡ cell_body number cell → ⊥)) }
     ensures only { IfErr result (λ e. e ≡ Refusal.NoMemory) }
 {
     match whole(alloc, number, bytes) {
@@ -63,7 +64,8 @@ pub(crate) fn read_body(
 #[tactic(auto, unfolding(crate::specs::CellSpelling::cell_body))]
 fn whole(alloc: Global, number: u32, bytes: &[u8]) -> Result<Milestone, Unread>
     ensures found { IfOk result (λ m. IsCell number m × (bytes.now ≡ cell_body number m)) }
-    ensures none { IfErr result (λ e. e ≡ Unread.Malformed → (cell : Cell) → IsCell number cell → bytes.now ≡ cell_body number cell → ⊥) }
+    ensures none { IfErr result (λ e. e ≡ Unread.Malformed → (cell : Cell) → IsCell number cell
+        → bytes.now ≡ cell_body number cell → ⊥) }
 {
     let rest = this_number(number, bytes)?;
     let (name, rest) = document_name(alloc, rest)?;
@@ -91,7 +93,8 @@ fn below_2_to_64(number: u64)
 
 fn this_number(number: u32, bytes: &[u8]) -> Result<&[u8], Unread>
     ensures found { IfOk result (λ rest. bytes.now ≡ fields.number w32 number ++ rest.now) }
-    ensures none { IfErr result (λ e. e ≡ Unread.Malformed → (rest : List ℕ) → bytes.now ≡ fields.number w32 number ++ rest → ⊥) }
+    ensures none { IfErr result (λ e. e ≡ Unread.Malformed → (rest : List ℕ)
+        → bytes.now ≡ fields.number w32 number ++ rest → ⊥) }
 {
     let Some((read, rest)) = read_number32(bytes) else {
         return Err(Unread::Malformed);
@@ -121,7 +124,8 @@ fn number_within(high: u64, bytes: &[u8]) -> Result<(u64, &[u8]), Unread>
 
 fn document_name(alloc: Global, bytes: &[u8]) -> Result<(Name, &[u8]), Unread>
     ensures found { IfOk result (λ x. (is_document_name x.0 ≡ true) × (bytes.now ≡ fields.text16 x.0 ++ x.1.now)) }
-    ensures none { IfErr result (λ e. e ≡ Unread.Malformed → BeginsNone fields.text16 (λ name. is_document_name name ≡ true) bytes.now) }
+    ensures none { IfErr result (λ e. e ≡ Unread.Malformed
+        → BeginsNone fields.text16 (λ name. is_document_name name ≡ true) bytes.now) }
 {
     let Some((text, rest)) = read_text16(bytes) else {
         return Err(Unread::Malformed);
@@ -136,7 +140,8 @@ fn document_name(alloc: Global, bytes: &[u8]) -> Result<(Name, &[u8]), Unread>
 fn source_name(alloc: Global, bytes: &[u8]) -> Result<(&str, Name, &[u8]), Unread>
     ensures found { IfOk result (λ x. (is_source_name x.1 ≡ true) × (bytes.now ≡ fields.text16 x.1 ++ x.2.now)) }
     ensures same { IfOk result (λ x. x.1 ≡ x.0.now) }
-    ensures none { IfErr result (λ e. e ≡ Unread.Malformed → BeginsNone fields.text16 (λ name. is_source_name name ≡ true) bytes.now) }
+    ensures none { IfErr result (λ e. e ≡ Unread.Malformed
+        → BeginsNone fields.text16 (λ name. is_source_name name ≡ true) bytes.now) }
 {
     let Some((text, rest)) = read_text16(bytes) else {
         return Err(Unread::Malformed);
@@ -192,10 +197,12 @@ fn source_above<'a>(
     revision: u64,
     bytes: &'a [u8],
 ) -> Result<(&'a str, Name, LastTaken, &'a [u8]), Unread>
-    ensures found { IfOk result (λ x. IsSource revision (x.1, x.2) × (bytes.now ≡ spelling.source (x.1, x.2) ++ x.3.now)) }
+    ensures found { IfOk result (λ x. IsSource revision (x.1, x.2)
+        × (bytes.now ≡ spelling.source (x.1, x.2) ++ x.3.now)) }
     ensures same { IfOk result (λ x. x.1 ≡ x.0.now) }
     ensures above { IfOk result (λ x. is_lt (by_bytes last.now x.1) ≡ true) }
-    ensures none { IfErr result (λ e. e ≡ Unread.Malformed → (x : List ℕ × LastTaken) (rest : List ℕ) → IsSource revision x
+    ensures none { IfErr result (λ e. e ≡ Unread.Malformed → (x : List ℕ × LastTaken) (rest : List ℕ)
+        → IsSource revision x
         → is_lt (by_bytes last.now x.0) ≡ true → bytes.now ≡ spelling.source x ++ rest → ⊥) }
 {
     let (text, name, rest) = source_name(alloc, bytes)?;

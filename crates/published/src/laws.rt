@@ -6,12 +6,15 @@ ghost use Rattle.recovery.specs.Found.{commands_of};
 
 /// The commands of batches and of further ones are those of the first, and then those of the others.
 pub fn commands_join()
-    ensures join { (first others : List (List Taken)) → commands_of (first ++ others) ≡ commands_of first ++ commands_of others }
-    ensures one { (first : List (List Taken)) (batch : List Taken) → commands_of (first ++ batch ∷ []) ≡ commands_of first ++ batch }
+    ensures join { (first others : List (List Taken))
+        → commands_of (first ++ others) ≡ commands_of first ++ commands_of others }
+    ensures one { (first : List (List Taken)) (batch : List Taken)
+        → commands_of (first ++ batch ∷ []) ≡ commands_of first ++ batch }
 {}
 
 /// A list begins with itself, and with the beginnings of its beginnings.
 pub fn beginnings()
     ensures itself { (batches : List (List Taken)) → IsPrefix batches batches }
-    ensures through { (first more all : List (List Taken)) → IsPrefix first more → IsPrefix more all → IsPrefix first all }
+    ensures through { (first more all : List (List Taken)) → IsPrefix first more → IsPrefix more all
+        → IsPrefix first all }
 {}

@@ -30,15 +30,18 @@ impl<D: Disk> Store<D> {
         requires some { 1 ≤ every }
 
         // When each refusal comes.
-        ensures failed_before { has_failed self.old ≡ true → (IsErrOf result Refusal.Fault) × IsUnchanged self.old self.new }
+        ensures failed_before { has_failed self.old ≡ true → (IsErrOf result Refusal.Fault)
+            × IsUnchanged self.old self.new }
         ensures fault { IsErrOf result Refusal.Fault → has_failed self.old ≡ false
             → Rose (D.faults (device_of self.old)) (D.faults (device_of self.new)) }
         ensures only { IfErr result (λ e. (e ≡ Refusal.NoMemory) ⊎ (e ≡ Refusal.Fault)) }
 
         // Where one was due, it was put.
-        ensures put { IfOk result (λ put. put ≡ true → (is_open : IsOpen self.old) → IsPutDue every document self.old is_open self.new) }
+        ensures put { IfOk result (λ put. put ≡ true → (is_open : IsOpen self.old)
+            → IsPutDue every document self.old is_open self.new) }
         ensures none { IfOk result (λ put. put ≡ false → (is_open : IsOpen self.old)
-            → due_for every (slice_get (state_of self.old).documents document) (highest (cells_at is_open.cells document)) ≡ None) }
+            → due_for every (slice_get (state_of self.old).documents document)
+            (highest (cells_at is_open.cells document)) ≡ None) }
         ensures untouched { IfOk result (λ put. put ≡ false → IsUnchanged self.old self.new) }
 
         // What each answer leaves.
@@ -47,12 +50,14 @@ impl<D: Disk> Store<D> {
         ensures fails { has_failed self.old ≡ false → (has_failed self.new ≡ true ↔ IsErrOf result Refusal.Fault) }
         ensures works { OnOk result (has_failed self.new ≡ false) }
         ensures good { OnOk result (D.faults (device_of self.new) ≡ D.faults (device_of self.old)) }
-        ensures no_fault { IfErr result (λ e. e ≢ Refusal.Fault → D.faults (device_of self.new) ≡ D.faults (device_of self.old)) }
+        ensures no_fault { IfErr result (λ e. e ≢ Refusal.Fault
+            → D.faults (device_of self.new) ≡ D.faults (device_of self.old)) }
 
         // A crash at any moment leaves the state.
         ensures goes { Goes (λ content. FoundAs content (state_of self.old)) self.old self.new }
         ensures any_moment { has_failed self.old ≡ false → IsOpen self.old
-            → LeavesOnly ⟦<D as Disk>⟧ (λ content. FoundAs content (state_of self.old)) (device_of self.old) (device_of self.new) }
+            → LeavesOnly ⟦<D as Disk>⟧ (λ content. FoundAs content (state_of self.old)) (device_of self.old)
+            (device_of self.new) }
         ensures done { OnOk result (IsOpen self.old → IsOpen self.new) }
         ensures kept { IfErr result (λ e. e ≢ Refusal.Fault → IsOpen self.old → IsOpen self.new) }
         ensures honest { D.honest (device_of self.new) ↔ D.honest (device_of self.old) }
@@ -94,8 +99,12 @@ impl<D: Disk> Store<D> {
     // The revision of a document where a milestone of it is due, None where none is.
     fn due(&self, document: u32, every: u64) -> Option<u64>
         requires some { 1 ≤ every }
-        ensures due { result ≡ due_for every (slice_get (state_of self.now).documents document) (highest_known (known_cells self.now) document) }
-        ensures can { IfSome result (λ revision. no_job_for (slice_get (state_of self.now).documents document) (highest_known (known_cells self.now) document) revision ≡ None) }
+        ensures due { result
+            ≡ due_for every (slice_get (state_of self.now).documents document)
+            (highest_known (known_cells self.now) document) }
+        ensures can { IfSome result
+            (λ revision. no_job_for (slice_get (state_of self.now).documents document)
+            (highest_known (known_cells self.now) document) revision ≡ None) }
     {
         match self.state.documents().get(document as usize) {
             Some(found) => due_at(found, every, highest_of(&self.cells, document)),

@@ -25,7 +25,8 @@ pub fn format_device<D: Disk>(alloc: Global, disk: &mut D, shape: Shape) -> Resu
     ensures any_moment { D.unsynced disk.old ≡ [] → IsUnformatted (D.seen disk.old)
         → LeavesOnly ⟦<D as Disk>⟧ (IsUnformattedOrEmpty shape) disk.old disk.new }
     ensures from_sync { IsUnformatted (D.seen disk.old)
-        → LeavesFromSync (IsUnformattedOrEmpty shape) (history_of ⟦<D as Disk>⟧ disk.old) (history_of ⟦<D as Disk>⟧ disk.new) }
+        → LeavesFromSync (IsUnformattedOrEmpty shape) (history_of ⟦<D as Disk>⟧ disk.old)
+        (history_of ⟦<D as Disk>⟧ disk.new) }
     ensures done { OnOk result (IsEmptyStore shape (D.seen disk.new)) }
     ensures synced { OnOk result (D.unsynced disk.new ≡ []) }
 
@@ -34,7 +35,8 @@ pub fn format_device<D: Disk>(alloc: Global, disk: &mut D, shape: Shape) -> Resu
         → IsOnlySynced (history_of ⟦<D as Disk>⟧ disk.old) (history_of ⟦<D as Disk>⟧ disk.new) }
     ensures formatted { D.honest disk.new → IsFormatted (D.seen disk.old)
         → (result ≡ Err Refusal.AlreadyFormatted) ⊎ (result ≡ Err Refusal.Fault) }
-    ensures already_formatted { result ≡ Err Refusal.AlreadyFormatted → D.honest disk.new → IsFormatted (D.seen disk.old) }
+    ensures already_formatted { result ≡ Err Refusal.AlreadyFormatted → D.honest disk.new
+        → IsFormatted (D.seen disk.old) }
 
     ensures too_short { length (D.seen disk.old) < 64 → (result ≡ Err Refusal.BadShape) × (disk.new ≡ disk.old) }
     ensures bad_shape { result ≡ Err Refusal.BadShape → ¬ Fits shape (length (D.seen disk.old)) }
@@ -70,7 +72,8 @@ pub fn format_device<D: Disk>(alloc: Global, disk: &mut D, shape: Shape) -> Resu
 // Syncs, and reads whether the superblock's gate is open.
 fn reads_open_gate<D: Disk>(disk: &mut D) -> Result<bool, Fault>
     requires { 1 ≤ length (D.seen disk.old) }
-    ensures is_open { IfOk result (λ b. D.honest disk.new → (IsTrue b ↔ (slice_index (D.seen disk.old) 0 ≡ open_gate))) }
+    ensures is_open { IfOk result (λ b. D.honest disk.new
+        → (IsTrue b ↔ (slice_index (D.seen disk.old) 0 ≡ open_gate))) }
     ensures only_synced { IsOnlySynced (history_of ⟦<D as Disk>⟧ disk.old) (history_of ⟦<D as Disk>⟧ disk.new) }
     ensures synced { OnOk result (D.unsynced disk.new ≡ []) }
     ensures honest { D.honest disk.new → D.honest disk.old }

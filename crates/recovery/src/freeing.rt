@@ -27,10 +27,12 @@ impl<D: Disk> Store<D> {
     /// has failed. The documents stay.
     pub fn free_oldest(&mut self, alloc: Global) -> Result<(), Refusal>
         // When each refusal comes.
-        ensures failed_before { has_failed self.old ≡ true → (IsErrOf result Refusal.Fault) × IsUnchanged self.old self.new }
+        ensures failed_before { has_failed self.old ≡ true → (IsErrOf result Refusal.Fault)
+            × IsUnchanged self.old self.new }
         ensures few { has_failed self.old ≡ false → open_count (known_numbers (ring_of self.old)) < 2
             → (IsErrOf result Refusal.StillNeeded) × IsUnchanged self.old self.new }
-        ensures needed { IsErrOf result Refusal.StillNeeded → IsOpen self.old → open_count (known_numbers (ring_of self.old)) < 2 }
+        ensures needed { IsErrOf result Refusal.StillNeeded → IsOpen self.old
+            → open_count (known_numbers (ring_of self.old)) < 2 }
         ensures fault { IsErrOf result Refusal.Fault → has_failed self.old ≡ false
             → Rose (D.faults (device_of self.old)) (D.faults (device_of self.new)) }
         ensures only { IfErr result (λ e. (e ≡ Refusal.StillNeeded) ⊎ ((e ≡ Refusal.NoMemory) ⊎ (e ≡ Refusal.Fault))) }
@@ -40,12 +42,14 @@ impl<D: Disk> Store<D> {
         ensures fails { has_failed self.old ≡ false → (has_failed self.new ≡ true ↔ IsErrOf result Refusal.Fault) }
         ensures works { OnOk result (has_failed self.new ≡ false) }
         ensures good { OnOk result (D.faults (device_of self.new) ≡ D.faults (device_of self.old)) }
-        ensures no_fault { IfErr result (λ e. e ≢ Refusal.Fault → D.faults (device_of self.new) ≡ D.faults (device_of self.old)) }
+        ensures no_fault { IfErr result (λ e. e ≢ Refusal.Fault
+            → D.faults (device_of self.new) ≡ D.faults (device_of self.old)) }
 
         // A crash at any moment leaves the state; once it is Ok, the slot of the oldest segment is closed.
         ensures goes { Goes (λ content. FoundAs content (state_of self.old)) self.old self.new }
         ensures any_moment { has_failed self.old ≡ false → IsOpen self.old
-            → LeavesOnly ⟦<D as Disk>⟧ (λ content. FoundAs content (state_of self.old)) (device_of self.old) (device_of self.new) }
+            → LeavesOnly ⟦<D as Disk>⟧ (λ content. FoundAs content (state_of self.old)) (device_of self.old)
+            (device_of self.new) }
         ensures freed { OnOk result ((is_open : IsOpen self.old) → IsFreedNow is_open.table self.new) }
         ensures done { OnOk result (IsOpen self.old → IsOpen self.new) }
         ensures kept { IfErr result (λ e. e ≢ Refusal.Fault → IsOpen self.old → IsOpen self.new) }
@@ -75,22 +79,30 @@ impl<D: Disk> Store<D> {
         ensures receipt { IfOk result (λ receipt. receipt ≡ batch.now) }
 
         // When each refusal comes. Want of memory may be told in place of `Stranger`.
-        ensures failed_before { has_failed self.old ≡ true → (IsErrOf result Refusal.Fault) × IsUnchanged self.old self.new }
-        ensures full { IsErrOf result Refusal.JournalFull → (has_room self.old batch.now ≡ false) × (has_room self.new batch.now ≡ false) }
-        ensures full_still { IsErrOf result Refusal.JournalFull → (is_open : IsOpen self.old) → IsFreedNow is_open.table self.new }
+        ensures failed_before { has_failed self.old ≡ true → (IsErrOf result Refusal.Fault)
+            × IsUnchanged self.old self.new }
+        ensures full { IsErrOf result Refusal.JournalFull → (has_room self.old batch.now ≡ false)
+            × (has_room self.new batch.now ≡ false) }
+        ensures full_still { IsErrOf result Refusal.JournalFull → (is_open : IsOpen self.old)
+            → IsFreedNow is_open.table self.new }
         ensures needed { IsErrOf result Refusal.StillNeeded → has_room self.old batch.now ≡ false }
-        ensures few { has_failed self.old ≡ false → has_room self.old batch.now ≡ false → open_count (known_numbers (ring_of self.old)) < 2
+        ensures few { has_failed self.old ≡ false → has_room self.old batch.now ≡ false
+            → open_count (known_numbers (ring_of self.old)) < 2
             → IsErrOf result Refusal.StillNeeded }
-        ensures needed_by_few { IsErrOf result Refusal.StillNeeded → IsOpen self.old → open_count (known_numbers (ring_of self.old)) < 2 }
-        ensures never_full { (IsErrOf result Refusal.JournalFull) ⊎ (IsErrOf result Refusal.StillNeeded) → IsOpen self.old
+        ensures needed_by_few { IsErrOf result Refusal.StillNeeded → IsOpen self.old
+            → open_count (known_numbers (ring_of self.old)) < 2 }
+        ensures never_full { (IsErrOf result Refusal.JournalFull) ⊎ (IsErrOf result Refusal.StillNeeded)
+            → IsOpen self.old
             → 2 ^ 64 - 1 ≤ newest_number (known_numbers (ring_of self.old)) }
         ensures stranger { IsErrOf result Refusal.Stranger → all_grow (state_of self.old) batch.now ≡ false }
         ensures grow { OnOk result (all_grow (state_of self.old) batch.now ≡ true) }
-        ensures no_growth { has_failed self.old ≡ false → has_room self.old batch.now ≡ true → all_grow (state_of self.old) batch.now ≡ false
+        ensures no_growth { has_failed self.old ≡ false → has_room self.old batch.now ≡ true
+            → all_grow (state_of self.old) batch.now ≡ false
             → (IsErrOf result Refusal.Stranger) ⊎ (IsErrOf result Refusal.NoMemory) }
         ensures fault { IsErrOf result Refusal.Fault → has_failed self.old ≡ false
             → Rose (D.faults (device_of self.old)) (D.faults (device_of self.new)) }
-        ensures only { IfErr result (λ e. ((e ≡ Refusal.JournalFull) ⊎ ((e ≡ Refusal.StillNeeded) ⊎ (e ≡ Refusal.Stranger))) ⊎ ((e ≡ Refusal.NoMemory) ⊎ (e ≡ Refusal.Fault))) }
+        ensures only { IfErr result (λ e. ((e ≡ Refusal.JournalFull)
+            ⊎ ((e ≡ Refusal.StillNeeded) ⊎ (e ≡ Refusal.Stranger))) ⊎ ((e ≡ Refusal.NoMemory) ⊎ (e ≡ Refusal.Fault))) }
 
         // What each answer leaves.
         ensures state { OnOk result (state_of self.new ≡ fold (state_of self.old) batch.now) }
@@ -99,21 +111,25 @@ impl<D: Disk> Store<D> {
         ensures fails { has_failed self.old ≡ false → (has_failed self.new ≡ true ↔ IsErrOf result Refusal.Fault) }
         ensures works { OnOk result (has_failed self.new ≡ false) }
         ensures good { OnOk result (D.faults (device_of self.new) ≡ D.faults (device_of self.old)) }
-        ensures no_fault { IfErr result (λ e. e ≢ Refusal.Fault → D.faults (device_of self.new) ≡ D.faults (device_of self.old)) }
+        ensures no_fault { IfErr result (λ e. e ≢ Refusal.Fault
+            → D.faults (device_of self.new) ≡ D.faults (device_of self.old)) }
 
         // A crash at any moment of the call leaves the state before it, or the one with the batch.
         ensures goes { Goes (IsWithOrWithout (state_of self.old) batch.now) self.old self.new }
         ensures any_moment { has_failed self.old ≡ false → IsOpen self.old
-            → LeavesOnly ⟦<D as Disk>⟧ (IsWithOrWithout (state_of self.old) batch.now) (device_of self.old) (device_of self.new) }
+            → LeavesOnly ⟦<D as Disk>⟧ (IsWithOrWithout (state_of self.old) batch.now) (device_of self.old)
+            (device_of self.new) }
         // Where memory ran out nothing of the batch was written: a crash at any moment leaves the state before it.
         ensures unwritten { IsErrOf result Refusal.NoMemory → has_failed self.old ≡ false → IsOpen self.old
-            → LeavesOnly ⟦<D as Disk>⟧ (λ content. FoundAs content (state_of self.old)) (device_of self.old) (device_of self.new) }
+            → LeavesOnly ⟦<D as Disk>⟧ (λ content. FoundAs content (state_of self.old)) (device_of self.old)
+            (device_of self.new) }
         // Once it is Ok, the device is synced and stands for the state with the batch.
         ensures done { OnOk result (IsOpen self.old → IsOpen self.new) }
         ensures kept { IfErr result (λ e. e ≢ Refusal.Fault → IsOpen self.old → IsOpen self.new) }
 
         // Where it has room, it makes eight calls of the device at most.
-        ensures calls { has_room self.old batch.now ≡ true → length (D.past (device_of self.new)) ≤ length (D.past (device_of self.old)) + 8 }
+        ensures calls { has_room self.old batch.now ≡ true
+            → length (D.past (device_of self.new)) ≤ length (D.past (device_of self.old)) + 8 }
         ensures honest { D.honest (device_of self.new) ↔ D.honest (device_of self.old) }
     {
         if self.has_room(batch) {
@@ -155,7 +171,8 @@ impl<D: Disk> Store<D> {
         requires working { has_failed self.old ≡ false }
 
         ensures only { IfErr result (λ e. (e ≡ Refusal.StillNeeded) ⊎ ((e ≡ Refusal.NoMemory) ⊎ (e ≡ Refusal.Fault))) }
-        ensures needed { IsErrOf result Refusal.StillNeeded → IsOpen self.old → ¬ MayReach segment mark (state_of self.old) }
+        ensures needed { IsErrOf result Refusal.StillNeeded → IsOpen self.old
+            → ¬ MayReach segment mark (state_of self.old) }
         ensures covered { OnOk result ((is_open : IsOpen self.old) → MayReach segment mark (state_of self.old)
             → IsMarkCovered segment mark is_open.table self.old self.new) }
         ensures keeps { KeepsSegments self.old self.new }
@@ -182,7 +199,8 @@ impl<D: Disk> Store<D> {
         requires some { 1 ≤ revision }
 
         ensures only { IfErr result (λ e. (e ≡ Refusal.StillNeeded) ⊎ ((e ≡ Refusal.NoMemory) ⊎ (e ≡ Refusal.Fault))) }
-        ensures needed { IsErrOf result Refusal.StillNeeded → IsOpen self.old → reached_in (state_of self.old) document < revision }
+        ensures needed { IsErrOf result Refusal.StillNeeded → IsOpen self.old
+            → reached_in (state_of self.old) document < revision }
         ensures raised { OnOk result ((is_open : IsOpen self.old) → revision ≤ reached_in (state_of self.old) document
             → IsRaised document revision is_open.table self.old self.new) }
         ensures keeps { KeepsSegments self.old self.new }

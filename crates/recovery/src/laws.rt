@@ -28,7 +28,8 @@ pub fn found_as()
 
 /// Whichever state such a content is found as, it agrees with that one, and the store runs on with it.
 pub fn found_again()
-    ensures { (content : List ℕ) (state : State) (pick : Pick) (found : State) → FoundAs content state → Found content pick found
+    ensures { (content : List ℕ) (state : State) (pick : Pick) (found : State) → FoundAs content state
+        → Found content pick found
         → Agree found state × RunsWith content found }
 {}
 

@@ -96,7 +96,8 @@ impl Marks {
 
     // The mark of a document in a segment with its place, where the table has it.
     fn mark_of(&self, segment: u64, document: u32) -> Option<(usize, Mark)>
-        ensures there { IfSome result (λ found. (found.0 < length (marks_of self.now)) × (get_or (marks_of self.now) found.0 found.1 ≡ found.1)) }
+        ensures there { IfSome result (λ found. (found.0 < length (marks_of self.now))
+            × (get_or (marks_of self.now) found.0 found.1 ≡ found.1)) }
         ensures own { IfSome result (λ found. (found.1.segment ≡ segment) × (found.1.document ≡ document)) }
     {
         let place = place_of(self.places.as_slice(), document)?;

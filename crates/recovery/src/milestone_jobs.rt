@@ -32,15 +32,21 @@ impl<D: Disk> Store<D> {
         revision: u64,
     ) -> Result<Job, Refusal>
         // When each refusal comes.
-        ensures failed_before { has_failed self.old ≡ true → (IsErrOf result Refusal.Fault) × IsUnchanged self.old self.new }
+        ensures failed_before { has_failed self.old ≡ true → (IsErrOf result Refusal.Fault)
+            × IsUnchanged self.old self.new }
         ensures refused { has_failed self.old ≡ false → (is_open : IsOpen self.old) → (why : Why)
-            → no_job_for (slice_get (state_of self.old).documents document) (highest (cells_at is_open.cells document)) revision ≡ Some why → IsErrOf result why }
-        ensures refusal { IfErr result (λ e. e ≢ Refusal.NoMemory → has_failed self.old ≡ false → (is_open : IsOpen self.old)
-            → no_job_for (slice_get (state_of self.old).documents document) (highest (cells_at is_open.cells document)) revision ≡ Some e) }
+            → no_job_for (slice_get (state_of self.old).documents document) (highest (cells_at is_open.cells document))
+            revision ≡ Some why → IsErrOf result why }
+        ensures refusal { IfErr result (λ e. e ≢ Refusal.NoMemory → has_failed self.old ≡ false
+            → (is_open : IsOpen self.old)
+            → no_job_for (slice_get (state_of self.old).documents document) (highest (cells_at is_open.cells document))
+            revision ≡ Some e) }
         ensures refusal_by { IfErr result (λ e. e ≢ Refusal.NoMemory → e ≢ Refusal.Fault
-            → no_job_for (slice_get (state_of self.old).documents document) (highest_known (known_cells self.old) document) revision ≡ Some e) }
+            → no_job_for (slice_get (state_of self.old).documents document)
+            (highest_known (known_cells self.old) document) revision ≡ Some e) }
         ensures works { has_failed self.old ≡ false → ¬ IsErrOf result Refusal.Fault }
-        ensures only { IfErr result (λ e. ((e ≡ Refusal.NoDocument) ⊎ ((e ≡ Refusal.Future) ⊎ (e ≡ Refusal.TooOld))) ⊎ ((e ≡ Refusal.NoMemory) ⊎ (e ≡ Refusal.Fault))) }
+        ensures only { IfErr result (λ e. ((e ≡ Refusal.NoDocument) ⊎ ((e ≡ Refusal.Future) ⊎ (e ≡ Refusal.TooOld)))
+            ⊎ ((e ≡ Refusal.NoMemory) ⊎ (e ≡ Refusal.Fault))) }
 
         // What it gives.
         ensures job { IfOk result (λ job. IsJobTo (state_of self.old).documents document revision job) }
@@ -69,11 +75,18 @@ impl<D: Disk> Store<D> {
     fn job_to(&self, alloc: Global, document: u32, revision: u64) -> Result<Job, Refusal>
         ensures job { IfOk result (λ job. IsJobTo (state_of self.now).documents document revision job) }
         ensures keeps { IfOk result (λ job. KeepsLimits (state_of self.now).limits job) }
-        ensures given { OnOk result (no_job_for (slice_get (state_of self.now).documents document) (highest_known (known_cells self.now) document) revision ≡ None) }
-        ensures refused { (why : Why) → no_job_for (slice_get (state_of self.now).documents document) (highest_known (known_cells self.now) document) revision ≡ Some why → IsErrOf result why }
-        ensures refusal { IfErr result (λ e. e ≢ Refusal.NoMemory → no_job_for (slice_get (state_of self.now).documents document) (highest_known (known_cells self.now) document) revision ≡ Some e) }
+        ensures given { OnOk result
+            (no_job_for (slice_get (state_of self.now).documents document)
+            (highest_known (known_cells self.now) document) revision ≡ None) }
+        ensures refused { (why : Why)
+            → no_job_for (slice_get (state_of self.now).documents document)
+            (highest_known (known_cells self.now) document) revision ≡ Some why → IsErrOf result why }
+        ensures refusal { IfErr result (λ e. e ≢ Refusal.NoMemory
+            → no_job_for (slice_get (state_of self.now).documents document)
+            (highest_known (known_cells self.now) document) revision ≡ Some e) }
         ensures no_fault { ¬ IsErrOf result Refusal.Fault }
-        ensures only { IfErr result (λ e. ((e ≡ Refusal.NoDocument) ⊎ ((e ≡ Refusal.Future) ⊎ (e ≡ Refusal.TooOld))) ⊎ (e ≡ Refusal.NoMemory)) }
+        ensures only { IfErr result (λ e. ((e ≡ Refusal.NoDocument) ⊎ ((e ≡ Refusal.Future) ⊎ (e ≡ Refusal.TooOld)))
+            ⊎ (e ≡ Refusal.NoMemory)) }
     {
         let _ = self.state.limits();
         let Some(found) = self.state.documents().get(document as usize) else {

@@ -23,28 +23,34 @@ impl<D: Disk> Store<D> {
     /// store has failed. The documents stay.
     pub fn put_milestone(&mut self, alloc: Global, composed: &Composed) -> Result<(), Refusal>
         // When each refusal comes.
-        ensures failed_before { has_failed self.old ≡ true → (IsErrOf result Refusal.Fault) × IsUnchanged self.old self.new }
-        ensures stranger { has_failed self.old ≡ false → (IsErrOf result Refusal.Stranger ↔ (¬ Contains (kept_jobs self.old) composed.now)) }
+        ensures failed_before { has_failed self.old ≡ true → (IsErrOf result Refusal.Fault)
+            × IsUnchanged self.old self.new }
+        ensures stranger { has_failed self.old ≡ false
+            → (IsErrOf result Refusal.Stranger ↔ (¬ Contains (kept_jobs self.old) composed.now)) }
         ensures fault { IsErrOf result Refusal.Fault → has_failed self.old ≡ false
             → Rose (D.faults (device_of self.old)) (D.faults (device_of self.new)) }
         ensures only { IfErr result (λ e. (e ≡ Refusal.Stranger) ⊎ ((e ≡ Refusal.NoMemory) ⊎ (e ≡ Refusal.Fault))) }
 
         // What each answer leaves.
         ensures state { state_of self.new ≡ state_of self.old }
-        ensures untouched { (IsErrOf result Refusal.Stranger) ⊎ (IsErrOf result Refusal.NoMemory) → IsUnchanged self.old self.new }
+        ensures untouched { (IsErrOf result Refusal.Stranger) ⊎ (IsErrOf result Refusal.NoMemory)
+            → IsUnchanged self.old self.new }
         ensures dropped { OnOk result (kept_jobs self.new ≡ without_job composed.now.document (kept_jobs self.old)) }
         ensures jobs { OnErr result (kept_jobs self.new ≡ kept_jobs self.old) }
         ensures fails { has_failed self.old ≡ false → (has_failed self.new ≡ true ↔ IsErrOf result Refusal.Fault) }
         ensures good { OnOk result (D.faults (device_of self.new) ≡ D.faults (device_of self.old)) }
-        ensures no_fault { IfErr result (λ e. e ≢ Refusal.Fault → D.faults (device_of self.new) ≡ D.faults (device_of self.old)) }
+        ensures no_fault { IfErr result (λ e. e ≢ Refusal.Fault
+            → D.faults (device_of self.new) ≡ D.faults (device_of self.old)) }
 
         ensures ring { ring_of self.new ≡ ring_of self.old }
         ensures marks { known_marks self.new ≡ known_marks self.old }
 
         // A crash at any moment leaves the state; once it is Ok, the cell of the job is open.
         ensures any_moment { has_failed self.old ≡ false → IsOpen self.old
-            → LeavesOnly ⟦<D as Disk>⟧ (λ content. FoundAs content (state_of self.old)) (device_of self.old) (device_of self.new) }
-        ensures done { OnOk result ((is_open : IsOpen self.old) → IsPutNow is_open.cells is_open.table composed.now self.new) }
+            → LeavesOnly ⟦<D as Disk>⟧ (λ content. FoundAs content (state_of self.old)) (device_of self.old)
+            (device_of self.new) }
+        ensures done { OnOk result ((is_open : IsOpen self.old)
+            → IsPutNow is_open.cells is_open.table composed.now self.new) }
         ensures kept { IfErr result (λ e. e ≢ Refusal.Fault → IsOpen self.old → IsOpen self.new) }
 
         // Six calls of the device at most.
@@ -84,18 +90,23 @@ impl<D: Disk> Store<D> {
         revision: u64,
     ) -> Result<(), Refusal>
         // When each refusal comes.
-        ensures failed_before { has_failed self.old ≡ true → (IsErrOf result Refusal.Fault) × IsUnchanged self.old self.new }
+        ensures failed_before { has_failed self.old ≡ true → (IsErrOf result Refusal.Fault)
+            × IsUnchanged self.old self.new }
         ensures refused { IfErr result (λ e. e ≢ Refusal.NoMemory → e ≢ Refusal.Fault → (is_open : IsOpen self.old)
-            → no_job_for (slice_get (state_of self.old).documents document) (highest (cells_at is_open.cells document)) revision ≡ Some e) }
+            → no_job_for (slice_get (state_of self.old).documents document) (highest (cells_at is_open.cells document))
+            revision ≡ Some e) }
         ensures refused_by { IfErr result (λ e. e ≢ Refusal.NoMemory → e ≢ Refusal.Fault
-            → no_job_for (slice_get (state_of self.old).documents document) (highest_known (known_cells self.old) document) revision ≡ Some e) }
+            → no_job_for (slice_get (state_of self.old).documents document)
+            (highest_known (known_cells self.old) document) revision ≡ Some e) }
         ensures fault { IsErrOf result Refusal.Fault → has_failed self.old ≡ false
             → Rose (D.faults (device_of self.old)) (D.faults (device_of self.new)) }
-        ensures only { IfErr result (λ e. ((e ≡ Refusal.NoDocument) ⊎ ((e ≡ Refusal.Future) ⊎ (e ≡ Refusal.TooOld))) ⊎ ((e ≡ Refusal.NoMemory) ⊎ (e ≡ Refusal.Fault))) }
+        ensures only { IfErr result (λ e. ((e ≡ Refusal.NoDocument) ⊎ ((e ≡ Refusal.Future) ⊎ (e ≡ Refusal.TooOld)))
+            ⊎ ((e ≡ Refusal.NoMemory) ⊎ (e ≡ Refusal.Fault))) }
 
         // A refusal for the document or its revision leaves all as it was; one for want of memory leaves the device, and may leave a
         // kept job of the document.
-        ensures untouched { IfErr result (λ e. e ≢ Refusal.NoMemory → e ≢ Refusal.Fault → IsUnchanged self.old self.new) }
+        ensures untouched { IfErr result (λ e. e ≢ Refusal.NoMemory → e ≢ Refusal.Fault
+            → IsUnchanged self.old self.new) }
         ensures unwritten { IfErr result (λ e. e ≢ Refusal.Fault → device_of self.new ≡ device_of self.old) }
         ensures dropped { OnOk result (kept_jobs self.new ≡ without_job document (kept_jobs self.old)) }
 
@@ -107,11 +118,13 @@ impl<D: Disk> Store<D> {
         ensures others { without_job document (kept_jobs self.new) ≡ without_job document (kept_jobs self.old) }
         ensures works { OnOk result (has_failed self.new ≡ false) }
         ensures good { OnOk result (D.faults (device_of self.new) ≡ D.faults (device_of self.old)) }
-        ensures no_fault { IfErr result (λ e. e ≢ Refusal.Fault → D.faults (device_of self.new) ≡ D.faults (device_of self.old)) }
+        ensures no_fault { IfErr result (λ e. e ≢ Refusal.Fault
+            → D.faults (device_of self.new) ≡ D.faults (device_of self.old)) }
 
         // A crash at any moment leaves the state; once it is Ok, the cell of the document at the revision is open.
         ensures any_moment { has_failed self.old ≡ false → IsOpen self.old
-            → LeavesOnly ⟦<D as Disk>⟧ (λ content. FoundAs content (state_of self.old)) (device_of self.old) (device_of self.new) }
+            → LeavesOnly ⟦<D as Disk>⟧ (λ content. FoundAs content (state_of self.old)) (device_of self.old)
+            (device_of self.new) }
         ensures put { OnOk result ((is_open : IsOpen self.old) → IsPutAt document revision self.old is_open self.new) }
         ensures done { OnOk result (IsOpen self.old → IsOpen self.new) }
         ensures kept { IfErr result (λ e. e ≢ Refusal.Fault → IsOpen self.old → IsOpen self.new) }

@@ -60,10 +60,13 @@ pub fn read_store<D: Disk>(
     ensures slot { IfOk result (λ recovered. size_of recovered.ring ≡ recovered.state.limits.width + 19) }
     ensures within { IfOk result (λ recovered. end_of recovered.ring ≤ length (D.seen disk.old)) }
 
-    ensures not_formatted { IfErr result (λ e. e ≡ Refusal.NotFormatted → D.honest disk.new → ¬ IsFormatted (D.seen disk.old)) }
+    ensures not_formatted { IfErr result (λ e. e ≡ Refusal.NotFormatted → D.honest disk.new
+        → ¬ IsFormatted (D.seen disk.old)) }
     ensures formatted { IfErr result (λ e. e ≡ Refusal.Damaged → D.honest disk.new → IsFormatted (D.seen disk.old)) }
-    ensures damaged { IfErr result (λ e. e ≡ Refusal.Damaged → D.honest disk.new → (found : StateValue) → ¬ Found (D.seen disk.old) pick found) }
-    ensures only { IfErr result (λ e. (e ≡ Refusal.NotFormatted) ⊎ ((e ≡ Refusal.Damaged) ⊎ ((e ≡ Refusal.NoMemory) ⊎ (e ≡ Refusal.Fault)))) }
+    ensures damaged { IfErr result (λ e. e ≡ Refusal.Damaged → D.honest disk.new → (found : StateValue)
+        → ¬ Found (D.seen disk.old) pick found) }
+    ensures only { IfErr result (λ e. (e ≡ Refusal.NotFormatted)
+        ⊎ ((e ≡ Refusal.Damaged) ⊎ ((e ≡ Refusal.NoMemory) ⊎ (e ≡ Refusal.Fault)))) }
 
     // The sync alone moves the device on.
     ensures seen { D.seen disk.new ≡ D.seen disk.old }
@@ -85,10 +88,13 @@ fn read_content<D: Disk>(alloc: Global, disk: &mut D, pick: Pick) -> Result<Reco
     ensures long { IfOk result (λ recovered. layout_length recovered.shape ≤ length (D.seen disk.old)) }
     ensures slot { IfOk result (λ recovered. size_of recovered.ring ≡ recovered.state.limits.width + 19) }
     ensures within { IfOk result (λ recovered. end_of recovered.ring ≤ length (D.seen disk.old)) }
-    ensures not_formatted { IfErr result (λ e. e ≡ Refusal.NotFormatted → D.honest disk.new → ¬ IsFormatted (D.seen disk.old)) }
+    ensures not_formatted { IfErr result (λ e. e ≡ Refusal.NotFormatted → D.honest disk.new
+        → ¬ IsFormatted (D.seen disk.old)) }
     ensures formatted { IfErr result (λ e. e ≡ Refusal.Damaged → D.honest disk.new → IsFormatted (D.seen disk.old)) }
-    ensures damaged { IfErr result (λ e. e ≡ Refusal.Damaged → D.honest disk.new → (found : StateValue) → ¬ Found (D.seen disk.old) pick found) }
-    ensures only { IfErr result (λ e. (e ≡ Refusal.NotFormatted) ⊎ ((e ≡ Refusal.Damaged) ⊎ ((e ≡ Refusal.NoMemory) ⊎ (e ≡ Refusal.Fault)))) }
+    ensures damaged { IfErr result (λ e. e ≡ Refusal.Damaged → D.honest disk.new → (found : StateValue)
+        → ¬ Found (D.seen disk.old) pick found) }
+    ensures only { IfErr result (λ e. (e ≡ Refusal.NotFormatted)
+        ⊎ ((e ≡ Refusal.Damaged) ⊎ ((e ≡ Refusal.NoMemory) ⊎ (e ≡ Refusal.Fault)))) }
     ensures only_read { HasOnlyRead ⟦<D as Disk>⟧ disk.old disk.new }
     ensures faults { CountsFaultsAs ⟦<D as Disk>⟧ Refusal.Fault result disk.old disk.new }
 {
@@ -128,9 +134,11 @@ fn read_shape<D: Disk>(disk: &mut D) -> Result<Shape, Refusal>
     ensures named { IfOk result (λ shape. D.honest disk.new → Names (D.seen disk.old) shape) }
     ensures in_range { IfOk result (λ shape. is_in_range shape ≡ true) }
     ensures within { IfOk result (λ shape. layout_length shape ≤ length (D.seen disk.old)) }
-    ensures not_formatted { IfErr result (λ e. e ≡ Refusal.NotFormatted → D.honest disk.new → ¬ IsFormatted (D.seen disk.old)) }
+    ensures not_formatted { IfErr result (λ e. e ≡ Refusal.NotFormatted → D.honest disk.new
+        → ¬ IsFormatted (D.seen disk.old)) }
     ensures formatted { IfErr result (λ e. e ≡ Refusal.Damaged → D.honest disk.new → IsFormatted (D.seen disk.old)) }
-    ensures damaged { IfErr result (λ e. e ≡ Refusal.Damaged → D.honest disk.new → (shape : ShapeValue) → ¬ Names (D.seen disk.old) shape) }
+    ensures damaged { IfErr result (λ e. e ≡ Refusal.Damaged → D.honest disk.new → (shape : ShapeValue)
+        → ¬ Names (D.seen disk.old) shape) }
     ensures only { IfErr result (λ e. (e ≡ Refusal.NotFormatted) ⊎ ((e ≡ Refusal.Damaged) ⊎ (e ≡ Refusal.Fault))) }
     ensures only_read { HasOnlyRead ⟦<D as Disk>⟧ disk.old disk.new }
     ensures faults { CountsFaultsAs ⟦<D as Disk>⟧ Refusal.Fault result disk.old disk.new }

@@ -22,8 +22,10 @@ impl<D: Disk> Store<D> {
     /// memory, and the documents stay.
     pub fn retire(&mut self) -> Result<(), Refusal>
         // When each refusal comes.
-        ensures failed_before { has_failed self.old ≡ true → (IsErrOf result Refusal.Fault) × IsUnchanged self.old self.new }
-        ensures needed { IsErrOf result Refusal.StillNeeded → (is_open : IsOpen self.old) → ¬ MayRetire is_open.table is_open.cells }
+        ensures failed_before { has_failed self.old ≡ true → (IsErrOf result Refusal.Fault)
+            × IsUnchanged self.old self.new }
+        ensures needed { IsErrOf result Refusal.StillNeeded → (is_open : IsOpen self.old)
+            → ¬ MayRetire is_open.table is_open.cells }
         ensures not_needed { OnOk result ((is_open : IsOpen self.old) → MayRetire is_open.table is_open.cells) }
         ensures fault { IsErrOf result Refusal.Fault → has_failed self.old ≡ false
             → Rose (D.faults (device_of self.old)) (D.faults (device_of self.new)) }
@@ -38,7 +40,8 @@ impl<D: Disk> Store<D> {
 
         // A crash at any moment leaves the state; once it is Ok, the slot of the oldest segment is closed.
         ensures any_moment { has_failed self.old ≡ false → IsOpen self.old
-            → LeavesOnly ⟦<D as Disk>⟧ (λ content. FoundAs content (state_of self.old)) (device_of self.old) (device_of self.new) }
+            → LeavesOnly ⟦<D as Disk>⟧ (λ content. FoundAs content (state_of self.old)) (device_of self.old)
+            (device_of self.new) }
         ensures done { OnOk result ((is_open : IsOpen self.old) → IsRetiredNow is_open.cells is_open.table self.new) }
 
         // Two calls of the device at most.
@@ -69,8 +72,10 @@ impl<D: Disk> Store<D> {
 
 // Whether no mark of a segment is above the lowest revision of its document's open cells, which is 0 where none is open.
 fn are_covered(cells: &[Cells], marks: &[Mark], segment: u64) -> bool
-    ensures covered { result ≡ true → (document : ℕ) → greatest_marked segment document marks.now ≤ lowest_known cells.now document }
-    ensures needed { result ≡ false → (document : ℕ) × (lowest_known cells.now document < greatest_marked segment document marks.now) }
+    ensures covered { result ≡ true → (document : ℕ)
+        → greatest_marked segment document marks.now ≤ lowest_known cells.now document }
+    ensures needed { result ≡ false → (document : ℕ)
+        × (lowest_known cells.now document < greatest_marked segment document marks.now) }
 {
     for mark in marks {
         if mark.segment == segment && lowest_of(cells, mark.document) < mark.revision {

@@ -38,7 +38,8 @@ impl<D: Disk> Store<D> {
 
         // How far it came, and what the store then holds.
         ensures state { OnOk result (state_of self.new ≡ state_after (state_of self.old) steps.now) }
-        ensures stopped { IfErr result (λ stop. (stop.at < length steps.now) × (state_of self.new ≡ state_after (state_of self.old) (take stop.at steps.now))) }
+        ensures stopped { IfErr result (λ stop. (stop.at < length steps.now)
+            × (state_of self.new ≡ state_after (state_of self.old) (take stop.at steps.now))) }
         ensures taken { OnOk result (AreTaken steps.now self.old self.new) }
         ensures done { OnOk result (IsOpen self.old → IsOpen self.new) }
         ensures kept { IfErr result (λ stop. stop.refusal ≢ Fault → IsOpen self.old → IsOpen self.new) }
@@ -49,26 +50,33 @@ impl<D: Disk> Store<D> {
 
         // Why it stopped: by the store that the steps before led to, and by the one that it left.
         ensures refused { IfErr result (λ stop. IsStopped steps.now stop.at stop.refusal self.old self.new) }
-        ensures full { IfErr result (λ stop. stop.refusal ≡ JournalFull → has_room self.new (batch_at steps.now stop.at) ≡ false) }
-        ensures stranger { IfErr result (λ stop. stop.refusal ≡ Stranger → all_grow (state_of self.new) (batch_at steps.now stop.at) ≡ false) }
+        ensures full { IfErr result (λ stop. stop.refusal ≡ JournalFull
+            → has_room self.new (batch_at steps.now stop.at) ≡ false) }
+        ensures stranger { IfErr result (λ stop. stop.refusal ≡ Stranger
+            → all_grow (state_of self.new) (batch_at steps.now stop.at) ≡ false) }
         ensures fault { IfErr result (λ stop. stop.refusal ≡ Fault → has_failed self.old ≡ false
             → Rose (D.faults (device_of self.old)) (D.faults (device_of self.new))) }
-        ensures no_fault { IfErr result (λ stop. stop.refusal ≢ Fault → D.faults (device_of self.new) ≡ D.faults (device_of self.old)) }
+        ensures no_fault { IfErr result (λ stop. stop.refusal ≢ Fault
+            → D.faults (device_of self.new) ≡ D.faults (device_of self.old)) }
         ensures good { OnOk result (D.faults (device_of self.new) ≡ D.faults (device_of self.old)) }
         ensures only { IfErr result (λ stop. IsOfStep stop.refusal) }
 
         ensures works { OnOk result (has_failed self.old ≡ false → has_failed self.new ≡ false) }
-        ensures fails { IfErr result (λ stop. has_failed self.old ≡ false → (has_failed self.new ≡ true ↔ stop.refusal ≡ Fault)) }
+        ensures fails { IfErr result (λ stop. has_failed self.old ≡ false
+            → (has_failed self.new ≡ true ↔ stop.refusal ≡ Fault)) }
         ensures honest { D.honest (device_of self.new) ↔ D.honest (device_of self.old) }
 
         // A crash at any moment of the run leaves the state after some of its first steps.
         ensures any_moment { has_failed self.old ≡ false → IsOpen self.old
-            → LeavesOnly ⟦<D as Disk>⟧ (IsAfterSome 0 (state_of self.old) steps.now) (device_of self.old) (device_of self.new) }
+            → LeavesOnly ⟦<D as Disk>⟧ (IsAfterSome 0 (state_of self.old) steps.now) (device_of self.old)
+            (device_of self.new) }
         // Once it has returned, a crash leaves no fewer steps than those that were answered with Ok.
         ensures acknowledged { OnOk result (has_failed self.old ≡ false → IsOpen self.old
-            → (content : List ℕ) → MayLeaveNow ⟦<D as Disk>⟧ (device_of self.new) content → IsAfterSome (length steps.now) (state_of self.old) steps.now content) }
+            → (content : List ℕ) → MayLeaveNow ⟦<D as Disk>⟧ (device_of self.new) content
+            → IsAfterSome (length steps.now) (state_of self.old) steps.now content) }
         ensures acknowledged_before { IfErr result (λ stop. has_failed self.old ≡ false → IsOpen self.old
-            → (content : List ℕ) → MayLeaveNow ⟦<D as Disk>⟧ (device_of self.new) content → IsAfterSome stop.at (state_of self.old) steps.now content) }
+            → (content : List ℕ) → MayLeaveNow ⟦<D as Disk>⟧ (device_of self.new) content
+            → IsAfterSome stop.at (state_of self.old) steps.now content) }
     {
         for (at, step) in steps.iter().enumerate() {
             if let Err(refusal) = self.take_step(alloc, step) {
@@ -85,7 +93,8 @@ impl<D: Disk> Store<D> {
         ensures failed_before { has_failed self.old ≡ true → (IsErrOf result Fault) × IsUnchanged self.old self.new }
         ensures full { IsErrOf result JournalFull → has_room self.new (batch_of step.now) ≡ false }
         ensures stranger { IsErrOf result Stranger → all_grow (state_of self.new) (batch_of step.now) ≡ false }
-        ensures fault { IsErrOf result Fault → has_failed self.old ≡ false → Rose (D.faults (device_of self.old)) (D.faults (device_of self.new)) }
+        ensures fault { IsErrOf result Fault → has_failed self.old ≡ false
+            → Rose (D.faults (device_of self.old)) (D.faults (device_of self.new)) }
         ensures only { IfErr result (λ e. IsOfStep e) }
         ensures refused { IfErr result (λ e. e ≢ NoMemory → e ≢ Fault → IsWhy step.now e self.old) }
         ensures untouched { IfErr result (λ e. e ≢ NoMemory → e ≢ Fault → IsUnchanged self.old self.new) }
@@ -96,10 +105,12 @@ impl<D: Disk> Store<D> {
         ensures fails { has_failed self.old ≡ false → (has_failed self.new ≡ true ↔ IsErrOf result Fault) }
         ensures works { OnOk result (has_failed self.new ≡ false) }
         ensures good { OnOk result (D.faults (device_of self.new) ≡ D.faults (device_of self.old)) }
-        ensures no_fault { IfErr result (λ e. e ≢ Fault → D.faults (device_of self.new) ≡ D.faults (device_of self.old)) }
+        ensures no_fault { IfErr result (λ e. e ≢ Fault
+            → D.faults (device_of self.new) ≡ D.faults (device_of self.old)) }
 
         ensures any_moment { has_failed self.old ≡ false → IsOpen self.old
-            → LeavesOnly ⟦<D as Disk>⟧ (IsWithOrWithout (state_of self.old) (batch_of step.now)) (device_of self.old) (device_of self.new) }
+            → LeavesOnly ⟦<D as Disk>⟧ (IsWithOrWithout (state_of self.old) (batch_of step.now)) (device_of self.old)
+            (device_of self.new) }
         ensures done { OnOk result (IsOpen self.old → IsOpen self.new) }
         ensures kept { IfErr result (λ e. e ≢ Fault → IsOpen self.old → IsOpen self.new) }
         ensures honest { D.honest (device_of self.new) ↔ D.honest (device_of self.old) }

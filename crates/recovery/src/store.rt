@@ -74,33 +74,44 @@ impl<D: Disk> Store<D> {
     pub fn open(alloc: Global, disk: D, pick: Pick) -> Result<Store<D>, OpenFault<D>>
         // What is read stands, by this pick, for the state that the store holds, and for no other.
         ensures found { IfOk result (λ store. D.honest (device_of store) → Found (D.seen disk) pick (state_of store)) }
-        ensures only_state { IfOk result (λ store. D.honest (device_of store) → (state : StateValue) → Found (D.seen disk) pick state → state ≡ state_of store) }
+        ensures only_state { IfOk result (λ store. D.honest (device_of store) → (state : StateValue)
+            → Found (D.seen disk) pick state → state ≡ state_of store) }
         ensures works { IfOk result (λ store. has_failed store ≡ false) }
         ensures no_jobs { IfOk result (λ store. kept_jobs store ≡ []) }
 
         // Where the content is that of a store which ran with some state, the store goes on, with a state that agrees with
         // that one, and nothing but the device or want of memory can refuse it.
-        ensures open { IfOk result (λ store. D.honest (device_of store) → (state : StateValue) → FoundAs (D.seen disk) state
+        ensures open { IfOk result (λ store. D.honest (device_of store) → (state : StateValue)
+            → FoundAs (D.seen disk) state
             → IsOpen store × Agree (state_of store) state) }
-        ensures open_or { IfErr result (λ fault. D.honest fault.disk → (state : StateValue) → FoundAs (D.seen disk) state
+        ensures open_or { IfErr result (λ fault. D.honest fault.disk → (state : StateValue)
+            → FoundAs (D.seen disk) state
             → (fault.refusal ≡ Refusal.NoMemory) ⊎ (fault.refusal ≡ Refusal.Fault)) }
 
         // From then on every crash leaves what was read.
-        ensures kept { IfOk result (λ store. (content : List ℕ) → MayLeaveNow ⟦<D as Disk>⟧ (device_of store) content → content ≡ D.seen disk) }
+        ensures kept { IfOk result (λ store. (content : List ℕ) → MayLeaveNow ⟦<D as Disk>⟧ (device_of store) content
+            → content ≡ D.seen disk) }
 
         // When each refusal comes.
-        ensures not_formatted { IfErr result (λ fault. fault.refusal ≡ Refusal.NotFormatted → D.honest fault.disk → ¬ IsFormatted (D.seen disk)) }
-        ensures damaged { IfErr result (λ fault. fault.refusal ≡ Refusal.Damaged → D.honest fault.disk → IsFormatted (D.seen disk)
+        ensures not_formatted { IfErr result (λ fault. fault.refusal ≡ Refusal.NotFormatted → D.honest fault.disk
+            → ¬ IsFormatted (D.seen disk)) }
+        ensures damaged { IfErr result (λ fault. fault.refusal ≡ Refusal.Damaged → D.honest fault.disk
+            → IsFormatted (D.seen disk)
             × ((state : StateValue) → ¬ Found (D.seen disk) pick state)) }
-        ensures fault { IfErr result (λ fault. fault.refusal ≡ Refusal.Fault → Rose (D.faults disk) (D.faults fault.disk)) }
+        ensures fault { IfErr result (λ fault. fault.refusal ≡ Refusal.Fault
+            → Rose (D.faults disk) (D.faults fault.disk)) }
         ensures no_fault { IfErr result (λ fault. fault.refusal ≢ Refusal.Fault → D.faults fault.disk ≡ D.faults disk) }
         ensures good { IfOk result (λ store. D.faults (device_of store) ≡ D.faults disk) }
         ensures only { IfErr result (λ fault. (fault.refusal ≡ Refusal.NotFormatted)
-            ⊎ ((fault.refusal ≡ Refusal.Damaged) ⊎ ((fault.refusal ≡ Refusal.NoMemory) ⊎ (fault.refusal ≡ Refusal.Fault)))) }
+            ⊎ ((fault.refusal ≡ Refusal.Damaged)
+            ⊎ ((fault.refusal ≡ Refusal.NoMemory) ⊎ (fault.refusal ≡ Refusal.Fault)))) }
 
         // The sync alone moves the device on: nothing is written.
-        ensures time { IfOk result (λ store. IsAtMostOneStep IsSync (history_of ⟦<D as Disk>⟧ disk) (history_of ⟦<D as Disk>⟧ (device_of store))) }
-        ensures time_of_fault { IfErr result (λ fault. IsAtMostOneStep IsSync (history_of ⟦<D as Disk>⟧ disk) (history_of ⟦<D as Disk>⟧ fault.disk)) }
+        ensures time { IfOk result
+            (λ store. IsAtMostOneStep IsSync (history_of ⟦<D as Disk>⟧ disk)
+            (history_of ⟦<D as Disk>⟧ (device_of store))) }
+        ensures time_of_fault { IfErr result
+            (λ fault. IsAtMostOneStep IsSync (history_of ⟦<D as Disk>⟧ disk) (history_of ⟦<D as Disk>⟧ fault.disk)) }
         ensures seen { IfOk result (λ store. D.seen (device_of store) ≡ D.seen disk) }
         ensures seen_of_fault { IfErr result (λ fault. D.seen fault.disk ≡ D.seen disk) }
         ensures honest { IfOk result (λ store. D.honest (device_of store) → D.honest disk) }
@@ -169,16 +180,20 @@ impl<D: Disk> Store<D> {
         ensures receipt { IfOk result (λ receipt. receipt ≡ batch.now) }
 
         // When each refusal comes. Want of memory may be told in place of `Stranger`.
-        ensures failed_before { has_failed self.old ≡ true → (IsErrOf result Refusal.Fault) × IsUnchanged self.old self.new }
-        ensures full { has_failed self.old ≡ false → (IsErrOf result Refusal.JournalFull ↔ (has_room self.old batch.now ≡ false)) }
+        ensures failed_before { has_failed self.old ≡ true → (IsErrOf result Refusal.Fault)
+            × IsUnchanged self.old self.new }
+        ensures full { has_failed self.old ≡ false
+            → (IsErrOf result Refusal.JournalFull ↔ (has_room self.old batch.now ≡ false)) }
         ensures room { OnOk result (has_room self.old batch.now ≡ true) }
         ensures stranger { IsErrOf result Refusal.Stranger → all_grow (state_of self.old) batch.now ≡ false }
         ensures grow { OnOk result (all_grow (state_of self.old) batch.now ≡ true) }
-        ensures no_growth { has_failed self.old ≡ false → has_room self.old batch.now ≡ true → all_grow (state_of self.old) batch.now ≡ false
+        ensures no_growth { has_failed self.old ≡ false → has_room self.old batch.now ≡ true
+            → all_grow (state_of self.old) batch.now ≡ false
             → (IsErrOf result Refusal.Stranger) ⊎ (IsErrOf result Refusal.NoMemory) }
         ensures fault { IsErrOf result Refusal.Fault → has_failed self.old ≡ false
             → Rose (D.faults (device_of self.old)) (D.faults (device_of self.new)) }
-        ensures only { IfErr result (λ e. ((e ≡ Refusal.JournalFull) ⊎ (e ≡ Refusal.Stranger)) ⊎ ((e ≡ Refusal.NoMemory) ⊎ (e ≡ Refusal.Fault))) }
+        ensures only { IfErr result (λ e. ((e ≡ Refusal.JournalFull) ⊎ (e ≡ Refusal.Stranger))
+            ⊎ ((e ≡ Refusal.NoMemory) ⊎ (e ≡ Refusal.Fault))) }
 
         // What each answer leaves.
         ensures state { OnOk result (state_of self.new ≡ fold (state_of self.old) batch.now) }
@@ -187,28 +202,35 @@ impl<D: Disk> Store<D> {
         ensures cells { known_cells self.new ≡ known_cells self.old }
         ensures fails { has_failed self.old ≡ false → (has_failed self.new ≡ true ↔ IsErrOf result Refusal.Fault) }
         ensures works { OnOk result (has_failed self.new ≡ false) }
-        ensures untouched { (IsErrOf result Refusal.JournalFull) ⊎ (IsErrOf result Refusal.Stranger) → IsUnchanged self.old self.new }
+        ensures untouched { (IsErrOf result Refusal.JournalFull) ⊎ (IsErrOf result Refusal.Stranger)
+            → IsUnchanged self.old self.new }
         ensures good { OnOk result (D.faults (device_of self.new) ≡ D.faults (device_of self.old)) }
-        ensures no_fault { IfErr result (λ e. e ≢ Refusal.Fault → D.faults (device_of self.new) ≡ D.faults (device_of self.old)) }
+        ensures no_fault { IfErr result (λ e. e ≢ Refusal.Fault
+            → D.faults (device_of self.new) ≡ D.faults (device_of self.old)) }
 
         // A crash at any moment of the call leaves the state before it, or the one with the batch.
         ensures any_moment { has_failed self.old ≡ false → IsOpen self.old
-            → LeavesOnly ⟦<D as Disk>⟧ (IsWithOrWithout (state_of self.old) batch.now) (device_of self.old) (device_of self.new) }
+            → LeavesOnly ⟦<D as Disk>⟧ (IsWithOrWithout (state_of self.old) batch.now) (device_of self.old)
+            (device_of self.new) }
         // Where memory ran out nothing of the batch was written: a crash at any moment leaves the state before it.
         ensures unwritten { IsErrOf result Refusal.NoMemory → IsOpen self.old
-            → LeavesOnly ⟦<D as Disk>⟧ (λ content. FoundAs content (state_of self.old)) (device_of self.old) (device_of self.new) }
+            → LeavesOnly ⟦<D as Disk>⟧ (λ content. FoundAs content (state_of self.old)) (device_of self.old)
+            (device_of self.new) }
         // Once it is Ok, the device is synced and stands for the state with the batch.
         ensures done { OnOk result (IsOpen self.old → IsOpen self.new) }
         ensures kept { IfErr result (λ e. e ≢ Refusal.Fault → IsOpen self.old → IsOpen self.new) }
 
         // Where memory ran out a slot may have been opened for it, in four calls at most, and only where it doesn't fit the newest segment.
         ensures given_up { IsErrOf result Refusal.NoMemory → IsSameOrOpened (ring_of self.old) (ring_of self.new) }
-        ensures calls_given_up { IsErrOf result Refusal.NoMemory → length (D.past (device_of self.new)) ≤ length (D.past (device_of self.old)) + 4 }
-        ensures given_up_where_it_fits { IsErrOf result Refusal.NoMemory → fits_newest_segment self.old batch.now ≡ true → IsUnchanged self.old self.new }
+        ensures calls_given_up { IsErrOf result Refusal.NoMemory
+            → length (D.past (device_of self.new)) ≤ length (D.past (device_of self.old)) + 4 }
+        ensures given_up_where_it_fits { IsErrOf result Refusal.NoMemory
+            → fits_newest_segment self.old batch.now ≡ true → IsUnchanged self.old self.new }
 
         // Eight calls of the device at most: four for the record, and four for a slot that is opened for it.
         ensures calls { length (D.past (device_of self.new)) ≤ length (D.past (device_of self.old)) + 8 }
-        ensures calls_where_it_fits { fits_newest_segment self.old batch.now ≡ true → length (D.past (device_of self.new)) ≤ length (D.past (device_of self.old)) + 4 }
+        ensures calls_where_it_fits { fits_newest_segment self.old batch.now ≡ true
+            → length (D.past (device_of self.new)) ≤ length (D.past (device_of self.old)) + 4 }
         ensures honest { D.honest (device_of self.new) ↔ D.honest (device_of self.old) }
     {
         if self.failed {
@@ -276,22 +298,29 @@ fn append_batch<D: Disk>(
     ensures only { IfErr result (λ e. (e ≡ Refusal.JournalFull) ⊎ ((e ≡ Refusal.NoMemory) ⊎ (e ≡ Refusal.Fault))) }
     ensures places { SamePlaces ring.old ring.new }
 
-    ensures any_moment { (table : List (Option Segment)) → D.unsynced disk.old ≡ [] → Fits (D.seen disk.old) ring.old table
-        → LeavesOnly ⟦<D as Disk>⟧ (IsLeftByAppend (D.seen disk.old) ring.old table (spelled batch.now)) disk.old disk.new }
-    ensures unwritten { IsErrOf result Refusal.NoMemory → (table : List (Option Segment)) → D.unsynced disk.old ≡ [] → Fits (D.seen disk.old) ring.old table
-        → LeavesOnly ⟦<D as Disk>⟧ (IsLeftReady (D.seen disk.old) ring.old (batch_width batch.now) table) disk.old disk.new }
+    ensures any_moment { (table : List (Option Segment)) → D.unsynced disk.old ≡ []
+        → Fits (D.seen disk.old) ring.old table
+        → LeavesOnly ⟦<D as Disk>⟧ (IsLeftByAppend (D.seen disk.old) ring.old table (spelled batch.now)) disk.old
+        disk.new }
+    ensures unwritten { IsErrOf result Refusal.NoMemory → (table : List (Option Segment)) → D.unsynced disk.old ≡ []
+        → Fits (D.seen disk.old) ring.old table
+        → LeavesOnly ⟦<D as Disk>⟧ (IsLeftReady (D.seen disk.old) ring.old (batch_width batch.now) table) disk.old
+        disk.new }
     ensures done { OnOk result ((table : List (Option Segment)) → Fits (D.seen disk.old) ring.old table
         → IsDone (D.seen disk.old) ring.old table (spelled batch.now) (D.seen disk.new) ring.new) }
     ensures synced { OnOk result (D.unsynced disk.new ≡ []) }
-    ensures given_up { IsErrOf result Refusal.NoMemory → (table : List (Option Segment)) → Fits (D.seen disk.old) ring.old table
+    ensures given_up { IsErrOf result Refusal.NoMemory → (table : List (Option Segment))
+        → Fits (D.seen disk.old) ring.old table
         → IsGivenUp (D.seen disk.old) ring.old (batch_width batch.now) table (D.seen disk.new) ring.new }
     ensures still_synced { IsErrOf result Refusal.NoMemory → D.unsynced disk.old ≡ [] → D.unsynced disk.new ≡ [] }
 
     ensures same_or_opened { IsErrOf result Refusal.NoMemory → IsSameOrOpened ring.old ring.new }
     ensures calls_given_up { IsErrOf result Refusal.NoMemory → length (D.past disk.new) ≤ length (D.past disk.old) + 4 }
-    ensures given_up_where_it_fits { IsErrOf result Refusal.NoMemory → fits_newest ring.old (batch_width batch.now) ≡ true → (disk.new ≡ disk.old) × (ring.new ≡ ring.old) }
+    ensures given_up_where_it_fits { IsErrOf result Refusal.NoMemory
+        → fits_newest ring.old (batch_width batch.now) ≡ true → (disk.new ≡ disk.old) × (ring.new ≡ ring.old) }
     ensures calls { length (D.past disk.new) ≤ length (D.past disk.old) + 8 }
-    ensures calls_where_it_fits { fits_newest ring.old (batch_width batch.now) ≡ true → length (D.past disk.new) ≤ length (D.past disk.old) + 4 }
+    ensures calls_where_it_fits { fits_newest ring.old (batch_width batch.now) ≡ true
+        → length (D.past disk.new) ≤ length (D.past disk.old) + 4 }
     ensures only_written { HasOnlyWritten ⟦<D as Disk>⟧ disk.old disk.new }
     ensures faults { CountsFaultsAs ⟦<D as Disk>⟧ Refusal.Fault result disk.old disk.new }
 {

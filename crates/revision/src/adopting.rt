@@ -31,7 +31,8 @@ impl State {
         sources: Sources,
     ) -> Result<(), Refusal>
         ensures ok { OnOk result (self.new ≡ adopted self.old name (record { units = document }) revision sources) }
-        ensures stranger { IsErrOf result Refusal.Stranger ↔ (adopts self.old name (record { units = document }) revision sources ≡ false) }
+        ensures stranger { IsErrOf result Refusal.Stranger
+            ↔ (adopts self.old name (record { units = document }) revision sources ≡ false) }
         ensures only { IfErr result (λ e. (e ≡ Refusal.Stranger) ⊎ (e ≡ Refusal.NoMemory)) }
         ensures unchanged { OnErr result (self.new ≡ self.old) }
     {

@@ -45,7 +45,8 @@ impl Model for Command {
 
     ghost view = { λ c. record { name = c.name; source = c.source; number = c.number; action = action_of c.action } };
 
-    ghost invariant = { λ c. (is_source_name c.source ≡ true) × (1 ≤ c.number) × (c.number < 2 ^ 53) × IsShort (action_of c.action) };
+    ghost invariant = { λ c. (is_source_name c.source ≡ true) × (1 ≤ c.number) × (c.number < 2 ^ 53)
+        × IsShort (action_of c.action) };
 }
 
 impl Command {
@@ -57,7 +58,8 @@ impl Command {
         requires source { is_source_name source ≡ true }
         requires first { 1 ≤ number }
         requires last { number < 2 ^ 53 }
-        ensures ok { IfOk result (λ c. c ≡ record { name = name; source = source; number = number; action = Create delta }) }
+        ensures ok { IfOk result (λ c. c
+            ≡ record { name = name; source = source; number = number; action = Create delta }) }
         ensures bad { IsErrOf result Refusal.BadOps ↔ (¬ IsShortDelta delta) }
         ensures only { IfErr result (λ e. e ≡ Refusal.BadOps) }
     {
@@ -84,7 +86,8 @@ impl Command {
         requires source { is_source_name source ≡ true }
         requires first { 1 ≤ number }
         requires last { number < 2 ^ 53 }
-        ensures ok { IfOk result (λ c. c ≡ record { name = name; source = source; number = number; action = Edit base delta }) }
+        ensures ok { IfOk result (λ c. c
+            ≡ record { name = name; source = source; number = number; action = Edit base delta }) }
         ensures bad { IsErrOf result Refusal.BadOps ↔ (¬ IsShortDelta delta) }
         ensures only { IfErr result (λ e. e ≡ Refusal.BadOps) }
     {

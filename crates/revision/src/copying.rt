@@ -19,7 +19,8 @@ impl State {
     /// The same documents, each held from the revision on that stands at its number in `floors`: from its own floor on where that
     /// is higher or none stands there, and from its newest revision on where that is lower. Refused for want of memory alone.
     pub fn copy_from(&self, alloc: Global, floors: &[u64]) -> Result<State, Refusal>
-        ensures same { IfOk result (λ copy. copy ≡ record self.now { documents = raised_each floors.now self.now.documents }) }
+        ensures same { IfOk result (λ copy. copy
+            ≡ record self.now { documents = raised_each floors.now self.now.documents }) }
         ensures only { IsOkUnless result Refusal.NoMemory }
     {
         let mut copy = Documents::new(alloc, self.limits());

@@ -77,7 +77,16 @@ impl DocState {
     ) -> Result<DocState, Refusal>
         requires short { length document ≤ 2 ^ 29 }
         requires revision { revision < 2 ^ 53 }
-        ensures ok { IfOk result (λ made. made ≡ record { name = name; past = record { past = record { floor = revision; content = record { units = document }; sources = sources; changes = [] }; next = [] } }) }
+        ensures ok { IfOk result (λ made. made
+            ≡ record {
+              name = name;
+              past =
+                  record {
+                    past =
+                        record { floor = revision; content = record { units = document }; sources = sources; changes = [] };
+                    next = [];
+                  };
+            }) }
         ensures only { IsOkUnless result Refusal.NoMemory }
     {
         let newest = document.copy(alloc)?;
@@ -99,9 +108,16 @@ impl DocState {
         limits: Limits,
         taken: &Taken,
     ) -> Result<(), Refusal>
-        ensures ok { OnOk result (self.new ≡ record self.old { past = record self.old.past { next = self.old.past.next ++ change_of taken.now ∷ [] } }) }
+        ensures ok { OnOk result (self.new
+            ≡ record self.old {
+              past = record self.old.past {
+                next = self.old.past.next
+                    ++ change_of taken.now ∷ [];
+              };
+            }) }
         ensures follows { OnOk result (follows limits (with_prepared limits.keep self.old) taken.now ≡ true) }
-        ensures stranger { IsErrOf result Refusal.Stranger ↔ (follows limits (with_prepared limits.keep self.old) taken.now ≡ false) }
+        ensures stranger { IsErrOf result Refusal.Stranger
+            ↔ (follows limits (with_prepared limits.keep self.old) taken.now ≡ false) }
         ensures only { IfErr result (λ e. (e ≡ Refusal.Stranger) ⊎ (e ≡ Refusal.NoMemory)) }
         ensures unchanged { OnErr result (self.new ≡ self.old) }
     {
@@ -133,7 +149,8 @@ impl DocState {
         ensures revision { result ≡ true → taken.now.revision ≡ prepared_revision self.now.past + 1 }
         ensures bound { result ≡ true → prepared_revision self.now.past + 1 < 2 ^ 53 }
         ensures accepted { result ≡ true → IsAccepted (prepared_units self.now.past) (counted taken.now.delta) }
-        ensures short { result ≡ true → length (apply (prepared_units self.now.past) (counted taken.now.delta)) ≤ 2 ^ 29 }
+        ensures short { result ≡ true
+            → length (apply (prepared_units self.now.past) (counted taken.now.delta)) ≤ 2 ^ 29 }
     {
         let sources = self.sources.prepared();
         comes_next(limits, self.past.prepared_revision(), sources, taken)
@@ -143,7 +160,11 @@ impl DocState {
     /// Accepts what was prepared: each change is the next revision, and the floor rises to `keep` below the newest one where it
     /// is lower. It takes no memory, and isn't refused.
     pub(crate) fn accept(&mut self, limits: Limits)
-        ensures { self.new ≡ record self.old { past = record { past = with_changes limits.keep self.old.past.past self.old.past.next; next = [] } } }
+        ensures { self.new
+            ≡ record self.old {
+              past =
+                  record { past = with_changes limits.keep self.old.past.past self.old.past.next; next = [] };
+            } }
     {
         self.past.accept(limits.keep());
         self.sources.accept();
@@ -163,7 +184,8 @@ impl DocState {
 
     /// The same document, held from a revision on, of which nothing is prepared. Refused for want of memory alone.
     pub(crate) fn copy_from(&self, alloc: Global, revision: u64) -> Result<DocState, Refusal>
-        ensures same { IfOk result (λ copy. copy ≡ record { name = self.now.name; past = record { past = raised revision self.now.past.past; next = [] } }) }
+        ensures same { IfOk result (λ copy. copy
+            ≡ record { name = self.now.name; past = record { past = raised revision self.now.past.past; next = [] } }) }
         ensures only { IsOkUnless result Refusal.NoMemory }
     {
         let name = self.name.copy(alloc)?;
@@ -249,7 +271,8 @@ impl DocState {
         requires held { self.now.past.past.floor ≤ revision }
         requires there { revision ≤ newest self.now.past.past }
         ensures stand { IfOk result (λ replay. StandInTurn [] replay.deltas.items) }
-        ensures units { IfOk result (λ replay. applied [] replay.deltas.items ≡ (content_at self.now.past.past revision).units) }
+        ensures units { IfOk result (λ replay. applied [] replay.deltas.items
+            ≡ (content_at self.now.past.past revision).units) }
         ensures sources { IfOk result (λ replay. replay.sources ≡ sources_at self.now.past.past revision) }
         ensures only { IsOkUnless result Refusal.NoMemory }
     {
@@ -278,7 +301,9 @@ impl DocState {
     pub fn undo(&self, alloc: Global, revision: u64) -> Result<Delta, Refusal>
         requires held { self.now.past.past.floor < revision }
         requires there { revision ≤ newest self.now.past.past }
-        ensures undo { IfOk result (λ back. back ≡ undo_of self.now.past.past.floor self.now.past.past.content.units (deltas_of self.now.past.past) revision) }
+        ensures undo { IfOk result (λ back. back
+            ≡ undo_of self.now.past.past.floor self.now.past.past.content.units (deltas_of self.now.past.past)
+            revision) }
         ensures only { IsOkUnless result Refusal.NoMemory }
     {
         self.past.undo(alloc, revision)
@@ -337,7 +362,11 @@ fn note(
     requires short { length (apply (prepared_units past.old) (counted taken.now.delta)) ≤ 2 ^ 29 }
     requires revision { prepared_revision past.old + 1 < 2 ^ 53 }
     ensures past { OnOk result (past.new ≡ record past.old { next = past.old.next ++ change_of taken.now ∷ [] }) }
-    ensures sources { OnOk result (sources.new ≡ record sources.old { prepared = with_last taken.now.source taken.now.number taken.now.revision sources.old.prepared }) }
+    ensures sources { OnOk result (sources.new
+        ≡ record sources.old {
+          prepared = with_last taken.now.source taken.now.number taken.now.revision
+              sources.old.prepared;
+        }) }
     ensures past_unchanged { OnErr result (past.new ≡ past.old) }
     ensures sources_unchanged { OnErr result (sources.new ≡ sources.old) }
     ensures only { IsOkUnless result Refusal.NoMemory }
@@ -367,7 +396,11 @@ fn note_on(
     requires revision { prepared_revision past.old + 1 < 2 ^ 53 }
     ensures next { OnOk result (next.new ≡ apply next.old (counted taken.now.delta)) }
     ensures past { OnOk result (past.new ≡ record past.old { next = past.old.next ++ change_of taken.now ∷ [] }) }
-    ensures sources { OnOk result (sources.new ≡ record sources.old { prepared = with_last taken.now.source taken.now.number taken.now.revision sources.old.prepared }) }
+    ensures sources { OnOk result (sources.new
+        ≡ record sources.old {
+          prepared = with_last taken.now.source taken.now.number taken.now.revision
+              sources.old.prepared;
+        }) }
     ensures next_unchanged { OnErr result (next.new ≡ next.old) }
     ensures past_unchanged { OnErr result (past.new ≡ past.old) }
     ensures sources_unchanged { OnErr result (sources.new ≡ sources.old) }

@@ -139,7 +139,13 @@ impl Documents {
         requires room { length self.old.after.documents < self.old.after.limits.docs }
         requires new { is_none (find document.name 0 self.old.after.documents) ≡ true }
         requires still { document.past.next ≡ [] }
-        ensures ok { OnOk result (self.new ≡ record self.old { after = record self.old.after { documents = self.old.after.documents ++ held document ∷ [] } }) }
+        ensures ok { OnOk result (self.new
+            ≡ record self.old {
+              after = record self.old.after {
+                documents = self.old.after.documents
+                    ++ held document ∷ [];
+              };
+            }) }
         ensures only { IsOkUnless result Refusal.NoMemory }
         ensures unchanged { OnErr result (self.new ≡ self.old) }
     {
@@ -164,7 +170,9 @@ impl Documents {
     }
 
     fn is_next(&self, number: u32) -> bool
-        ensures { result ≡ ((number == length self.now.after.documents) && nat_lt (length self.now.after.documents) self.now.after.limits.docs) }
+        ensures { result
+            ≡ ((number == length self.now.after.documents) && nat_lt (length self.now.after.documents)
+            self.now.after.limits.docs) }
     {
         let count = self.documents.len() as u64;
         u64::from(number) == count && count < u64::from(self.limits.docs())
@@ -217,10 +225,14 @@ fn change(
     limits: Limits,
     taken: &Taken,
 ) -> Result<(), Refusal>
-    ensures ok { OnOk result (documents.new.items ≡ changed_at (with_next (change_of taken.now)) taken.now.document documents.old.items) }
-    ensures continues { OnOk result (continues_by_name limits (slice_get (map (with_prepared limits.keep) documents.old.items) taken.now.document) taken.now None ≡ true) }
+    ensures ok { OnOk result (documents.new.items
+        ≡ changed_at (with_next (change_of taken.now)) taken.now.document documents.old.items) }
+    ensures continues { OnOk result
+        (continues_by_name limits (slice_get (map (with_prepared limits.keep) documents.old.items) taken.now.document)
+        taken.now None ≡ true) }
     ensures stranger { IsErrOf result Refusal.Stranger
-        → continues_by_name limits (slice_get (map (with_prepared limits.keep) documents.old.items) taken.now.document) taken.now None ≡ false }
+        → continues_by_name limits (slice_get (map (with_prepared limits.keep) documents.old.items) taken.now.document)
+        taken.now None ≡ false }
     ensures only { IfErr result (λ e. (e ≡ Refusal.Stranger) ⊎ (e ≡ Refusal.NoMemory)) }
     ensures unchanged { OnErr result (documents.new.items ≡ documents.old.items) }
 {
@@ -255,7 +267,8 @@ fn push_named(
     number: u32,
 ) -> Result<(), Refusal>
     ensures documents { OnOk result (documents.new.items ≡ documents.old.items ++ document ∷ []) }
-    ensures names { OnOk result ((q : List ℕ) → get_by_text names.new.map q ≡ cond (bytes_eq name.now q) (Some number) (get_by_text names.old.map q)) }
+    ensures names { OnOk result ((q : List ℕ)
+        → get_by_text names.new.map q ≡ cond (bytes_eq name.now q) (Some number) (get_by_text names.old.map q)) }
     ensures only { IsOkUnless result Refusal.NoMemory }
     ensures documents_unchanged { OnErr result (documents.new.items ≡ documents.old.items) }
     ensures names_unchanged { OnErr result ((q : List ℕ) → get_by_text names.new.map q ≡ get_by_text names.old.map q) }

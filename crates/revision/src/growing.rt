@@ -16,8 +16,10 @@ impl State {
         ensures after { IfOk result (λ prepared. prepared.after ≡ fold self batch.now) }
         ensures grow { OnOk result (all_grow self batch.now ≡ true) }
         ensures unchanged { IfErr result (λ unprepared. unprepared.state ≡ self) }
-        ensures stranger { IfErr result (λ unprepared. unprepared.refusal ≡ Refusal.Stranger → all_grow self batch.now ≡ false) }
-        ensures only { IfErr result (λ unprepared. (unprepared.refusal ≡ Refusal.Stranger) ⊎ (unprepared.refusal ≡ Refusal.NoMemory)) }
+        ensures stranger { IfErr result (λ unprepared. unprepared.refusal ≡ Refusal.Stranger
+            → all_grow self batch.now ≡ false) }
+        ensures only { IfErr result (λ unprepared. (unprepared.refusal ≡ Refusal.Stranger)
+            ⊎ (unprepared.refusal ≡ Refusal.NoMemory)) }
     {
         let mut documents = self.documents;
         match documents.prepare_all(alloc, batch) {

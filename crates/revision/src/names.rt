@@ -32,7 +32,8 @@ impl Names {
 
     /// Gives a name its number. Refused for want of memory alone, and then unchanged.
     pub(crate) fn insert(&mut self, alloc: Global, name: &Name, number: u32) -> Result<(), Refusal>
-        ensures ok { OnOk result ((q : List ℕ) → get_by_text self.new.map q ≡ cond (bytes_eq name.now q) (Some number) (get_by_text self.old.map q)) }
+        ensures ok { OnOk result ((q : List ℕ)
+            → get_by_text self.new.map q ≡ cond (bytes_eq name.now q) (Some number) (get_by_text self.old.map q)) }
         ensures unchanged { OnErr result ((q : List ℕ) → get_by_text self.new.map q ≡ get_by_text self.old.map q) }
         ensures only { IsOkUnless result Refusal.NoMemory }
     {
@@ -43,7 +44,8 @@ impl Names {
 
     /// Takes a name out.
     pub(crate) fn remove(&mut self, name: &Name)
-        ensures { (q : List ℕ) → get_by_text self.new.map q ≡ cond (bytes_eq name.now q) None (get_by_text self.old.map q) }
+        ensures { (q : List ℕ)
+            → get_by_text self.new.map q ≡ cond (bytes_eq name.now q) None (get_by_text self.old.map q) }
     {
         let _ = self.map.remove(name.as_str());
     }

@@ -67,7 +67,12 @@ impl Past {
     pub fn new(alloc: Global, floor: u64, document: Document, sources: Sources) -> Past
         requires short { length document ≤ 2 ^ 29 }
         requires revision { floor < 2 ^ 53 }
-        ensures { result ≡ record { past = record { floor = floor; content = record { units = document }; sources = sources; changes = [] }; next = [] } }
+        ensures { result
+            ≡ record {
+              past =
+                  record { floor = floor; content = record { units = document }; sources = sources; changes = [] };
+              next = [];
+            } }
     {
         Past {
             start: floor,
@@ -123,7 +128,8 @@ impl Past {
         requires held { self.now.past.floor ≤ revision }
         requires there { revision ≤ newest self.now.past }
         ensures stand { IfOk result (λ replay. StandInTurn [] replay.deltas.items) }
-        ensures units { IfOk result (λ replay. applied [] replay.deltas.items ≡ (content_at self.now.past revision).units) }
+        ensures units { IfOk result (λ replay. applied [] replay.deltas.items
+            ≡ (content_at self.now.past revision).units) }
         ensures sources { IfOk result (λ replay. replay.sources ≡ sources_at self.now.past revision) }
         ensures only { IsOkUnless result Refusal.NoMemory }
     {
@@ -149,7 +155,8 @@ impl Past {
         requires document { document.now ≡ (content_at self.now.past revision).units }
         requires sources { sources.now ≡ sources_at self.now.past revision }
         ensures stand { IfOk result (λ replay. StandInTurn [] replay.deltas.items) }
-        ensures units { IfOk result (λ replay. applied [] replay.deltas.items ≡ (content_at self.now.past revision).units) }
+        ensures units { IfOk result (λ replay. applied [] replay.deltas.items
+            ≡ (content_at self.now.past revision).units) }
         ensures sources { IfOk result (λ replay. replay.sources ≡ sources_at self.now.past revision) }
         ensures only { IsOkUnless result Refusal.NoMemory }
     {
@@ -176,7 +183,8 @@ impl Past {
     pub fn undo(&self, alloc: Global, revision: u64) -> Result<Delta, Refusal>
         requires held { self.now.past.floor < revision }
         requires there { revision ≤ newest self.now.past }
-        ensures undo { IfOk result (λ back. back ≡ undo_of self.now.past.floor self.now.past.content.units (deltas_of self.now.past) revision) }
+        ensures undo { IfOk result (λ back. back
+            ≡ undo_of self.now.past.floor self.now.past.content.units (deltas_of self.now.past) revision) }
         ensures only { IsOkUnless result Refusal.NoMemory }
     {
         let place = (revision - 1 - self.start) as usize;
@@ -204,7 +212,11 @@ impl Past {
         requires accepted { IsAccepted (prepared_units self.old) (counted delta) }
         requires short { length (apply (prepared_units self.old) (counted delta)) ≤ 2 ^ 29 }
         requires revision { prepared_revision self.old + 1 < 2 ^ 53 }
-        ensures ok { OnOk result (self.new ≡ record self.old { next = self.old.next ++ record { source = source; number = number; delta = delta } ∷ [] }) }
+        ensures ok { OnOk result (self.new
+            ≡ record self.old {
+              next = self.old.next
+                  ++ record { source = source; number = number; delta = delta } ∷ [];
+            }) }
         ensures only { IsOkUnless result Refusal.NoMemory }
         ensures unchanged { OnErr result (self.new ≡ self.old) }
     {
@@ -408,7 +420,8 @@ fn undo_one(
     requires stand { StandInTurn base.now deltas.now }
     requires held { place < length deltas.now }
     requires room { length (applied base.now (take place deltas.now)) + all_inserted (drop place deltas.now) ≤ 2 ^ 48 }
-    ensures undo { IfOk result (λ back. back ≡ way_back_late (applied base.now (take place deltas.now)) (drop place deltas.now)) }
+    ensures undo { IfOk result (λ back. back
+        ≡ way_back_late (applied base.now (take place deltas.now)) (drop place deltas.now)) }
     ensures only { IsOkUnless result Refusal.NoMemory }
 {
     let before = document_after(alloc, base, deltas, place)?;
@@ -451,7 +464,8 @@ fn advance(
     requires revision { start + length deltas.now < 2 ^ 53 }
     ensures count { result ≤ length deltas.now }
     ensures document { document.new ≡ applied document.old (take result deltas.now) }
-    ensures sources { sources_after (start + result) sources.new (drop result (changes_by takers.now deltas.now)) ≡ sources_after start sources.old (changes_by takers.now deltas.now) }
+    ensures sources { sources_after (start + result) sources.new (drop result (changes_by takers.now deltas.now))
+        ≡ sources_after start sources.old (changes_by takers.now deltas.now) }
 {
     for i in 0..deltas.len() {
         let revision = start + i as u64 + 1;
@@ -477,7 +491,8 @@ fn take_on(
     ensures document { OnOk result (document.new ≡ apply document.old (counted taken.now)) }
     ensures document_unchanged { OnErr result (document.new ≡ document.old) }
     ensures noted { OnOk result (sources.new ≡ with_last taker.now.source taker.now.number revision sources.old) }
-    ensures again { with_last taker.now.source taker.now.number revision sources.new ≡ with_last taker.now.source taker.now.number revision sources.old }
+    ensures again { with_last taker.now.source taker.now.number revision sources.new
+        ≡ with_last taker.now.source taker.now.number revision sources.old }
     ensures only { IsOkUnless result Refusal.NoMemory }
 {
     let source = taker.source.copy(alloc)?;
@@ -495,7 +510,8 @@ fn noted_all(
 ) -> Result<Sources, Refusal>
     requires same { length takers.now ≡ length deltas.now }
     requires revision { start + length deltas.now < 2 ^ 53 }
-    ensures sources { IfOk result (λ noted. noted ≡ sources_after start sources.now (changes_by takers.now deltas.now)) }
+    ensures sources { IfOk result (λ noted. noted
+        ≡ sources_after start sources.now (changes_by takers.now deltas.now)) }
     ensures only { IsOkUnless result Refusal.NoMemory }
 {
     let mut noted = sources.copy(alloc)?;

@@ -152,7 +152,9 @@ fn plan_edit(
 ) -> Result<Plan, Refusal>
     requires past { IsPast state.now.limits (held found.now).past }
     requires short { IsShortDelta delta.now }
-    ensures { Gives result (by_number (last_of command.now.source (sources_of (held found.now))) command.now.number (edit state.now number (held found.now) command.now base delta.now)) }
+    ensures { Gives result
+        (by_number (last_of command.now.source (sources_of (held found.now))) command.now.number
+        (edit state.now number (held found.now) command.now base delta.now)) }
 {
     match turn(found.last(command.source()), command.number()) {
         Ok(None) => {}
@@ -180,7 +182,9 @@ fn plan_undo(
     command: &Command,
 ) -> Result<Plan, Refusal>
     requires past { IsPast state.now.limits (held found.now).past }
-    ensures { Gives result (by_number (last_of command.now.source (sources_of (held found.now))) command.now.number (undo state.now number (held found.now) command.now)) }
+    ensures { Gives result
+        (by_number (last_of command.now.source (sources_of (held found.now))) command.now.number
+        (undo state.now number (held found.now) command.now)) }
 {
     let last = found.last(command.source());
     match turn(last, command.number()) {
@@ -263,8 +267,10 @@ fn admit(
     delta: &Delta,
     width: u64,
 ) -> Result<(), Refusal>
-    ensures ok { OnOk result ((asked : Change) → IsAsked asked source.now delta.now width → take_on limits document.now sources.now asked ≡ Takes asked) }
-    ensures err { IfErr result (λ e. (asked : Change) → IsAsked asked source.now delta.now width → take_on limits document.now sources.now asked ≡ Refuses e) }
+    ensures ok { OnOk result ((asked : Change) → IsAsked asked source.now delta.now width
+        → take_on limits document.now sources.now asked ≡ Takes asked) }
+    ensures err { IfErr result (λ e. (asked : Change) → IsAsked asked source.now delta.now width
+        → take_on limits document.now sources.now asked ≡ Refuses e) }
     ensures narrow { OnOk result (width < 2 ^ 32) }
 {
     let weight = match document.weigh(delta) {

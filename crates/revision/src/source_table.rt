@@ -99,7 +99,8 @@ impl SourceTable {
         revision: u64,
     ) -> Result<(), Refusal>
         requires { is_source_name source.now ≡ true }
-        ensures ok { OnOk result (self.new ≡ record self.old { prepared = with_last source.now number revision self.old.prepared }) }
+        ensures ok { OnOk result (self.new
+            ≡ record self.old { prepared = with_last source.now number revision self.old.prepared }) }
         ensures only { IsOkUnless result Refusal.NoMemory }
         ensures unchanged { OnErr result (self.new ≡ self.old) }
     {
@@ -120,7 +121,11 @@ impl SourceTable {
         document: &mut Document,
     ) -> Result<(), Refusal>
         requires accepted { IsAccepted document.old (counted taken.now.delta) }
-        ensures ok { OnOk result (self.new ≡ record self.old { prepared = with_last taken.now.source taken.now.number taken.now.revision self.old.prepared }) }
+        ensures ok { OnOk result (self.new
+            ≡ record self.old {
+              prepared = with_last taken.now.source taken.now.number taken.now.revision
+                  self.old.prepared;
+            }) }
         ensures document { OnOk result (document.new ≡ apply document.old (counted taken.now.delta)) }
         ensures only { IsOkUnless result Refusal.NoMemory }
         ensures unchanged { OnErr result (self.new ≡ self.old) }
@@ -194,7 +199,8 @@ fn note_with(
     document: &mut Document,
 ) -> Result<(), Refusal>
     requires accepted { IsAccepted document.old (counted taken.now.delta) }
-    ensures sources { OnOk result (sources.new ≡ with_last taken.now.source taken.now.number taken.now.revision sources.old) }
+    ensures sources { OnOk result (sources.new
+        ≡ with_last taken.now.source taken.now.number taken.now.revision sources.old) }
     ensures document { OnOk result (document.new ≡ apply document.old (counted taken.now.delta)) }
     ensures only { IsOkUnless result Refusal.NoMemory }
     ensures unchanged { OnErr result (sources.new ≡ sources.old) }

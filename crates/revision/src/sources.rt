@@ -109,7 +109,8 @@ impl Sources {
 
     /// How many there are once a command of this source was taken; 2^64 - 1 where there are more.
     pub fn count_after(&self, source: &Name) -> u64
-        ensures { (number revision : ℕ) → result ≡ min (count_of (with_last source.now number revision self.now)) (2 ^ 64 - 1) }
+        ensures { (number revision : ℕ)
+            → result ≡ min (count_of (with_last source.now number revision self.now)) (2 ^ 64 - 1) }
     {
         let count = self.count() as u64;
         match self.find(source) {
@@ -142,7 +143,8 @@ impl Sources {
     /// Gives a source that is there what it has from now on, and tells whether it is there. It takes no memory.
     pub(crate) fn renew(&mut self, source: &Name, last: LastTaken) -> bool
         requires { is_source_name source.now ≡ true }
-        ensures { MatchBool result (self.new ≡ insert self.old source.now last) ((get self.old source.now ≡ None) × (self.new ≡ self.old)) }
+        ensures { MatchBool result (self.new ≡ insert self.old source.now last) ((get self.old source.now ≡ None)
+            × (self.new ≡ self.old)) }
     {
         match self.place(source.as_str()) {
             Ok(i) => {

@@ -40,8 +40,26 @@ impl Taken {
     /// and is the source's command number 1. It is never refused and takes no memory; whether it continues a state,
     /// `State::absorb` says.
     pub fn creation(document: u32, name: Name, source: Name, delta: Delta) -> Taken
-        requires { IsTaken (record { document = document; name = Some name; revision = 1; source = source; number = 1; delta = delta }) }
-        ensures { result ≡ record { document = document; name = Some name; revision = 1; source = source; number = 1; delta = delta } }
+        requires { IsTaken
+            (record {
+              document = document;
+              name = Some name;
+              revision = 1;
+              source = source;
+              number = 1;
+              delta =
+                  delta;
+            }) }
+        ensures { result
+            ≡ record {
+              document = document;
+              name = Some name;
+              revision = 1;
+              source = source;
+              number = 1;
+              delta =
+                  delta;
+            } }
     {
         Taken {
             document,
@@ -58,8 +76,26 @@ impl Taken {
     /// its number for it, below 2^53, and the delta from the revision before, which the journal can spell
     /// (specs/Spellable.antt). It is never refused and takes no memory; whether it continues a state, `State::absorb` says.
     pub fn edit(document: u32, revision: u64, source: Name, number: u64, delta: Delta) -> Taken
-        requires { IsTaken (record { document = document; name = None; revision = revision; source = source; number = number; delta = delta }) }
-        ensures { result ≡ record { document = document; name = None; revision = revision; source = source; number = number; delta = delta } }
+        requires { IsTaken
+            (record {
+              document = document;
+              name = None;
+              revision = revision;
+              source = source;
+              number = number;
+              delta =
+                  delta;
+            }) }
+        ensures { result
+            ≡ record {
+              document = document;
+              name = None;
+              revision = revision;
+              source = source;
+              number = number;
+              delta =
+                  delta;
+            } }
     {
         Taken {
             document,
@@ -185,7 +221,8 @@ fn is_same_delta(one: &Delta, other: &Delta) -> bool
 
 /// How many bytes a creation would take in the journal; 2^64 - 1 where it would be more.
 pub(crate) fn creation_width(name: &Name, source: &Name, delta: &Delta) -> u64
-    ensures width { result ≡ min (23 + length source.now + (2 + length name.now) + wide.delta_width delta.now) (2 ^ 64 - 1) }
+    ensures width { result
+        ≡ min (23 + length source.now + (2 + length name.now) + wide.delta_width delta.now) (2 ^ 64 - 1) }
     ensures short { result < 2 ^ 32 → IsSpellable delta.now }
 {
     delta_width(delta).saturating_add(25 + source.len() + name.len())

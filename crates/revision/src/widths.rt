@@ -42,7 +42,9 @@ fn text_insert_width(text: &str, attrs: &Attrs) -> u64
 }
 
 fn embed_insert_width(name: &Key, value: &Value, attrs: &Attrs) -> u64
-    ensures width { result ≡ min (3 + length name.now + wide.value_width value.now + wide.pairs_width wide.value_width attrs.now.entries) (2 ^ 64 - 1) }
+    ensures width { result
+        ≡ min (3 + length name.now + wide.value_width value.now + wide.pairs_width wide.value_width attrs.now.entries)
+        (2 ^ 64 - 1) }
     ensures name { IsName name.now }
     ensures value { result < 2 ^ 32 → IsValue value.now }
     ensures attributes { result < 2 ^ 32 → IsPairs IsValue attrs.now.entries }

@@ -40,7 +40,8 @@ fn read_slot<D: Disk>(
     requires high { size ≤ 16777216 }
     requires within { at + size ≤ length (D.seen disk.old) }
 
-    ensures found { IfOk result (λ slot. D.honest disk.new → HoldsSlot (take size (drop at (D.seen disk.old))) (segment_of slot)) }
+    ensures found { IfOk result (λ slot. D.honest disk.new
+        → HoldsSlot (take size (drop at (D.seen disk.old))) (segment_of slot)) }
     ensures area { IfOk result (λ slot. KnowsArea at size slot) }
     ensures next { IfOk result (λ slot. D.honest disk.new → KnowsNext slot) }
     ensures damaged { IfErr result (λ e. e ≡ Refusal.Damaged → D.honest disk.new
@@ -104,7 +105,8 @@ pub fn read_slots<D: Disk>(
     ensures count { IfOk result (λ slots. length slots.items ≡ count) }
     ensures found { IfOk result (λ slots. D.honest disk.new → AreRead at size (D.seen disk.old) slots.items count) }
     ensures areas { IfOk result (λ slots. KnowAreas at size slots.items count) }
-    ensures damaged { IfErr result (λ e. e ≡ Refusal.Damaged → D.honest disk.new → IsDamaged at size count (D.seen disk.old)) }
+    ensures damaged { IfErr result (λ e. e ≡ Refusal.Damaged → D.honest disk.new
+        → IsDamaged at size count (D.seen disk.old)) }
     ensures only { IfErr result (λ e. (e ≡ Refusal.Damaged) ⊎ ((e ≡ Refusal.NoMemory) ⊎ (e ≡ Refusal.Fault))) }
     ensures only_read { HasOnlyRead ⟦<D as Disk>⟧ disk.old disk.new }
     ensures faults { CountsFaultsAs ⟦<D as Disk>⟧ Refusal.Fault result disk.old disk.new }

@@ -66,7 +66,8 @@ impl Ring {
         requires within { at + count * size ≤ length (D.seen disk.old) }
 
         ensures found { IfOk result (λ read. D.honest disk.new → IsReadAs (D.seen disk.old) read) }
-        ensures place { IfOk result (λ read. (at_of read.ring ≡ at) × ((size_of read.ring ≡ size) × (length (known_numbers read.ring) ≡ count))) }
+        ensures place { IfOk result (λ read. (at_of read.ring ≡ at)
+            × ((size_of read.ring ≡ size) × (length (known_numbers read.ring) ≡ count))) }
         ensures damaged { IfErr result (λ e. e ≡ Refusal.Damaged → D.honest disk.new
             → (table : List (Option Segment)) → length table ≡ count → ¬ HoldsTable at size (D.seen disk.old) table) }
         ensures only { IfErr result (λ e. (e ≡ Refusal.Damaged) ⊎ ((e ≡ Refusal.NoMemory) ⊎ (e ≡ Refusal.Fault))) }
@@ -106,10 +107,12 @@ impl Ring {
         ensures places { SamePlaces self.old self.new }
 
         // Whatever the slots held: a crash at any moment leaves that, or that with the next slot open and empty.
-        ensures any_moment { (table : List (Option Segment)) → D.unsynced disk.old ≡ [] → Fits (D.seen disk.old) self.old table
+        ensures any_moment { (table : List (Option Segment)) → D.unsynced disk.old ≡ []
+            → Fits (D.seen disk.old) self.old table
             → LeavesOnly ⟦<D as Disk>⟧ (IsLeftByOpening (D.seen disk.old) self.old table) disk.old disk.new }
         ensures done { OnOk result ((table : List (Option Segment)) → Fits (D.seen disk.old) self.old table
-            → (after : List (Option Segment)) × IsOpened table after × FitsNow (D.seen disk.old) self.old (D.seen disk.new) self.new after) }
+            → (after : List (Option Segment)) × IsOpened table after
+            × FitsNow (D.seen disk.old) self.old (D.seen disk.new) self.new after) }
         ensures synced { OnOk result (D.unsynced disk.new ≡ []) }
 
         // Four calls of the device at most.
@@ -135,7 +138,8 @@ impl Ring {
         requires some { 0 < length body.now }
         requires fits { length body.now + 15 ≤ size_of self.old }
 
-        ensures full { IsErrOf result Refusal.JournalFull ↔ (fits_newest self.old (length body.now) ≡ false) × IsFull (known_numbers self.old) }
+        ensures full { IsErrOf result Refusal.JournalFull ↔ (fits_newest self.old (length body.now) ≡ false)
+            × IsFull (known_numbers self.old) }
         ensures untouched { IsErrOf result Refusal.JournalFull → (disk.new ≡ disk.old) × (self.new ≡ self.old) }
         ensures only { IfErr result (λ e. (e ≡ Refusal.JournalFull) ⊎ ((e ≡ Refusal.NoMemory) ⊎ (e ≡ Refusal.Fault))) }
         ensures err { OnErr result (IsSameOrOpened self.old self.new) }
@@ -143,26 +147,33 @@ impl Ring {
 
         // Whatever the slots held: a crash at any moment leaves the table before, the one that the body is appended to, or
         // that with the body.
-        ensures any_moment { (table : List (Option Segment)) → D.unsynced disk.old ≡ [] → Fits (D.seen disk.old) self.old table
+        ensures any_moment { (table : List (Option Segment)) → D.unsynced disk.old ≡ []
+            → Fits (D.seen disk.old) self.old table
             → LeavesOnly ⟦<D as Disk>⟧ (IsLeftByAppend (D.seen disk.old) self.old table body.now) disk.old disk.new }
         ensures done { OnOk result ((table : List (Option Segment)) → Fits (D.seen disk.old) self.old table
             → (ready : List (Option Segment)) × IsReady self.old (length body.now) table ready
             × (after : List (Option Segment)) × IsAppended ready body.now after
             × FitsNow (D.seen disk.old) self.old (D.seen disk.new) self.new after) }
         ensures synced { OnOk result (D.unsynced disk.new ≡ []) }
-        ensures given_up { IsErrOf result Refusal.NoMemory → (table : List (Option Segment)) → Fits (D.seen disk.old) self.old table
+        ensures given_up { IsErrOf result Refusal.NoMemory → (table : List (Option Segment))
+            → Fits (D.seen disk.old) self.old table
             → (ready : List (Option Segment)) × IsReady self.old (length body.now) table ready
             × FitsNow (D.seen disk.old) self.old (D.seen disk.new) self.new ready }
         // Want of memory comes before anything of the body is written: at most a slot is opened.
-        ensures unwritten { IsErrOf result Refusal.NoMemory → (table : List (Option Segment)) → D.unsynced disk.old ≡ [] → Fits (D.seen disk.old) self.old table
-            → LeavesOnly ⟦<D as Disk>⟧ (IsLeftReady (D.seen disk.old) self.old (length body.now) table) disk.old disk.new }
+        ensures unwritten { IsErrOf result Refusal.NoMemory → (table : List (Option Segment))
+            → D.unsynced disk.old ≡ [] → Fits (D.seen disk.old) self.old table
+            → LeavesOnly ⟦<D as Disk>⟧ (IsLeftReady (D.seen disk.old) self.old (length body.now) table) disk.old
+            disk.new }
         ensures still_synced { IsErrOf result Refusal.NoMemory → D.unsynced disk.old ≡ [] → D.unsynced disk.new ≡ [] }
 
         // Four calls of the device at most, and four more where a slot is opened.
         ensures calls { length (D.past disk.new) ≤ length (D.past disk.old) + 8 }
-        ensures calls_where_it_fits { fits_newest self.old (length body.now) ≡ true → length (D.past disk.new) ≤ length (D.past disk.old) + 4 }
-        ensures calls_given_up { IsErrOf result Refusal.NoMemory → length (D.past disk.new) ≤ length (D.past disk.old) + 4 }
-        ensures given_up_where_it_fits { IsErrOf result Refusal.NoMemory → fits_newest self.old (length body.now) ≡ true → (disk.new ≡ disk.old) × (self.new ≡ self.old) }
+        ensures calls_where_it_fits { fits_newest self.old (length body.now) ≡ true
+            → length (D.past disk.new) ≤ length (D.past disk.old) + 4 }
+        ensures calls_given_up { IsErrOf result Refusal.NoMemory
+            → length (D.past disk.new) ≤ length (D.past disk.old) + 4 }
+        ensures given_up_where_it_fits { IsErrOf result Refusal.NoMemory
+            → fits_newest self.old (length body.now) ≡ true → (disk.new ≡ disk.old) × (self.new ≡ self.old) }
         ensures only_written { HasOnlyWritten ⟦<D as Disk>⟧ disk.old disk.new }
         ensures faults { CountsFaultsAs ⟦<D as Disk>⟧ Refusal.Fault result disk.old disk.new }
     {
@@ -177,7 +188,8 @@ impl Ring {
         requires within { end_of self.old ≤ length (D.seen disk.old) }
         requires fits { len + 15 ≤ size_of self.old }
 
-        ensures full { IsErrOf result Refusal.JournalFull ↔ (fits_newest self.old len ≡ false) × IsFull (known_numbers self.old) }
+        ensures full { IsErrOf result Refusal.JournalFull ↔ (fits_newest self.old len ≡ false)
+            × IsFull (known_numbers self.old) }
         ensures untouched { IsErrOf result Refusal.JournalFull → disk.new ≡ disk.old }
         ensures only { IfErr result (λ e. (e ≡ Refusal.JournalFull) ⊎ (e ≡ Refusal.Fault)) }
         ensures err { OnErr result (self.new ≡ self.old) }
@@ -186,10 +198,12 @@ impl Ring {
         ensures takes { IsSameOrOpened self.old self.new }
         ensures places { SamePlaces self.old self.new }
 
-        ensures any_moment { (table : List (Option Segment)) → D.unsynced disk.old ≡ [] → Fits (D.seen disk.old) self.old table
+        ensures any_moment { (table : List (Option Segment)) → D.unsynced disk.old ≡ []
+            → Fits (D.seen disk.old) self.old table
             → LeavesOnly ⟦<D as Disk>⟧ (IsLeftReady (D.seen disk.old) self.old len table) disk.old disk.new }
         ensures done { OnOk result ((table : List (Option Segment)) → Fits (D.seen disk.old) self.old table
-            → (ready : List (Option Segment)) × IsReady self.old len table ready × FitsNow (D.seen disk.old) self.old (D.seen disk.new) self.new ready) }
+            → (ready : List (Option Segment)) × IsReady self.old len table ready
+            × FitsNow (D.seen disk.old) self.old (D.seen disk.new) self.new ready) }
         ensures synced { OnOk result (D.unsynced disk.old ≡ [] → D.unsynced disk.new ≡ []) }
 
         ensures calls { length (D.past disk.new) ≤ length (D.past disk.old) + 4 }
@@ -266,10 +280,12 @@ impl Ring {
         ensures places { SamePlaces self.old self.new }
 
         // Whatever the slots held: a crash at any moment leaves that, or that without the oldest segment.
-        ensures any_moment { (table : List (Option Segment)) → D.unsynced disk.old ≡ [] → Fits (D.seen disk.old) self.old table
+        ensures any_moment { (table : List (Option Segment)) → D.unsynced disk.old ≡ []
+            → Fits (D.seen disk.old) self.old table
             → LeavesOnly ⟦<D as Disk>⟧ (IsLeftByRetiring (D.seen disk.old) self.old table) disk.old disk.new }
         ensures done { OnOk result ((table : List (Option Segment)) → Fits (D.seen disk.old) self.old table
-            → (after : List (Option Segment)) × IsRetired table after × FitsNow (D.seen disk.old) self.old (D.seen disk.new) self.new after) }
+            → (after : List (Option Segment)) × IsRetired table after
+            × FitsNow (D.seen disk.old) self.old (D.seen disk.new) self.new after) }
         ensures synced { OnOk result (D.unsynced disk.new ≡ []) }
 
         // Two calls of the device at most.
@@ -295,16 +311,19 @@ impl Ring {
         ensures untouched { IsErrOf result Refusal.JournalFull → disk.new ≡ disk.old }
         ensures only { IfErr result (λ e. (e ≡ Refusal.JournalFull) ⊎ (e ≡ Refusal.Fault)) }
         ensures err { OnErr result (self.new ≡ self.old) }
-        ensures newest { IfOk result (λ area. (self.new.newest ≡ Some area) × ((area.next ≡ 0) × (area.size ≡ self.old.size - 9))) }
+        ensures newest { IfOk result (λ area. (self.new.newest ≡ Some area)
+            × ((area.next ≡ 0) × (area.size ≡ self.old.size - 9))) }
 
         ensures takes { OnOk result ((slot : ℕ) × (number : ℕ) × IsNext (known_numbers self.old) slot number
             × (known_numbers self.new ≡ set (known_numbers self.old) slot (Some number))) }
         ensures places { SamePlaces self.old self.new }
 
-        ensures any_moment { (table : List (Option Segment)) → D.unsynced disk.old ≡ [] → Fits (D.seen disk.old) self.old table
+        ensures any_moment { (table : List (Option Segment)) → D.unsynced disk.old ≡ []
+            → Fits (D.seen disk.old) self.old table
             → LeavesOnly ⟦<D as Disk>⟧ (IsLeftByOpening (D.seen disk.old) self.old table) disk.old disk.new }
         ensures done { OnOk result ((table : List (Option Segment)) → Fits (D.seen disk.old) self.old table
-            → (after : List (Option Segment)) × IsOpened table after × FitsNow (D.seen disk.old) self.old (D.seen disk.new) self.new after) }
+            → (after : List (Option Segment)) × IsOpened table after
+            × FitsNow (D.seen disk.old) self.old (D.seen disk.new) self.new after) }
         ensures synced { OnOk result (D.unsynced disk.new ≡ []) }
 
         ensures calls { length (D.past disk.new) ≤ length (D.past disk.old) + 4 }

@@ -78,10 +78,12 @@ impl<D: Disk> StoreDesk<D> {
             → IsUpToDate (spacing_of self.old) document (store_of self.old) is_open (store_of self.new)) }
         ensures spacing { spacing_of self.new ≡ spacing_of self.old }
         ensures state { state_of (store_of self.new) ≡ state_of (store_of self.old) }
-        ensures goes { Goes (λ content. FoundAs content (state_of (store_of self.old))) (store_of self.old) (store_of self.new) }
+        ensures goes { Goes (λ content. FoundAs content (state_of (store_of self.old))) (store_of self.old)
+            (store_of self.new) }
         ensures store_works { has_failed self.new ≡ false → store_has_failed (store_of self.old) ≡ false
             → store_has_failed (store_of self.new) ≡ false }
-        ensures cause { has_failed self.new ≡ true → has_failed self.old ≡ false → store_has_failed (store_of self.old) ≡ false
+        ensures cause { has_failed self.new ≡ true → has_failed self.old ≡ false
+            → store_has_failed (store_of self.old) ≡ false
             → Rose (D.faults (device_of (store_of self.old))) (D.faults (device_of (store_of self.new))) }
         ensures rests { has_failed self.old ≡ true → self.new ≡ self.old }
         ensures honest { D.honest (device_of (store_of self.new)) ↔ D.honest (device_of (store_of self.old)) }
@@ -130,7 +132,8 @@ impl<D: Disk> StoreDesk<D> {
             → store_has_failed (store_of self.new) ≡ false }
         ensures fails { (has_failed self.new ≡ true) ↔ (result ≡ Err Refusal.StoreFailed) }
         ensures cause { result ≡ Err Refusal.StoreFailed → FailsCommit self.old taken self.new }
-        ensures full { store_has_failed (store_of self.old) ≡ false → IsFullFor (store_of self.old) taken → result ≡ Err Refusal.StoreFailed }
+        ensures full { store_has_failed (store_of self.old) ≡ false → IsFullFor (store_of self.old) taken
+            → result ≡ Err Refusal.StoreFailed }
         ensures any_moment { store_has_failed (store_of self.old) ≡ false → IsOpen (store_of self.old)
             → LeavesOnly ⟦<D as Disk>⟧ (IsWithOrWithout (state_of (store_of self.old)) (taken ∷ []))
             (device_of (store_of self.old)) (device_of (store_of self.new)) }

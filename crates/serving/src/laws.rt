@@ -18,5 +18,6 @@ pub fn asked_keeps_all<D: Disk>()
 
 /// A document's line as it is written.
 pub fn worked_dump()
-    ensures { dump.line_of (codes "d") 1 0 (text_of (insert_text (codes "z") empty ∷ [])) ≡ codes "d 1 0 {\"ops\":[{\"insert\":\"z\"}]}\n" }
+    ensures { dump.line_of (codes "d") 1 0 (text_of (insert_text (codes "z") empty ∷ []))
+        ≡ codes "d 1 0 {\"ops\":[{\"insert\":\"z\"}]}\n" }
 {}

@@ -33,8 +33,10 @@ pub fn serve<D: Disk, I: Read, O: Output>(
         (I.remaining input.old) (I.remaining input.new) (O.contents output.old) (O.contents output.new)) }
     // Whatever ends it: the desk was asked commands one after another, and a crash at any moment, or afterwards, leaves
     // all that was acknowledged before it.
-    ensures keeps { has_failed desk.old ≡ false → store_has_failed (store_of desk.old) ≡ false → IsOpen (store_of desk.old)
-        → (asked : List Exchange) × Asks PassesAtStore desk.old asked desk.new × KeepsAll ⟦<D as Disk>⟧ desk.old desk.new asked }
+    ensures keeps { has_failed desk.old ≡ false → store_has_failed (store_of desk.old) ≡ false
+        → IsOpen (store_of desk.old)
+        → (asked : List Exchange) × Asks PassesAtStore desk.old asked desk.new
+        × KeepsAll ⟦<D as Disk>⟧ desk.old desk.new asked }
     ensures works { OnOk result (has_failed desk.new ≡ false) }
     ensures failed { IsErrOf result (Failure.Refused Refusal.StoreFailed) → (has_failed desk.new ≡ true)
         × IsServed PassesAtStore desk.old desk.new

@@ -46,16 +46,21 @@ pub fn long_line()
 /// Lines as they are written: the replies to hello and to a creation, a document, deltas, subscriptions, news, and a refusal.
 pub fn worked_lines()
     ensures hello { line_of greeting ≡ codes "{\"ok\":\"hello\"}\n" }
-    ensures taken { line_of (acknowledgement (codes "d") 1 (Taken 1)) ≡ codes "{\"doc\":\"d\",\"n\":1,\"ok\":\"taken\",\"rev\":1}\n" }
-    ensures again { line_of (acknowledgement (codes "d") 1 (Again 1)) ≡ codes "{\"doc\":\"d\",\"n\":1,\"ok\":\"again\",\"rev\":1}\n" }
+    ensures taken { line_of (acknowledgement (codes "d") 1 (Taken 1))
+        ≡ codes "{\"doc\":\"d\",\"n\":1,\"ok\":\"taken\",\"rev\":1}\n" }
+    ensures again { line_of (acknowledgement (codes "d") 1 (Again 1))
+        ≡ codes "{\"doc\":\"d\",\"n\":1,\"ok\":\"again\",\"rev\":1}\n" }
     ensures fetched { line_of (document_with (codes "d")
         (printed_delta (insert_text (codes "Hi") empty ∷ insert_text (codes "!") (insert empty (codes "bold") (flag_scalar true)) ∷ [])) 2)
         ≡ codes "{\"doc\":\"d\",\"ok\":\"doc\",\"ops\":[{\"insert\":\"Hi\"},{\"attributes\":{\"bold\":true},\"insert\":\"!\"}],\"rev\":2}\n" }
     ensures since { line_of (since_reply (codes "d") ((retain 1 empty ∷ insert_text (codes "x") empty ∷ []) ∷ []) 2)
         ≡ codes "{\"deltas\":[[{\"retain\":1},{\"insert\":\"x\"}]],\"doc\":\"d\",\"ok\":\"since\",\"rev\":2}\n" }
-    ensures subscribed { line_of (subscribed_reply (codes "d") 0) ≡ codes "{\"doc\":\"d\",\"ok\":\"subscribed\",\"rev\":0}\n" }
-    ensures unsubscribed { line_of (unsubscribed_reply (codes "d")) ≡ codes "{\"doc\":\"d\",\"ok\":\"unsubscribed\"}\n" }
-    ensures told { news_line (codes "d") 1 (insert_text (codes "Hi") empty ∷ []) ≡ codes "{\"doc\":\"d\",\"news\":1,\"ops\":[{\"insert\":\"Hi\"}]}\n" }
+    ensures subscribed { line_of (subscribed_reply (codes "d") 0)
+        ≡ codes "{\"doc\":\"d\",\"ok\":\"subscribed\",\"rev\":0}\n" }
+    ensures unsubscribed { line_of (unsubscribed_reply (codes "d"))
+        ≡ codes "{\"doc\":\"d\",\"ok\":\"unsubscribed\"}\n" }
+    ensures told { news_line (codes "d") 1 (insert_text (codes "Hi") empty ∷ [])
+        ≡ codes "{\"doc\":\"d\",\"news\":1,\"ops\":[{\"insert\":\"Hi\"}]}\n" }
     ensures ended { ended_line (codes "d") ≡ codes "{\"doc\":\"d\",\"ended\":13}\n" }
     ensures exists { refusal_line Exists ≡ codes "{\"code\":7,\"error\":\"Exists\"}\n" }
 {}
@@ -80,7 +85,8 @@ pub fn news_of_a_state()
 pub fn calls_of_a_state()
     ensures { (old new : Session) (state after : State) (calls : List Call) (asked : List Exchange) (text : List ℕ)
         → Calls old calls asked new text → Asks Alone state asked after → FindsMemory text
-        → (text ≡ transcript (of_session old state) calls) × (of_session new after ≡ after_calls (of_session old state) calls) }
+        → (text ≡ transcript (of_session old state) calls)
+        × (of_session new after ≡ after_calls (of_session old state) calls) }
 {}
 
 /// Each revision is told once, in order. Of the state that was told there is nothing more to tell. And what is told of a document at
@@ -88,7 +94,8 @@ pub fn calls_of_a_state()
 pub fn told_once()
     ensures nothing_more { (subscriptions : Subscriptions) (state : State)
         → (news (subscriptions_after subscriptions state) state ≡ [])
-        × (subscriptions_after (subscriptions_after subscriptions state) state ≡ subscriptions_after subscriptions state) }
+        × (subscriptions_after (subscriptions_after subscriptions state) state
+        ≡ subscriptions_after subscriptions state) }
     ensures one_after_another { (doc : List ℕ) (last : ℕ) (past later : Past)
         → past.floor ≤ last → last ≤ newest past → later.floor ≤ last → newest past ≤ newest later
         → take (newest past - last) (deltas_above later last) ≡ deltas_above past last

@@ -46,7 +46,8 @@ fn tell(
     last: u64,
     text: &mut String,
 ) -> Result<Option<u64>, AllocError>
-    ensures text { OnOk result (string_bytes text.new ≡ string_bytes text.old ++ spec.lines_in state.now name.now last) }
+    ensures text { OnOk result (string_bytes text.new ≡ string_bytes text.old
+        ++ spec.lines_in state.now name.now last) }
     ensures last { IfOk result (λ told. told ≡ spec.last_in state.now name.now last) }
 {
     match state.find(name) {

@@ -25,7 +25,8 @@ pub struct Told {
 
 /// What is told to a question of a document. Of the newest revision no copy is made, and of deltas none either.
 pub fn read(alloc: Global, state: &State, shelf: &Shelf, name: &Name, question: Question) -> Told
-    ensures reply { Fits state.now shelf.now → IfOk result.reply (λ text. string_bytes text ≡ read_line name.now question state.now) }
+    ensures reply { Fits state.now shelf.now
+        → IfOk result.reply (λ text. string_bytes text ≡ read_line name.now question state.now) }
     ensures look { IsGivenLook state.now result.look }
 {
     match question {
@@ -51,7 +52,8 @@ fn read_newest(alloc: Global, state: &State, name: &Name) -> Result<String, Allo
 }
 
 fn read_at(alloc: Global, state: &State, shelf: &Shelf, name: &Name, rev: u64) -> Told
-    ensures reply { Fits state.now shelf.now → IfOk result.reply (λ text. string_bytes text ≡ read_line name.now (At rev) state.now) }
+    ensures reply { Fits state.now shelf.now
+        → IfOk result.reply (λ text. string_bytes text ≡ read_line name.now (At rev) state.now) }
     ensures look { IsGivenLook state.now result.look }
 {
     match shelf.show(
@@ -89,7 +91,8 @@ fn read_since(alloc: Global, state: &State, name: &Name, rev: u64) -> Result<Str
 }
 
 fn since_of(alloc: Global, name: &Name, found: &DocState, rev: u64) -> Result<String, AllocError>
-    ensures { IfOk result (λ text. string_bytes text ≡ line_told (told name.now (Since rev) (Some (0, held found.now)))) }
+    ensures { IfOk result (λ text. string_bytes text
+        ≡ line_told (told name.now (Since rev) (Some (0, held found.now)))) }
 {
     if rev > found.revision() {
         return refusal_reply(alloc, Refusal::Future);

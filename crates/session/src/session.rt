@@ -173,8 +173,10 @@ impl Session {
         requires works { self.old.ended ≡ false }
         requires length { length news.now.last.items ≡ length self.old.peer.subscriptions }
         ensures written { OnOk result (Appends (O.contents out.old) (O.contents out.new) (string_bytes news.now.text)) }
-        ensures noted { OnOk result (self.new ≡ with_subscriptions self.old (going_on self.old.peer.subscriptions news.now.last.items)) }
-        ensures front { OnErr result (AppendsFront (O.contents out.old) (O.contents out.new) (string_bytes news.now.text)) }
+        ensures noted { OnOk result (self.new
+            ≡ with_subscriptions self.old (going_on self.old.peer.subscriptions news.now.last.items)) }
+        ensures front { OnErr result
+            (AppendsFront (O.contents out.old) (O.contents out.new) (string_bytes news.now.text)) }
         ensures failed { OnErr result (O.has_failed out.new ≡ true) }
         ensures err { OnErr result (self.new ≡ record self.old { ended = true }) }
     {
@@ -198,7 +200,8 @@ impl Session {
         requires works { self.old.ended ≡ false }
         requires fits { Fits (D.reached desk.old) shelf.old }
         ensures fits { Fits (D.reached desk.new) shelf.new }
-        ensures taken { OnOk result (TakesAhead D.does self.old byte (commands_of sent.old.items) self.new (commands_of sent.new.items)
+        ensures taken { OnOk result
+            (TakesAhead D.does self.old byte (commands_of sent.old.items) self.new (commands_of sent.new.items)
             desk.old desk.new (O.contents out.old) (O.contents out.new)) }
         ensures stopped { OnErr result (StopsAhead D.does self.old byte (commands_of sent.old.items) self.new
             desk.old desk.new (O.contents out.old) (O.contents out.new)) }
@@ -288,7 +291,8 @@ impl Session {
         requires works { self.old.ended ≡ false }
         ensures gathered { OnOk result ((done : List ℕ) × (text.old.items ++ bytes.now ≡ done ++ text.new.items)
             × Appends (O.contents out.old) (O.contents out.new) done) }
-        ensures front { OnErr result (AppendsFront (O.contents out.old) (O.contents out.new) (text.old.items ++ bytes.now)) }
+        ensures front { OnErr result (AppendsFront (O.contents out.old) (O.contents out.new) (text.old.items
+            ++ bytes.now)) }
         ensures failed { OnErr result (O.has_failed out.new ≡ true) }
         ensures ok { OnOk result (self.new ≡ self.old) }
         ensures err { OnErr result (self.new ≡ record self.old { ended = true }) }
@@ -354,7 +358,8 @@ impl Session {
     fn greet(&mut self, alloc: Global, source: Name) -> Result<String, AllocError>
         requires { is_source_name source ≡ true }
         ensures greeted { IfOk result (λ text. string_bytes text ≡ line_of spec_greeting) }
-        ensures presented { OnOk result (self.new ≡ record self.old { peer = record self.old.peer { source = Some source } }) }
+        ensures presented { OnOk result (self.new
+            ≡ record self.old { peer = record self.old.peer { source = Some source } }) }
         ensures unchanged { OnErr result (self.new ≡ self.old) }
     {
         let reply = greeting(alloc)?;
@@ -388,7 +393,8 @@ impl Session {
     // Follows a document no longer, and tells so.
     fn unsubscribe(&mut self, alloc: Global, name: &Name) -> Result<String, AllocError>
         ensures told { IfOk result (λ text. string_bytes text ≡ line_of (spec_unsubscribed name.now)) }
-        ensures left { OnOk result (self.new ≡ with_subscriptions self.old (without_subscription self.old.peer.subscriptions name.now)) }
+        ensures left { OnOk result (self.new
+            ≡ with_subscriptions self.old (without_subscription self.old.peer.subscriptions name.now)) }
         ensures unchanged { OnErr result (self.new ≡ self.old) }
     {
         let reply = unsubscribed_reply(alloc, name)?;
@@ -461,7 +467,8 @@ fn reply_of(alloc: Global, sent: &Sent) -> Result<String, AllocError>
 // Asks the desk once, and tells what it answers.
 fn ask<D: Desk>(alloc: Global, desk: &mut D, command: &Command) -> Result<String, AllocError>
     ensures later { IsLater (D.reached desk.old) (D.reached desk.new) }
-    ensures told { (answer : Result reply.Reply refusal.Refusal) × D.does desk.old (Answered command.now answer) desk.new
+    ensures told { (answer : Result reply.Reply refusal.Refusal)
+        × D.does desk.old (Answered command.now answer) desk.new
         × IsLine (answer_line command.now answer) (text_told (λ t. string_bytes t) result) }
 {
     match desk.ask(alloc, command) {
@@ -505,12 +512,14 @@ fn view<D: Desk>(
     requires fits { Fits (D.reached desk.old) shelf.now }
     ensures fits { Fits (D.reached desk.new) shelf.now }
     ensures told { (shown : Option state.State) × D.does desk.old (Shown shown) desk.new
-        × IsReadOf (λ state answer. IfOk answer.reply (λ text. string_bytes text ≡ read_line name.now question state)) shown result }
+        × IsReadOf (λ state answer. IfOk answer.reply (λ text. string_bytes text
+        ≡ read_line name.now question state)) shown result }
     ensures look { IfOk result (λ told. IsGivenLook (D.reached desk.new) told.look) }
 {
     desk.view(
         |state|
-            ensures reply { Fits state.now shelf.entry.now → IfOk result.reply (λ text. string_bytes text ≡ read_line name.entry.now question state.now) }
+            ensures reply { Fits state.now shelf.entry.now
+                → IfOk result.reply (λ text. string_bytes text ≡ read_line name.entry.now question state.now) }
             ensures look { IsGivenLook state.now result.look }
         { read(alloc, state, shelf, name, question) },
     )

@@ -49,7 +49,9 @@ impl Model for Shelf {
 
     ghost Value = { List Kept };
 
-    ghost view = { λ s. map (λ entry. record { name = string_bytes entry.0.name; revision = entry.0.revision; units = entry.1 }) s.documents.entries };
+    ghost view = { λ s. map
+        (λ entry. record { name = string_bytes entry.0.name; revision = entry.0.revision; units = entry.1 })
+        s.documents.entries };
 
     ghost invariant = { λ s. s.documents.cap ≡ 64 };
 }
@@ -69,7 +71,8 @@ impl Model for Look {
 
     ghost Value = { Option Kept };
 
-    ghost view = { λ l. option_map (λ units. record { name = string_bytes l.key.name; revision = l.key.revision; units = units }) l.made };
+    ghost view = { λ l. option_map
+        (λ units. record { name = string_bytes l.key.name; revision = l.key.revision; units = units }) l.made };
 }
 
 impl Shelf {

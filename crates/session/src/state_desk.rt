@@ -65,14 +65,16 @@ impl StateDesk {
         ensures ended { session.old.ended ≡ true → IsErr result }
         ensures silent { session.old.ended ≡ true → out.new ≡ out.old }
         ensures idle { session.old.ended ≡ true → self.new ≡ self.old }
-        ensures fed { OnOk result (FedAlone (of_session session.old self.old) piece.now (of_session session.new self.new)
+        ensures fed { OnOk result
+            (FedAlone (of_session session.old self.old) piece.now (of_session session.new self.new)
             (O.contents out.old) (O.contents out.new)) }
         // The same of each line, where some find no memory.
         ensures feeds { OnOk result (Feeds Alone session.old piece.now session.new self.old self.new
             (O.contents out.old) (O.contents out.new)) }
         // A write that fails ends the session, and nothing else does. A beginning of the replies was written.
         ensures stopped { OnErr result (session.old.ended ≡ false
-            → Stops Alone session.old piece.now session.new self.old self.new (O.contents out.old) (O.contents out.new)) }
+            → Stops Alone session.old piece.now session.new self.old self.new (O.contents out.old)
+            (O.contents out.new)) }
         ensures cause { OnErr result (session.old.ended ≡ false → O.has_failed out.new ≡ true) }
         ensures ok { OnOk result (session.new.ended ≡ false) }
         ensures err { OnErr result (session.new.ended ≡ true) }
@@ -94,7 +96,8 @@ impl StateDesk {
         ensures ended { session.old.ended ≡ true → IsErr result }
         ensures silent { session.old.ended ≡ true → out.new ≡ out.old }
         ensures idle { session.old.ended ≡ true → self.new ≡ self.old }
-        ensures heard { IfOk result (λ told. HearsAlone told (of_session session.old self.old) (of_session session.new self.new)
+        ensures heard { IfOk result
+            (λ told. HearsAlone told (of_session session.old self.old) (of_session session.new self.new)
             (O.contents out.old) (O.contents out.new)) }
         // A write that fails ends the session, and nothing else does. A beginning of the news was written.
         ensures stopped { OnErr result (session.old.ended ≡ false

@@ -54,7 +54,8 @@ pub fn append_byte<D: Disk>(
     byte: u8,
 ) -> Result<(), Refusal>
     requires within { end_of ring.old ≤ length (D.seen disk.old) }
-    ensures any_moment { (table : List (Option Segment)) → D.unsynced disk.old ≡ [] → Fits (D.seen disk.old) ring.old table
+    ensures any_moment { (table : List (Option Segment)) → D.unsynced disk.old ≡ []
+        → Fits (D.seen disk.old) ring.old table
         → LeavesOnly ⟦<D as Disk>⟧ (IsLeftByAppend (D.seen disk.old) ring.old table (byte ∷ [])) disk.old disk.new }
 {
     ring.append(alloc, disk, &[byte])
@@ -79,7 +80,8 @@ pub fn commit_one<D: Disk>(
 ) -> Result<Receipt<D>, Refusal>
     requires { FitsSlot (state_of store.old) (taken ∷ []) }
     ensures any_moment { has_failed store.old ≡ false → IsOpen store.old
-        → LeavesOnly ⟦<D as Disk>⟧ (IsWithOrWithout (state_of store.old) (taken ∷ [])) (device_of store.old) (device_of store.new) }
+        → LeavesOnly ⟦<D as Disk>⟧ (IsWithOrWithout (state_of store.old) (taken ∷ [])) (device_of store.old)
+        (device_of store.new) }
     ensures done { OnOk result (IsOpen store.old → IsOpen store.new) }
 {
     store.commit(alloc, &[taken])

@@ -37,8 +37,10 @@ pub fn flush_turn<D: Disk, J: Site, R: Wait, G: Gate>(
     ensures nothing { OnOk result ((committed_of flusher.new ≡ []) × (waiting_of flusher.new ≡ [])) }
 
     // When each refusal comes: a failure of the device is told as such, and nothing else is.
-    ensures fails { has_failed (store_of flusher.old) ≡ false → (has_failed (store_of flusher.new) ≡ true ↔ IsErrOf result Refusal.Fault) }
-    ensures causes { IfErr result (λ e. e ≢ Refusal.NoMemory → e ≢ Refusal.Fault → IsTurnFailed flusher.old e flusher.new) }
+    ensures fails { has_failed (store_of flusher.old) ≡ false
+        → (has_failed (store_of flusher.new) ≡ true ↔ IsErrOf result Refusal.Fault) }
+    ensures causes { IfErr result (λ e. e ≢ Refusal.NoMemory → e ≢ Refusal.Fault
+        → IsTurnFailed flusher.old e flusher.new) }
 {
     match turn_made(rt, alloc, flusher, hub, upkeep, gate) {
         Ok(settled) => Ok(settled),
@@ -64,8 +66,10 @@ fn turn_made<D: Disk, J: Site, R: Wait, G: Gate>(
     ensures one { IfOk result (λ settled. settled ≡ true → IsOneMore flusher.old flusher.new) }
     ensures none { IfOk result (λ settled. settled ≡ false → told_of flusher.new ≡ told_of flusher.old) }
     ensures nothing { OnOk result ((committed_of flusher.new ≡ []) × (waiting_of flusher.new ≡ [])) }
-    ensures fails { has_failed (store_of flusher.old) ≡ false → (has_failed (store_of flusher.new) ≡ true ↔ IsErrOf result Refusal.Fault) }
-    ensures causes { IfErr result (λ e. e ≢ Refusal.NoMemory → e ≢ Refusal.Fault → IsTurnFailed flusher.old e flusher.new) }
+    ensures fails { has_failed (store_of flusher.old) ≡ false
+        → (has_failed (store_of flusher.new) ≡ true ↔ IsErrOf result Refusal.Fault) }
+    ensures causes { IfErr result (λ e. e ≢ Refusal.NoMemory → e ≢ Refusal.Fault
+        → IsTurnFailed flusher.old e flusher.new) }
 {
     flusher.kept();
     if let Err(refusal) = upkeep.put_due(alloc, flusher) {
@@ -91,7 +95,8 @@ fn hold_next<D: Disk, J: Site, R: Wait>(
 ) -> Result<bool, Refusal>
     ensures writes { Writes J.start flusher.old flusher.new }
     ensures held { IfOk result (λ held. held ≡ true → committed_of flusher.new ++ waiting_of flusher.new ≢ []) }
-    ensures nothing { IfOk result (λ held. held ≡ false → (committed_of flusher.new ≡ []) × (waiting_of flusher.new ≡ [])) }
+    ensures nothing { IfOk result (λ held. held ≡ false → (committed_of flusher.new ≡ [])
+        × (waiting_of flusher.new ≡ [])) }
     ensures store { store_of flusher.new ≡ store_of flusher.old }
     ensures told { told_of flusher.new ≡ told_of flusher.old }
     ensures only { IfErr result (λ e. e ≡ Refusal.NoMemory) }
@@ -120,7 +125,8 @@ fn take_some<D: Disk, J: Site, R: Wait>(
     cap: u32,
     hub: &Hub<D, J>,
 ) -> Result<Option<Run<J>>, Refusal>
-    ensures fits { IfOk result (λ taken. IfSome taken (λ run. (1 ≤ length run.commands) × (batch_width run.commands ≤ cap))) }
+    ensures fits { IfOk result (λ taken. IfSome taken (λ run. (1 ≤ length run.commands)
+        × (batch_width run.commands ≤ cap))) }
     ensures cap { IfOk result (λ taken. IfSome taken (λ run. run.cap ≡ cap)) }
     ensures only { IfErr result (λ e. e ≡ Refusal.NoMemory) }
 {
@@ -147,8 +153,10 @@ fn write_held<D: Disk, J: Site, R: Wait, G: Gate>(
     ensures one { IfOk result (λ settled. settled ≡ true → IsOneMore flusher.old flusher.new) }
     ensures none { IfOk result (λ settled. settled ≡ false → committed_of flusher.old ++ waiting_of flusher.old ≡ []) }
     ensures nothing { OnOk result ((committed_of flusher.new ≡ []) × (waiting_of flusher.new ≡ [])) }
-    ensures fails { has_failed (store_of flusher.old) ≡ false → (has_failed (store_of flusher.new) ≡ true ↔ IsErrOf result Refusal.Fault) }
-    ensures causes { IfErr result (λ e. e ≢ Refusal.NoMemory → e ≢ Refusal.Fault → IsTurnFailed flusher.old e flusher.new) }
+    ensures fails { has_failed (store_of flusher.old) ≡ false
+        → (has_failed (store_of flusher.new) ≡ true ↔ IsErrOf result Refusal.Fault) }
+    ensures causes { IfErr result (λ e. e ≢ Refusal.NoMemory → e ≢ Refusal.Fault
+        → IsTurnFailed flusher.old e flusher.new) }
 {
     flusher.kept();
     let written = match flusher.write(rt, alloc, gate) {
@@ -185,7 +193,8 @@ pub fn flush_all<D: Disk, J: Site, R: Wait, G: Gate>(
 ) -> Result<(), Refusal>
     ensures writes { Writes J.start flusher.old flusher.new }
     ensures nothing { OnOk result ((committed_of flusher.new ≡ []) × (waiting_of flusher.new ≡ [])) }
-    ensures fails { has_failed (store_of flusher.old) ≡ false → (has_failed (store_of flusher.new) ≡ true ↔ IsErrOf result Refusal.Fault) }
+    ensures fails { has_failed (store_of flusher.old) ≡ false
+        → (has_failed (store_of flusher.new) ≡ true ↔ IsErrOf result Refusal.Fault) }
     ensures causes { IfErr result (λ e. e ≢ Refusal.Fault → IsEndedBy J.start flusher.old e flusher.new) }
 {
     flusher.kept();

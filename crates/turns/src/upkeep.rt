@@ -42,7 +42,8 @@ impl<D: Disk> Upkeep<D> {
         flusher: &mut Flusher<D, J>,
     ) -> Result<(), Refusal>
         ensures kept_up { IsKeptUp (store_of flusher.old) (store_of flusher.new) }
-        ensures fails { has_failed (store_of flusher.old) ≡ false → (has_failed (store_of flusher.new) ≡ true ↔ IsErrOf result Refusal.Fault) }
+        ensures fails { has_failed (store_of flusher.old) ≡ false
+            → (has_failed (store_of flusher.new) ≡ true ↔ IsErrOf result Refusal.Fault) }
         ensures told { told_of flusher.new ≡ told_of flusher.old }
         ensures committed { committed_of flusher.new ≡ committed_of flusher.old }
         ensures waiting { waiting_of flusher.new ≡ waiting_of flusher.old }
@@ -74,7 +75,8 @@ fn put_each<D: Disk, J: Site>(
 ) -> Result<(), Refusal>
     requires { 1 ≤ every }
     ensures kept_up { IsKeptUp (store_of flusher.old) (store_of flusher.new) }
-    ensures fails { has_failed (store_of flusher.old) ≡ false → (has_failed (store_of flusher.new) ≡ true ↔ IsErrOf result Refusal.Fault) }
+    ensures fails { has_failed (store_of flusher.old) ≡ false
+        → (has_failed (store_of flusher.new) ≡ true ↔ IsErrOf result Refusal.Fault) }
     ensures told { told_of flusher.new ≡ told_of flusher.old }
     ensures committed { committed_of flusher.new ≡ committed_of flusher.old }
     ensures waiting { waiting_of flusher.new ≡ waiting_of flusher.old }

@@ -229,7 +229,8 @@ fn queued<D, J: Site, R: Wait>(
     requires shown { AreShown J.book J.start told writer.desk.shown.value }
     requires waiting { drop writer.behind writer.log.items ≡ [] }
     requires next { next ≡ told ++ receipt ∷ [] }
-    ensures done { IfOk result.1 (λ published. IfSome published (λ p. (p.0 ≡ receipt) × (p.1 ≡ next) × (result.0 ≡ record { told = next; held = [] }))) }
+    ensures done { IfOk result.1 (λ published. IfSome published (λ p. (p.0 ≡ receipt) × (p.1 ≡ next)
+        × (result.0 ≡ record { told = next; held = [] }))) }
     ensures some { IfOk result.1 (λ published. IfNone published ⊥) }
     ensures unchanged { OnErr result.1 (result.0 ≡ record { told = told; held = receipt ∷ [] }) }
     ensures only { IfErr result.1 (λ e. e ≡ Refusal.NoMemory) }
@@ -265,7 +266,8 @@ fn shown<D, J: Site, R: Wait>(
     requires shown { AreShown J.book J.start told writer.desk.shown.value }
     requires waiting { drop writer.behind writer.log.items ≡ to_show J.book receipt next ∷ [] }
     requires next { next ≡ told ++ receipt ∷ [] }
-    ensures done { IfOk result.1 (λ published. IfSome published (λ p. (p.0 ≡ receipt) × (p.1 ≡ next) × (result.0 ≡ record { told = next; held = [] }))) }
+    ensures done { IfOk result.1 (λ published. IfSome published (λ p. (p.0 ≡ receipt) × (p.1 ≡ next)
+        × (result.0 ≡ record { told = next; held = [] }))) }
     ensures some { IfOk result.1 (λ published. IfNone published ⊥) }
     ensures unchanged { OnErr result.1 (result.0 ≡ record { told = told; held = receipt ∷ [] }) }
     ensures only { IfErr result.1 (λ e. e ≡ Refusal.NoMemory) }

@@ -66,7 +66,8 @@ impl<D, J: Site> Viewer<D, J> {
         requires { F.IsAlwaysCallable f }
         ensures kept { IsPrefix self.old self.new }
         ensures grows { OnOk result (state.all_grow J.start (commands_of self.new) ≡ true) }
-        ensures answer { IfOk result (λ a. (s : state.State) × (s ≡ state.fold J.start (commands_of self.new)) × FnOnceReturnsAt F.FnOnce f s a) }
+        ensures answer { IfOk result (λ a. (s : state.State) × (s ≡ state.fold J.start (commands_of self.new))
+            × FnOnceReturnsAt F.FnOnce f s a) }
         ensures only { IfErr result (λ e. e ≡ Refusal.StoreFailed) }
         ensures unchanged { OnErr result (self.new ≡ self.old) }
     {
@@ -97,7 +98,8 @@ impl<D, J: Site> Viewer<D, J> {
     /// with `StoreFailed`, as `read` is.
     pub fn at(&mut self, alloc: Global, name: &Name, revision: u64) -> Result<Document, Refusal>
         ensures kept { IsPrefix self.old self.new }
-        ensures answer { (result ≡ document_at (state.fold J.start (commands_of self.new)) name.now revision) ⊎ (result ≡ Err Refusal.NoMemory)
+        ensures answer { (result ≡ document_at (state.fold J.start (commands_of self.new)) name.now revision)
+            ⊎ (result ≡ Err Refusal.NoMemory)
             ⊎ ((result ≡ Err Refusal.StoreFailed) × (self.new ≡ self.old)) }
     {
         let read = self.read(
@@ -119,12 +121,15 @@ impl<D, J: Site> Viewer<D, J> {
         revision: u64,
     ) -> Result<Vec<Delta>, Refusal>
         ensures kept { IsPrefix self.old self.new }
-        ensures answer { (read_as (λ deltas. deltas.items) result ≡ taken_since (state.fold J.start (commands_of self.new)) name.now revision) ⊎ (result ≡ Err Refusal.NoMemory)
+        ensures answer { (read_as (λ deltas. deltas.items) result
+            ≡ taken_since (state.fold J.start (commands_of self.new)) name.now revision)
+            ⊎ (result ≡ Err Refusal.NoMemory)
             ⊎ ((result ≡ Err Refusal.StoreFailed) × (self.new ≡ self.old)) }
     {
         let read = self.read(
             |state: &State| -> Result<Vec<Delta>, Refusal>
-                ensures { (read_as (λ deltas. deltas.items) result ≡ taken_since state.now name.entry.now revision) ⊎ (result ≡ Err Refusal.NoMemory) }
+                ensures { (read_as (λ deltas. deltas.items) result ≡ taken_since state.now name.entry.now revision)
+                    ⊎ (result ≡ Err Refusal.NoMemory) }
             { since_of(alloc, state, name, revision) },
         );
         match read {
@@ -136,7 +141,8 @@ impl<D, J: Site> Viewer<D, J> {
 
 // copies of the deltas that were taken since a revision
 fn since_of(alloc: Global, state: &State, name: &Name, revision: u64) -> Result<Vec<Delta>, Refusal>
-    ensures { (read_as (λ deltas. deltas.items) result ≡ taken_since state.now name.now revision) ⊎ (result ≡ Err Refusal.NoMemory) }
+    ensures { (read_as (λ deltas. deltas.items) result ≡ taken_since state.now name.now revision)
+        ⊎ (result ≡ Err Refusal.NoMemory) }
 {
     match state.since(name, revision) {
         Ok(deltas) => copied(alloc, deltas),

@@ -32,9 +32,18 @@ impl Model for Board {
 
     ghost Value = { spec.Board Kept };
 
-    ghost view = { λ b. record { start = b.start.value; order = b.order.items; state = b.state; taken = b.taken; settled = b.settled } };
+    ghost view = { λ b.
+        record {
+          start = b.start.value;
+          order = b.order.items;
+          state = b.state;
+          taken = b.taken;
+          settled =
+              b.settled;
+        } };
 
-    ghost invariant = { λ b. (b.settled ≤ b.taken) × (b.taken ≤ length b.order.items) × (b.unsettled.items ≡ drop b.settled b.order.items) };
+    ghost invariant = { λ b. (b.settled ≤ b.taken) × (b.taken ≤ length b.order.items)
+        × (b.unsettled.items ≡ drop b.settled b.order.items) };
 }
 
 impl Board {

@@ -25,7 +25,8 @@ impl Model for Sent {
 
     ghost view = { λ s. s.command.value };
 
-    ghost invariant = { λ s. (s.name ≡ s.command.value.name) × (s.source ≡ s.command.value.source) × (s.number ≡ s.command.value.number) };
+    ghost invariant = { λ s. (s.name ≡ s.command.value.name) × (s.source ≡ s.command.value.source)
+        × (s.number ≡ s.command.value.number) };
 }
 
 impl Sent {

@@ -213,7 +213,8 @@ impl World {
 
     // What the order keeps of a command where the board will take it.
     fn taken_of(&self, alloc: Global, command: &Command) -> Result<Option<Entry>, Refusal>
-        ensures ok { IfOk result (λ entry. option_to_list entry ≡ taken_of command.now (answer self.now.board.state command.now)) }
+        ensures ok { IfOk result (λ entry. option_to_list entry
+            ≡ taken_of command.now (answer self.now.board.state command.now)) }
         ensures only { IsOkUnless result Refusal.NoMemory }
     {
         match self.board.state().plan(alloc, command) {
@@ -384,7 +385,8 @@ fn recovered(
     milestones: &[u64],
 ) -> Result<State, Refusal>
     requires grow { all_grow (empty_store limits) (takens entries.now) ≡ true }
-    ensures state { IfOk result (λ state. state ≡ spec_recovered (empty_store limits) (takens entries.now) milestones.now) }
+    ensures state { IfOk result (λ state. state
+        ≡ spec_recovered (empty_store limits) (takens entries.now) milestones.now) }
     ensures only { IsOkUnless result Refusal.NoMemory }
 {
     folded(alloc, limits, entries)?.copy_from(alloc, milestones)

@@ -33,7 +33,8 @@ pub fn read_number64(bytes: &[u8]) -> Option<(u64, &[u8])>
 /// The text of less than 2^16 bytes whose spelling begins the bytes, with the bytes behind it, or none.
 pub fn read_text16(bytes: &[u8]) -> Option<(&str, &[u8])>
     ensures found { IfSome result (λ x. (length x.0.now < 2 ^ 16) × (bytes.now ≡ spelling.text16 x.0.now ++ x.1.now)) }
-    ensures none { IfNone result ((text rest : List ℕ) → length text < 2 ^ 16 → is_utf8 text ≡ true → bytes.now ≡ spelling.text16 text ++ rest → ⊥) }
+    ensures none { IfNone result ((text rest : List ℕ) → length text < 2 ^ 16 → is_utf8 text ≡ true
+        → bytes.now ≡ spelling.text16 text ++ rest → ⊥) }
 {
     match text16(bytes) {
         Ok((text, rest)) => Some((text, rest)),

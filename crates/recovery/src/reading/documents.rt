@@ -44,7 +44,8 @@ pub(super) fn read_documents<D: Disk>(
     requires within { layout_length shape.now ≤ length (D.seen disk.old) }
     requires count { length entries.items ≡ shape.now.docs }
 
-    ensures found { IfOk result (λ read. D.honest disk.new → (all : List TakenValue) → AreByDocument all (lists_of entries.items)
+    ensures found { IfOk result (λ read. D.honest disk.new → (all : List TakenValue)
+        → AreByDocument all (lists_of entries.items)
         → AreDocumentsRead (D.seen disk.old) shape.now pick all read.cells.items read.state) }
     ensures cells { IfOk result (λ read. AreCellsOf shape.now read.cells.items) }
     ensures limits { IfOk result (λ read. read.state.limits ≡ limits_of shape.now) }
@@ -83,8 +84,10 @@ impl ReadDocuments {
         ensures next { OnOk result (IsNext (D.honest disk.new) (D.seen disk.old) shape.now pick entries.items
             self.old.cells.items self.old.state self.new.cells.items self.new.state) }
         ensures damaged { IfErr result (λ e. e ≡ Refusal.Damaged → D.honest disk.new → (pair : Pair)
-            → HoldsPair (cells_place shape.now (length self.old.cells.items)) shape.now.cell (length self.old.cells.items) (D.seen disk.old) pair
-            → (after : StateValue) → ¬ IsDocumentRead (length self.old.cells.items) (picked pick pair) entries.items self.old.state after) }
+            → HoldsPair (cells_place shape.now (length self.old.cells.items)) shape.now.cell
+            (length self.old.cells.items) (D.seen disk.old) pair
+            → (after : StateValue)
+            → ¬ IsDocumentRead (length self.old.cells.items) (picked pick pair) entries.items self.old.state after) }
         ensures only { IfErr result (λ e. (e ≡ Refusal.Damaged) ⊎ ((e ≡ Refusal.NoMemory) ⊎ (e ≡ Refusal.Fault))) }
         ensures only_read { HasOnlyRead ⟦<D as Disk>⟧ disk.old disk.new }
         ensures faults { CountsFaultsAs ⟦<D as Disk>⟧ Refusal.Fault result disk.old disk.new }

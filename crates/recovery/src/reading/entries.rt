@@ -33,12 +33,14 @@ pub(super) fn gather(
     docs: u32,
     segments: &[RecoveredSegment],
 ) -> Result<Gathered, Refusal>
-    ensures found { IfOk result (λ gathered. (groups : List (List (List TakenValue))) × SpellGroups (map segment_in segments.now) groups
+    ensures found { IfOk result (λ gathered. (groups : List (List (List TakenValue)))
+        × SpellGroups (map segment_in segments.now) groups
         × AreByDocument (commands_in groups) (lists_of gathered.lists.items)) }
     ensures count { IfOk result (λ gathered. length gathered.lists.items ≡ docs) }
     ensures marked { IfOk result (λ gathered. (table : List (Option Segment)) → NumbersDiffer (numbers_of table)
         → map segment_in segments.now ≡ segments_of table → AreMarked table (marks_of gathered.marks)) }
-    ensures damaged { IfErr result (λ e. e ≡ Refusal.Damaged → (groups : List (List (List TakenValue))) → SpellGroups (map segment_in segments.now) groups
+    ensures damaged { IfErr result (λ e. e ≡ Refusal.Damaged → (groups : List (List (List TakenValue)))
+        → SpellGroups (map segment_in segments.now) groups
         → are_below docs (commands_in groups) ≡ false) }
     ensures only { IfErr result (λ e. (e ≡ Refusal.Damaged) ⊎ (e ≡ Refusal.NoMemory)) }
 {
@@ -79,8 +81,10 @@ fn add_bodies(
 ) -> Result<(), Refusal>
     ensures added { OnOk result ((batches : List (List TakenValue)) × SpellEach (items_of bodies.now) batches
         × AreAdded (commands_of batches) (lists_of lists.old) (lists_of lists.new)) }
-    ensures marked { OnOk result (AreBodiesMarked number (items_of bodies.now) (marks_of marks.old) (marks_of marks.new)) }
-    ensures damaged { IfErr result (λ e. e ≡ Refusal.Damaged → (batches : List (List TakenValue)) → SpellEach (items_of bodies.now) batches
+    ensures marked { OnOk result
+        (AreBodiesMarked number (items_of bodies.now) (marks_of marks.old) (marks_of marks.new)) }
+    ensures damaged { IfErr result (λ e. e ≡ Refusal.Damaged → (batches : List (List TakenValue))
+        → SpellEach (items_of bodies.now) batches
         → are_below (length lists.old) (commands_of batches) ≡ false) }
     ensures only { IfErr result (λ e. (e ≡ Refusal.Damaged) ⊎ (e ≡ Refusal.NoMemory)) }
 {

@@ -45,7 +45,8 @@ pub(super) fn read_document(
     entries: Vec<Taken>,
 ) -> Result<(), Refusal>
     ensures read { OnOk result (IsDocumentRead number cell entries.items state.old state.new) }
-    ensures damaged { IfErr result (λ e. e ≡ Refusal.Damaged → (after : StateValue) → ¬ IsDocumentRead number cell entries.items state.old after) }
+    ensures damaged { IfErr result (λ e. e ≡ Refusal.Damaged → (after : StateValue)
+        → ¬ IsDocumentRead number cell entries.items state.old after) }
     ensures only { IfErr result (λ e. (e ≡ Refusal.Damaged) ⊎ (e ≡ Refusal.NoMemory)) }
 {
     if cell.is_none() && entries.is_empty() {

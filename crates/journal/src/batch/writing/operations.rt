@@ -55,7 +55,8 @@ fn put_operation(out: &mut Vec<u8>, op: &Op) -> Result<(), AllocError>
 #[tactic(auto, unfolding(crate::specs::DeltaSpelling::operation))]
 fn put_text_insert(out: &mut Vec<u8>, text: &str, attrs: &Attrs) -> Result<(), AllocError>
     requires { IsOperation (insert_text (units_of text.now) attrs.now) }
-    ensures { OnOk result (out.new.items ≡ out.old.items ++ spelling.operation (insert_text (units_of text.now) attrs.now)) }
+    ensures { OnOk result (out.new.items ≡ out.old.items
+        ++ spelling.operation (insert_text (units_of text.now) attrs.now)) }
 {
     out.push(1)?;
     put_text32(out, text)?;
