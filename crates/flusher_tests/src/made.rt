@@ -68,11 +68,7 @@ pub fn command(rt: &(impl Abort + AllocGlobal), number: u64, count: u32) -> Comm
 }
 
 /// A store over a device, which is to open by this pick.
-pub fn open_store<D: Disk + Drop>(
-    rt: &(impl Abort + AllocGlobal),
-    disk: D,
-    pick: Pick,
-) -> Store<D>
+pub fn open_store<D: Disk + Drop>(rt: &(impl Abort + AllocGlobal), disk: D, pick: Pick) -> Store<D>
     ensures { has_failed result ≡ false }
 {
     match Store::open(rt.alloc(), disk, pick) {

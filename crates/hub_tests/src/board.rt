@@ -138,6 +138,42 @@ fn batches_fit_their_slots(rt: HostRuntime) {
     batches_fit::<Brand, _>(&rt, Opened::new(), Blank::new(2), state);
 }
 
+/// How many letters the second command adds, and how many commands the first batch then has.
+const WIDTHS: [(u32, usize); 2] = [(159, 2), (160, 1)];
+
+// Two commands are taken off in one batch, or in two of one.
+fn taken_off<J: Site, R: Abort + AllocGlobal>(
+    rt: &R,
+    opened: Opened,
+    blank: Blank,
+    state: State,
+    row: &(u32, usize),
+)
+    requires book { opened ≡ J.book }
+    requires name { blank.name ≡ J.name }
+    requires parts { blank.parts ≡ J.parts }
+    requires seats { blank.parts ≡ 2 }
+    requires start { state ≡ J.start }
+{
+    let (count, first) = *row;
+    let (_, told) = opened.named::<MemDisk, J>();
+    let mut board = Board::new(rt.alloc(), state, told, blank, 1);
+    let mut seat = board.seat().expect(rt, "a seat");
+    is_ordered(rt, &mut board, &mut seat, 1, 1);
+    is_ordered(rt, &mut board, &mut seat, 2, count);
+    let _ = batch(rt, &mut board, first);
+    let _ = batch(rt, &mut board, 2usize.saturating_sub(first));
+}
+
+// The create's entry has 41 bytes, the edit's 37 and one a letter, and a batch 4 more: 241 bytes are one batch, and 242 are two.
+#[test]
+fn a_batch_has_241_bytes_at_most(rt: HostRuntime) {
+    for row in &WIDTHS {
+        let state = State::new(rt.alloc(), SHAPE.limits());
+        taken_off::<Brand, _>(&rt, Opened::new(), Blank::new(2), state, row);
+    }
+}
+
 fn settled_before_a_failure<J: Site, R: Abort + AllocGlobal>(
     rt: &R,
     opened: Opened,
