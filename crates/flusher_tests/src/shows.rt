@@ -43,6 +43,22 @@ impl<J: Site> Gate for Looks<J> {
     }
 }
 
+// Takes the one command that was submitted off the board, and holds it.
+fn hold_next<J: Site, R: Abort + AllocGlobal>(
+    rt: &R,
+    flusher: &mut Flusher<MemDisk, J>,
+    board: &mut Board<MemDisk, J>,
+)
+    requires nothing { (committed_of flusher.old ≡ []) × (waiting_of flusher.old ≡ []) }
+{
+    let run = match board.take(rt.alloc(), flusher.cap()) {
+        Ok(run) => run,
+        Err(refusal) => panic!(rt; "{refusal}"),
+    };
+    assert_eq!(rt; run.len(), 1);
+    flusher.hold(run);
+}
+
 // Submits the next command, and writes and settles it: its reader was shown the revision before it until then, and is shown it now.
 fn is_shown<J: Site, R: Wait + Abort + AllocGlobal>(
     rt: &R,
@@ -58,9 +74,7 @@ fn is_shown<J: Site, R: Wait + Abort + AllocGlobal>(
     let alloc = rt.alloc();
     let next = command(rt, number, 1);
     assert!(rt; board.submit(alloc, seat, &next).is_ok());
-    let run = board.take(alloc, flusher.cap()).expect(rt, "memory");
-    assert_eq!(rt; run.len(), 1);
-    flusher.hold(run);
+    hold_next(rt, flusher, board);
     let written = flusher.write(rt, alloc, gate).expect(rt, "written");
     let (receipt, told) = written.expect(rt, "a batch");
     assert!(rt; told.len() == number);

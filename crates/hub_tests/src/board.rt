@@ -1,7 +1,7 @@
 //! A board over a store in memory: batches that fit their slots, and what is settled.
 ghost use Rattle.std.specs.Prelude.{◌≡◌};
 
-use crate::made::{CAP, SHAPE, command, commit, new_store};
+use crate::made::{CAP, SHAPE, command, commit, new_store, open_store};
 use disk::MemDisk;
 use hub::{Board, Seat, Ticket};
 use published::{Log, Opened, Site, Told};
@@ -103,6 +103,13 @@ fn settled_in_order<J: Site, R: Abort>(
     assert_eq!(rt; board.settle(one, told.copy()), Err(Refusal::Stranger));
 }
 
+// the one document stands at this revision, with so many letters
+fn stands_at<R: Abort>(rt: &R, state: &State, revision: u64, letters: u64) {
+    assert!(rt; state.documents().len() == 1);
+    assert!(rt; state.documents()[0].revision() == revision);
+    assert!(rt; state.documents()[0].document().len16() == letters);
+}
+
 fn batches_fit<J: Site, R: Abort + AllocGlobal>(rt: &R, opened: Opened, blank: Blank, state: State)
     requires book { opened ≡ J.book }
     requires name { blank.name ≡ J.name }
@@ -129,9 +136,11 @@ fn batches_fit<J: Site, R: Abort + AllocGlobal>(rt: &R, opened: Opened, blank: B
     waits(rt, &board, &again);
     assert_eq!(rt; board.settle(&two, last), Ok(()));
     is_acknowledged(rt, &board, &again);
+    stands_at(rt, board.state(), 3, 214);
+    stands_at(rt, open_store(rt, store.close()).state(), 3, 214);
 }
 
-// The entries have 41, 51 and 236 bytes, and a batch has 4 more.
+// The entries have 41, 51 and 236 bytes, and a batch has 4 more. The store that is opened again has what the board's order makes.
 #[test]
 fn batches_fit_their_slots(rt: HostRuntime) {
     let state = State::new(rt.alloc(), SHAPE.limits());
