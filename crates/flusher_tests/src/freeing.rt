@@ -182,12 +182,31 @@ fn acknowledged<D, J: Site>(answers: &[Answer<D, J>]) -> u64 {
     count
 }
 
-// How many calls of the device the first edits take.
+// The edits up to this number: how many of them were acknowledged, and the device.
+fn edited<D: Disk + Drop, J: Site, R: Wait + Abort + AllocGlobal>(
+    rt: &R,
+    store: Store<D>,
+    opened: Opened,
+    blank: Blank,
+    last: u64,
+) -> (u64, D)
+    requires book { opened ≡ J.book }
+    requires name { blank.name ≡ J.name }
+    requires parts { blank.parts ≡ J.parts }
+    requires seats { blank.parts ≡ 2 }
+    requires begin { state_of store ≡ J.start }
+    requires works { has_failed store ≡ false }
+{
+    let calls = calls_of(rt, 1, last);
+    let (run, disk) = driven::<_, J, R>(rt, store, opened, blank, &calls);
+    (acknowledged(&run.answers), disk)
+}
+
+// How many calls of the device they take.
 fn calls_for<R: Wait + Abort + AllocGlobal>(rt: &R, bytes: &[u8], last: u64) -> u64 {
     let store = open_store(rt, device_of(rt, bytes), Pick::Newer);
-    let calls = calls_of(rt, 1, last);
-    let (run, disk) = driven::<_, Brand, R>(rt, store, Opened::new(), Blank::new(2), &calls);
-    assert!(rt; acknowledged(&run.answers) == last);
+    let (count, disk) = edited::<_, Brand, R>(rt, store, Opened::new(), Blank::new(2), last);
+    assert_eq!(rt; count, last);
     disk.calls().len() as u64
 }
 
@@ -204,13 +223,32 @@ fn is_answered<D, J: Site, R: Abort>(rt: &R, run: &Driven<D, J>, found: u64) {
     assert!(rt; run.tickets[1].reply() == Reply::Taken { rev: 4 });
 }
 
-// By a pick a device has these edits, each once. The run goes on from there, with the third edit sent again and a fourth.
+// The third edit is sent again, and then comes a fourth.
+fn sent_again<J: Site, R: Wait + Abort + AllocGlobal>(
+    rt: &R,
+    store: Store<MemDisk>,
+    opened: Opened,
+    blank: Blank,
+    found: u64,
+) -> MemDisk
+    requires book { opened ≡ J.book }
+    requires name { blank.name ≡ J.name }
+    requires parts { blank.parts ≡ J.parts }
+    requires seats { blank.parts ≡ 2 }
+    requires begin { state_of store ≡ J.start }
+    requires works { has_failed store ≡ false }
+{
+    let calls = calls_of(rt, 3, 4);
+    let (run, disk) = driven::<_, J, R>(rt, store, opened, blank, &calls);
+    is_answered(rt, &run, found);
+    disk
+}
+
+// By a pick a device has these edits, each once, and a run goes on from there.
 fn goes_on<R: Wait + Abort + AllocGlobal>(rt: &R, bytes: &[u8], pick: Pick, found: u64) {
     let store = open_store(rt, device_of(rt, bytes), pick);
     assert!(rt; newest(rt, store.state()) == found);
-    let calls = calls_of(rt, 3, 4);
-    let (run, disk) = driven::<_, Brand, R>(rt, store, Opened::new(), Blank::new(2), &calls);
-    is_answered(rt, &run, found);
+    let disk = sent_again::<Brand, R>(rt, store, Opened::new(), Blank::new(2), found);
     let store = open_store(rt, disk, Pick::Newer);
     assert!(rt; newest(rt, store.state()) == 4);
 }
@@ -218,9 +256,8 @@ fn goes_on<R: Wait + Abort + AllocGlobal>(rt: &R, bytes: &[u8], pick: Pick, foun
 // A stop at a call of the third edit's turn leaves the two edits that were acknowledged, or these and the third.
 fn is_stopped<R: Wait + Abort + AllocGlobal>(rt: &R, bytes: &[u8], plan: FaultPlan, found: u64) {
     let store = open_store(rt, FaultDisk::new(device_of(rt, bytes), plan), Pick::Newer);
-    let calls = calls_of(rt, 1, 3);
-    let (run, disk) = driven::<_, Brand, R>(rt, store, Opened::new(), Blank::new(2), &calls);
-    assert!(rt; run.stopped == Some(Refusal::Fault) && acknowledged(&run.answers) == 2);
+    let (count, disk) = edited::<_, Brand, R>(rt, store, Opened::new(), Blank::new(2), 3);
+    assert!(rt; count == 2 && disk.has_stopped());
     let after = disk.after_crash(rt.alloc()).expect(rt, "memory");
     goes_on(rt, after.bytes(), Pick::Newer, found);
     goes_on(rt, after.bytes(), Pick::Older, found);
