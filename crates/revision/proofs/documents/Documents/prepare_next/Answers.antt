@@ -10,7 +10,7 @@ use Rattle.revision.specs.State.{DocumentRecord, change_of, record_by_name, set_
 use Rattle.revision.proofs.ChangedAt.{map-changed_at, length-changed_at, among-last}
 use Rattle.revision.proofs.Untouched.{rest-touch, rest-changed}
 use Rattle.revision.proofs.OneMore.{changed_by, held-changed}
-use Rattle.revision.proofs.documents.Documents.prepare.Goals as goal
+use Rattle.revision.proofs.documents.Documents.prepare_next.Goals as goal
 
 pub invariant_of-self-in_err-change-in-None : goal.invariant_of-self-in_err-change-in-None
 invariant_of-self-in_err-change-in-None c =
