@@ -19,6 +19,10 @@ jobs_of jobs = jobs.list.items
 abbrev pub without_job : ℕ → List Job → List Job
 without_job document jobs = filter (λ job. not (job.document == document)) jobs
 
+-- those of this document alone
+abbrev pub jobs_for : ℕ → List Job → List Job
+jobs_for document jobs = filter (λ job. job.document == document) jobs
+
 -- with one more, in place of what its document had
 abbrev pub with_job : Job → List Job → List Job
 with_job job jobs = without_job job.document jobs ++ job ∷ []

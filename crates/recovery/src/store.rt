@@ -65,7 +65,7 @@ impl<D: Disk> Store<D> {
     ghost use Rattle.recovery.specs.Found.{Found, FoundAs};
     ghost use Rattle.revision.specs.Agree.{Agree};
     ghost use Rattle.revision.specs.State.{fold, all_grow};
-    ghost use Rattle.recovery.specs.Open.{FitsSlot, IsOpen, IsUnchanged, IsWithOrWithout, device_of, ring_of, state_of, has_failed, has_room, kept_jobs, known_cells, fits_newest_segment};
+    ghost use Rattle.recovery.specs.Open.{FitsSlot, IsOpen, IsUnchanged, IsCommittedNow, IsWithOrWithout, device_of, ring_of, state_of, has_failed, has_room, kept_jobs, known_cells, known_marks, fits_newest_segment};
 
     /// Opens a formatted device, by the newer or the older cell of each document: syncs it, then reads, and writes nothing.
     /// `NotFormatted` comes just where the superblock's gate is closed or the device has less than 64 bytes, `Damaged` just
@@ -200,6 +200,10 @@ impl<D: Disk> Store<D> {
         ensures same_state { OnErr result (state_of self.new ≡ state_of self.old) }
         ensures jobs { kept_jobs self.new ≡ kept_jobs self.old }
         ensures cells { known_cells self.new ≡ known_cells self.old }
+        // One mark more at most for each command.
+        ensures marks { OnOk result
+            (length (known_marks self.new) ≤ length (known_marks self.old) + length batch.now) }
+        ensures same_marks { OnErr result (known_marks self.new ≡ known_marks self.old) }
         ensures fails { has_failed self.old ≡ false → (has_failed self.new ≡ true ↔ IsErrOf result Refusal.Fault) }
         ensures works { OnOk result (has_failed self.new ≡ false) }
         ensures untouched { (IsErrOf result Refusal.JournalFull) ⊎ (IsErrOf result Refusal.Stranger)
@@ -216,7 +220,10 @@ impl<D: Disk> Store<D> {
         ensures unwritten { IsErrOf result Refusal.NoMemory → IsOpen self.old
             → LeavesOnly ⟦<D as Disk>⟧ (λ content. FoundAs content (state_of self.old)) (device_of self.old)
             (device_of self.new) }
-        // Once it is Ok, the device is synced and stands for the state with the batch.
+        // Once it is Ok, the device is synced and stands for the state with the batch: the cells are those of before, and so are the
+        // slots but for the batch, which a slot is opened for just where it doesn't fit the newest segment.
+        ensures committed { OnOk result ((is_open : IsOpen self.old)
+            → IsCommittedNow batch.now self.old is_open self.new) }
         ensures done { OnOk result (IsOpen self.old → IsOpen self.new) }
         ensures kept { IfErr result (λ e. e ≢ Refusal.Fault → IsOpen self.old → IsOpen self.new) }
 
@@ -331,8 +338,9 @@ fn append_batch<D: Disk>(
 // Marks the documents of a batch in the newest segment, which it was appended to. It takes no memory.
 fn mark_batch(ring: &Ring, marks: &mut Marks, batch: &[Taken])
     requires { length batch.now ≤ room_of marks.old }
-    ensures { (slot : ℕ) (number : ℕ) → IsNewest (known_numbers ring.now) slot number
+    ensures noted { (slot : ℕ) (number : ℕ) → IsNewest (known_numbers ring.now) slot number
         → IsNoted number batch.now (marks_of marks.old) (marks_of marks.new) }
+    ensures grows { length (marks_of marks.new) ≤ length (marks_of marks.old) + length batch.now }
 {
     if let Some(segment) = ring.newest_number() {
         marks.note(segment, batch);

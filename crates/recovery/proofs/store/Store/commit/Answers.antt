@@ -1,4 +1,4 @@
-use Rattle.std.proofs.Common.{◌≡◌, ◌∙◌, ◌+◌, ⊎_elim, true, false, [], ◌∷◌, ◌++◌, Err, ap, subst, sym, inl, rules}
+use Rattle.std.proofs.Common.{◌≡◌, ◌∙◌, ◌+◌, ⊎_elim, true, false, [], ◌∷◌, ◌++◌, Err, refl, ap, subst, sym, inl, rules}
 use Rattle.journal.specs.BatchSpelling.{batch}
 use Rattle.revision.specs.State.{Limits, State, fold, all_grow}
 use Rattle.history.specs.Running.{Runs}
@@ -9,7 +9,7 @@ use Rattle.refusal.specs.declared.Refusal.TheVariants.{JournalFull, Stranger, No
 use Rattle.disk.specs.Crash.{history_of}
 use Rattle.disk.proofs.CallerLemmas.{begins, leaves_map}
 use Rattle.recovery.proofs.Commits.{found_before, opened_for, with_or_without, parts_after, parts_left, runs_with, limits_with}
-use Rattle.std.proofs.Common.{List}
+use Rattle.std.proofs.Common.{List, length, arith}
 use Rattle.recovery.specs.declared.marks.Mark.{Mark}
 use Rattle.recovery.specs.Marks.{marks_of, IsNoted}
 use Rattle.recovery.specs.Marked.{AreMarked}
@@ -44,8 +44,8 @@ returns-in-Err-append_batch-clause-any_moment g c unfailed is_open =
     leaves_map (λ content left. with_or_without store is_open c.args.batch.now c.has_room.ensures.is_batch grow content left)
     (c.append_batch.ensures.any_moment is_open.table is_open.synced is_open.fits)
 
-pub returns-in-Ok-append_batch-clause-done : goal.returns-in-Ok-append_batch-clause-done
-returns-in-Ok-append_batch-clause-done g c is_open =
+pub returns-in-Ok-append_batch-clause-committed : goal.returns-in-Ok-append_batch-clause-committed
+returns-in-Ok-append_batch-clause-committed g c is_open =
     let store = c.args.self.now in
     let commands = c.args.batch.now in
     let grow : all_grow store.state commands ≡ true = subst (λ (s : State). all_grow s commands ≡ true) c.replace.ensures.value c.in-Ok.ensures.grow in
@@ -55,24 +55,37 @@ returns-in-Ok-append_batch-clause-done g c is_open =
     let done : IsDone (g.D.Disk.seen store.device) store.ring is_open.table (batch commands) (g.D.Disk.seen c.append_batch.new.disk) c.append_batch.new.ring =
     c.in-Ok-append_batch.ensures.done is_open.table is_open.fits in
     record {
-      synced = c.in-Ok-append_batch.ensures.synced;
-      cells = is_open.cells;
-      table = done.now;
-      batches = is_open.batches ++ commands ∷ [];
-      order = is_open.order ++ commands;
-      holds = parts_after store is_open commands c.has_room.ensures.is_batch grow _ c.append_batch.new.ring places done;
-      fits = done.fits.fits;
-      ring_at = places.at ∙ is_open.ring_at;
-      ring_size = places.size ∙ is_open.ring_size;
-      cells_are = is_open.cells_are;
-      cells_fit = cells_later store is_open _ done.fits.outside;
-      marked = marked_with store is_open commands c.has_room.ensures.is_batch _ c.append_batch.new.ring done (marks_of c.mark_batch.new.marks)
-          (λ slot number newest. subst (λ (m : List Mark). IsNoted number commands m (marks_of c.mark_batch.new.marks)) c.make_room.ensures.same (c.mark_batch.ensures slot number newest));
-      limits = subst (λ (s : State). s.limits ≡ limits_of store.shape) (sym state) (limits_with store is_open commands c.has_room.ensures.is_batch grow);
-      runs = subst (Runs (is_open.order ++ commands) is_open.cells (commands_of (is_open.batches ++ commands ∷ []))) (sym state)
-          (runs_with store is_open commands c.has_room.ensures.is_batch grow);
-      kept = kept_later is_open.order commands is_open.cells (kept_jobs store) is_open.kept;
+      goes_on = record {
+        synced = c.in-Ok-append_batch.ensures.synced;
+        cells = is_open.cells;
+        table = done.now;
+        batches = is_open.batches ++ commands ∷ [];
+        order = is_open.order ++ commands;
+        holds = parts_after store is_open commands c.has_room.ensures.is_batch grow _ c.append_batch.new.ring places done;
+        fits = done.fits.fits;
+        ring_at = places.at ∙ is_open.ring_at;
+        ring_size = places.size ∙ is_open.ring_size;
+        cells_are = is_open.cells_are;
+        cells_fit = cells_later store is_open _ done.fits.outside;
+        marked = marked_with store is_open commands c.has_room.ensures.is_batch _ c.append_batch.new.ring done (marks_of c.mark_batch.new.marks)
+            (λ slot number newest. subst (λ (m : List Mark). IsNoted number commands m (marks_of c.mark_batch.new.marks)) c.make_room.ensures.same (c.mark_batch.ensures.noted slot number newest));
+        limits = subst (λ (s : State). s.limits ≡ limits_of store.shape) (sym state) (limits_with store is_open commands c.has_room.ensures.is_batch grow);
+        runs = subst (Runs (is_open.order ++ commands) is_open.cells (commands_of (is_open.batches ++ commands ∷ []))) (sym state)
+            (runs_with store is_open commands c.has_room.ensures.is_batch grow);
+        kept = kept_later is_open.order commands is_open.cells (kept_jobs store) is_open.kept;
+      };
+      same_cells = refl;
+      ready = done.ready;
+      is_ready = done.is_ready;
+      appended = done.appended;
+      jobs = refl;
     }
+
+pub returns-in-Ok-append_batch-clause-done : goal.returns-in-Ok-append_batch-clause-done
+returns-in-Ok-append_batch-clause-done g c is_open = (returns-in-Ok-append_batch-clause-committed g c is_open).goes_on
+
+pub returns-in-Ok-append_batch-clause-marks : goal.returns-in-Ok-append_batch-clause-marks
+returns-in-Ok-append_batch-clause-marks g c = omega (arith, c.mark_batch.ensures.grows, ap (λ (l : List Mark). length l) c.make_room.ensures.same)
 
 -- a slot has as many bytes as the limits say
 pub invariant_of-self-in-Ok-append_batch-clause-slot : goal.invariant_of-self-in-Ok-append_batch-clause-slot
