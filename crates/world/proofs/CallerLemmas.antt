@@ -1,4 +1,3 @@
-
 -- What holds of a world as its events go on, as the proofs of other crates cite it. Declares nothing.
 pub use Rattle.world.proofs.Showing.{grown_shown, shown-fold, fold_shown, fold_shown-append}
 pub use Rattle.world.proofs.Numbers.{last_in}
