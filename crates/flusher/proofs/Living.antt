@@ -16,12 +16,7 @@ use Rattle.flusher.specs.Batches.{IsFirst}
 use Rattle.flusher.specs.declared.calls.Call.{Call}
 use Rattle.flusher.specs.Schedule.{at_rest, schedule, acked, commands_in, AreNumbered, IsAllSettled}
 use Rattle.flusher.specs.Lives.{counted_from, Life, Opens, Drives, Lives, First, Crashed, IsPromised, AllLives, OneLife, LivesGoOn, RunGoesOn}
-use Rattle.world.proofs.Showing.{grown_shown, shown-fold, fold_shown, fold_shown-append}
-use Rattle.world.proofs.Numbers.{last_in}
-use Rattle.world.proofs.Histories.{AllPlaced, after, placed-take}
-use Rattle.world.proofs.Standing.{Stands, stands-take}
-use Rattle.world.proofs.Holding.{Counts, WasSent, StandsSettled, Holds, begun-holds, run-holds}
-use Rattle.world.proofs.Clauses.{acks-stay, acks-one_revision, taken-once, nothing-taken_back, kept-is_again, state-is_fold}
+use Rattle.world.proofs.CallerLemmas.{grown_shown, shown-fold, fold_shown, fold_shown-append, last_in, AllPlaced, after, placed-take, Stands, stands-take, Counts, WasSent, StandsSettled, Holds, begun-holds, run-holds, acks-stay, acks-one_revision, taken-once, nothing-taken_back, kept-is_again, state-is_fold}
 use Rattle.flusher.proofs.Scheduling.{run_is_schedule}
 
 -- a board of which everything is settled
