@@ -8,4 +8,6 @@ mod made;
 #[cfg(test)]
 mod runs;
 #[cfg(test)]
+mod shows;
+#[cfg(test)]
 mod threads;

@@ -4,7 +4,7 @@ ghost use Rattle.recovery.specs.Open.{has_failed};
 
 use attributes::{Attrs, Change, Key};
 use delta::{Builder, Delta, Op};
-use disk::MemDisk;
+use disk::{Disk, MemDisk};
 use recovery::{Pick, Shape, Store, format_device};
 use revision::{Command, Name};
 use std::process::Abort;
@@ -67,14 +67,31 @@ pub fn command(rt: &(impl Abort + AllocGlobal), number: u64, count: u32) -> Comm
     made.expect(rt, "a command")
 }
 
+/// A store over a device, which is to open by this pick.
+pub fn open_store<D: Disk + Drop>(rt: &(impl Abort + AllocGlobal), disk: D, pick: Pick) -> Store<D>
+    ensures { has_failed result ≡ false }
+{
+    match Store::open(rt.alloc(), disk, pick) {
+        Ok(store) => store,
+        Err(fault) => panic!(rt; "{}", fault.refusal),
+    }
+}
+
+/// A synced device of these bytes, of which no call was made.
+pub fn device_of(rt: &(impl Abort + AllocGlobal), bytes: &[u8]) -> MemDisk {
+    MemDisk::holding(rt.alloc(), bytes.to_vec(rt.alloc()).expect(rt, "memory"))
+}
+
+/// A device of the shape that was just formatted.
+pub fn new_device(rt: &(impl Abort + AllocGlobal)) -> MemDisk {
+    let mut disk = MemDisk::new(rt.alloc(), 1_600).expect(rt, "memory");
+    assert_eq!(rt; format_device(rt.alloc(), &mut disk, SHAPE), Ok(()));
+    disk
+}
+
 /// A store of the shape that was just formatted.
 pub fn new_store(rt: &(impl Abort + AllocGlobal)) -> Store<MemDisk>
     ensures { has_failed result ≡ false }
 {
-    let mut disk = MemDisk::new(rt.alloc(), 1_600).expect(rt, "memory");
-    assert_eq!(rt; format_device(rt.alloc(), &mut disk, SHAPE), Ok(()));
-    match Store::open(rt.alloc(), disk, Pick::Newer) {
-        Ok(store) => store,
-        Err(fault) => panic!(rt; "{}", fault.refusal),
-    }
+    open_store(rt, new_device(rt), Pick::Newer)
 }

@@ -1,7 +1,7 @@
 //! A board over a store in memory: batches that fit their slots, and what is settled.
 ghost use Rattle.std.specs.Prelude.{◌≡◌};
 
-use crate::made::{CAP, SHAPE, command, commit, new_store};
+use crate::made::{CAP, SHAPE, command, commit, new_store, open_store};
 use disk::MemDisk;
 use hub::{Board, Seat, Ticket};
 use published::{Log, Opened, Site, Told};
@@ -103,6 +103,13 @@ fn settled_in_order<J: Site, R: Abort>(
     assert_eq!(rt; board.settle(one, told.copy()), Err(Refusal::Stranger));
 }
 
+// the one document stands at this revision, with so many letters
+fn stands_at<R: Abort>(rt: &R, state: &State, revision: u64, letters: u64) {
+    assert!(rt; state.documents().len() == 1);
+    assert!(rt; state.documents()[0].revision() == revision);
+    assert!(rt; state.documents()[0].document().len16() == letters);
+}
+
 fn batches_fit<J: Site, R: Abort + AllocGlobal>(rt: &R, opened: Opened, blank: Blank, state: State)
     requires book { opened ≡ J.book }
     requires name { blank.name ≡ J.name }
@@ -129,13 +136,51 @@ fn batches_fit<J: Site, R: Abort + AllocGlobal>(rt: &R, opened: Opened, blank: B
     waits(rt, &board, &again);
     assert_eq!(rt; board.settle(&two, last), Ok(()));
     is_acknowledged(rt, &board, &again);
+    stands_at(rt, board.state(), 3, 214);
+    stands_at(rt, open_store(rt, store.close()).state(), 3, 214);
 }
 
-// The entries have 41, 51 and 236 bytes, and a batch has 4 more.
+// The entries have 41, 51 and 236 bytes, and a batch has 4 more. The store that is opened again has what the board's order makes.
 #[test]
 fn batches_fit_their_slots(rt: HostRuntime) {
     let state = State::new(rt.alloc(), SHAPE.limits());
     batches_fit::<Brand, _>(&rt, Opened::new(), Blank::new(2), state);
+}
+
+/// How many letters the second command adds, and how many commands the first batch then has.
+const WIDTHS: [(u32, usize); 2] = [(159, 2), (160, 1)];
+
+// Two commands are taken off in one batch, or in two of one.
+fn taken_off<J: Site, R: Abort + AllocGlobal>(
+    rt: &R,
+    opened: Opened,
+    blank: Blank,
+    state: State,
+    row: &(u32, usize),
+)
+    requires book { opened ≡ J.book }
+    requires name { blank.name ≡ J.name }
+    requires parts { blank.parts ≡ J.parts }
+    requires seats { blank.parts ≡ 2 }
+    requires start { state ≡ J.start }
+{
+    let (count, first) = *row;
+    let (_, told) = opened.named::<MemDisk, J>();
+    let mut board = Board::new(rt.alloc(), state, told, blank, 1);
+    let mut seat = board.seat().expect(rt, "a seat");
+    is_ordered(rt, &mut board, &mut seat, 1, 1);
+    is_ordered(rt, &mut board, &mut seat, 2, count);
+    let _ = batch(rt, &mut board, first);
+    let _ = batch(rt, &mut board, 2usize.saturating_sub(first));
+}
+
+// The create's entry has 41 bytes, the edit's 37 and one a letter, and a batch 4 more: 241 bytes are one batch, and 242 are two.
+#[test]
+fn a_batch_has_241_bytes_at_most(rt: HostRuntime) {
+    for row in &WIDTHS {
+        let state = State::new(rt.alloc(), SHAPE.limits());
+        taken_off::<Brand, _>(&rt, Opened::new(), Blank::new(2), state, row);
+    }
 }
 
 fn settled_before_a_failure<J: Site, R: Abort + AllocGlobal>(

@@ -55,6 +55,11 @@ pub fn new_store(rt: &(impl Abort + AllocGlobal), slots: u32) -> Store<MemDisk> 
     let len = 64 + 4 * 65_664 + slots as usize * 256;
     let mut disk = MemDisk::new(rt.alloc(), len).expect(rt, "memory");
     assert_eq!(rt; format_device(rt.alloc(), &mut disk, shape), Ok(()));
+    open_store(rt, disk)
+}
+
+/// A store over a device that was formatted.
+pub fn open_store(rt: &(impl Abort + AllocGlobal), disk: MemDisk) -> Store<MemDisk> {
     match Store::open(rt.alloc(), disk, Pick::Newer) {
         Ok(store) => store,
         Err(fault) => panic!(rt; "{}", fault.refusal),

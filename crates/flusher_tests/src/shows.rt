@@ -1,0 +1,116 @@
+//! What readers are shown of a batch that is on the disk: nothing before it is published, and all of it then.
+ghost use Rattle.std.specs.Prelude.{◌≡◌, []};
+ghost use Rattle.recovery.specs.Open.{state_of};
+ghost use Rattle.flusher.specs.Holding.{committed_of, waiting_of};
+
+use crate::made::{command, new_store};
+use disk::MemDisk;
+use flusher::{Flusher, Gate, Moment, start};
+use hub::{Board, Seat};
+use published::{Opened, Site};
+use recovery::Store;
+use refusal::Refusal;
+use revision::State;
+use std::marker::Brand;
+use std::process::Abort;
+use std::sync::Wait;
+use std::sync::ledger::Blank;
+use view::Viewer;
+
+// the newest revision of the only document, 0 where there is none
+fn newest(state: &State) -> u64 {
+    match state.documents().first() {
+        Some(document) => document.revision(),
+        None => 0,
+    }
+}
+
+/// Notes what a reader is shown at each of a write's two moments.
+#[derive(Drop)]
+struct Looks<J: Site> {
+    viewer: Viewer<MemDisk, J>,
+    before: Result<u64, Refusal>,
+    after: Result<u64, Refusal>,
+}
+
+impl<J: Site> Gate for Looks<J> {
+    fn pass(&mut self, at: Moment) {
+        let shown = self.viewer.read(newest);
+        match at {
+            Moment::BeforeCommit => self.before = shown,
+            Moment::AfterCommit => self.after = shown,
+        }
+    }
+}
+
+// Takes the one command that was submitted off the board, and holds it.
+fn hold_next<J: Site, R: Abort + AllocGlobal>(
+    rt: &R,
+    flusher: &mut Flusher<MemDisk, J>,
+    board: &mut Board<MemDisk, J>,
+)
+    requires nothing { (committed_of flusher.old ≡ []) × (waiting_of flusher.old ≡ []) }
+{
+    let run = match board.take(rt.alloc(), flusher.cap()) {
+        Ok(run) => run,
+        Err(refusal) => panic!(rt; "{refusal}"),
+    };
+    assert_eq!(rt; run.len(), 1);
+    flusher.hold(run);
+}
+
+// Submits the next command, and writes and settles it: its reader was shown the revision before it until then, and is shown it now.
+fn is_shown<J: Site, R: Wait + Abort + AllocGlobal>(
+    rt: &R,
+    flusher: &mut Flusher<MemDisk, J>,
+    board: &mut Board<MemDisk, J>,
+    seat: &mut Seat<J>,
+    gate: &mut Looks<J>,
+    number: u64,
+)
+    requires nothing { (committed_of flusher.old ≡ []) × (waiting_of flusher.old ≡ []) }
+    ensures nothing { (committed_of flusher.new ≡ []) × (waiting_of flusher.new ≡ []) }
+{
+    let alloc = rt.alloc();
+    let next = command(rt, number, 1);
+    assert!(rt; board.submit(alloc, seat, &next).is_ok());
+    hold_next(rt, flusher, board);
+    let written = flusher.write(rt, alloc, gate).expect(rt, "written");
+    let (receipt, told) = written.expect(rt, "a batch");
+    assert!(rt; told.len() == number);
+    assert_eq!(rt; board.settle(&receipt, told), Ok(()));
+    assert!(rt; gate.before == Ok(number.saturating_sub(1)) && gate.after == gate.before);
+    assert!(rt; gate.viewer.read(newest) == Ok(number));
+}
+
+fn two_batches<J: Site, R: Wait + Abort + AllocGlobal>(
+    rt: &R,
+    store: Store<MemDisk>,
+    opened: Opened,
+    blank: Blank,
+)
+    requires book { opened ≡ J.book }
+    requires name { blank.name ≡ J.name }
+    requires parts { blank.parts ≡ J.parts }
+    requires seats { blank.parts ≡ 2 }
+    requires begin { state_of store ≡ J.start }
+{
+    let (mut flusher, mut board) = match start::<_, J>(rt.alloc(), store, opened, blank, 1) {
+        Ok(both) => both,
+        Err(fault) => panic!(rt; "{}", fault.refusal),
+    };
+    let mut seat = board.seat().expect(rt, "a seat");
+    let mut gate = Looks {
+        viewer: flusher.viewer().expect(rt, "a place"),
+        before: Ok(0),
+        after: Ok(0),
+    };
+    is_shown(rt, &mut flusher, &mut board, &mut seat, &mut gate, 1);
+    is_shown(rt, &mut flusher, &mut board, &mut seat, &mut gate, 2);
+    let _store = flusher.end(rt);
+}
+
+#[test]
+fn what_is_committed_is_shown_once_it_is_published(rt: HostRuntime) {
+    two_batches::<Brand, _>(&rt, new_store(&rt), Opened::new(), Blank::new(2));
+}
