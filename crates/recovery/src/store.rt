@@ -257,12 +257,9 @@ impl<D: Disk> Store<D> {
                 return Err(unprepared.refusal);
             }
         };
-        let receipt = match make_receipt(alloc, &mut self.marks, batch) {
-            Ok(receipt) => receipt,
-            Err(refusal) => {
-                self.state = prepared.forget();
-                return Err(refusal);
-            }
+        let Ok(receipt) = make_receipt(alloc, &mut self.marks, batch) else {
+            self.state = prepared.forget();
+            return Err(Refusal::NoMemory);
         };
         match append_batch(alloc, &mut self.ring, &mut self.device, batch) {
             Ok(()) => {

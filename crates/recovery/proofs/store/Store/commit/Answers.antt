@@ -134,32 +134,28 @@ returns-in-Err-append_batch-clause-unwritten g c memory is_open =
     leaves_map (λ content left. opened_for c.args.self.now is_open _ content left) (c.in-Err-append_batch.ensures.unwritten (ap (λ (r : Refusal). Err r) (ap (refusal_or NoMemory) memory)) is_open.table is_open.synced is_open.fits)
 
 -- the receipt could not be made
-pub returns-in-Err-make_receipt-clause-any_moment : goal.returns-in-Err-make_receipt-clause-any_moment
-returns-in-Err-make_receipt-clause-any_moment g c unfailed is_open =
+pub returns-in_default-clause-any_moment : goal.returns-in_default-clause-any_moment
+returns-in_default-clause-any_moment g c unfailed is_open =
     begins (history_of g.D.Disk c.args.self.now.device) is_open.synced (inl (found_before c.args.self.now is_open))
 
-pub returns-in-Err-make_receipt-clause-unwritten : goal.returns-in-Err-make_receipt-clause-unwritten
-returns-in-Err-make_receipt-clause-unwritten g c memory is_open =
+pub returns-in_default-clause-unwritten : goal.returns-in_default-clause-unwritten
+returns-in_default-clause-unwritten g c memory is_open =
     begins (history_of g.D.Disk c.args.self.now.device) is_open.synced (found_before c.args.self.now is_open)
 
 -- where memory ran out, the batch had room, and its first command continues the state
 pub returns-in-Err-clause-memory : goal.returns-in-Err-clause-memory
 returns-in-Err-clause-memory g c told =
-    let fits : c.has_room.result ≡ true = search rules in
-    (sym c.has_room.ensures.room ∙ fits,
-    subst (λ (s : State). first_grows s c.args.batch.now ≡ true) c.replace.ensures.value (c.in-Err.ensures.memory (ap (refusal_or Stranger) told)))
-
-pub returns-in-Err-make_receipt-clause-memory : goal.returns-in-Err-make_receipt-clause-memory
-returns-in-Err-make_receipt-clause-memory g c told =
-    let fits : c.has_room.result ≡ true = search rules in
-    (sym c.has_room.ensures.room ∙ fits,
-    first_of_all c.args.self.now.state c.args.batch.now (subst (λ (s : State). all_grow s c.args.batch.now ≡ true) c.replace.ensures.value c.in-Ok.ensures.grow))
+    let fits : c.has_room.result ≡ true = search rules in (
+      sym c.has_room.ensures.room ∙ fits,
+      subst (λ (s : State). first_grows s c.args.batch.now ≡ true) c.replace.ensures.value (c.in-Err.ensures.memory (ap (refusal_or Stranger) told)),
+    )
 
 pub returns-in-Err-append_batch-clause-memory : goal.returns-in-Err-append_batch-clause-memory
 returns-in-Err-append_batch-clause-memory g c told =
-    let fits : c.has_room.result ≡ true = search rules in
-    (sym c.has_room.ensures.room ∙ fits,
-    first_of_all c.args.self.now.state c.args.batch.now (subst (λ (s : State). all_grow s c.args.batch.now ≡ true) c.replace.ensures.value c.in-Ok.ensures.grow))
+    let fits : c.has_room.result ≡ true = search rules in (
+      sym c.has_room.ensures.room ∙ fits,
+      first_of_all c.args.self.now.state c.args.batch.now (subst (λ (s : State). all_grow s c.args.batch.now ≡ true) c.replace.ensures.value c.in-Ok.ensures.grow),
+    )
 
 -- the jobs stay
 pub invariant_of-self-in-Ok-append_batch-clause-composable : goal.invariant_of-self-in-Ok-append_batch-clause-composable
