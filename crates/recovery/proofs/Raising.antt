@@ -7,7 +7,7 @@ use Rattle.std.proofs.lemmas.List.{length-map, take_more}
 use Rattle.std.proofs.lemmas.Option.{slice_get_within, slice_get_past}
 use Rattle.disk.specs.declared.device.Disk.{Ghosts}
 use Rattle.refusal.specs.declared.Refusal.{Refusal}
-use Rattle.revision.specs.Pending.{PendingDocument, held}
+use Rattle.revision.specs.Pending.{PendingDocument, record_of}
 use Rattle.revision.specs.State.{State, DocumentRecord, revision_of}
 use Rattle.history.specs.Cell.{Cell, Pair, cells_at, lowest, freed, with_pair}
 use Rattle.milestone.specs.Cells.{with_cell}
@@ -78,10 +78,10 @@ none_against (Some found) newest high is above first = none_here
     none_here = grind (arith, nat_tests)
 
 -- no document at a place past all
-pub none_there : (list : List PendingDocument) (documents : List DocumentRecord) (place : ℕ) → map held list ≡ documents → length list ≤ place
+pub none_there : (list : List PendingDocument) (documents : List DocumentRecord) (place : ℕ) → map record_of list ≡ documents → length list ≤ place
     → slice_get documents place ≡ None
 none_there list documents place same past =
-    slice_get_past documents place (omega (arith, past, length-map list held, ap (λ (l : List DocumentRecord). length l) same))
+    slice_get_past documents place (omega (arith, past, length-map list record_of, ap (λ (l : List DocumentRecord). length l) same))
 
 module _ {D : Type 0} {disk : Ghosts D} where
   pub keeps_on : {old mid new : Store D disk} → KeepsSegments old mid → KeepsSegments mid new → KeepsSegments old new

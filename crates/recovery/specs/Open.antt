@@ -20,7 +20,7 @@ use Rattle.recovery.specs.Cells.{AreCellsOf, FitEach, lowest_known}
 use Rattle.recovery.specs.declared.marks.Mark.{Mark}
 use Rattle.recovery.specs.Marks.{marks_of, greatest_marked}
 use Rattle.recovery.specs.Marked.{AreMarked}
-use Rattle.recovery.specs.Jobs.{jobs_of, jobs_for, AreKept}
+use Rattle.recovery.specs.Jobs.{jobs_of, jobs_for, CanAllBePut}
 use Rattle.recovery.specs.Found.{limits_of, commands_of, HoldsParts, FoundAs}
 
 -- a content that stands for a state that agrees with the one before a batch, or with the one with it
@@ -98,7 +98,7 @@ module _ {D : Type 0} {disk : Ghosts D} where
     pub marked : AreMarked table (marks_of store.marks)
     pub limits : store.state.limits ≡ limits_of store.shape
     pub runs : Runs order cells (commands_of batches) store.state
-    pub kept : AreKept order cells (kept_jobs store)
+    pub kept : CanAllBePut order cells (kept_jobs store)
 
 module _ {D : Type 0} {disk : Ghosts D} where
   -- After a commit: the store goes on over the same cells. The batch was appended to the newest segment where it fits there, and else,

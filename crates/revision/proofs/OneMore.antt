@@ -10,7 +10,7 @@ use Rattle.revision.proofs.Indexed.{number-found, none_from_test, room_parts}
 use Rattle.revision.specs.ChangedAt.{changed_at}
 use Rattle.revision.specs.Command.{Taken}
 use Rattle.revision.specs.Past.{Change, Past, with_change, with_changes}
-use Rattle.revision.specs.Pending.{PendingDocument, held, with_prepared}
+use Rattle.revision.specs.Pending.{PendingDocument, record_of, with_prepared}
 use Rattle.revision.specs.Preparing.{with_next, begun}
 use Rattle.revision.specs.State.{Limits, DocumentRecord, State, change_of, record_by_name, set_document, has_room, begins, continues_by_name, grows, grown, all_grow, first_grows, fold}
 use Rattle.revision.proofs.ChangedAt.{map-changed_at}
@@ -53,12 +53,12 @@ none-past [] = refl
 none-past (d ∷ ds) = none-past ds
 
 -- what is held isn't changed
-pub held-changed : (change : PendingDocument → PendingDocument) → ((d : PendingDocument) → held (change d) ≡ held d) → (count i : ℕ) (documents : List PendingDocument)
-    → map held (take count (changed_at change i documents)) ≡ map held (take count documents)
-held-changed change same count i documents =
-    sym (take-map held count (changed_at change i documents))
-    ∙ ap (take count) (map-changed_at held change same i documents)
-    ∙ take-map held count documents
+pub record_of-changed : (change : PendingDocument → PendingDocument) → ((d : PendingDocument) → record_of (change d) ≡ record_of d) → (count i : ℕ) (documents : List PendingDocument)
+    → map record_of (take count (changed_at change i documents)) ≡ map record_of (take count documents)
+record_of-changed change same count i documents =
+    sym (take-map record_of count (changed_at change i documents))
+    ∙ ap (take count) (map-changed_at record_of change same i documents)
+    ∙ take-map record_of count documents
 
 -- one command more
 pub fold-step : (state : State) (batch : List Taken) (i : ℕ) (taken : Taken) → i < length batch → taken ≡ get_or batch i taken

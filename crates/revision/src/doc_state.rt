@@ -10,7 +10,7 @@ ghost use Rattle.document.specs.Outcome.{IsAccepted};
 ghost use Rattle.revision.specs.Invariants.{IsLimits};
 ghost use Rattle.revision.specs.Sources.{last_of, with_last};
 ghost use Rattle.revision.specs.State.{revision_of, units_of, sources_of, begins as spec_begins, follows, change_of};
-ghost use Rattle.revision.specs.Pending.{held, with_prepared, comes_next as spec_comes_next, is_kept};
+ghost use Rattle.revision.specs.Pending.{record_of, with_prepared, comes_next as spec_comes_next, is_kept};
 
 use crate::limits::Limits;
 use crate::name::Name;
@@ -209,8 +209,8 @@ impl DocState {
 
     /// Its newest revision, below 2^53.
     pub fn revision(&self) -> u64
-        ensures revision { result ≡ revision_of (held self.now) }
-        ensures bound { revision_of (held self.now) < 2 ^ 53 }
+        ensures revision { result ≡ revision_of (record_of self.now) }
+        ensures bound { revision_of (record_of self.now) < 2 ^ 53 }
     {
         self.past.revision()
     }
@@ -224,21 +224,21 @@ impl DocState {
 
     /// What stands in it at the newest revision.
     pub fn document(&self) -> &Document
-        ensures { result.now ≡ units_of (held self.now) }
+        ensures { result.now ≡ units_of (record_of self.now) }
     {
         &self.document
     }
 
     /// Its sources at the newest revision.
     pub fn sources(&self) -> &Sources
-        ensures { result.now ≡ sources_of (held self.now) }
+        ensures { result.now ≡ sources_of (record_of self.now) }
     {
         self.sources.held()
     }
 
     /// What a source has at the newest revision, 0 and 0 where it isn't there.
     pub fn last(&self, source: &Name) -> LastTaken
-        ensures { result ≡ last_of source.now (sources_of (held self.now)) }
+        ensures { result ≡ last_of source.now (sources_of (record_of self.now)) }
     {
         self.sources().last(source)
     }

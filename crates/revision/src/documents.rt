@@ -6,7 +6,7 @@ ghost use Rattle.revision.specs.Documents.{unprepared};
 ghost use Rattle.revision.specs.DocumentsView.{names_of};
 ghost use Rattle.revision.specs.Index.{IsIndex, NoneTwice};
 ghost use Rattle.revision.specs.Invariants.{IsLimits};
-ghost use Rattle.revision.specs.Pending.{held, with_prepared};
+ghost use Rattle.revision.specs.Pending.{record_of, with_prepared};
 ghost use Rattle.revision.specs.Preparing.{accepted, forgotten, with_next, begun};
 ghost use Rattle.revision.specs.State.{begins as spec_begins, has_room, change_of, continues_by_name, grows, grown, all_grow, first_grows, fold, find};
 
@@ -67,7 +67,7 @@ impl Documents {
 
     /// The documents that are held.
     pub(crate) fn documents(&self) -> &[DocState]
-        ensures documents { map held result.now ≡ self.now.before.documents }
+        ensures documents { map record_of result.now ≡ self.now.before.documents }
         ensures bound { length result.now ≤ 65536 }
     {
         &self.documents.as_slice()[..self.count]
@@ -75,7 +75,7 @@ impl Documents {
 
     /// The document that is held by this name, with its number.
     pub(crate) fn find(&self, name: &Name) -> Option<(u32, &DocState)>
-        ensures { option_map (λ p. (p.0, held p.1.now)) result ≡ find name.now 0 self.now.before.documents }
+        ensures { option_map (λ p. (p.0, record_of p.1.now)) result ≡ find name.now 0 self.now.before.documents }
     {
         match self.names.number(name) {
             Some(number) => {
@@ -177,7 +177,7 @@ impl Documents {
             ≡ record self.old {
               after = record self.old.after {
                 documents = self.old.after.documents
-                    ++ held document ∷ [];
+                    ++ record_of document ∷ [];
               };
             }) }
         ensures only { IsOkUnless result Refusal.NoMemory }

@@ -1,7 +1,7 @@
 //! What is read of a document's past.
 ghost use Rattle.std.specs.Prelude.{◌≡◌, ◌≢◌, ◌⊎◌, ◌≤◌, IfOk, IfErr, IsOk, IsErrOf};
 ghost use Rattle.revision.specs.Past.{newest};
-ghost use Rattle.revision.specs.Pending.{held};
+ghost use Rattle.revision.specs.Pending.{record_of};
 ghost use Rattle.revision.specs.Readings.{document_at, taken_since, past_at, read_as};
 
 use crate::doc_state::DocState;
@@ -34,7 +34,7 @@ impl State {
 
 // the document of a name, where it holds a revision
 fn held_at<'a>(state: &'a State, name: &Name, revision: u64) -> Result<&'a DocState, Refusal>
-    ensures past { read_as (λ found. (held found.now).past) result ≡ past_at state.now name.now revision }
+    ensures past { read_as (λ found. (record_of found.now).past) result ≡ past_at state.now name.now revision }
     ensures held { IfOk result (λ found. found.now.past.past.floor ≤ revision) }
     ensures there { IfOk result (λ found. revision ≤ newest found.now.past.past) }
     ensures no_memory { IfErr result (λ e. e ≢ Refusal.NoMemory) }

@@ -5,4 +5,4 @@ pub use Rattle.world.proofs.Histories.{AllPlaced, after, placed-take}
 pub use Rattle.world.proofs.Standing.{Stands, stands-take}
 pub use Rattle.world.proofs.Holding.{Counts, WasSent, StandsSettled, Holds, begun-holds, run-holds}
 -- Of these lemmas each is promised as a law of src/laws.rt.
-pub use Rattle.world.proofs.Clauses.{acks-stay, acks-one_revision, taken-once, nothing-taken_back, kept-is_again, state-is_fold}
+pub use Rattle.world.proofs.Clauses.{acks-stay, acks-one_revision, taken-once, nothing-taken_back, taken-is_again, state-is_fold}

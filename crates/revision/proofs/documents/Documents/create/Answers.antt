@@ -5,7 +5,7 @@ use Rattle.std.proofs.lemmas.List.{map-append, length-append}
 use Rattle.revision.specs.Documents.{PreparedState}
 use Rattle.revision.specs.DocumentsView.{names_of}
 use Rattle.revision.specs.Index.{number_of}
-use Rattle.revision.specs.Pending.{PendingDocument, held, with_prepared}
+use Rattle.revision.specs.Pending.{PendingDocument, record_of, with_prepared}
 use Rattle.revision.specs.State.{DocumentRecord, has_room, grows, grown}
 use Rattle.revision.proofs.Indexed.{index-more, none_twice-more, take_init, names_length}
 use Rattle.revision.proofs.OneMore.{room_for, created_by, created_parts, state_by}
@@ -69,7 +69,7 @@ returns-clause-ok c =
     let documents = c.self.inside.documents.items in
     let there = room_for c.self.inside.limits documents c.args.taken.now c.args.name.now c.args.taken.now.document (room c) in
     ap₂ (λ (b a : List DocumentRecord). record { before = record { limits = c.self.inside.limits; documents = b }; after = record { limits = c.self.inside.limits; documents = a } })
-    (ap (λ ds. map held (take c.self.inside.count ds)) (made c) ∙ ap (map held) (take_init c.self.inside.count documents _ c.self.invariant.held))
+    (ap (λ ds. map record_of (take c.self.inside.count ds)) (made c) ∙ ap (map record_of) (take_init c.self.inside.count documents _ c.self.invariant.held))
     (ap (map (with_prepared c.self.inside.limits.keep)) (made c ∙ ap (λ (d : PendingDocument). documents ++ d ∷ []) c.in_ok-document.ensures.ok)
     ∙ created_by c.self.inside.limits documents c.args.taken.now c.args.name.now there.0 c.requires.name)
     ∙ ap (λ (p : PreparedState). record { before = p.before; after = grown p.after c.args.taken.now }) c.self.view_is
