@@ -3,7 +3,7 @@ ghost use Rattle.std.specs.Prelude.{◌≡◌, ◌≢◌, ◌⊎◌, ◌↔◌, 
 ghost use Rattle.disk.specs.Calls.{CountsFaultsAs};
 ghost use Rattle.disk.specs.Device.{Rose};
 ghost use Rattle.disk.specs.Crash.{LeavesOnly};
-ghost use Rattle.revision.specs.State.{fold, all_grow};
+ghost use Rattle.revision.specs.State.{fold, all_grow, first_grows};
 ghost use Rattle.segments.specs.Numbers.{IsOldest, newest_number, open_count};
 ghost use Rattle.segments.specs.Ring.{known_numbers};
 ghost use Rattle.recovery.specs.Found.{FoundAs};
@@ -99,6 +99,8 @@ impl<D: Disk> Store<D> {
         ensures no_growth { has_failed self.old ≡ false → has_room self.old batch.now ≡ true
             → all_grow (state_of self.old) batch.now ≡ false
             → (IsErrOf result Refusal.Stranger) ⊎ (IsErrOf result Refusal.NoMemory) }
+        ensures memory { IsErrOf result Refusal.NoMemory → has_room self.old batch.now ≡ true
+            → first_grows (state_of self.old) batch.now ≡ true }
         ensures fault { IsErrOf result Refusal.Fault → has_failed self.old ≡ false
             → Rose (D.faults (device_of self.old)) (D.faults (device_of self.new)) }
         ensures only { IfErr result (λ e. ((e ≡ Refusal.JournalFull)

@@ -1,6 +1,6 @@
 use Rattle.std.proofs.Common.{◌≡◌, ◌∙◌, ◌+◌, ⊎_elim, true, false, [], ◌∷◌, ◌++◌, Err, ap, subst, sym, inl, rules}
 use Rattle.journal.specs.BatchSpelling.{batch}
-use Rattle.revision.specs.State.{Limits, State, fold, all_grow}
+use Rattle.revision.specs.State.{Limits, State, fold, all_grow, first_grows}
 use Rattle.history.specs.Running.{Runs}
 use Rattle.recovery.specs.Found.{commands_of, limits_of}
 use Rattle.recovery.specs.steps.Appending.{IsDone}
@@ -14,7 +14,7 @@ use Rattle.recovery.specs.declared.marks.Mark.{Mark}
 use Rattle.recovery.specs.Marks.{marks_of, IsNoted}
 use Rattle.recovery.specs.Marked.{AreMarked}
 use Rattle.recovery.proofs.Upkeep.{cells_later, marked_with, marked_left}
-use Rattle.recovery.proofs.Folds.{fold-limits}
+use Rattle.recovery.proofs.Folds.{fold-limits, first_of_all}
 use Rattle.recovery.specs.Open.{kept_jobs}
 use Rattle.recovery.proofs.KeptJobs.{kept_later}
 use Rattle.recovery.proofs.Refusals.{refusal_or, ok≢err, no_stranger}
@@ -67,7 +67,7 @@ returns-in-Ok-append_batch-clause-done g c is_open =
       cells_are = is_open.cells_are;
       cells_fit = cells_later store is_open _ done.fits.outside;
       marked = marked_with store is_open commands c.has_room.ensures.is_batch _ c.append_batch.new.ring done (marks_of c.mark_batch.new.marks)
-          (λ slot number newest. subst (λ (m : List Mark). IsNoted number commands m (marks_of c.mark_batch.new.marks)) c.make_room.ensures.same (c.mark_batch.ensures slot number newest));
+          (λ slot number newest. subst (λ (m : List Mark). IsNoted number commands m (marks_of c.mark_batch.new.marks)) c.make_receipt.ensures.same (c.mark_batch.ensures slot number newest));
       limits = subst (λ (s : State). s.limits ≡ limits_of store.shape) (sym state) (limits_with store is_open commands c.has_room.ensures.is_batch grow);
       runs = subst (Runs (is_open.order ++ commands) is_open.cells (commands_of (is_open.batches ++ commands ∷ []))) (sym state)
           (runs_with store is_open commands c.has_room.ensures.is_batch grow);
@@ -87,7 +87,7 @@ invariant_of-self-in-Ok-append_batch-clause-slot g c =
 pub returns-in-Err-append_batch-clause-kept : goal.returns-in-Err-append_batch-clause-kept
 returns-in-Err-append_batch-clause-kept g c not_fault is_open =
     let store = c.args.self.now in
-    let state : c.forget.result ≡ store.state = c.forget.ensures ∙ c.in-Ok.ensures.before ∙ c.replace.ensures.value in
+    let state : c.forget-in-Err-append_batch.result ≡ store.state = c.forget-in-Err-append_batch.ensures ∙ c.in-Ok.ensures.before ∙ c.replace.ensures.value in
     let places = c.append_batch.ensures.places in
     let fits : c.has_room.result ≡ true = search rules in
     let memory : c.in-Err-append_batch.refusal ≡ NoMemory =
@@ -106,7 +106,7 @@ returns-in-Err-append_batch-clause-kept g c not_fault is_open =
       ring_size = places.size ∙ is_open.ring_size;
       cells_are = is_open.cells_are;
       cells_fit = cells_later store is_open _ kept.fits.outside;
-      marked = subst (AreMarked kept.left) (sym c.make_room.ensures.same) (marked_left store is_open _ kept.left kept.is_left);
+      marked = subst (AreMarked kept.left) (sym c.make_receipt.ensures.same) (marked_left store is_open _ kept.left kept.is_left);
       limits = subst (λ (s : State). s.limits ≡ limits_of store.shape) (sym state) is_open.limits;
       runs = subst (Runs is_open.order is_open.cells (commands_of is_open.batches)) (sym state) is_open.runs;
       kept = is_open.kept;
@@ -120,23 +120,29 @@ pub returns-in-Err-append_batch-clause-unwritten : goal.returns-in-Err-append_ba
 returns-in-Err-append_batch-clause-unwritten g c memory is_open =
     leaves_map (λ content left. opened_for c.args.self.now is_open _ content left) (c.in-Err-append_batch.ensures.unwritten (ap (λ (r : Refusal). Err r) (ap (refusal_or NoMemory) memory)) is_open.table is_open.synced is_open.fits)
 
--- no room could be made for the marks
-pub returns-in_err-make_room-clause-any_moment : goal.returns-in_err-make_room-clause-any_moment
-returns-in_err-make_room-clause-any_moment g c unfailed is_open =
-    begins (history_of g.D.Disk c.args.self.now.device) is_open.synced (inl (found_before c.args.self.now is_open))
-
-pub returns-in_err-make_room-clause-unwritten : goal.returns-in_err-make_room-clause-unwritten
-returns-in_err-make_room-clause-unwritten g c memory is_open =
-    begins (history_of g.D.Disk c.args.self.now.device) is_open.synced (found_before c.args.self.now is_open)
-
 -- the receipt could not be made
-pub returns-in_err-receipt-clause-any_moment : goal.returns-in_err-receipt-clause-any_moment
-returns-in_err-receipt-clause-any_moment g c unfailed is_open =
+pub returns-in_default-clause-any_moment : goal.returns-in_default-clause-any_moment
+returns-in_default-clause-any_moment g c unfailed is_open =
     begins (history_of g.D.Disk c.args.self.now.device) is_open.synced (inl (found_before c.args.self.now is_open))
 
-pub returns-in_err-receipt-clause-unwritten : goal.returns-in_err-receipt-clause-unwritten
-returns-in_err-receipt-clause-unwritten g c memory is_open =
+pub returns-in_default-clause-unwritten : goal.returns-in_default-clause-unwritten
+returns-in_default-clause-unwritten g c memory is_open =
     begins (history_of g.D.Disk c.args.self.now.device) is_open.synced (found_before c.args.self.now is_open)
+
+-- where memory ran out, the batch had room, and its first command continues the state
+pub returns-in-Err-clause-memory : goal.returns-in-Err-clause-memory
+returns-in-Err-clause-memory g c told =
+    let fits : c.has_room.result ≡ true = search rules in (
+      sym c.has_room.ensures.room ∙ fits,
+      subst (λ (s : State). first_grows s c.args.batch.now ≡ true) c.replace.ensures.value (c.in-Err.ensures.memory (ap (refusal_or Stranger) told)),
+    )
+
+pub returns-in-Err-append_batch-clause-memory : goal.returns-in-Err-append_batch-clause-memory
+returns-in-Err-append_batch-clause-memory g c told =
+    let fits : c.has_room.result ≡ true = search rules in (
+      sym c.has_room.ensures.room ∙ fits,
+      first_of_all c.args.self.now.state c.args.batch.now (subst (λ (s : State). all_grow s c.args.batch.now ≡ true) c.replace.ensures.value c.in-Ok.ensures.grow),
+    )
 
 -- the jobs stay
 pub invariant_of-self-in-Ok-append_batch-clause-composable : goal.invariant_of-self-in-Ok-append_batch-clause-composable
