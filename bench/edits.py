@@ -3,9 +3,9 @@
 
 usage: bench/edits.py [COUNT]     (default: 5,000 edits a row)
 
-Each row is a new store: how many letters the document has before, how many revisions are kept, where the letters are typed (at
-the beginning or at the end), and how many revisions back the base of each edit lies. The time of a run that takes the document
-alone is measured first, and taken off.
+Each row is a new store: how many letters the document has before, which letters (x has one byte, é two), how many revisions are
+kept, where the letters are typed (at the beginning, in the middle or at the end), and how many revisions back the base of each
+edit lies. The time of a run that takes the document alone is measured first, and taken off.
 
 Run ./demo first, which builds crates/richd/out/richd. The store lies in a temporary folder (TMPDIR); the time depends on how
 long that disk takes to sync.
@@ -22,34 +22,38 @@ count = int(sys.argv[1]) if len(sys.argv) > 1 else 5000
 line_bound = 60_000
 
 rows = [
-    # letters before, keep, at the end, revisions back
-    (1_000, 16, True, 0),
-    (1_000, 4_096, True, 0),
-    (30_000, 16, True, 0),
-    (30_000, 4_096, True, 0),
-    (30_000, 4_096, False, 0),
-    (1_000, 4_096, False, 10),
-    (1_000, 4_096, False, 1_000),
+    # letters before, which, keep, where, revisions back
+    (1_000, "x", 16, "end", 0),
+    (1_000, "x", 4_096, "end", 0),
+    (30_000, "x", 16, "end", 0),
+    (30_000, "x", 4_096, "end", 0),
+    (30_000, "x", 4_096, "beginning", 0),
+    (30_000, "x", 4_096, "middle", 0),
+    (30_000, "é", 4_096, "end", 0),
+    (30_000, "é", 4_096, "beginning", 0),
+    (30_000, "é", 4_096, "middle", 0),
+    (1_000, "x", 4_096, "beginning", 10),
+    (1_000, "x", 4_096, "beginning", 1_000),
 ]
 
 
 def spelled(messages):
-    return "".join(json.dumps(message) + "\n" for message in messages)
+    return "".join(json.dumps(message, ensure_ascii=False) + "\n" for message in messages)
 
 
-def create(length):
+def create(length, letter):
     """The document, in as many messages as its length asks for."""
     first = min(length, line_bound)
-    yield {"do": "create", "doc": "d", "n": 1, "ops": [{"insert": "x" * first}]}
+    yield {"do": "create", "doc": "d", "n": 1, "ops": [{"insert": letter * first}]}
     for n in range(2, 2 + (length - first) // line_bound):
-        yield {"do": "edit", "doc": "d", "n": n, "base": n - 1, "ops": [{"insert": "x" * line_bound}]}
+        yield {"do": "edit", "doc": "d", "n": n, "base": n - 1, "ops": [{"insert": letter * line_bound}]}
 
 
-def typed(length, number, at_end, back):
+def typed(length, letter, number, where, back):
     revision = number - 1
     base = max(1, revision - back)
-    at = length + (base - 1) if at_end else 0
-    ops = ([{"retain": at}] if at else []) + [{"insert": "y"}]
+    at = {"beginning": 0, "middle": length // 2, "end": length + (base - 1)}[where]
+    ops = ([{"retain": at}] if at else []) + [{"insert": letter}]
     return {"do": "edit", "doc": "d", "n": number, "base": base, "ops": ops}
 
 
@@ -61,13 +65,12 @@ def serve(store, messages):
 
 
 with tempfile.TemporaryDirectory() as folder:
-    for place, (length, keep, at_end, back) in enumerate(rows):
+    for place, (length, letter, keep, where, back) in enumerate(rows):
         store = os.path.join(folder, str(place))
         words = ["--docs", "1", "--cell", "16777216", "--slots", "2", "--slot", "16777216", "--keep", str(keep)]
         subprocess.run([richd, "format", store] + words, check=True)
-        alone, _ = serve(store, list(create(length)))
-        took, taken = serve(store, [typed(length, n, at_end, back) for n in range(2, 2 + count)])
-        where = "end" if at_end else "beginning"
+        alone, _ = serve(store, list(create(length, letter)))
+        took, taken = serve(store, [typed(length, letter, n, where, back) for n in range(2, 2 + count)])
         each = (took - alone) / max(1, taken) * 1e6
-        print(f"{length} letters, keep {keep}, at the {where}, {back} revisions back: {taken} edits, {each:.0f} us each")
+        print(f"{length} letters {letter}, keep {keep}, at the {where}, {back} revisions back: {taken} edits, {each:.0f} us each")
         os.remove(store)

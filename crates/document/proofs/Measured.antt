@@ -15,7 +15,7 @@ use Rattle.document.specs.declared.run.Piece.{Piece}
 use Rattle.document.specs.declared.run.Piece.TheVariants as piece
 use Rattle.document.specs.steps.Passes.{IsSteppedOver, with_change}
 use Rattle.document.specs.steps.Pieces.{piece_units, piece_attributes, piece_dressed, IsCounted, IsPiece}
-use Rattle.document.specs.steps.Weighing.{piece_weight, IsKeptWeighed, IsWeighed}
+use Rattle.document.specs.steps.Weighing.{piece_weight, IsRetainedWeighed, IsWeighed}
 use Rattle.document.proofs.Letters.{length-letters}
 use Rattle.document.proofs.Passing.{passed_none, passed_more, passed_on, passed_run, kept-piece}
 use Rattle.document.proofs.Progress.{kept_same}
@@ -47,14 +47,14 @@ dressed_weight p b attributes weight most counted attributes_are weighs =
     ∙ ap (λ n. min n most) (sym (weight_dressed p b)))))
 
 -- units that are kept: none, and a piece more
-pub kept_none : (d : List Element) (c : Changes) (n : ℕ) → n ≡ 0 → IsKeptWeighed d d n c 0
+pub kept_none : (d : List Element) (c : Changes) (n : ℕ) → n ≡ 0 → IsRetainedWeighed d d n c 0
 kept_none d c n none = record { passed = passed_none d n none; weighs = refl }
 
 pub kept_more : (old mid new : List Element) (p : Piece) (c : Changes) (m n before attributes weight more : ℕ)
-    → IsKeptWeighed old mid m c before → piece_units p ++ new ≡ mid → IsPiece p → n ≡ m + length (piece_units p)
+    → IsRetainedWeighed old mid m c before → piece_units p ++ new ≡ mid → IsPiece p → n ≡ m + length (piece_units p)
     → attributes ≡ min (attributes_weight (changed (piece_attributes p) c)) (2 ^ 64 - 1)
     → weight ≡ min (min (attributes + (12 + piece_weight p)) (2 ^ 64 - 1) * length (piece_units p)) (2 ^ 64 - 1)
-    → more ≡ min (before + weight) (2 ^ 64 - 1) → IsKeptWeighed old new n c more
+    → more ≡ min (before + weight) (2 ^ 64 - 1) → IsRetainedWeighed old new n c more
 kept_more old mid new p c m n before attributes weight more kept parts is_piece count attributes_are weighs sum =
     let of_piece = dressed_weight p (changed (piece_attributes p) c) attributes weight (2 ^ 64 - 1) is_piece.0 attributes_are weighs in
     let both : weight_of (with_change c (kept.passed.taken ++ piece_units p)) ≡ weight_of (with_change c kept.passed.taken) + weight_of (piece_dressed p (changed (piece_attributes p) c)) =
@@ -68,14 +68,14 @@ kept_more old mid new p c m n before attributes weight more kept parts is_piece 
 
 -- a whole run, and units kept after others
 pub kept_run : (old new run : List Element) (c : Changes) (n weight : ℕ) → run ++ new ≡ old → IsWellFormed run → n ≡ length run → c ≡ empty
-    → weight ≡ min (weight_of run) (2 ^ 64 - 1) → IsKeptWeighed old new n c weight
+    → weight ≡ min (weight_of run) (2 ^ 64 - 1) → IsRetainedWeighed old new n c weight
 kept_run old new run c n weight parts formed count none weighs = record {
   passed = passed_run old new run n parts formed count;
   weighs = weighs ∙ ap (λ l. min (weight_of l) (2 ^ 64 - 1)) (sym (kept_same run) ∙ ap (λ d. with_change d run) (sym none));
 }
 
-pub kept_on : (old mid new : List Element) (c : Changes) (m k n before weight more : ℕ) → IsKeptWeighed old mid m c before → IsKeptWeighed mid new k c weight
-    → n ≡ m + k → more ≡ min (before + weight) (2 ^ 64 - 1) → IsKeptWeighed old new n c more
+pub kept_on : (old mid new : List Element) (c : Changes) (m k n before weight more : ℕ) → IsRetainedWeighed old mid m c before → IsRetainedWeighed mid new k c weight
+    → n ≡ m + k → more ≡ min (before + weight) (2 ^ 64 - 1) → IsRetainedWeighed old new n c more
 kept_on old mid new c m k n before weight more first second e sum =
     let both : weight_of (with_change c (first.passed.taken ++ second.passed.taken)) ≡ weight_of (with_change c first.passed.taken) + weight_of (with_change c second.passed.taken) =
     ap weight_of (map-append (λ (x : Element). record x { attributes = changed x.attributes c }) first.passed.taken second.passed.taken)
@@ -101,7 +101,7 @@ pub made_by_embed : (d : List Element) (key : List ℕ) (value : Scalar) (a : At
 made_by_embed d key value a op weight is weighs =
     subst (λ o. IsWeighed d d (o ∷ []) weight) is (record { taken = []; parts = refl; count = refl; weighs = weighs })
 
-pub made_by_retain : (old new : List Element) (n : ℕ) (c : Changes) (op : Operation) (weight : ℕ) → retain n c ≡ op → IsKeptWeighed old new n c weight → IsWeighed old new (op ∷ []) weight
+pub made_by_retain : (old new : List Element) (n : ℕ) (c : Changes) (op : Operation) (weight : ℕ) → retain n c ≡ op → IsRetainedWeighed old new n c weight → IsWeighed old new (op ∷ []) weight
 made_by_retain old new n c op weight is kept =
     let taken = kept.passed.taken in
     subst (λ o. IsWeighed old new (o ∷ []) weight) is (record {

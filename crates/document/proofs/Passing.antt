@@ -6,7 +6,7 @@ use Rattle.delta.specs.Element.{Element, lettered, letters}
 use Rattle.document.specs.declared.run.Piece.{Piece}
 use Rattle.document.specs.declared.run.Piece.TheVariants as piece
 use Rattle.document.specs.Pairs.{IsPairAt, IsWithinPair, IsWellFormed}
-use Rattle.document.specs.steps.Passes.{IsSteppedOver, IsKept, with_change}
+use Rattle.document.specs.steps.Passes.{IsSteppedOver, IsRetained, with_change}
 use Rattle.document.specs.steps.Pieces.{piece_units, piece_attributes, piece_dressed}
 use Rattle.document.proofs.Formed.{IsPairAt-later, IsWellFormed-append, well_formed-of_formed}
 
@@ -55,12 +55,12 @@ pub length-dressed : (p : Piece) (b : Attributes) → length (piece_dressed p b)
 length-dressed (piece.Text text units a) b = length-map _ _ ∙ sym (length-map _ _)
 length-dressed (piece.Embed key value a) b = refl
 
-pub kept_none : (d out : List Element) (c : Changes) (n : ℕ) → n ≡ 0 → IsKept d d n c out out
+pub kept_none : (d out : List Element) (c : Changes) (n : ℕ) → n ≡ 0 → IsRetained d d n c out out
 kept_none d out c n none = record { passed = passed_none d n none; made_of = sym (append-nil out) }
 
 pub kept_more : (old mid new out made more : List Element) (p : Piece) (b : Attributes) (c : Changes) (m n : ℕ)
-    → IsKept old mid m c out made → piece_units p ++ new ≡ mid → IsWellFormed (piece_units p) → n ≡ m + length (piece_units p)
-    → b ≡ changed (piece_attributes p) c → more ≡ made ++ piece_dressed p b → IsKept old new n c out more
+    → IsRetained old mid m c out made → piece_units p ++ new ≡ mid → IsWellFormed (piece_units p) → n ≡ m + length (piece_units p)
+    → b ≡ changed (piece_attributes p) c → more ≡ made ++ piece_dressed p b → IsRetained old new n c out more
 kept_more old mid new out made more p b c m n keeps parts formed e attributes put = record {
   passed = passed_more old mid new (piece_units p) m n keeps.passed parts formed e;
   made_of =
@@ -80,14 +80,14 @@ length-put made more p b put = omega (arith, ap length put, length-append made (
 
 -- a whole run, and units kept after others
 pub kept_run : (old new out more run : List Element) (c : Changes) (n : ℕ) → run ++ new ≡ old → IsWellFormed run → n ≡ length run
-    → more ≡ out ++ with_change c run → IsKept old new n c out more
+    → more ≡ out ++ with_change c run → IsRetained old new n c out more
 kept_run old new out more run c n parts formed count put = record {
   passed = record { taken = run; parts = sym parts; count = sym count; formed = formed };
   made_of = put;
 }
 
-pub kept_on : (old mid new out made more : List Element) (c : Changes) (m k n : ℕ) → IsKept old mid m c out made → IsKept mid new k c made more
-    → n ≡ m + k → IsKept old new n c out more
+pub kept_on : (old mid new out made more : List Element) (c : Changes) (m k n : ℕ) → IsRetained old mid m c out made → IsRetained mid new k c made more
+    → n ≡ m + k → IsRetained old new n c out more
 kept_on old mid new out made more c m k n first second e = record {
   passed = passed_more old mid new second.passed.taken m n first.passed (sym second.passed.parts) second.passed.formed (omega (arith, e, second.passed.count));
   made_of =
@@ -97,17 +97,17 @@ kept_on old mid new out made more c m k n first second e = record {
       ∙ ap (λ l. out ++ l) (sym (map-append (λ (x : Element). record x { attributes = changed x.attributes c }) first.passed.taken second.passed.taken))));
 }
 
-pub kept_left : (mid new made more : List Element) (c : Changes) (k : ℕ) → IsKept mid new k c made more → length mid ≡ k + length new
+pub kept_left : (mid new made more : List Element) (c : Changes) (k : ℕ) → IsRetained mid new k c made more → length mid ≡ k + length new
 kept_left mid new made more c k keeps =
     omega (arith, length-parts mid new keeps.passed.taken (sym keeps.passed.parts), keeps.passed.count)
 
-pub kept_length : (mid new made more : List Element) (c : Changes) (k : ℕ) → IsKept mid new k c made more → length more ≡ length made + k
+pub kept_length : (mid new made more : List Element) (c : Changes) (k : ℕ) → IsRetained mid new k c made more → length more ≡ length made + k
 kept_length mid new made more c k keeps =
     let changed_ones = with_change c keeps.passed.taken in
     let same : length changed_ones ≡ length keeps.passed.taken = length-map _ _ in
     omega (arith, ap length keeps.made_of, length-append made changed_ones, same, keeps.passed.count)
 
-pub kept_whole : (mid new made more : List Element) (c : Changes) (k m n : ℕ) → IsKept mid new k c made more → ¬ (IsWithinPair mid n) → n ≡ k + m
+pub kept_whole : (mid new made more : List Element) (c : Changes) (k m n : ℕ) → IsRetained mid new k c made more → ¬ (IsWithinPair mid n) → n ≡ k + m
     → ¬ (IsWithinPair new m)
 kept_whole mid new made more c k m n keeps whole e =
     whole_after mid new keeps.passed.taken m n whole (sym keeps.passed.parts) (omega (arith, keeps.passed.count, e))

@@ -11,7 +11,7 @@ use Rattle.delta.specs.Operation.{Operation, retain, delete, op_base, base_of, o
 use Rattle.delta.specs.Gaps.{counted, apply}
 use Rattle.delta.proofs.CallerLemmas.{base_of-append, out_of-append, length-apply_counted, effect_of_parts, effect_past_end, effect_of_retain, effect_of_delete}
 use Rattle.document.specs.Pairs.{IsPairAt, IsWithinPair}
-use Rattle.document.specs.steps.Passes.{StopsInPair, IsOneApplied, IsSteppedOver, IsKept, with_change}
+use Rattle.document.specs.steps.Passes.{StopsInPair, IsOneApplied, IsSteppedOver, IsRetained, with_change}
 use Rattle.document.proofs.Formed.{IsWellFormed-seam}
 use Rattle.document.proofs.Passing.{length-parts}
 
@@ -57,7 +57,7 @@ parts_before old new taken op rest ops parts count e parted =
     subst (StopsInPair old) (sym e) (inr (subst (λ d. StopsInPair d ops) (sym (drop-taken old new taken (op_base op) parts count)) parted))
 
 -- what one operation makes
-pub done_retain : (old new : List Element) (n : ℕ) (c : Changes) (op : Operation) (out made : List Element) → retain n c ≡ op → IsKept old new n c out made → IsOneApplied old new op out made
+pub done_retain : (old new : List Element) (n : ℕ) (c : Changes) (op : Operation) (out made : List Element) → retain n c ≡ op → IsRetained old new n c out made → IsOneApplied old new op out made
 done_retain old new n c op out made is keeps =
     let taken = keeps.passed.taken in
     subst (λ o. IsOneApplied old new o out made) is (record {
@@ -136,7 +136,7 @@ kept_same (x ∷ d) = ap (λ l. x ∷ l) (kept_same d)
 
 -- the whole document, where what stands behind the operations is put out as it is
 pub applied_whole : (old mid new : List Element) (ops : List Operation) (made next : List Element) (n : ℕ)
-    → IsApplied old mid ops made → IsKept mid new n empty made next → n ≡ length mid → next ≡ apply old (counted ops)
+    → IsApplied old mid ops made → IsRetained mid new n empty made next → n ≡ length mid → next ≡ apply old (counted ops)
 applied_whole old mid new ops made next n applied keeps all =
     let taken = keeps.passed.taken in
     let none : length new ≡ 0 = omega (arith, length-parts mid new taken (sym keeps.passed.parts), keeps.passed.count, all) in

@@ -1,7 +1,7 @@
 //! Steps over units of runs: past them, or out with a change.
 ghost use Rattle.std.specs.Prelude.{◌≡◌, ◌+◌, ◌≤◌, ◌<◌, ◌^◌, ◌++◌, length, IfOk, OnOk, OnErr, IsOkUnless};
 ghost use Rattle.document.specs.Pairs.{IsWithinPair};
-ghost use Rattle.document.specs.steps.Passes.{IsSteppedOver, IsKept, with_change};
+ghost use Rattle.document.specs.steps.Passes.{IsSteppedOver, IsRetained, with_change};
 ghost use Rattle.document.specs.steps.Pieces.{piece_dressed, IsPiece};
 ghost use Rattle.document.specs.steps.Runs.{units_of_runs, IsRun, AreRuns};
 
@@ -59,7 +59,7 @@ pub fn keep(
     requires bound { length (units_of_runs out.old.items) + len < 2 ^ 64 }
     requires runs { AreRuns out.old.items }
     ensures kept { OnOk result
-        (IsKept cursor.old cursor.new len change.now (units_of_runs out.old.items) (units_of_runs out.new.items)) }
+        (IsRetained cursor.old cursor.new len change.now (units_of_runs out.old.items) (units_of_runs out.new.items)) }
     ensures runs { OnOk result (AreRuns out.new.items) }
     ensures only { IsOkUnless result Refusal.NoMemory }
 {
@@ -85,7 +85,7 @@ fn keep_next(
     requires bound { length (units_of_runs out.old.items) + most < 2 ^ 64 }
     requires runs { AreRuns out.old.items }
     ensures kept { IfOk result (λ len.
-        IsKept cursor.old cursor.new len change.now (units_of_runs out.old.items) (units_of_runs out.new.items)) }
+        IsRetained cursor.old cursor.new len change.now (units_of_runs out.old.items) (units_of_runs out.new.items)) }
     ensures some { IfOk result (λ len. 0 < len) }
     ensures most { IfOk result (λ len. len ≤ most) }
     ensures runs { OnOk result (AreRuns out.new.items) }
@@ -142,7 +142,7 @@ fn keep_part(
     requires bound { length (units_of_runs out.old.items) + most < 2 ^ 64 }
     requires runs { AreRuns out.old.items }
     ensures kept { IfOk result (λ len.
-        IsKept cursor.old cursor.new len change.now (units_of_runs out.old.items) (units_of_runs out.new.items)) }
+        IsRetained cursor.old cursor.new len change.now (units_of_runs out.old.items) (units_of_runs out.new.items)) }
     ensures some { IfOk result (λ len. 0 < len) }
     ensures most { IfOk result (λ len. len ≤ most) }
     ensures runs { OnOk result (AreRuns out.new.items) }

@@ -9,7 +9,7 @@ ghost use Rattle.document.specs.Pairs.{IsWithinPair};
 ghost use Rattle.document.specs.Weight.{weight_of, attributes_weight};
 ghost use Rattle.document.specs.steps.Passes.{StopsInPair};
 ghost use Rattle.document.specs.steps.Runs.{units_of_runs, AreRuns};
-ghost use Rattle.document.specs.steps.Weighing.{kept_weight, set_weight, IsKeptWeighed, IsWeighed};
+ghost use Rattle.document.specs.steps.Weighing.{kept_weight, set_weight, IsRetainedWeighed, IsWeighed};
 
 use crate::cursor::Cursor;
 use crate::run::{Piece, named_weight};
@@ -76,7 +76,7 @@ fn text_weight(text: &str, units: u64, attrs: &Attrs) -> u64
 fn kept_units_weight(cursor: &mut Cursor<'_>, len: u64, change: &Change) -> u64
     requires there { len ≤ length cursor.old }
     requires whole { ¬ (IsWithinPair cursor.old len) }
-    ensures { IsKeptWeighed cursor.old cursor.new len change.now result }
+    ensures { IsRetainedWeighed cursor.old cursor.new len change.now result }
 {
     let mut weight: u64 = 0;
     let mut left = len;
@@ -94,7 +94,7 @@ fn kept_next_weight(cursor: &mut Cursor<'_>, most: u64, change: &Change) -> (u64
     requires some { 0 < most }
     requires there { most ≤ length cursor.old }
     requires whole { ¬ (IsWithinPair cursor.old most) }
-    ensures kept { IsKeptWeighed cursor.old cursor.new result.0 change.now result.1 }
+    ensures kept { IsRetainedWeighed cursor.old cursor.new result.0 change.now result.1 }
     ensures some { 0 < result.0 }
     ensures most { result.0 ≤ most }
 {
@@ -115,7 +115,7 @@ fn kept_piece_weight(cursor: &mut Cursor<'_>, most: u64, change: &Change) -> (u6
     requires some { 0 < most }
     requires there { most ≤ length cursor.old }
     requires whole { ¬ (IsWithinPair cursor.old most) }
-    ensures kept { IsKeptWeighed cursor.old cursor.new result.0 change.now result.1 }
+    ensures kept { IsRetainedWeighed cursor.old cursor.new result.0 change.now result.1 }
     ensures some { 0 < result.0 }
     ensures most { result.0 ≤ most }
 {

@@ -1,6 +1,6 @@
 -- What a flusher holds, and how it fits the state of its store.
 use Rattle.std.proofs.Common.{◌≡◌, ◌≢◌, ◌↔◌, ◌⊎◌, inl, inr, ℕ, Bool, true, false, List, [], ◌∷◌, ◌++◌, Vec, Global, Option, Some, None, refl, sym, ◌∙◌, ap, subst, append-nil}
-use Rattle.std.specs.Prelude.{Result, Ok, Err, OnOk, OnErr, IfErr, IsErrOf}
+use Rattle.std.specs.Prelude.{Result, Ok, Err, OnOk, OnErr, IfErr, IsErrOf, option_to_list}
 use Rattle.std.specs.Option.{option_map}
 use Rattle.disk.specs.Crash.{LeavesOnly}
 use Rattle.refusal.specs.declared.Refusal.{Refusal}
@@ -18,7 +18,6 @@ use Rattle.recovery.specs.Run.{IsPutAt, IsTaken, IsWhy}
 use Rattle.recovery.specs.Goes.{Goes}
 use Rattle.recovery.proofs.CallerLemmas.{goes_none, goes_call, open_unchanged, found_as, found_open}
 use Rattle.view.specs.Published.{Published}
-use Rattle.flusher.specs.Flushers.{listed}
 use Rattle.flusher.proofs.Beginnings.{commands-append, fold-append}
 
 -- the refusal of an answer, or this one where there is none
@@ -31,7 +30,7 @@ pub same_refusal : {S T : Type 0} (one : Refusal) (two : Refusal) → IsErrOf {T
 same_refusal one two is = ap (λ (e : Refusal). Err e) (ap (refusal_in one) is)
 
 abbrev pub held_in : Option (Vec Taken Global) → List (List Taken)
-held_in waiting = listed (option_map (λ v. v.items) waiting)
+held_in waiting = option_to_list (option_map (λ v. v.items) waiting)
 
 pub none_of_held : (waiting : Option (Vec Taken Global)) → held_in waiting ≡ [] → waiting ≡ None
 none_of_held None is = refl

@@ -11,17 +11,12 @@ use Rattle.revision.specs.Agree.{DocumentsAgree, PlacesAgree, Agree}
 use Rattle.world.specs.Board.{Board, Ticket}
 use Rattle.world.specs.World.{Entry, takens, is_of, last_sent}
 use Rattle.world.specs.Shown.{Shown, shown, all_shown}
-use Rattle.world.specs.Law.{IsSent, revision_named, last_found, last_held, IsKept}
+use Rattle.world.specs.Law.{IsSent, revision_named, last_found, last_held, HasTaken}
 use Rattle.flusher.specs.Batches.{IsFirst}
 use Rattle.flusher.specs.declared.calls.Call.{Call}
 use Rattle.flusher.specs.Schedule.{at_rest, schedule, acked, commands_in, AreNumbered, IsAllSettled}
 use Rattle.flusher.specs.Lives.{counted_from, Life, Opens, Drives, Lives, First, Crashed, IsPromised, AllLives, OneLife, LivesGoOn, RunGoesOn}
-use Rattle.world.proofs.Showing.{grown_shown, shown-fold, fold_shown, fold_shown-append}
-use Rattle.world.proofs.Numbers.{last_in}
-use Rattle.world.proofs.Histories.{AllPlaced, after, placed-take}
-use Rattle.world.proofs.Standing.{Stands, stands-take}
-use Rattle.world.proofs.Holding.{Counts, WasSent, StandsSettled, Holds, begun-holds, run-holds}
-use Rattle.world.proofs.Clauses.{acks-stay, acks-one_revision, taken-once, nothing-taken_back, kept-is_again, state-is_fold}
+use Rattle.world.proofs.CallerLemmas.{grown_shown, shown-fold, fold_shown, fold_shown-append, last_in, AllPlaced, after, placed-take, Stands, stands-take, Counts, WasSent, StandsSettled, Holds, begun-holds, run-holds, acks-stay, acks-one_revision, taken-once, nothing-taken_back, taken-is_again, state-is_fold}
 use Rattle.flusher.proofs.Scheduling.{run_is_schedule}
 
 -- a board of which everything is settled
@@ -29,7 +24,7 @@ abbrev settled_board : State → List Entry → ℕ → State → Board Entry
 settled_board start order settled state = record { start = start; order = order; state = state; taken = settled; settled = settled }
 
 -- what made a revision of a number among the first of an order made it among all, and of the number sent again
-kept_again : (start : State) (order : List Entry) (n : ℕ) (a b : Command) (revision : ℕ) → IsSent a b → IsKept start (take n order) a revision → IsKept start order b revision
+kept_again : (start : State) (order : List Entry) (n : ℕ) (a b : Command) (revision : ℕ) → IsSent a b → HasTaken start (take n order) a revision → HasTaken start order b revision
 kept_again start order n a b revision same (inl there) =
     let both : there.0 < min n (length order) = subst (λ (l : ℕ). there.0 < l) (length-take n order) there.2 in
     let made = there.4 in
@@ -58,10 +53,10 @@ promises board tickets acks sent composed holds =
       apart = once.apart;
       anew = once.anew;
       one_revision = acks-one_revision world holds;
-      again = kept-is_again world holds;
+      again = taken-is_again world holds;
       stays = λ k d lt command same some last.
           let ack = get_or acks k d in
-          kept-is_again world holds command (revision_named ack.reply) some
+          taken-is_again world holds command (revision_named ack.reply) some
           (kept_again board.start board.order board.settled ack.command command (revision_named ack.reply) same (nothing-taken_back world holds board.settled may k d lt)) last;
       limits = is.limits;
       shows = is.documents;

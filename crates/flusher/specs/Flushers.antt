@@ -8,11 +8,6 @@ use Rattle.segments.specs.Ring.{known_numbers}
 use Rattle.recovery.specs.declared.store.Store.{Store}
 use Rattle.recovery.specs.Open.{FitsSlot, IsOpen, ring_of}
 
--- a batch as a list of batches, and no batch where there is none
-abbrev pub listed : Option (List Taken) → List (List Taken)
-listed None = []
-listed (Some batch) = batch ∷ []
-
 -- A batch that is held has a command, its count has four bytes, and it fits a slot; and nothing else is still to be published.
 pub record MayCommit (state : State) (batch : List Taken) (committed : List (List Taken)) : Type 0 where
   pub some : 1 ≤ length batch

@@ -1,5 +1,5 @@
 -- The parts of a flusher, as contracts name them.
-use Rattle.std.specs.Prelude.{◌≡◌, List, []}
+use Rattle.std.specs.Prelude.{◌≡◌, List, [], option_to_list}
 use Rattle.std.specs.Option.{option_map}
 use Rattle.disk.specs.declared.device.Disk.{Ghosts}
 use Rattle.revision.specs.Command.{Taken}
@@ -8,7 +8,6 @@ use Rattle.recovery.specs.declared.store.Store.{Store}
 use Rattle.recovery.specs.Found.{commands_of}
 use Rattle.recovery.specs.Open.{state_of}
 use Rattle.flusher.specs.declared.flusher.Flusher.{Flusher}
-use Rattle.flusher.specs.Flushers.{listed}
 
 module _ {D J : Type 0} {disk : Ghosts D} where
   abbrev pub store_of : Flusher D J disk → Store D disk
@@ -24,7 +23,7 @@ module _ {D J : Type 0} {disk : Ghosts D} where
 
   -- the batch that is held and not committed yet, if there is one
   abbrev pub waiting_of : Flusher D J disk → List (List Taken)
-  waiting_of flusher = listed (option_map (λ v. v.items) flusher.waiting)
+  waiting_of flusher = option_to_list (option_map (λ v. v.items) flusher.waiting)
 
   -- The batch that was held is committed, and it or the one that was committed before isn't published.
   pub record IsLost (old new : Flusher D J disk) : Type 0 where

@@ -66,26 +66,26 @@ module _ (order : List Taken) (cells : List Pair) (entries : List Taken) (state 
       records-agree (of_document number order) (found_at number) (slice_get state.documents number) (found-stands number).1 (runs.shows number)
 
 -- documents that agree with those of a list make a list
-abbrev Listed : (ℕ → Option DocumentRecord) → List DocumentRecord → Type 0
-Listed found documents = (list : List DocumentRecord) × ((number : ℕ) → slice_get list number ≡ found number) × (length list ≡ length documents)
+abbrev DocumentList : (ℕ → Option DocumentRecord) → List DocumentRecord → Type 0
+DocumentList found documents = (list : List DocumentRecord) × ((number : ℕ) → slice_get list number ≡ found number) × (length list ≡ length documents)
 
 none-there : (found : Option DocumentRecord) → PlacesAgree found None → None ≡ found
 none-there None agree = refl
 none-there (Some a) agree = absurd agree
 
-listed-more : (found : ℕ → Option DocumentRecord) (document : DocumentRecord) (others : List DocumentRecord) (first : Option DocumentRecord) → first ≡ found 0
-    → PlacesAgree first (Some document) → Listed (λ number. found (suc number)) others → Listed found (document ∷ others)
-listed-more found document others None is agree later = absurd agree
-listed-more found document others (Some a) is agree later = (a ∷ later.0, each, ap suc later.2)
+document_list-more : (found : ℕ → Option DocumentRecord) (document : DocumentRecord) (others : List DocumentRecord) (first : Option DocumentRecord) → first ≡ found 0
+    → PlacesAgree first (Some document) → DocumentList (λ number. found (suc number)) others → DocumentList found (document ∷ others)
+document_list-more found document others None is agree later = absurd agree
+document_list-more found document others (Some a) is agree later = (a ∷ later.0, each, ap suc later.2)
   where
     each : (number : ℕ) → slice_get (a ∷ later.0) number ≡ found number
     each zero = is
     each (suc number) = later.1 number
 
-listed : (found : ℕ → Option DocumentRecord) (documents : List DocumentRecord) → ((number : ℕ) → PlacesAgree (found number) (slice_get documents number)) → Listed found documents
-listed found [] each = ([], (λ number. none-there (found number) (each number)), refl)
-listed found (document ∷ others) each =
-    listed-more found document others (found 0) refl (each 0) (listed (λ number. found (suc number)) others (λ number. each (suc number)))
+document_list : (found : ℕ → Option DocumentRecord) (documents : List DocumentRecord) → ((number : ℕ) → PlacesAgree (found number) (slice_get documents number)) → DocumentList found documents
+document_list found [] each = ([], (λ number. none-there (found number) (each number)), refl)
+document_list found (document ∷ others) each =
+    document_list-more found document others (found 0) refl (each 0) (document_list (λ number. found (suc number)) others (λ number. each (suc number)))
 
 -- names of documents that agree with documents of names that differ
 there-named : (a : DocumentRecord) (place : Option DocumentRecord) → PlacesAgree (Some a) place → (b : DocumentRecord) × (place ≡ Some b) × (a.name ≡ b.name)
@@ -102,7 +102,7 @@ pub recovers : Recovers
 recovers order cells entries state pick runs =
     let agree : (number : ℕ) → PlacesAgree (found_at order cells entries state pick runs number) (slice_get state.documents number) =
     found-agree order cells entries state pick runs in
-    let list = listed (found_at order cells entries state pick runs) state.documents agree in
+    let list = document_list (found_at order cells entries state pick runs) state.documents agree in
     let places : (number : ℕ) → PlacesAgree (slice_get list.0 number) (slice_get state.documents number) =
     λ number. subst (λ o. PlacesAgree o (slice_get state.documents number)) (sym (list.1 number)) (agree number) in
     let stand : StandFor state.limits cells entries pick (record { limits = state.limits; documents = list.0 }) = record {

@@ -15,6 +15,32 @@
 //! `laws` promises of these: the parts stand for one state at most; a running store's parts stand by either pick for a state that
 //! agrees with the one in memory, and runs on over the same order; and a store runs on as a batch is committed, a cell is closed or
 //! put, and the oldest entries are retired. The crate stands on the rule of acceptance, `revision`.
+//!
+//! A caller, with its contract, which `revision_tests` proves:
+//!
+//! ```text
+//! ghost use Rattle.std.specs.Prelude.{List};
+//! ghost use Rattle.revision.specs.Command.{Taken};
+//! ghost use Rattle.revision.specs.State as spec;
+//! ghost use Rattle.revision.specs.Agree.{Agree};
+//! ghost use Rattle.history.specs.Cell.{Pair};
+//! ghost use Rattle.history.specs.declared.pick.Pick as pick;
+//! ghost use Rattle.history.specs.Found.{StandFor};
+//! ghost use Rattle.history.specs.Running.{Runs};
+//!
+//! use history::laws;
+//!
+//! /// Whichever cells the documents of a running store are read from, what is found agrees.
+//! pub fn either_cell()
+//!     ensures { (order : List Taken) (cells : List Pair) (entries : List Taken)
+//!         (state one other : spec.State) (a b : pick.Pick)
+//!         → Runs order cells entries state → StandFor state.limits cells entries a one
+//!         → StandFor state.limits cells entries b other → Agree one other }
+//! {
+//!     laws::recovers();
+//!     laws::showing_agree();
+//! }
+//! ```
 #![tactic(auto)]
 
 pub mod laws;

@@ -11,7 +11,7 @@ use Rattle.session.specs.declared.sent.Sent.{Sent}
 use Rattle.session.specs.Exchange.{Exchange}
 use Rattle.session.specs.Replies.{Asks}
 use Rattle.session.specs.Ahead.{command_of, commands_of, exchanges_of}
-use Rattle.session.proofs.Sending.{asked_more}
+use Rattle.session.proofs.CallerLemmas.{asked_more}
 use Rattle.hub_desk.specs.AtHub.{Desk, PassesAtHub}
 use Rattle.hub_desk.specs.Tickets.{AreOf, IsOf, AnswersFor, counted_by, counted_all, with_count, last_by, last_of}
 

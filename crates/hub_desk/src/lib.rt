@@ -6,6 +6,33 @@
 //! wait, for the last ticket, serves for all of them. `specs/AtHub.antt` says what passes between it and a session.
 //!
 //! It is a crate of its own, so that `session` stands on nothing of stores and threads.
+//!
+//! A caller, with its contract, which `listening_tests` proves:
+//!
+//! ```text
+//! ghost use Rattle.std.specs.Prelude.{IfErr, IfOk};
+//! ghost use Rattle.hub_desk.specs.AtHub.{Acknowledges, Refuses};
+//!
+//! use hub_desk::HubDesk;
+//! use published::Site;
+//! use refusal::Refusal;
+//! use revision::Command;
+//! use session::{Desk, Reply};
+//! use std::alloc::Global;
+//! use std::sync::Wait;
+//!
+//! /// Answers a command at a hub once it is settled: what the desk shows from then on holds it.
+//! pub fn answer<D, J: Site, R: Wait>(
+//!     alloc: Global,
+//!     desk: &mut HubDesk<'_, D, J, R>,
+//!     command: &Command,
+//! ) -> Result<Reply, Refusal>
+//!     ensures ok { IfOk result (λ reply. Acknowledges J.start desk.old command.now reply desk.new) }
+//!     ensures err { IfErr result (λ e. Refuses J.start desk.old command.now e desk.new) }
+//! {
+//!     desk.ask(alloc, command)
+//! }
+//! ```
 #![tactic(auto)]
 
 mod desk;

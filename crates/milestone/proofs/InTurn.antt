@@ -14,8 +14,7 @@ use Rattle.compose.specs.Composed.{one_for}
 use Rattle.compose.specs.Cuts.{CutsInserted}
 use Rattle.compose.specs.Many.{AreDefined, applied, ComposesAll}
 use Rattle.compose.specs.Outcome.{CanCompose, CanComposeAll, IsComposeRefused, IsComposeAllRefused}
-use Rattle.compose.proofs.CallerLemmas.{composes_by_normal}
-use Rattle.compose.proofs.ManyDeltas.{defined-one}
+use Rattle.compose.proofs.CallerLemmas.{composes_by_normal, defined-one}
 use Rattle.revision.specs.Past.{StandInTurn}
 
 -- a gap form that stands on the empty document inserts alone: where it cuts a pair that the first inserts, it cuts one of the document

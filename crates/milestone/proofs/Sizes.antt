@@ -27,7 +27,7 @@ use Rattle.revision.specs.Spellable.{IsOperation}
 use Rattle.revision.specs.Width.{value_width, pair_width, operation_width, delta_width}
 use Rattle.journal.specs.Spelling.{number, text16}
 use Rattle.journal.specs.DeltaSpelling as deltas
-use Rattle.journal.proofs.DeltaWidths.{length-delta}
+use Rattle.journal.proofs.CallerLemmas.{length-delta}
 use Rattle.history.specs.Cell.{Cell, CellKeeps}
 use Rattle.milestone.specs.Milestone.{IsMilestone}
 use Rattle.milestone.specs.CellSpelling.{inserts_of, source, sources, cell_body}

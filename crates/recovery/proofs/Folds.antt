@@ -1,9 +1,10 @@
 -- Batches that are added to those before them.
-use Rattle.std.proofs.Common.{◌≡◌, Bool, ◌&&◌, List, [], ◌∷◌, ◌++◌, refl, ◌∙◌, ap}
+use Rattle.std.proofs.Common.{◌≡◌, Bool, true, ◌&&◌, List, [], ◌∷◌, ◌++◌, refl, ◌∙◌, ap}
+use Rattle.std.proofs.lemmas.Bool.{and_parts}
 use Rattle.std.proofs.lemmas.List.{append-nil}
 use Rattle.std.proofs.lemmas.List.Concat.{flat_map-append}
 use Rattle.revision.specs.Command.{Taken}
-use Rattle.revision.specs.State.{State, grows, grown, fold, all_grow}
+use Rattle.revision.specs.State.{State, grows, grown, fold, all_grow, first_grows}
 use Rattle.recovery.specs.Found.{commands_of}
 
 pub fold-append : (state : State) (first second : List Taken) → fold state (first ++ second) ≡ fold (fold state first) second
@@ -25,3 +26,8 @@ commands_of-push batches commands = flat_map-append (λ (c : List Taken). c) bat
 pub fold-limits : (state : State) (commands : List Taken) → (fold state commands).limits ≡ state.limits
 fold-limits state [] = refl
 fold-limits state (t ∷ commands) = fold-limits (grown state t) commands
+
+-- where all commands continue a state, the first one does
+pub first_of_all : (state : State) (commands : List Taken) → all_grow state commands ≡ true → first_grows state commands ≡ true
+first_of_all state [] all = refl
+first_of_all state (t ∷ commands) all = (and_parts (grows state t) (all_grow (grown state t) commands) all).0

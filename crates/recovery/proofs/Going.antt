@@ -19,7 +19,7 @@ use Rattle.recovery.specs.declared.store.Store.{Store}
 use Rattle.recovery.specs.Shape.{slots_place}
 use Rattle.recovery.specs.Cells.{AreCellsOf, FitEach}
 use Rattle.recovery.specs.Marked.{AreMarked}
-use Rattle.recovery.specs.Jobs.{AreKept}
+use Rattle.recovery.specs.Jobs.{CanAllBePut}
 use Rattle.recovery.specs.Found.{FoundAs, HoldsParts, limits_of, commands_of}
 use Rattle.recovery.specs.Open.{IsOpen, IsUnchanged, device_of, state_of, has_failed}
 use Rattle.recovery.specs.Goes.{Goes}
@@ -52,7 +52,7 @@ module _ {D : Type 0} {disk : Ghosts D} where
     marked = subst (λ (m : List Mark). AreMarked is_open.table m) (sym same.marks) is_open.marked;
     limits = ap (λ (s : State). s.limits) same.state ∙ is_open.limits ∙ ap limits_of (sym same.shape);
     runs = subst (λ (s : State). Runs is_open.order is_open.cells (commands_of is_open.batches) s) (sym same.state) is_open.runs;
-    kept = subst (λ (l : List Job). AreKept is_open.order is_open.cells l) (sym same.jobs) is_open.kept;
+    kept = subst (λ (l : List Job). CanAllBePut is_open.order is_open.cells l) (sym same.jobs) is_open.kept;
   }
     where
       seen : disk.seen new.device ≡ disk.seen old.device

@@ -7,7 +7,7 @@ use Rattle.std.proofs.lemmas.List.Elements.{All-push}
 use Rattle.refusal.specs.declared.Refusal.{Refusal}
 use Rattle.refusal.specs.declared.Refusal.TheVariants.{NoMemory}
 use Rattle.revision.specs.Past.{sources_at}
-use Rattle.revision.specs.Pending.{PendingDocument, held}
+use Rattle.revision.specs.Pending.{PendingDocument, record_of}
 use Rattle.revision.specs.State.{Limits, DocumentRecord, State, revision_of, are_sources}
 use Rattle.revision.specs.Invariants.{IsState}
 use Rattle.history.specs.Cell.{CellKeeps, cell_of}
@@ -18,13 +18,13 @@ use Rattle.std.specs.Prelude.{◌==◌, not}
 
 -- the document at a place
 pub document_there : (list : List PendingDocument) (documents : List DocumentRecord) (place : ℕ) (document : PendingDocument)
-    → map held list ≡ documents → slice_get list place ≡ Some document → slice_get documents place ≡ Some (held document)
+    → map record_of list ≡ documents → slice_get list place ≡ Some document → slice_get documents place ≡ Some (record_of document)
 document_there list documents place document same there =
-    subst (λ (l : List DocumentRecord). slice_get l place ≡ Some (held document)) same (in_map list place there)
+    subst (λ (l : List DocumentRecord). slice_get l place ≡ Some (record_of document)) same (in_map list place there)
   where
-    in_map : (l : List PendingDocument) (n : ℕ) → slice_get l n ≡ Some document → slice_get (map held l) n ≡ Some (held document)
+    in_map : (l : List PendingDocument) (n : ℕ) → slice_get l n ≡ Some document → slice_get (map record_of l) n ≡ Some (record_of document)
     in_map [] n is = absurd cc
-    in_map (first ∷ others) zero is = let same : first ≡ document = cc in ap (λ (d : PendingDocument). Some (held d)) same
+    in_map (first ∷ others) zero is = let same : first ≡ document = cc in ap (λ (d : PendingDocument). Some (record_of d)) same
     in_map (first ∷ others) (suc n) is = in_map others n is
 
 -- where nothing speaks against it, the document holds the revision

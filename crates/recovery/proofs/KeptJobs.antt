@@ -12,7 +12,7 @@ use Rattle.history.specs.Running.{IsCellOf}
 use Rattle.history.specs.Entries.{of_document}
 use Rattle.history.proofs.CallerLemmas.{held_is_cell, cells_stay}
 use Rattle.milestone.specs.Job.{Job, cell_of_job}
-use Rattle.recovery.specs.Jobs.{without_job, with_job, highest, IsKept, AreKept, IsJobTo}
+use Rattle.recovery.specs.Jobs.{without_job, with_job, highest, CanBePut, CanAllBePut, IsJobTo}
 
 module _ {X : Type 0} (P : X → Type 0) (test : X → Bool) where
   first_of : (x : X) (xs : List X) (b : Bool) → test x ≡ b → P x → All P (filter test xs) → All P (filter test (x ∷ xs))
@@ -25,22 +25,22 @@ module _ {X : Type 0} (P : X → Type 0) (test : X → Bool) where
   all_passing (x ∷ xs) all = first_of x xs (test x) refl (All-head P x xs all) (all_passing xs (All-tail P x xs all))
 
 -- the order grows
-pub kept_later : (order batch : List Taken) (cells : List Pair) (jobs : List Job) → AreKept order cells jobs → AreKept (order ++ batch) cells jobs
+pub kept_later : (order batch : List Taken) (cells : List Pair) (jobs : List Job) → CanAllBePut order cells jobs → CanAllBePut (order ++ batch) cells jobs
 kept_later order batch cells jobs kept =
-    All-weaker (IsKept order cells) (IsKept (order ++ batch) cells)
+    All-weaker (CanBePut order cells) (CanBePut (order ++ batch) cells)
     (λ job is. record { is_cell = cells_stay order batch job.document (cell_of_job job) is.is_cell; not_below = is.not_below }) jobs kept
 
 -- the job of a document is dropped
-pub kept_without : (order : List Taken) (cells : List Pair) (document : ℕ) (jobs : List Job) → AreKept order cells jobs → AreKept order cells (without_job document jobs)
-kept_without order cells document jobs kept = all_passing (IsKept order cells) (λ job. not (job.document == document)) jobs kept
+pub kept_without : (order : List Taken) (cells : List Pair) (document : ℕ) (jobs : List Job) → CanAllBePut order cells jobs → CanAllBePut order cells (without_job document jobs)
+kept_without order cells document jobs kept = all_passing (CanBePut order cells) (λ job. not (job.document == document)) jobs kept
 
 -- a job is kept
-pub kept_with : (order : List Taken) (cells : List Pair) (job : Job) (jobs : List Job) → IsKept order cells job → AreKept order cells jobs → AreKept order cells (with_job job jobs)
-kept_with order cells job jobs one kept = All-push (IsKept order cells) (without_job job.document jobs) job (kept_without order cells job.document jobs kept) one
+pub kept_with : (order : List Taken) (cells : List Pair) (job : Job) (jobs : List Job) → CanBePut order cells job → CanAllBePut order cells jobs → CanAllBePut order cells (with_job job jobs)
+kept_with order cells job jobs one kept = All-push (CanBePut order cells) (without_job job.document jobs) job (kept_without order cells job.document jobs kept) one
 
 -- what is handed out can be kept
 pub handed_out : (order : List Taken) (cells : List Pair) (state : State) (document revision : ℕ) (job : Job) → StateShows order state
-    → IsJobTo state.documents document revision job → highest (cells_at cells document) ≤ revision → IsKept order cells job
+    → IsJobTo state.documents document revision job → highest (cells_at cells document) ≤ revision → CanBePut order cells job
 handed_out order cells state document revision job shows to above = record {
   is_cell = subst (λ n. IsCellOf (of_document n order) (cell_of_job job)) (sym to.number)
       (subst (IsCellOf (of_document document order)) (sym to.is) (held_is_cell order state document to.found revision shows to.there to.held to.first to.reached));
@@ -62,10 +62,10 @@ other_document : (document other : ℕ) → not (other == document) ≡ true →
 other_document document other is same = false≢true (ap not (sym (eq-eqb other document (sym same))) ∙ is)
 
 -- the cells of a document are others, and its job is dropped
-pub kept_put : (order : List Taken) (cells : List Pair) (document : ℕ) (pair : Pair) (jobs : List Job) → AreKept order cells jobs
-    → AreKept order (with_pair document pair cells) (without_job document jobs)
+pub kept_put : (order : List Taken) (cells : List Pair) (document : ℕ) (pair : Pair) (jobs : List Job) → CanAllBePut order cells jobs
+    → CanAllBePut order (with_pair document pair cells) (without_job document jobs)
 kept_put order cells document pair jobs kept =
-    passing_have (IsKept order cells) (IsKept order (with_pair document pair cells)) (λ job. not (job.document == document))
+    passing_have (CanBePut order cells) (CanBePut order (with_pair document pair cells)) (λ job. not (job.document == document))
     (λ job is has. record {
       is_cell = has.is_cell;
       not_below = subst (λ (p : Pair). highest p ≤ job.revision) (sym (pair_other document pair cells job.document (other_document document job.document is))) has.not_below;

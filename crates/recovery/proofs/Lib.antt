@@ -18,10 +18,12 @@ pub mod KnownCells
 pub mod Retirement
 pub mod Reaching
 pub mod Raising
+pub mod SparedJobs
 pub mod Rooms
 pub mod PutCells
 pub mod Putting
 pub mod PutAtOnce
+pub mod KeptFrom
 pub mod Faults
 pub mod Freed
 pub mod Upkeep

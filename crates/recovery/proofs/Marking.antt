@@ -1,6 +1,7 @@
 -- What a mark that is set or raised makes of all.
-use Rattle.std.proofs.Common.{◌≡◌, ◌≢◌, ◌⊎◌, inl, inr, ℕ, zero, suc, ◌<◌, ◌≤◌, max, true, false, List, [], ◌∷◌, ◌++◌, length, set, get_or, refl, sym, ◌∙◌, ap, arith}
+use Rattle.std.proofs.Common.{◌≡◌, ◌≢◌, ◌⊎◌, inl, inr, ℕ, zero, suc, ◌<◌, ◌≤◌, max, true, false, List, [], ◌∷◌, ◌++◌, length, set, get_or, refl, sym, ◌∙◌, ap, arith, length-append}
 use Rattle.std.specs.Prelude.{◌==◌}
+use Rattle.std.proofs.lemmas.List.{length-set}
 use Rattle.std.proofs.lemmas.Bool.{cases_eq}
 use Rattle.std.proofs.lemmas.Bool.Decides.{nat_tests}
 use Rattle.revision.specs.Command.{Taken}
@@ -48,6 +49,7 @@ raised_push segment document revision marks =
       here = omega (arith, marked_push segment document marks mark, own segment document revision);
       documents = λ other apart. omega (arith, marked_push segment other marks mark, other_document segment other mark apart);
       segments = λ other number apart. omega (arith, marked_push other number marks mark, other_segment other number mark apart);
+      grows = omega (arith, length-append marks (mark ∷ []));
     }
 
 -- a mark is raised
@@ -63,6 +65,7 @@ raised_set segment document revision marks place old inside is same_segment same
           omega (arith, marked_set segment other 0 marks place old mark inside is (omega (arith, other_document segment other mark apart, other_document segment other old (rw same_document apart))));
       segments = λ other number apart.
           omega (arith, marked_set other number 0 marks place old mark inside is (omega (arith, other_segment other number mark apart, other_segment other number old (rw same_segment apart))));
+      grows = omega (arith, length-set marks place mark);
     }
 
 -- one entry more
@@ -81,7 +84,7 @@ greatest_else (first ∷ others) last document other = elim (cases_eq first.docu
 ]
 
 pub none_noted : (segment : ℕ) (marks : List Mark) → IsNoted segment [] marks marks
-none_noted segment marks = record { here = λ document. omega arith; segments = λ other document apart. refl }
+none_noted segment marks = record { here = λ document. omega arith; segments = λ other document apart. refl; grows = omega arith }
 
 pub noted_more : (segment : ℕ) (entries : List Taken) (last : Taken) (before mid after : List Mark) → IsNoted segment entries before mid
     → Raised segment last.document last.revision mid after → IsNoted segment (entries ++ last ∷ []) before after
@@ -94,6 +97,7 @@ noted_more segment entries last before mid after noted raised = record {
         omega (arith, raised.documents document (λ same. apart (sym same)), noted.here document, greatest_else entries last document apart)
   ];
   segments = λ other document apart. raised.segments other document apart ∙ noted.segments other document apart;
+  grows = omega (arith, raised.grows, noted.grows, length-append entries (last ∷ []));
 }
 
 -- a mark is no higher than the greatest one

@@ -1,9 +1,10 @@
 -- The kept jobs of other documents, where one of a document comes or goes.
-use Rattle.std.proofs.Common.{◌≡◌, ℕ, true, false, Bool, List, [], ◌∷◌, ◌++◌, filter, not, refl, sym, ◌∙◌, ap}
+use Rattle.std.proofs.Common.{◌≡◌, ◌≢◌, ℕ, true, false, Bool, List, [], ◌∷◌, ◌++◌, filter, not, refl, sym, ◌∙◌, ap, arith}
 use Rattle.std.specs.Prelude.{◌==◌}
-use Rattle.std.proofs.lemmas.Bool.{eq-eqb}
+use Rattle.std.proofs.lemmas.Bool.{false≢true, eq-eqb}
+use Rattle.std.proofs.lemmas.Bool.Decides.{nat_tests}
 use Rattle.milestone.specs.Job.{Job}
-use Rattle.recovery.specs.Jobs.{without_job, with_job}
+use Rattle.recovery.specs.Jobs.{without_job, jobs_for, with_job}
 
 module _ {X : Type 0} (test : X → Bool) where
   pass_twice : (x : X) (xs : List X) (b : Bool) → test x ≡ b → filter test (filter test xs) ≡ filter test xs → filter test (filter test (x ∷ xs)) ≡ filter test (x ∷ xs)
@@ -41,3 +42,29 @@ pub others_with : (document : ℕ) (job : Job) (jobs : List Job) → job.documen
 others_with document job jobs is =
     let test = λ (other : Job). not (other.document == document) in
     pushed test job (own document job is) (without_job job.document jobs) ∙ others_without document job.document jobs is
+
+module _ {X : Type 0} (test wider : X → Bool) (implies : (x : X) → test x ≡ true → wider x ≡ true) where
+  pass_wider : (x : X) (xs : List X) (a b : Bool) → test x ≡ a → wider x ≡ b → filter test (filter wider xs) ≡ filter test xs
+      → filter test (filter wider (x ∷ xs)) ≡ filter test (x ∷ xs)
+  pass_wider x xs true true is passes same = rw passes (rw is (ap (λ l. x ∷ l) same))
+  pass_wider x xs false true is passes same = rw passes (rw is same)
+  pass_wider x xs true false is passes same = absurd (false≢true (sym passes ∙ implies x is))
+  pass_wider x xs false false is passes same = rw passes (rw is same)
+
+  -- what passes a test is among those that pass a wider one
+  pub among : (xs : List X) → filter test (filter wider xs) ≡ filter test xs
+  among [] = refl
+  among (x ∷ xs) = pass_wider x xs (test x) (wider x) refl refl (among xs)
+
+-- a document's jobs are among those of documents other than another one
+own_among : (document other : ℕ) (jobs : List Job) → document ≢ other → jobs_for document (without_job other jobs) ≡ jobs_for document jobs
+own_among document other jobs apart =
+    among (λ (job : Job). job.document == document) (λ (job : Job). not (job.document == other)) implies jobs
+  where
+    implies : (job : Job) → (job.document == document) ≡ true → not (job.document == other) ≡ true
+    implies job is = let away : (job.document == other) ≡ false = grind (arith, nat_tests) in rw away refl
+
+-- where the jobs stay of all documents but one, those of each other document do
+pub own_stay : (document other : ℕ) (old new : List Job) → document ≢ other → without_job other new ≡ without_job other old → jobs_for document new ≡ jobs_for document old
+own_stay document other old new apart same =
+    sym (own_among document other new apart) ∙ ap (λ (l : List Job). jobs_for document l) same ∙ own_among document other old apart

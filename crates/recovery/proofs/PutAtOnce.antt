@@ -7,7 +7,8 @@ use Rattle.disk.specs.declared.device.Disk.{Ghosts}
 use Rattle.disk.specs.Crash.{LeavesOnly}
 use Rattle.refusal.specs.declared.Refusal.{Refusal}
 use Rattle.refusal.specs.declared.Refusal.TheVariants.{StillNeeded, NoMemory, Fault}
-use Rattle.revision.specs.State.{State}
+use Rattle.revision.specs.Command.{Taken}
+use Rattle.revision.specs.State.{State, fold, all_grow}
 use Rattle.history.specs.Cell.{Pair}
 use Rattle.milestone.specs.Job.{Job}
 use Rattle.segments.specs.Slot.{Segment}
@@ -17,7 +18,7 @@ use Rattle.recovery.specs.declared.store.Store.{Store}
 use Rattle.recovery.specs.Found.{FoundAs}
 use Rattle.recovery.specs.Jobs.{with_job, without_job, IsJobTo}
 use Rattle.recovery.specs.Marked.{MayRetire}
-use Rattle.recovery.specs.Open.{IsOpen, IsUnchanged, IsRetiredNow, IsPutNow, device_of, state_of, has_failed}
+use Rattle.recovery.specs.Open.{IsOpen, IsUnchanged, IsCommittedNow, IsRetiredNow, IsPutNow, device_of, state_of, has_failed, has_room}
 use Rattle.recovery.specs.Run.{IsPutAt, IsTaken, AreTaken, IsWhy}
 use Rattle.recovery.proofs.Refusals.{refusal_or, ok≢err}
 use Rattle.recovery.proofs.Runs.{found_as, found_open}
@@ -97,6 +98,15 @@ module _ {D : Type 0} {disk : Ghosts D} where
   given_up old new (Ok answer) before fails state may done =
       (has_not_failed old new answer fails (had_not_failed answer before), state, λ is_open. record { may = may is_open; retired = done is_open })
   given_up old new (Err refusal) before fails state may done = tt
+
+  -- a commit that was Ok
+  pub committed_by : (old new : Store D disk) (commands items : List Taken) → commands ≡ items → has_failed new ≡ false → all_grow (state_of old) commands ≡ true
+      → state_of new ≡ fold (state_of old) commands → ((is_open : IsOpen old) → IsCommittedNow commands old is_open new) → has_room old commands ≡ true
+      → (has_failed new ≡ false) × (all_grow (state_of old) items ≡ true) × (state_of new ≡ fold (state_of old) items)
+      × ((is_open : IsOpen old) → IsCommittedNow items old is_open new) × (has_room old items ≡ true)
+  committed_by old new commands items same works grow state committed room =
+      subst (λ (l : List Taken). (has_failed new ≡ false) × (all_grow (state_of old) l ≡ true) × (state_of new ≡ fold (state_of old) l)
+      × ((is_open : IsOpen old) → IsCommittedNow l old is_open new) × (has_room old l ≡ true)) same (works, grow, state, committed, room)
 
   -- one step more was taken
   pushed : (first : List StoreStep) (step : StoreStep) (old mid new : Store D disk) → AreTaken first old mid → IsTaken step mid new → AreTaken (first ++ step ∷ []) old new

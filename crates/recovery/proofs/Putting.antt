@@ -23,7 +23,7 @@ use Rattle.recovery.specs.declared.store.Store.{Store}
 use Rattle.recovery.specs.Shape.{cells_place}
 use Rattle.recovery.specs.Cells.{IsCellsOf, AreCellsOf, FitEach}
 use Rattle.recovery.specs.Found.{FoundAs, HoldsParts, commands_of, limits_of}
-use Rattle.recovery.specs.Jobs.{highest, IsKept, KeepsLimits, AllKeep, without_job}
+use Rattle.recovery.specs.Jobs.{highest, CanBePut, KeepsLimits, AllKeep, without_job}
 use Rattle.recovery.specs.Open.{IsOpen, kept_jobs}
 use Rattle.recovery.proofs.Layouts.{cells_before}
 use Rattle.recovery.proofs.PutCells.{pair_own, length_with_pair, with_pair_twice, table_stays, laid_out_with, cells_put, fit_put}
@@ -62,7 +62,7 @@ cells_hold : {p q s t m n : ℕ} (content : List ℕ) (pair : Pair) → p ≡ q 
 cells_hold {p} {q} {s} {t} {m} {n} content pair place size number holds =
     subst (λ k. HoldsPair k s m content pair) (sym place) (subst (λ k. HoldsPair q k m content pair) (sym size) (subst (λ k. HoldsPair q t k content pair) (sym number) holds))
 
-module _ {D : Type 0} {disk : Ghosts D} (store : Store D disk) (is_open : IsOpen store) (job : Job) (kept : IsKept is_open.order is_open.cells job)
+module _ {D : Type 0} {disk : Ghosts D} (store : Store D disk) (is_open : IsOpen store) (job : Job) (kept : CanBePut is_open.order is_open.cells job)
     (inside : job.document < store.shape.docs) (one : Cells) (its : IsCellsOf store.shape job.document one) where
   abbrev old : List ℕ
   old = disk.seen store.device
@@ -210,8 +210,8 @@ module _ {D : Type 0} {disk : Ghosts D} (store : Store D disk) (job : Job) (cont
       ap (λ (c : Cells). set store.cells.items document c) (same ∙ read) ∙ set-get_or store.cells.items document one
 
   module _ (is_open : IsOpen store) where
-    pub kept_one : IsKept is_open.order is_open.cells job
-    kept_one = All-contains (IsKept is_open.order is_open.cells) (kept_jobs store) job is_open.kept contains
+    pub kept_one : CanBePut is_open.order is_open.cells job
+    kept_one = All-contains (CanBePut is_open.order is_open.cells) (kept_jobs store) job is_open.kept contains
 
     pub fits_one : Fits (disk.seen store.device) one (cells_at is_open.cells job.document)
     fits_one = subst (λ n. Fits (disk.seen store.device) one (cells_at is_open.cells n)) is (is_open.cells_fit document one there)

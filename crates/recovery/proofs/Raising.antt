@@ -7,7 +7,7 @@ use Rattle.std.proofs.lemmas.List.{length-map, take_more}
 use Rattle.std.proofs.lemmas.Option.{slice_get_within, slice_get_past}
 use Rattle.disk.specs.declared.device.Disk.{Ghosts}
 use Rattle.refusal.specs.declared.Refusal.{Refusal}
-use Rattle.revision.specs.Pending.{PendingDocument, held}
+use Rattle.revision.specs.Pending.{PendingDocument, record_of}
 use Rattle.revision.specs.State.{State, DocumentRecord, revision_of}
 use Rattle.history.specs.Cell.{Cell, Pair, cells_at, lowest, freed, with_pair}
 use Rattle.milestone.specs.Cells.{with_cell}
@@ -19,10 +19,10 @@ use Rattle.segments.specs.Table.{IsRetired}
 use Rattle.recovery.specs.declared.marks.Mark.{Mark}
 use Rattle.recovery.specs.declared.store.Store.{Store}
 use Rattle.recovery.specs.Cells.{lowest_known, highest_known}
-use Rattle.recovery.specs.Marks.{marks_of, greatest_marked}
+use Rattle.recovery.specs.Marks.{marks_of, greatest_marked, without_segment}
 use Rattle.recovery.specs.Marked.{MayRetire}
 use Rattle.recovery.specs.Jobs.{highest, no_job_of, no_job_for}
-use Rattle.recovery.specs.Open.{IsOpen, IsRetiredNow, IsFreedNow, state_of}
+use Rattle.recovery.specs.Open.{IsOpen, IsRetiredNow, IsFreedNow, state_of, known_marks}
 use Rattle.recovery.specs.Run.{IsPutAt}
 use Rattle.recovery.specs.steps.Freeing.{reached, reached_in, MayReach, KeepsSegments, IsOverSlots, NoneLower, IsRaised, IsMarkCovered, IsNeededByNone}
 use Rattle.recovery.proofs.Marking.{marked_member, low_more}
@@ -78,10 +78,10 @@ none_against (Some found) newest high is above first = none_here
     none_here = grind (arith, nat_tests)
 
 -- no document at a place past all
-pub none_there : (list : List PendingDocument) (documents : List DocumentRecord) (place : ℕ) → map held list ≡ documents → length list ≤ place
+pub none_there : (list : List PendingDocument) (documents : List DocumentRecord) (place : ℕ) → map record_of list ≡ documents → length list ≤ place
     → slice_get documents place ≡ None
 none_there list documents place same past =
-    slice_get_past documents place (omega (arith, past, length-map list held, ap (λ (l : List DocumentRecord). length l) same))
+    slice_get_past documents place (omega (arith, past, length-map list record_of, ap (λ (l : List DocumentRecord). length l) same))
 
 module _ {D : Type 0} {disk : Ghosts D} where
   pub keeps_on : {old mid new : Store D disk} → KeepsSegments old mid → KeepsSegments mid new → KeepsSegments old new
@@ -195,3 +195,12 @@ module _ {D : Type 0} {disk : Ghosts D} where
       let now = done over.goes_on in
       record { goes_on = now.goes_on; retired = subst (λ (t : List (Option Segment)). IsRetired t now.goes_on.table) over.same_table now.retired }
   freed_by old mid new number (Err refusal) none done = tt
+
+  -- and its marks are gone
+  pub marks_gone : {A : Type 0} (old mid new : Store D disk) (result : Result A Refusal) → KeepsSegments old mid
+      → OnOk result ((slot segment : ℕ) → IsOldest (known_numbers mid.ring) slot segment → known_marks new ≡ without_segment segment (known_marks mid))
+      → OnOk result ((slot segment : ℕ) → IsOldest (known_numbers old.ring) slot segment → known_marks new ≡ without_segment segment (known_marks old))
+  marks_gone old mid new (Ok answer) keeps gone = λ slot segment oldest.
+      let here : IsOldest (known_numbers mid.ring) slot segment = subst (λ (l : List (Option ℕ)). IsOldest l slot segment) (ap known_numbers (sym keeps.ring)) oldest in
+      gone slot segment here ∙ ap (λ (l : List Mark). without_segment segment l) keeps.marks
+  marks_gone old mid new (Err refusal) keeps gone = tt

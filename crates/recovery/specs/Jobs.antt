@@ -19,6 +19,10 @@ jobs_of jobs = jobs.list.items
 abbrev pub without_job : ℕ → List Job → List Job
 without_job document jobs = filter (λ job. not (job.document == document)) jobs
 
+-- those of this document alone
+abbrev pub jobs_for : ℕ → List Job → List Job
+jobs_for document jobs = filter (λ job. job.document == document) jobs
+
 -- with one more, in place of what its document had
 abbrev pub with_job : Job → List Job → List Job
 with_job job jobs = without_job job.document jobs ++ job ∷ []
@@ -41,12 +45,12 @@ no_job_for (Some found) highest revision = no_job_of found highest revision
 
 -- What comes of a kept job can be put: it is the document of this order of commands at the job's revision, which isn't below an open
 -- cell of the document.
-pub record IsKept (order : List Taken) (cells : List Pair) (job : Job) : Type 0 where
+pub record CanBePut (order : List Taken) (cells : List Pair) (job : Job) : Type 0 where
   pub is_cell : IsCellOf (of_document job.document order) (cell_of_job job)
   pub not_below : highest (cells_at cells job.document) ≤ job.revision
 
-abbrev pub AreKept : List Taken → List Pair → List Job → Type 0
-AreKept order cells jobs = All (IsKept order cells) jobs
+abbrev pub CanAllBePut : List Taken → List Pair → List Job → Type 0
+CanAllBePut order cells jobs = All (CanBePut order cells) jobs
 
 -- what comes of a job keeps the limits, and there are cells for its document
 pub record KeepsLimits (limits : Limits) (job : Job) : Type 0 where

@@ -1,8 +1,8 @@
 -- A store that is open, and what a crash within a commit leaves of it.
-use Rattle.std.specs.Prelude.{◌≡◌, ◌⊎◌, ◌+◌, ◌≤◌, ℕ, Bool, Option, List, []}
+use Rattle.std.specs.Prelude.{◌≡◌, ◌⊎◌, ◌+◌, ◌≤◌, ℕ, Bool, Option, List, [], length}
 use Rattle.disk.specs.declared.device.Disk.{Ghosts}
 use Rattle.revision.specs.Command.{Taken}
-use Rattle.journal.specs.BatchSpelling.{batch_width}
+use Rattle.journal.specs.BatchSpelling.{batch as spelled, batch_width}
 use Rattle.revision.specs.State.{State, fold}
 use Rattle.history.specs.Cell.{Pair, cells_at, freed, with_pair}
 use Rattle.history.specs.Running.{Runs}
@@ -10,17 +10,17 @@ use Rattle.milestone.specs.Job.{Job, cell_of_job}
 use Rattle.milestone.specs.Cells.{with_cell}
 use Rattle.milestone.specs.declared.cells.Cells.{Cells}
 use Rattle.segments.specs.Slot.{Segment}
-use Rattle.segments.specs.Table.{IsRetired}
+use Rattle.segments.specs.Table.{IsAppended, IsRetired}
 use Rattle.segments.specs.declared.ring.Ring.{Ring}
-use Rattle.segments.specs.Ring.{Fits, at_of, size_of, fits_newest}
+use Rattle.segments.specs.Ring.{Fits, IsReady, at_of, size_of, fits_newest}
 use Rattle.segments.specs.Room.{has_room_for}
 use Rattle.recovery.specs.declared.store.Store.{Store}
 use Rattle.recovery.specs.Shape.{slots_place}
-use Rattle.recovery.specs.Cells.{AreCellsOf, FitEach}
+use Rattle.recovery.specs.Cells.{AreCellsOf, FitEach, lowest_known}
 use Rattle.recovery.specs.declared.marks.Mark.{Mark}
-use Rattle.recovery.specs.Marks.{marks_of}
+use Rattle.recovery.specs.Marks.{marks_of, greatest_marked}
 use Rattle.recovery.specs.Marked.{AreMarked}
-use Rattle.recovery.specs.Jobs.{jobs_of, AreKept}
+use Rattle.recovery.specs.Jobs.{jobs_of, jobs_for, CanAllBePut}
 use Rattle.recovery.specs.Found.{limits_of, commands_of, HoldsParts, FoundAs}
 
 -- a content that stands for a state that agrees with the one before a batch, or with the one with it
@@ -98,10 +98,20 @@ module _ {D : Type 0} {disk : Ghosts D} where
     pub marked : AreMarked table (marks_of store.marks)
     pub limits : store.state.limits ≡ limits_of store.shape
     pub runs : Runs order cells (commands_of batches) store.state
-    pub kept : AreKept order cells (kept_jobs store)
+    pub kept : CanAllBePut order cells (kept_jobs store)
 
--- After a retirement: the store goes on over the same cells, and the slot of the oldest segment is closed.
 module _ {D : Type 0} {disk : Ghosts D} where
+  -- After a commit: the store goes on over the same cells. The batch was appended to the newest segment where it fits there, and else,
+  -- and only then, to one for which the next slot was opened. The kept jobs stay.
+  pub record IsCommittedNow (commands : List Taken) (old : Store D disk) (is_open : IsOpen old) (new : Store D disk) : Type 0 where
+    pub goes_on : IsOpen new
+    pub same_cells : goes_on.cells ≡ is_open.cells
+    pub ready : List (Option Segment)
+    pub is_ready : IsReady (ring_of old) (length (spelled commands)) is_open.table ready
+    pub appended : IsAppended ready (spelled commands) goes_on.table
+    pub jobs : kept_jobs new ≡ kept_jobs old
+
+  -- After a retirement: the store goes on over the same cells, and the slot of the oldest segment is closed.
   pub record IsRetiredNow (cells : List Pair) (table : List (Option Segment)) (store : Store D disk) : Type 0 where
     pub goes_on : IsOpen store
     pub same_cells : goes_on.cells ≡ cells
@@ -111,6 +121,20 @@ module _ {D : Type 0} {disk : Ghosts D} where
   pub record IsFreedNow (table : List (Option Segment)) (store : Store D disk) : Type 0 where
     pub goes_on : IsOpen store
     pub retired : IsRetired table goes_on.table
+
+  -- After a commit for which room was made: the oldest segment was freed first, and the batch committed behind that.
+  pub record IsCommittedBehind (commands : List Taken) (old : Store D disk) (is_open : IsOpen old) (new : Store D disk) : Type 0 where
+    pub mid : Store D disk
+    pub freed : IsFreedNow is_open.table mid
+    pub committed : IsCommittedNow commands mid freed.goes_on new
+
+  -- a document needs no milestone before a segment is retired: none of its open cells is below its entries there
+  abbrev pub IsSpared : ℕ → ℕ → Store D disk → Type 0
+  IsSpared segment document store = greatest_marked segment document (known_marks store) ≤ lowest_known (known_cells store) document
+
+  -- The kept jobs stay of each document that needs no milestone before a segment is retired.
+  abbrev pub KeepsJobs : ℕ → Store D disk → Store D disk → Type 0
+  KeepsJobs segment old new = (document : ℕ) → IsSpared segment document old → jobs_for document (kept_jobs new) ≡ jobs_for document (kept_jobs old)
 
   -- After a milestone was put: the store goes on over the same slots, and the cell that comes of the job is open in its document's pair,
   -- in place of the older one where both were open. The other documents' cells are as they were.

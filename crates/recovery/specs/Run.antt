@@ -1,6 +1,7 @@
 -- Runs of steps, and what a crash within one leaves.
 use Rattle.std.specs.Prelude.{◌≡◌, ◌≢◌, ◌⊎◌, true, false, Some, slice_get, ◌≤◌, ◌<◌, ◌^◌, ℕ, List, [], ◌∷◌, length, take, map, get_or}
 use Rattle.disk.specs.declared.device.Disk.{Ghosts}
+use Rattle.disk.specs.Crash.{LeavesOnly}
 use Rattle.refusal.specs.declared.Refusal.{Refusal}
 use Rattle.refusal.specs.declared.Refusal.TheVariants.{JournalFull, Stranger, NoDocument, Future, TooOld, StillNeeded, NoMemory, Fault}
 use Rattle.revision.specs.Command.{Taken}
@@ -13,7 +14,7 @@ use Rattle.recovery.specs.declared.run.StoreStep.TheVariants.{Commit, Milestone,
 use Rattle.recovery.specs.Found.{FoundAs}
 use Rattle.recovery.specs.Jobs.{IsJobTo, no_job_for, highest}
 use Rattle.recovery.specs.Marked.{MayRetire}
-use Rattle.recovery.specs.Open.{FitsSlot, IsOpen, IsPutNow, IsRetiredNow, IsUnchanged, state_of, has_failed, has_room}
+use Rattle.recovery.specs.Open.{FitsSlot, IsOpen, IsCommittedNow, IsPutNow, IsRetiredNow, IsUnchanged, device_of, state_of, has_failed, has_room}
 
 -- the batch of a step, empty where it commits none
 abbrev pub batch_of : StoreStep → List Taken
@@ -71,7 +72,7 @@ module _ {D : Type 0} {disk : Ghosts D} where
   abbrev pub IsTaken : StoreStep → Store D disk → Store D disk → Type 0
   IsTaken (Commit batch) old new =
       (has_failed new ≡ false) × (all_grow (state_of old) batch.items ≡ true) × (state_of new ≡ fold (state_of old) batch.items)
-      × (IsOpen old → IsOpen new) × (has_room old batch.items ≡ true)
+      × ((is_open : IsOpen old) → IsCommittedNow batch.items old is_open new) × (has_room old batch.items ≡ true)
   IsTaken (Milestone document revision) old new =
       (has_failed new ≡ false) × (state_of new ≡ state_of old) × ((is_open : IsOpen old) → IsPutAt document revision old is_open new)
   IsTaken Retire old new =
@@ -81,6 +82,14 @@ module _ {D : Type 0} {disk : Ghosts D} where
   abbrev pub AreTaken : List StoreStep → Store D disk → Store D disk → Type 0
   AreTaken [] old new = new ≡ old
   AreTaken (step ∷ steps) old new = (mid : Store D disk) × IsTaken step old mid × AreTaken steps mid new
+
+  -- Within a run so many of its first steps had been taken at a moment, by a store in the middle of it. A crash at that moment or at any
+  -- later one leaves the state after no fewer of them.
+  pub record IsKeptFrom (count : ℕ) (steps : List StoreStep) (old new : Store D disk) : Type 0 where
+    pub mid : Store D disk
+    pub taken : AreTaken (take count steps) old mid
+    pub before : LeavesOnly disk (IsAfterSome 0 (state_of old) steps) (device_of old) (device_of mid)
+    pub later : LeavesOnly disk (IsAfterSome count (state_of old) steps) (device_of mid) (device_of new)
 
   -- Why a store refuses a step, where neither its device failed nor memory ran out.
   abbrev pub IsWhy : StoreStep → Refusal → Store D disk → Type 0

@@ -3,7 +3,7 @@ ghost use Rattle.std.specs.Prelude.{◌≡◌, ◌≢◌, ◌⊎◌, ◌↔◌, 
 ghost use Rattle.disk.specs.Calls.{CountsFaultsAs};
 ghost use Rattle.disk.specs.Device.{Rose};
 ghost use Rattle.disk.specs.Crash.{LeavesOnly};
-ghost use Rattle.revision.specs.Pending.{held};
+ghost use Rattle.revision.specs.Pending.{record_of};
 ghost use Rattle.history.specs.Cell.{cells_at};
 ghost use Rattle.recovery.specs.Cells.{highest_known};
 ghost use Rattle.recovery.specs.Due.{due_of, due_for, IsPutDue};
@@ -116,8 +116,8 @@ impl<D: Disk> Store<D> {
 // The revision of a document where a milestone of it is due, above the open cells of which this is the highest.
 fn due_at(found: &DocState, every: u64, highest: u64) -> Option<u64>
     requires some { 1 ≤ every }
-    ensures due { result ≡ due_of every (held found.now) highest }
-    ensures can { IfSome result (λ revision. no_job_of (held found.now) highest revision ≡ None) }
+    ensures due { result ≡ due_of every (record_of found.now) highest }
+    ensures can { IfSome result (λ revision. no_job_of (record_of found.now) highest revision ≡ None) }
 {
     let revision = found.revision();
     if highest < revision / every * every {

@@ -3,12 +3,15 @@ ghost use Rattle.std.specs.Prelude.{◌≡◌, ◌≢◌, ◌⊎◌, ◌↔◌, 
 ghost use Rattle.disk.specs.Calls.{CountsFaultsAs};
 ghost use Rattle.disk.specs.Device.{Rose};
 ghost use Rattle.disk.specs.Crash.{LeavesOnly};
-ghost use Rattle.revision.specs.State.{fold, all_grow};
+ghost use Rattle.revision.specs.State.{fold, all_grow, first_grows};
 ghost use Rattle.segments.specs.Numbers.{IsOldest, newest_number, open_count};
 ghost use Rattle.segments.specs.Ring.{known_numbers};
 ghost use Rattle.recovery.specs.Found.{FoundAs};
+ghost use Rattle.recovery.specs.Cells.{lowest_known};
 ghost use Rattle.recovery.specs.Goes.{Goes};
-ghost use Rattle.recovery.specs.Open.{FitsSlot, IsOpen, IsUnchanged, IsFreedNow, IsWithOrWithout, device_of, ring_of, state_of, known_marks, kept_jobs, has_failed, has_room};
+ghost use Rattle.recovery.specs.Jobs.{without_job};
+ghost use Rattle.recovery.specs.Marks.{without_segment};
+ghost use Rattle.recovery.specs.Open.{FitsSlot, IsOpen, IsUnchanged, IsCommittedNow, IsCommittedBehind, IsFreedNow, IsWithOrWithout, KeepsJobs, device_of, ring_of, state_of, known_cells, known_marks, kept_jobs, has_failed, has_room};
 ghost use Rattle.recovery.specs.steps.Freeing.{reached_in, MayReach, KeepsSegments, IsRaised, IsMarkCovered, IsNeededByNone};
 
 use crate::marks::Mark;
@@ -37,8 +40,13 @@ impl<D: Disk> Store<D> {
             → Rose (D.faults (device_of self.old)) (D.faults (device_of self.new)) }
         ensures only { IfErr result (λ e. (e ≡ Refusal.StillNeeded) ⊎ ((e ≡ Refusal.NoMemory) ⊎ (e ≡ Refusal.Fault))) }
 
-        // What each answer leaves.
+        // What each answer leaves. The kept jobs stay of each document that needs no milestone for it.
         ensures state { state_of self.new ≡ state_of self.old }
+        ensures jobs { IsOpen self.old → (slot segment : ℕ)
+            → IsOldest (known_numbers (ring_of self.old)) slot segment → KeepsJobs segment self.old self.new }
+        ensures marks { OnOk result ((slot segment : ℕ) → IsOldest (known_numbers (ring_of self.old)) slot segment
+            → known_marks self.new ≡ without_segment segment (known_marks self.old)) }
+        ensures same_marks { OnErr result (known_marks self.new ≡ known_marks self.old) }
         ensures fails { has_failed self.old ≡ false → (has_failed self.new ≡ true ↔ IsErrOf result Refusal.Fault) }
         ensures works { OnOk result (has_failed self.new ≡ false) }
         ensures good { OnOk result (D.faults (device_of self.new) ≡ D.faults (device_of self.old)) }
@@ -99,6 +107,8 @@ impl<D: Disk> Store<D> {
         ensures no_growth { has_failed self.old ≡ false → has_room self.old batch.now ≡ true
             → all_grow (state_of self.old) batch.now ≡ false
             → (IsErrOf result Refusal.Stranger) ⊎ (IsErrOf result Refusal.NoMemory) }
+        ensures memory { IsErrOf result Refusal.NoMemory → has_room self.old batch.now ≡ true
+            → first_grows (state_of self.old) batch.now ≡ true }
         ensures fault { IsErrOf result Refusal.Fault → has_failed self.old ≡ false
             → Rose (D.faults (device_of self.old)) (D.faults (device_of self.new)) }
         ensures only { IfErr result (λ e. ((e ≡ Refusal.JournalFull)
@@ -108,6 +118,8 @@ impl<D: Disk> Store<D> {
         ensures state { OnOk result (state_of self.new ≡ fold (state_of self.old) batch.now) }
         ensures same_state { OnErr result (state_of self.new ≡ state_of self.old) }
         ensures jobs { has_room self.old batch.now ≡ true → kept_jobs self.new ≡ kept_jobs self.old }
+        ensures other_jobs { IsOpen self.old → (slot segment : ℕ)
+            → IsOldest (known_numbers (ring_of self.old)) slot segment → KeepsJobs segment self.old self.new }
         ensures fails { has_failed self.old ≡ false → (has_failed self.new ≡ true ↔ IsErrOf result Refusal.Fault) }
         ensures works { OnOk result (has_failed self.new ≡ false) }
         ensures good { OnOk result (D.faults (device_of self.new) ≡ D.faults (device_of self.old)) }
@@ -123,7 +135,12 @@ impl<D: Disk> Store<D> {
         ensures unwritten { IsErrOf result Refusal.NoMemory → has_failed self.old ≡ false → IsOpen self.old
             → LeavesOnly ⟦<D as Disk>⟧ (λ content. FoundAs content (state_of self.old)) (device_of self.old)
             (device_of self.new) }
-        // Once it is Ok, the device is synced and stands for the state with the batch.
+        // Once it is Ok, the device is synced and stands for the state with the batch: the cells and the slots are those of before, but
+        // for the batch, where there was room for it, and else those that freeing the oldest segment left.
+        ensures committed { OnOk result (has_room self.old batch.now ≡ true → (is_open : IsOpen self.old)
+            → IsCommittedNow batch.now self.old is_open self.new) }
+        ensures committed_behind { OnOk result (has_room self.old batch.now ≡ false → (is_open : IsOpen self.old)
+            → IsCommittedBehind batch.now self.old is_open self.new) }
         ensures done { OnOk result (IsOpen self.old → IsOpen self.new) }
         ensures kept { IfErr result (λ e. e ≢ Refusal.Fault → IsOpen self.old → IsOpen self.new) }
 
@@ -151,6 +168,7 @@ impl<D: Disk> Store<D> {
         ensures needed { IsErrOf result Refusal.StillNeeded → ¬ IsOpen self.old }
         ensures covered { OnOk result ((is_open : IsOpen self.old) → IsNeededByNone segment is_open.table self.new) }
         ensures keeps { KeepsSegments self.old self.new }
+        ensures jobs { IsOpen self.old → KeepsJobs segment self.old self.new }
         ensures fails { has_failed self.new ≡ true ↔ IsErrOf result Refusal.Fault }
         ensures faults { CountsFaultsAs ⟦<D as Disk>⟧ Refusal.Fault result (device_of self.old) (device_of self.new) }
         ensures goes { Goes (λ content. FoundAs content (state_of self.old)) self.old self.new }
@@ -176,6 +194,10 @@ impl<D: Disk> Store<D> {
         ensures covered { OnOk result ((is_open : IsOpen self.old) → MayReach segment mark (state_of self.old)
             → IsMarkCovered segment mark is_open.table self.old self.new) }
         ensures keeps { KeepsSegments self.old self.new }
+        ensures jobs { (mark.segment ≢ segment) ⊎ (mark.revision ≤ lowest_known (known_cells self.old) mark.document)
+            → kept_jobs self.new ≡ kept_jobs self.old }
+        ensures others { without_job mark.document (kept_jobs self.new)
+            ≡ without_job mark.document (kept_jobs self.old) }
         ensures fails { has_failed self.new ≡ true ↔ IsErrOf result Refusal.Fault }
         ensures faults { CountsFaultsAs ⟦<D as Disk>⟧ Refusal.Fault result (device_of self.old) (device_of self.new) }
         ensures goes { Goes (λ content. FoundAs content (state_of self.old)) self.old self.new }
@@ -204,6 +226,7 @@ impl<D: Disk> Store<D> {
         ensures raised { OnOk result ((is_open : IsOpen self.old) → revision ≤ reached_in (state_of self.old) document
             → IsRaised document revision is_open.table self.old self.new) }
         ensures keeps { KeepsSegments self.old self.new }
+        ensures others { without_job document (kept_jobs self.new) ≡ without_job document (kept_jobs self.old) }
         ensures fails { has_failed self.new ≡ true ↔ IsErrOf result Refusal.Fault }
         ensures faults { CountsFaultsAs ⟦<D as Disk>⟧ Refusal.Fault result (device_of self.old) (device_of self.new) }
         ensures goes { Goes (λ content. FoundAs content (state_of self.old)) self.old self.new }

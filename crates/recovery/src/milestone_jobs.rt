@@ -2,7 +2,7 @@
 ghost use Rattle.std.specs.Prelude.{◌≡◌, ◌≢◌, ◌⊎◌, ◌≤◌, true, false, Some, None, slice_get, OnOk, OnErr, IfOk, IfErr, IfSome, IsErrOf, IsOkUnless};
 ghost use Rattle.refusal.specs.declared.Refusal.{Refusal as Why};
 ghost use Rattle.revision.specs.Past.{sources_at};
-ghost use Rattle.revision.specs.Pending.{held};
+ghost use Rattle.revision.specs.Pending.{record_of};
 ghost use Rattle.revision.specs.State.{are_sources, revision_of};
 ghost use Rattle.history.specs.Cell.{cells_at, cell_of};
 ghost use Rattle.milestone.specs.Job.{cell_of_job};
@@ -101,7 +101,7 @@ impl<D: Disk> Store<D> {
 
 // Why a document is given no job to a revision, above the open cells of which this is the highest.
 fn why_none(found: &DocState, highest: u64, revision: u64) -> Option<Refusal>
-    ensures is { result ≡ no_job_of (held found.now) highest revision }
+    ensures is { result ≡ no_job_of (record_of found.now) highest revision }
     ensures only { IfSome result (λ e. (e ≡ Refusal.Future) ⊎ (e ≡ Refusal.TooOld)) }
 {
     if found.revision() < revision {
@@ -127,10 +127,10 @@ pub(crate) fn highest_of(cells: &[Cells], document: u32) -> u64
 fn job_of(alloc: Global, document: u32, found: &DocState, revision: u64) -> Result<Job, Refusal>
     requires first { 1 ≤ revision }
     requires held { found.now.past.past.floor ≤ revision }
-    requires there { revision ≤ revision_of (held found.now) }
+    requires there { revision ≤ revision_of (record_of found.now) }
     requires sources { are_sources revision (sources_at found.now.past.past revision).entries ≡ true }
     ensures document { IfOk result (λ job. job.document ≡ document) }
-    ensures is { IfOk result (λ job. cell_of_job job ≡ cell_of (held found.now) revision) }
+    ensures is { IfOk result (λ job. cell_of_job job ≡ cell_of (record_of found.now) revision) }
     ensures only { IsOkUnless result Refusal.NoMemory }
 {
     let Replay { deltas, sources } = found.replay_to(alloc, revision)?;

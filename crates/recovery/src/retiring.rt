@@ -3,11 +3,13 @@ ghost use Rattle.std.specs.Prelude.{◌≡◌, ◌≢◌, ◌⊎◌, ◌↔◌, 
 ghost use Rattle.disk.specs.Device.{Rose};
 ghost use Rattle.disk.specs.Crash.{LeavesOnly};
 ghost use Rattle.history.specs.Cell.{Pair, cells_at, lowest};
+ghost use Rattle.segments.specs.Numbers.{IsOldest};
+ghost use Rattle.segments.specs.Ring.{known_numbers};
 ghost use Rattle.recovery.specs.Found.{FoundAs};
-ghost use Rattle.recovery.specs.Marks.{greatest_marked};
+ghost use Rattle.recovery.specs.Marks.{greatest_marked, without_segment};
 ghost use Rattle.recovery.specs.Marked.{MayRetire};
 ghost use Rattle.recovery.specs.Cells.{FitEach, lowest_known};
-ghost use Rattle.recovery.specs.Open.{IsOpen, IsUnchanged, IsRetiredNow, device_of, state_of, has_failed, kept_jobs};
+ghost use Rattle.recovery.specs.Open.{IsOpen, IsUnchanged, IsRetiredNow, device_of, ring_of, state_of, has_failed, kept_jobs, known_marks};
 
 use crate::marks::Mark;
 use crate::store::Store;
@@ -31,7 +33,10 @@ impl<D: Disk> Store<D> {
             → Rose (D.faults (device_of self.old)) (D.faults (device_of self.new)) }
         ensures only { IfErr result (λ e. (e ≡ Refusal.StillNeeded) ⊎ (e ≡ Refusal.Fault)) }
 
-        // What each answer leaves.
+        // What each answer leaves. Once it is Ok, the marks of the segment are gone.
+        ensures marks { OnOk result ((slot segment : ℕ) → IsOldest (known_numbers (ring_of self.old)) slot segment
+            → known_marks self.new ≡ without_segment segment (known_marks self.old)) }
+        ensures same_marks { OnErr result (known_marks self.new ≡ known_marks self.old) }
         ensures state { state_of self.new ≡ state_of self.old }
         ensures jobs { kept_jobs self.new ≡ kept_jobs self.old }
         ensures untouched { IsErrOf result Refusal.StillNeeded → IsUnchanged self.old self.new }

@@ -1,11 +1,11 @@
 //! Whole runs of a store.
-ghost use Rattle.std.specs.Prelude.{◌≡◌, ◌≢◌, ◌⊎◌, ◌↔◌, ◌<◌, ℕ, List, [], true, false, length, take, All, OnOk, OnErr, IfErr, IsErrOf};
+ghost use Rattle.std.specs.Prelude.{◌≡◌, ◌≢◌, ◌⊎◌, ◌↔◌, ◌<◌, ◌≤◌, ℕ, List, [], true, false, length, take, All, OnOk, OnErr, IfErr, IsErrOf};
 ghost use Rattle.disk.specs.Device.{Rose};
 ghost use Rattle.disk.specs.Crash.{LeavesOnly, MayLeaveNow};
 ghost use Rattle.refusal.specs.declared.Refusal.TheVariants.{JournalFull, Stranger, NoMemory, Fault};
 ghost use Rattle.revision.specs.State.{all_grow, fold};
 ghost use Rattle.recovery.specs.Open.{IsOpen, IsUnchanged, IsWithOrWithout, device_of, state_of, has_failed, has_room};
-ghost use Rattle.recovery.specs.Run.{CanTake, IsOfStep, IsTaken, AreTaken, IsWhy, IsStopped, IsAfterSome, state_after, batch_of, batch_at};
+ghost use Rattle.recovery.specs.Run.{CanTake, IsOfStep, IsTaken, AreTaken, IsWhy, IsStopped, IsAfterSome, IsKeptFrom, state_after, batch_of, batch_at};
 
 use crate::store::Store;
 use disk::Disk;
@@ -70,6 +70,11 @@ impl<D: Disk> Store<D> {
         ensures any_moment { has_failed self.old ≡ false → IsOpen self.old
             → LeavesOnly ⟦<D as Disk>⟧ (IsAfterSome 0 (state_of self.old) steps.now) (device_of self.old)
             (device_of self.new) }
+        // From where a step was taken on, a crash at any moment of the rest of the run leaves no fewer steps than those up to it.
+        ensures since { OnOk result (has_failed self.old ≡ false → IsOpen self.old
+            → (count : ℕ) → count ≤ length steps.now → IsKeptFrom count steps.now self.old self.new) }
+        ensures since_before { IfErr result (λ stop. has_failed self.old ≡ false → IsOpen self.old
+            → (count : ℕ) → count ≤ stop.at → IsKeptFrom count steps.now self.old self.new) }
         // Once it has returned, a crash leaves no fewer steps than those that were answered with Ok.
         ensures acknowledged { OnOk result (has_failed self.old ≡ false → IsOpen self.old
             → (content : List ℕ) → MayLeaveNow ⟦<D as Disk>⟧ (device_of self.new) content

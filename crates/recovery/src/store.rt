@@ -1,5 +1,5 @@
 //! A store that is open.
-ghost use Rattle.std.specs.Prelude.{◌≡◌, ◌≢◌, ◌⊎◌, ◌↔◌, ◌+◌, ◌<◌, ◌≤◌, ◌^◌, List, ℕ, true, false, [], Option, length, OnOk, OnErr, IfOk, IfErr, IsErrOf, IsTrue};
+ghost use Rattle.std.specs.Prelude.{◌≡◌, ◌≢◌, ◌⊎◌, ◌↔◌, ◌+◌, ◌<◌, ◌≤◌, ◌^◌, List, ℕ, true, false, [], Option, length, OnOk, OnErr, IfOk, IfErr, IsErrOf, IsOkUnless, IsTrue};
 ghost use Rattle.disk.specs.Calls.{HasOnlyWritten, CountsFaultsAs};
 ghost use Rattle.disk.specs.Crash.{LeavesOnly};
 ghost use Rattle.journal.specs.BatchSpelling.{IsBatch, batch as spelled, batch_width};
@@ -64,8 +64,8 @@ impl<D: Disk> Store<D> {
     ghost use Rattle.recovery.specs.Layout.{IsFormatted};
     ghost use Rattle.recovery.specs.Found.{Found, FoundAs};
     ghost use Rattle.revision.specs.Agree.{Agree};
-    ghost use Rattle.revision.specs.State.{fold, all_grow};
-    ghost use Rattle.recovery.specs.Open.{FitsSlot, IsOpen, IsUnchanged, IsWithOrWithout, device_of, ring_of, state_of, has_failed, has_room, kept_jobs, known_cells, fits_newest_segment};
+    ghost use Rattle.revision.specs.State.{fold, all_grow, first_grows};
+    ghost use Rattle.recovery.specs.Open.{FitsSlot, IsOpen, IsUnchanged, IsCommittedNow, IsWithOrWithout, device_of, ring_of, state_of, has_failed, has_room, kept_jobs, known_cells, known_marks, fits_newest_segment};
 
     /// Opens a formatted device, by the newer or the older cell of each document: syncs it, then reads, and writes nothing.
     /// `NotFormatted` comes just where the superblock's gate is closed or the device has less than 64 bytes, `Damaged` just
@@ -168,7 +168,8 @@ impl<D: Disk> Store<D> {
 
     /// Writes a batch, and answers with its receipt once it is on the disk: two syncs, and two more where a slot is opened for it.
     /// First comes `JournalFull`, just where the batch has more bytes than the newest segment has left and no slot is free. Next
-    /// comes `Stranger`, where it doesn't continue the state. `NoMemory` comes before any byte of the batch is written. After `Fault`
+    /// comes `Stranger`, where it doesn't continue the state: of its first command that is told before memory is taken, and of a
+    /// later one unless memory runs out before. `NoMemory` comes before any byte of the batch is written. After `Fault`
     /// the store has failed: every later call answers `Fault`, until the device is opened again. The documents change only once
     /// the batch is on the disk, and no refusal changes them.
     pub fn commit(&mut self, alloc: Global, batch: &[Taken]) -> Result<Receipt<D>, Refusal>
@@ -179,7 +180,7 @@ impl<D: Disk> Store<D> {
         // What an Ok hands out names just this batch.
         ensures receipt { IfOk result (λ receipt. receipt ≡ batch.now) }
 
-        // When each refusal comes. Want of memory may be told in place of `Stranger`.
+        // When each refusal comes. Want of memory may be told in place of `Stranger`, but not where the first command continues nothing.
         ensures failed_before { has_failed self.old ≡ true → (IsErrOf result Refusal.Fault)
             × IsUnchanged self.old self.new }
         ensures full { has_failed self.old ≡ false
@@ -190,6 +191,8 @@ impl<D: Disk> Store<D> {
         ensures no_growth { has_failed self.old ≡ false → has_room self.old batch.now ≡ true
             → all_grow (state_of self.old) batch.now ≡ false
             → (IsErrOf result Refusal.Stranger) ⊎ (IsErrOf result Refusal.NoMemory) }
+        ensures memory { IsErrOf result Refusal.NoMemory → (has_room self.old batch.now ≡ true)
+            × (first_grows (state_of self.old) batch.now ≡ true) }
         ensures fault { IsErrOf result Refusal.Fault → has_failed self.old ≡ false
             → Rose (D.faults (device_of self.old)) (D.faults (device_of self.new)) }
         ensures only { IfErr result (λ e. ((e ≡ Refusal.JournalFull) ⊎ (e ≡ Refusal.Stranger))
@@ -200,6 +203,10 @@ impl<D: Disk> Store<D> {
         ensures same_state { OnErr result (state_of self.new ≡ state_of self.old) }
         ensures jobs { kept_jobs self.new ≡ kept_jobs self.old }
         ensures cells { known_cells self.new ≡ known_cells self.old }
+        // One mark more at most for each command.
+        ensures marks { OnOk result
+            (length (known_marks self.new) ≤ length (known_marks self.old) + length batch.now) }
+        ensures same_marks { OnErr result (known_marks self.new ≡ known_marks self.old) }
         ensures fails { has_failed self.old ≡ false → (has_failed self.new ≡ true ↔ IsErrOf result Refusal.Fault) }
         ensures works { OnOk result (has_failed self.new ≡ false) }
         ensures untouched { (IsErrOf result Refusal.JournalFull) ⊎ (IsErrOf result Refusal.Stranger)
@@ -216,7 +223,10 @@ impl<D: Disk> Store<D> {
         ensures unwritten { IsErrOf result Refusal.NoMemory → IsOpen self.old
             → LeavesOnly ⟦<D as Disk>⟧ (λ content. FoundAs content (state_of self.old)) (device_of self.old)
             (device_of self.new) }
-        // Once it is Ok, the device is synced and stands for the state with the batch.
+        // Once it is Ok, the device is synced and stands for the state with the batch: the cells are those of before, and so are the
+        // slots but for the batch, which a slot is opened for just where it doesn't fit the newest segment.
+        ensures committed { OnOk result ((is_open : IsOpen self.old)
+            → IsCommittedNow batch.now self.old is_open self.new) }
         ensures done { OnOk result (IsOpen self.old → IsOpen self.new) }
         ensures kept { IfErr result (λ e. e ≢ Refusal.Fault → IsOpen self.old → IsOpen self.new) }
 
@@ -239,8 +249,6 @@ impl<D: Disk> Store<D> {
         if !self.has_room(batch) {
             return Err(Refusal::JournalFull);
         }
-        self.marks.make_room(batch)?;
-        let receipt = Receipt::of(alloc, batch)?;
         let empty = State::new(alloc, self.state.limits());
         let prepared = match replace(&mut self.state, empty).prepare(alloc, batch) {
             Ok(prepared) => prepared,
@@ -248,6 +256,10 @@ impl<D: Disk> Store<D> {
                 self.state = unprepared.state;
                 return Err(unprepared.refusal);
             }
+        };
+        let Ok(receipt) = make_receipt(alloc, &mut self.marks, batch) else {
+            self.state = prepared.forget();
+            return Err(Refusal::NoMemory);
         };
         match append_batch(alloc, &mut self.ring, &mut self.device, batch) {
             Ok(()) => {
@@ -280,6 +292,22 @@ impl<D: Disk> Store<D> {
     {
         self.ring.has_room(batch_len(batch))
     }
+}
+
+// The receipt of a batch that is still to be committed, and room for its marks. Refused for want of memory alone. The marks stay.
+fn make_receipt<D: Disk>(
+    alloc: Global,
+    marks: &mut Marks,
+    batch: &[Taken],
+) -> Result<Receipt<D>, Refusal>
+    ensures receipt { IfOk result (λ receipt. receipt ≡ batch.now) }
+    ensures room { OnOk result (length batch.now ≤ room_of marks.new) }
+    ensures same { marks_of marks.new ≡ marks_of marks.old }
+    ensures only { IsOkUnless result Refusal.NoMemory }
+{
+    marks.make_room(batch)?;
+    let receipt = Receipt::of(alloc, batch)?;
+    Ok(receipt)
 }
 
 // Spells the batch and appends it. `NoMemory` comes before anything of it is written.
@@ -331,8 +359,9 @@ fn append_batch<D: Disk>(
 // Marks the documents of a batch in the newest segment, which it was appended to. It takes no memory.
 fn mark_batch(ring: &Ring, marks: &mut Marks, batch: &[Taken])
     requires { length batch.now ≤ room_of marks.old }
-    ensures { (slot : ℕ) (number : ℕ) → IsNewest (known_numbers ring.now) slot number
+    ensures noted { (slot : ℕ) (number : ℕ) → IsNewest (known_numbers ring.now) slot number
         → IsNoted number batch.now (marks_of marks.old) (marks_of marks.new) }
+    ensures grows { length (marks_of marks.new) ≤ length (marks_of marks.old) + length batch.now }
 {
     if let Some(segment) = ring.newest_number() {
         marks.note(segment, batch);

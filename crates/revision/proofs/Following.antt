@@ -1,15 +1,21 @@
 -- What follows a document with the changes that are prepared.
-use Rattle.std.proofs.Common.{◌≡◌, ℕ, ◌+◌, Bool, true, false, List, [], ◌∷◌, ◌++◌, length, Option, Some, None, refl, sym, ap, ap₂, ◌∙◌, arith}
-use Rattle.std.specs.Prelude.{◌&&◌, ◌==◌, not, nat_le}
+use Rattle.std.proofs.Common.{◌≡◌, ℕ, ◌+◌, ◌≤◌, ◌<◌, ◌^◌, Bool, true, false, List, [], ◌∷◌, ◌++◌, length, Option, Some, None, refl, sym, ap, ap₂, subst, ◌∙◌, arith}
+use Rattle.std.specs.Prelude.{◌&&◌, ◌==◌, not, nat_le, nat_lt}
+use Rattle.std.proofs.lemmas.Bool.{and_parts, eqb-true, ltb-true, le-leb, lt-ltb}
+use Rattle.attributes.specs.Map.{empty}
 use Rattle.delta.specs.Element.{Element}
 use Rattle.delta.specs.Gaps.{counted, apply}
+use Rattle.document.specs.Outcome.{IsAccepted}
 use Rattle.compose.specs.Many.{applied}
-use Rattle.revision.specs.Command.{Taken, width_of}
+use Rattle.revision.specs.Command.{Taken, is_kind, width_of}
 use Rattle.revision.specs.Sources.{Sources, Table, last_of, with_last}
 use Rattle.revision.specs.Parting.{parts_pair}
-use Rattle.revision.specs.Past.{Past, Prepared, Change, newest, newest_units, deltas_in, sources_after, sources_at, content_at, with_change, with_changes, prepared_units, prepared_revision}
-use Rattle.revision.specs.State.{Limits, DocumentRecord, change_of, revision_of, units_of, sources_of, last_of_all, has_place, reaches_past, weight_after, follows}
-use Rattle.revision.specs.Pending.{PendingDocument, with_prepared, newest_sources, prepared_sources, comes_next, is_kept, ComesOf}
+use Rattle.revision.specs.Past.{Past, Prepared, Change, empty_past, newest, newest_units, deltas_in, sources_after, sources_at, content_at, with_change, with_changes, prepared_units, prepared_revision}
+use Rattle.revision.specs.State.{Limits, DocumentRecord, change_of, revision_of, units_of, sources_of, last_of_all, has_place, keeps, reaches_past, weight_after, begins, follows}
+use Rattle.revision.specs.Invariants.{IsLimits}
+use Rattle.revision.specs.Pending.{PendingDocument, with_prepared, newest_sources, prepared_sources, comes_next, is_kept, AreNextUnits, ComesOf}
+use Rattle.revision.proofs.Room.{weight-some}
+use Rattle.revision.proofs.Keeping.{six, kept-accepted}
 use Rattle.revision.proofs.Changing.{applied-more, sources-more, newest-with_change, units-with_change, sources-with_change}
 
 -- the past with several changes more
@@ -100,8 +106,54 @@ prepared_comes past units after next sources taken comes after_is revision = rec
   prepared = ap₂ (with_last taken.source taken.number) revision comes.prepared ∙ sym (sources-prepared past (change_of taken));
 }
 
-pub first_holds : (first second answer : Bool) → first ≡ true → answer ≡ second → answer ≡ (first && second)
-first_holds first second answer holds is = is ∙ ap (λ b. b && second) (sym holds)
+-- where nothing is prepared, the document is what it will be
+pub units-unprepared : (past : Prepared) (units : List Element) (next : Option (List Element)) (sources : Table) → ComesOf past units next sources → next ≡ None
+    → prepared_units past ≡ units
+units-unprepared past units next sources comes none =
+    let nothing : past.next ≡ [] = subst (AreNextUnits past) none comes.after in
+    ap (λ changes. applied (newest_units past.past) (deltas_in changes)) nothing ∙ sym comes.newest
 
-pub first_fails : (first second answer : Bool) → answer ≡ first → answer ≡ false → answer ≡ (first && second)
-first_fails first second answer is fails = fails ∙ ap (λ b. b && second) (sym fails ∙ is)
+-- what there is where a change follows a document with the changes that are prepared
+module _ (limits : Limits) (d : PendingDocument) (taken : Taken) (is : IsLimits limits) (comes : follows limits (with_prepared limits.keep d) taken ≡ true) where
+  pub next_revision : taken.revision ≡ prepared_revision d.past + 1
+  next_revision =
+      let found : DocumentRecord = with_prepared limits.keep d in
+      let parts = six (taken.revision == revision_of found + 1) (not (revision_of found == last_of_all))
+      (taken.number == (last_of taken.source (sources_of found)).number + 1) (nat_le taken.number last_of_all)
+      (has_place limits taken.source (sources_of found)) (keeps limits (units_of found) (sources_of found) taken) comes in
+      eqb-true _ _ parts.0 ∙ ap (λ n. n + 1) (newest-with_changes limits.keep d.past.past d.past.next)
+
+  pub next_accepted : IsAccepted (prepared_units d.past) (counted taken.delta) × (length (apply (prepared_units d.past) (counted taken.delta)) ≤ 2 ^ 29)
+  next_accepted =
+      let found : DocumentRecord = with_prepared limits.keep d in
+      let parts = six (taken.revision == revision_of found + 1) (not (revision_of found == last_of_all))
+      (taken.number == (last_of taken.source (sources_of found)).number + 1) (nat_le taken.number last_of_all)
+      (has_place limits taken.source (sources_of found)) (keeps limits (units_of found) (sources_of found) taken) comes in
+      let kept = kept-accepted limits (units_of found) (sources_of found) taken is parts.5 in
+      let light = kept.1 in
+      let short : length (apply (units_of found) (counted taken.delta)) ≤ 2 ^ 29 = omega (arith, light, is.weight, weight-some (apply (units_of found) (counted taken.delta))) in
+      subst (λ u. IsAccepted u (counted taken.delta) × (length (apply u (counted taken.delta)) ≤ 2 ^ 29))
+      (units-with_changes limits.keep d.past.past d.past.next) (kept.0, short)
+
+-- each command's revision is below the bound
+pub taken_bound : (name : Option (List ℕ)) (revision number : ℕ) → is_kind name revision number ≡ true → revision < 2 ^ 53
+taken_bound None revision number kind =
+    let first = and_parts (nat_le 2 revision && nat_lt revision (2 ^ 53)) (nat_lt number (2 ^ 53)) kind in
+    ltb-true revision (2 ^ 53) (and_parts (nat_le 2 revision) (nat_lt revision (2 ^ 53)) first.0).1
+taken_bound (Some name) revision number kind =
+    let first = and_parts (_ && (revision == 1)) (number == 1) kind in
+    let one : revision ≡ 1 = eqb-true revision 1 (and_parts _ (revision == 1) first.0).1 in
+    omega (arith, one)
+
+-- a creation begins a document just where it follows the empty one
+pub follows-empty : (limits : Limits) (name : List ℕ) (taken : Taken) → IsLimits limits
+    → follows limits (with_prepared limits.keep (record { name = name; past = record { past = empty_past; next = [] } })) taken ≡ begins limits taken
+follows-empty limits name taken is =
+    by_first (taken.revision == 1) (taken.number == 1) (nat_le taken.number last_of_all) (has_place limits taken.source empty) (keeps limits [] empty taken)
+    (lt-ltb 0 limits.sources (omega (arith, is.some_source)))
+    (λ one. le-leb taken.number last_of_all (omega (arith, eqb-true taken.number 1 one)))
+  where
+    by_first : (a b c p k : Bool) → p ≡ true → (b ≡ true → c ≡ true) → (a && true && b && c && p && k) ≡ (a && b && k)
+    by_first false b c p k place some = refl
+    by_first true false c p k place some = refl
+    by_first true true c p k place some = rw (some refl, place) refl

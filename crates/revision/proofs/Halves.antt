@@ -7,8 +7,7 @@ use Rattle.std.specs.Ordering.{is_lt, ordering_reverse}
 use Rattle.std.specs.Cmp.Lexicographic.{nat_list_cmp_total}
 use Rattle.std.specs.FinMap.Entries.{is_sorted, below_all}
 use Rattle.attributes.specs.Map.{by_bytes}
-use Rattle.attributes.proofs.Maps.{T_parts, less_from, same_name}
-use Rattle.attributes.proofs.Places.{AllBefore, none_before, one_before, free_at, free_end}
+use Rattle.attributes.proofs.CallerLemmas.{T_parts, less_from, same_name, AllBefore, none_before, one_before, free_at, free_end}
 
 -- the entry at this place, where there is one, stands after the name
 abbrev pub AboveAt : {X : Type 0} → List ℕ → List (List ℕ × X) → ℕ → Type 0

@@ -5,7 +5,7 @@ use Rattle.std.proofs.lemmas.Option.{none-some, same_Some}
 use Rattle.std.proofs.lemmas.Slice.Eq.{bytes_eq-Decides}
 use Rattle.revision.specs.Index.{number_of, NoneTwice, IsIndex}
 use Rattle.revision.specs.DocumentsView.{names_of}
-use Rattle.revision.specs.Pending.{PendingDocument, held, with_prepared}
+use Rattle.revision.specs.Pending.{PendingDocument, record_of, with_prepared}
 use Rattle.revision.specs.State.{find}
 
 same_name : (a b : List ℕ) → bytes_eq a b ≡ true → a ≡ b
@@ -137,37 +137,37 @@ number-least q k i (n ∷ ns) is = by_test (bytes_eq n q) (λ further. number-le
 
 -- a document that is found stands at its number
 pub found-within : (q : List ℕ) (k i j count : ℕ) (ds : List PendingDocument) (d : PendingDocument) → number_of q k (names_of ds) ≡ Some i → i ≡ k + j → j < count
-    → d ≡ get_or ds j d → find q k (map held (take count ds)) ≡ Some (i, held d)
+    → d ≡ get_or ds j d → find q k (map record_of (take count ds)) ≡ Some (i, record_of d)
 found-within q k i j count [] d is at inside there = absurd (none-some i is)
 found-within q k i j zero (e ∷ ds) d is at inside there = absurd (omega (arith, inside))
 found-within q k i zero (suc count) (e ∷ ds) d is at inside there = by_test (bytes_eq e.name q) is where
   by_test : (t : Bool) → cond t (Some k) (number_of q (k + 1) (names_of ds)) ≡ Some i
-      → cond t (Some (k, held e)) (find q (k + 1) (map held (take count ds))) ≡ Some (i, held d)
-  by_test true h = ap₂ (λ (n : ℕ) (x : PendingDocument). Some (n, held x)) (same_Some k i h) (sym there)
+      → cond t (Some (k, record_of e)) (find q (k + 1) (map record_of (take count ds))) ≡ Some (i, record_of d)
+  by_test true h = ap₂ (λ (n : ℕ) (x : PendingDocument). Some (n, record_of x)) (same_Some k i h) (sym there)
   by_test false h = let above = number-least q (k + 1) i (names_of ds) h in absurd (omega (arith, above, at))
 found-within q k i (suc j) (suc count) (e ∷ ds) d is at inside there =
     by_test (bytes_eq e.name q) (λ h. found-within q (k + 1) i j count ds d h (omega (arith, at)) (omega (arith, inside)) there) is where
-      by_test : (t : Bool) → (number_of q (k + 1) (names_of ds) ≡ Some i → find q (k + 1) (map held (take count ds)) ≡ Some (i, held d))
+      by_test : (t : Bool) → (number_of q (k + 1) (names_of ds) ≡ Some i → find q (k + 1) (map record_of (take count ds)) ≡ Some (i, record_of d))
           → cond t (Some k) (number_of q (k + 1) (names_of ds)) ≡ Some i
-          → cond t (Some (k, held e)) (find q (k + 1) (map held (take count ds))) ≡ Some (i, held d)
+          → cond t (Some (k, record_of e)) (find q (k + 1) (map record_of (take count ds))) ≡ Some (i, record_of d)
       by_test true more h = let same = same_Some k i h in absurd (omega (arith, same, at))
       by_test false more h = more h
 
 -- one that is prepared isn't among those that are held
 pub found-past : (q : List ℕ) (k i count : ℕ) (ds : List PendingDocument) → number_of q k (names_of ds) ≡ Some i → k + count ≤ i
-    → find q k (map held (take count ds)) ≡ None
+    → find q k (map record_of (take count ds)) ≡ None
 found-past q k i zero ds is past = refl
 found-past q k i (suc count) [] is past = refl
 found-past q k i (suc count) (e ∷ ds) is past = by_test (bytes_eq e.name q) (λ h. found-past q (k + 1) i count ds h (omega (arith, past))) is where
-  by_test : (t : Bool) → (number_of q (k + 1) (names_of ds) ≡ Some i → find q (k + 1) (map held (take count ds)) ≡ None)
+  by_test : (t : Bool) → (number_of q (k + 1) (names_of ds) ≡ Some i → find q (k + 1) (map record_of (take count ds)) ≡ None)
       → cond t (Some k) (number_of q (k + 1) (names_of ds)) ≡ Some i
-      → cond t (Some (k, held e)) (find q (k + 1) (map held (take count ds))) ≡ None
+      → cond t (Some (k, record_of e)) (find q (k + 1) (map record_of (take count ds))) ≡ None
   by_test true more h = let same = same_Some k i h in absurd (omega (arith, same, past))
   by_test false more h = more h
 
-pub found-none : (q : List ℕ) (k count : ℕ) (ds : List PendingDocument) → number_of q k (names_of ds) ≡ None → find q k (map held (take count ds)) ≡ None
+pub found-none : (q : List ℕ) (k count : ℕ) (ds : List PendingDocument) → number_of q k (names_of ds) ≡ None → find q k (map record_of (take count ds)) ≡ None
 found-none q k zero ds is = refl
 found-none q k (suc count) [] is = refl
 found-none q k (suc count) (e ∷ ds) is =
     let parts = none_parts q e.name k (names_of ds) is in
-    ap (λ t. cond t (Some (k, held e)) (find q (k + 1) (map held (take count ds)))) parts.0 ∙ found-none q (k + 1) count ds parts.1
+    ap (λ t. cond t (Some (k, record_of e)) (find q (k + 1) (map record_of (take count ds)))) parts.0 ∙ found-none q (k + 1) count ds parts.1

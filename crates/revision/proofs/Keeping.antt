@@ -37,7 +37,7 @@ four a b c d h =
     let second = and_parts a b third.0 in
     (second.0, second.1, third.1, last.1)
 
-six : (a b c d e f : Bool) → (a && b && c && d && e && f) ≡ true → (a ≡ true) × (b ≡ true) × (c ≡ true) × (d ≡ true) × (e ≡ true) × (f ≡ true)
+pub six : (a b c d e f : Bool) → (a && b && c && d && e && f) ≡ true → (a ≡ true) × (b ≡ true) × (c ≡ true) × (d ≡ true) × (e ≡ true) × (f ≡ true)
 six a b c d e f h =
     let last = and_parts (a && b && c && d && e) f h in
     let fifth = and_parts (a && b && c && d) e last.0 in
@@ -90,7 +90,7 @@ count-noted limits source number revision sources place held =
     by_entry (Some last) h = held
 
 -- a delta that keeps the limits is accepted
-kept-accepted : (limits : Limits) (units : List Element) (sources : Sources) (taken : Taken) → IsLimits limits → keeps limits units sources taken ≡ true
+pub kept-accepted : (limits : Limits) (units : List Element) (sources : Sources) (taken : Taken) → IsLimits limits → keeps limits units sources taken ≡ true
     → IsAccepted units (counted taken.delta) × (weight_after units sources taken ≤ limits.weight)
 kept-accepted limits units sources taken is h =
     let parts = four (not (reaches_past taken.delta units)) (not (parts_pair taken.delta units)) (nat_le (weight_after units sources taken) limits.weight)

@@ -1,5 +1,5 @@
 -- The test of a change on a document, by what the document would weigh.
-use Rattle.std.proofs.Common.{inl, inr, ◌≡◌, ℕ, ◌+◌, ◌-◌, ◌*◌, ◌≤◌, ◌<◌, ◌^◌, ◌⊎◌, ◌↔◌, min, Bool, true, false, List, length, Result, Ok, Err, refl, sym, ap, ◌∙◌, arith}
+use Rattle.std.proofs.Common.{inl, inr, ◌≡◌, ℕ, ◌+◌, ◌-◌, ◌*◌, ◌≤◌, ◌<◌, ◌^◌, ◌⊎◌, ◌↔◌, min, Bool, true, false, List, Result, Ok, Err, refl, sym, ap, ◌∙◌, arith}
 use Rattle.std.specs.Prelude.{◌&&◌, not, nat_le}
 use Rattle.std.proofs.lemmas.Bool.Decides.{nat_tests}
 use Rattle.refusal.specs.declared.Refusal.{Refusal}
@@ -9,10 +9,8 @@ use Rattle.delta.specs.Operation.{Operation}
 use Rattle.delta.specs.Gaps.{counted}
 use Rattle.delta.specs.Places.{IsDefined}
 use Rattle.document.specs.Places.{Cuts}
-use Rattle.document.specs.Weight as document
 use Rattle.revision.specs.Parting.{parts_pair}
 use Rattle.revision.specs.State.{reaches_past}
-use Rattle.revision.proofs.Room.{weight-some}
 use Rattle.revision.proofs.Told.{parts_told}
 
 module _ (delta : List Operation) (units : List Element) (weighed : Result ℕ Refusal)
@@ -36,16 +34,6 @@ module _ (delta : List Operation) (units : List Element) (weighed : Result ℕ R
         let defined : IsDefined units (counted delta) = grind (arith, nat_tests) in
         let refused : weighed ≡ Err CutsPair = cuts.1 (defined, (parts_told delta units).0 e) in
         absurd (cc)
-
-  pub is_defined : (weight : ℕ) → weighed ≡ Ok weight → IsDefined units (counted delta)
-  is_defined weight is =
-      let short : reaches_past delta units ≡ false = reaches weight is in
-      grind (arith, nat_tests)
-
-  pub no_cut : (weight : ℕ) → weighed ≡ Ok weight → ¬ (Cuts units (counted delta))
-  no_cut weight is = λ cut.
-      let refused : weighed ≡ Err CutsPair = cuts.1 (is_defined weight is, cut) in
-      absurd (cc)
 
   -- where it is refused, one of them fails
   pub fails : (refusal : Refusal) → weighed ≡ Err refusal → (refusal ≡ PastEnd) ⊎ (refusal ≡ CutsPair)
@@ -90,9 +78,3 @@ light_sum weight count most sum w n beside bound w_is n_is beside_is sum_is =
 
 pub kept_is : (far cut light : Bool) (other : Bool) → far ≡ false → cut ≡ false → light ≡ other → light ≡ (not far && not cut && other)
 kept_is far cut light other f c same = rw (f, c) same
-
--- what is that light is short
-pub light_short : (units : List Element) (count most : ℕ) → most < 2 ^ 32 → nat_le (document.weight_of units + 64 * count) most ≡ true → length units ≤ 2 ^ 29
-light_short units count most bound light =
-    let le : document.weight_of units + 64 * count ≤ most = grind (arith, nat_tests) in
-    omega (arith, weight-some units, le, bound)

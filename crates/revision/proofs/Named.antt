@@ -5,7 +5,7 @@ use Rattle.std.specs.Ordering.{eq_by_cmp}
 use Rattle.std.specs.FinMap.Entries.{find, put, by_order, where_key}
 use Rattle.std.proofs.lemmas.Bool.{and_parts, and_from}
 use Rattle.attributes.specs.Map.{by_bytes, insert, remove, retain}
-use Rattle.attributes.proofs.Maps.{same_name_from}
+use Rattle.attributes.proofs.CallerLemmas.{same_name_from}
 use Rattle.revision.specs.Name.{is_source_name}
 use Rattle.revision.specs.Sources.{LastTaken, Sources, are_named}
 

@@ -5,7 +5,7 @@ use Rattle.std.proofs.Math.Seq.{take-suc}
 use Rattle.std.proofs.lemmas.Option.{slice_get_read, slice_get-map, slice_get_within, get_or_from_slice_get}
 use Rattle.std.proofs.lemmas.Slice.Eq.{bytes_eq-Decides}
 use Rattle.revision.specs.Invariants.{NamesDiffer}
-use Rattle.revision.specs.Pending.{PendingDocument, held}
+use Rattle.revision.specs.Pending.{PendingDocument, record_of}
 use Rattle.revision.specs.State.{DocumentRecord, find}
 
 -- no document of this name among the first
@@ -31,11 +31,11 @@ new-to-those-before documents i d differ at =
     absurd (omega (arith, less, same)))
 
 -- the document at a place, of those that are held
-pub held-at : (items : List PendingDocument) (i : ℕ) (item : PendingDocument) (documents : List DocumentRecord) → i < length items → item ≡ get_or items i item
-    → map held items ≡ documents → slice_get documents i ≡ Some (held item)
-held-at items i item documents within is held-are =
+pub record_of-at : (items : List PendingDocument) (i : ℕ) (item : PendingDocument) (documents : List DocumentRecord) → i < length items → item ≡ get_or items i item
+    → map record_of items ≡ documents → slice_get documents i ≡ Some (record_of item)
+record_of-at items i item documents within is held-are =
     ap (λ (l : List DocumentRecord). slice_get l i) (sym held-are)
-    ∙ (slice_get-map held items i ∙ ap (λ (o : Option PendingDocument). option_map held o) (slice_get_read items (length items) i item refl within is))
+    ∙ (slice_get-map record_of items i ∙ ap (λ (o : Option PendingDocument). option_map record_of o) (slice_get_read items (length items) i item refl within is))
 
 pub one-more : (documents : List DocumentRecord) (i : ℕ) (d : DocumentRecord) → slice_get documents i ≡ Some d
     → take i documents ++ d ∷ [] ≡ take (i + 1) documents

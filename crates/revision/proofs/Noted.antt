@@ -6,8 +6,7 @@ use Rattle.std.specs.Cmp.{eq_by_cmp_equiv}
 use Rattle.std.specs.Cmp.Lexicographic.{nat_list_cmp_total}
 use Rattle.std.specs.FinMap.Entries.{length-put}
 use Rattle.attributes.specs.Map.{by_bytes, get, insert}
-use Rattle.attributes.proofs.Maps.{is_name, same_name_from, same_map, get-insert, get-remove}
-use Rattle.attributes.proofs.Places.{entries-insert}
+use Rattle.attributes.proofs.CallerLemmas.{is_name, same_name_from, same_map, get-insert, get-remove, entries-insert}
 use Rattle.revision.specs.Sources.{Sources, LastTaken, count_of, with_last, with_entry, is_among, EqualBut}
 
 -- how many there are once one was noted

@@ -1,7 +1,8 @@
 -- A state as it grows by a command, and its documents with what is prepared.
-use Rattle.std.proofs.Common.{◌≡◌, ℕ, zero, suc, ◌+◌, ◌<◌, true, ◌&&◌, List, [], ◌∷◌, ◌++◌, length, map, take, drop, get_or, Option, Some, None, refl, sym, ap, ap₂, ◌∙◌}
+use Rattle.std.proofs.Common.{◌≡◌, ℕ, zero, suc, ◌+◌, ◌<◌, true, false, ◌&&◌, List, [], ◌∷◌, ◌++◌, length, map, take, drop, get_or, Option, Some, None, refl, sym, ap, ap₂, ◌∙◌, arith, true≢false}
 use Rattle.std.specs.Prelude.{slice_get}
 use Rattle.std.proofs.lemmas.List.{take-map, at_drop_more, map-append}
+use Rattle.std.proofs.lemmas.Bool.{and_parts}
 use Rattle.std.proofs.lemmas.Bool.Decides.{Decides-eqb, Decides-ltb}
 use Rattle.revision.specs.DocumentsView.{names_of}
 use Rattle.revision.specs.Index.{number_of}
@@ -9,9 +10,9 @@ use Rattle.revision.proofs.Indexed.{number-found, none_from_test, room_parts}
 use Rattle.revision.specs.ChangedAt.{changed_at}
 use Rattle.revision.specs.Command.{Taken}
 use Rattle.revision.specs.Past.{Change, Past, with_change, with_changes}
-use Rattle.revision.specs.Pending.{PendingDocument, held, with_prepared}
+use Rattle.revision.specs.Pending.{PendingDocument, record_of, with_prepared}
 use Rattle.revision.specs.Preparing.{with_next, begun}
-use Rattle.revision.specs.State.{Limits, DocumentRecord, State, change_of, record_by_name, set_document, has_room, begins, continues_by_name, grows, grown, all_grow, fold}
+use Rattle.revision.specs.State.{Limits, DocumentRecord, State, change_of, record_by_name, set_document, has_room, begins, continues_by_name, grows, grown, all_grow, first_grows, fold}
 use Rattle.revision.proofs.ChangedAt.{map-changed_at}
 
 -- one change more, at the end
@@ -36,6 +37,12 @@ changed_by keep (suc i) (d ∷ others) taken =
     further i (record_by_name keep (slice_get (map (with_prepared keep) others) i) taken None) (with_prepared keep d) (map (with_prepared keep) others)
     ∙ ap (λ ds. with_prepared keep d ∷ ds) (changed_by keep i others taken)
 
+-- where a change continues a document, the document is there
+pub continued-within : (limits : Limits) (ds : List DocumentRecord) (i : ℕ) (taken : Taken) → continues_by_name limits (slice_get ds i) taken None ≡ true → i < length ds
+continued-within limits [] i taken h = absurd (true≢false (sym h))
+continued-within limits (d ∷ ds) zero taken h = omega arith
+continued-within limits (d ∷ ds) (suc i) taken h = omega (arith, continued-within limits ds i taken h)
+
 -- a document comes at the end
 pub set-last : (ds : List DocumentRecord) (d : DocumentRecord) → set_document (length ds) (Some d) ds ≡ ds ++ d ∷ []
 set-last [] d = refl
@@ -46,12 +53,12 @@ none-past [] = refl
 none-past (d ∷ ds) = none-past ds
 
 -- what is held isn't changed
-pub held-changed : (change : PendingDocument → PendingDocument) → ((d : PendingDocument) → held (change d) ≡ held d) → (count i : ℕ) (documents : List PendingDocument)
-    → map held (take count (changed_at change i documents)) ≡ map held (take count documents)
-held-changed change same count i documents =
-    sym (take-map held count (changed_at change i documents))
-    ∙ ap (take count) (map-changed_at held change same i documents)
-    ∙ take-map held count documents
+pub record_of-changed : (change : PendingDocument → PendingDocument) → ((d : PendingDocument) → record_of (change d) ≡ record_of d) → (count i : ℕ) (documents : List PendingDocument)
+    → map record_of (take count (changed_at change i documents)) ≡ map record_of (take count documents)
+record_of-changed change same count i documents =
+    sym (take-map record_of count (changed_at change i documents))
+    ∙ ap (take count) (map-changed_at record_of change same i documents)
+    ∙ take-map record_of count documents
 
 -- one command more
 pub fold-step : (state : State) (batch : List Taken) (i : ℕ) (taken : Taken) → i < length batch → taken ≡ get_or batch i taken
@@ -64,7 +71,7 @@ pub all_grow-step : (state : State) (batch : List Taken) (i : ℕ) (taken : Take
 all_grow-step state batch i taken inside is =
     ap (λ t. grows state t && all_grow (grown state t) (drop (i + 1) batch)) is ∙ sym (at_drop_more (all_grow state) batch i taken inside)
 
-same_length : (keep : ℕ) (documents : List PendingDocument) → length (map (with_prepared keep) documents) ≡ length documents
+pub same_length : (keep : ℕ) (documents : List PendingDocument) → length (map (with_prepared keep) documents) ≡ length documents
 same_length keep [] = refl
 same_length keep (d ∷ others) = ap suc (same_length keep others)
 
@@ -93,9 +100,35 @@ module _ (limits : Limits) (documents : List PendingDocument) (taken : Taken) (n
       ∙ ap (λ found. set_document (length ds) (record_by_name limits.keep found taken (Some name)) ds) (sym (none-past ds))
       ∙ ap₂ (λ i n. set_document i (record_by_name limits.keep (slice_get ds i) taken n) ds) (same_length limits.keep documents ∙ sym at) (sym named)
 
-  pub created_grows : taken.document ≡ length documents → taken.name ≡ Some name → has_room (state_by limits documents) taken.document (Some name) ≡ true
-      → begins limits taken ≡ true → grows (state_by limits documents) taken ≡ true
-  created_grows at named room first =
-      let ds = map (with_prepared limits.keep) documents in
-      ap₂ (λ a b. a && b) (ap (has_room (state_by limits documents) taken.document) named ∙ room)
-      (ap₂ (λ found n. continues_by_name limits found taken n) (ap (slice_get ds) (at ∙ sym (same_length limits.keep documents)) ∙ none-past ds) named ∙ first)
+-- a command that changes a document continues a state just where it continues the document
+pub changed_as : (state : State) (taken : Taken) → taken.name ≡ None
+    → grows state taken ≡ continues_by_name state.limits (slice_get state.documents taken.document) taken None
+changed_as state taken named =
+    ap (λ n. has_room state taken.document n && continues_by_name state.limits (slice_get state.documents taken.document) taken n) named
+
+-- a creation continues a state just where it has room there, and begins its document
+module _ (state : State) (taken : Taken) (name : List ℕ) (named : taken.name ≡ Some name) where
+  by_name : grows state taken
+      ≡ (has_room state taken.document (Some name) && continues_by_name state.limits (slice_get state.documents taken.document) taken (Some name))
+  by_name = ap (λ n. has_room state taken.document n && continues_by_name state.limits (slice_get state.documents taken.document) taken n) named
+
+  pub created_without : has_room state taken.document (Some name) ≡ false → grows state taken ≡ false
+  created_without none = by_name ∙ ap (λ b. b && continues_by_name state.limits (slice_get state.documents taken.document) taken (Some name)) none
+
+  pub created_as : has_room state taken.document (Some name) ≡ true → grows state taken ≡ begins state.limits taken
+  created_as room =
+      let parts = room_parts _ _ _ room in
+      let at : taken.document ≡ length state.documents = (Decides-eqb taken.document (length state.documents)).0 parts.0 in
+      by_name
+      ∙ ap₂ (λ b found. b && continues_by_name state.limits found taken (Some name)) room (ap (slice_get state.documents) at ∙ none-past state.documents)
+
+  pub created_parts : grows state taken ≡ true → (has_room state taken.document (Some name) ≡ true) × (begins state.limits taken ≡ true)
+  created_parts grown =
+      let room = (and_parts _ _ (sym by_name ∙ grown)).0 in
+      (room, sym (created_as room) ∙ grown)
+
+-- the first command of what is left
+pub first_grows-step : (state : State) (batch : List Taken) (i : ℕ) (taken : Taken) → i < length batch → taken ≡ get_or batch i taken
+    → grows state taken ≡ first_grows state (drop i batch)
+first_grows-step state batch i taken inside is =
+    ap (grows state) is ∙ sym (at_drop_more (first_grows state) batch i taken inside)

@@ -20,7 +20,7 @@ passed true other next taken differs h = absurd (differs h)
 passed false other next taken differs h = (refl, h)
 
 -- a command that is taken keeps the limits, and is what was asked for
-record IsKept (limits : Limits) (units : List Element) (sources : Sources) (asked taken : Taken) : Type 0 where
+record IsAsAsked (limits : Limits) (units : List Element) (sources : Sources) (asked taken : Taken) : Type 0 where
   same : asked ≡ taken
   kept : keeps limits units sources asked ≡ true
 
@@ -31,7 +31,7 @@ all_four past cut weight heaviest width widest a b c d =
     let narrow : nat_le width widest ≡ true = grind (arith, nat_tests) in
     rw (a, b, light, narrow) refl
 
-taken_kept : (limits : Limits) (units : List Element) (sources : Sources) (asked taken : Taken) → take_on limits units sources asked ≡ Takes taken → IsKept limits units sources asked taken
+taken_kept : (limits : Limits) (units : List Element) (sources : Sources) (asked taken : Taken) → take_on limits units sources asked ≡ Takes taken → IsAsAsked limits units sources asked taken
 taken_kept limits units sources asked taken h =
     let past = passed (reaches_past asked.delta units) (Refuses PastEnd) _ taken (λ e. cc) h in
     let cut = passed (parts_pair asked.delta units) (Refuses CutsPair) _ taken (λ e. cc) past.1 in

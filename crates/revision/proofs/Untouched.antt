@@ -4,7 +4,7 @@ use Rattle.std.specs.Prelude.{slice_get}
 use Rattle.std.proofs.lemmas.Option.{none-some, same_Some}
 use Rattle.revision.specs.ChangedAt.{changed_at, changed_at_all, IsAmong}
 use Rattle.revision.specs.Past.{Change, with_changes}
-use Rattle.revision.specs.Pending.{PendingDocument, held, with_prepared}
+use Rattle.revision.specs.Pending.{PendingDocument, record_of, with_prepared}
 use Rattle.revision.specs.State.{DocumentRecord}
 use Rattle.revision.specs.DocumentsView.{UntouchedRest}
 use Rattle.revision.proofs.ChangedAt.{ReadOfChanged, read_of_changed, among-more, among-last}
@@ -59,13 +59,13 @@ rest-changed change is i documents touched rest j d read = by_place (read_of_cha
   by_place (inr there) = rest j d there.1
 
 -- what is held is what becomes of it, where nothing is prepared
-pub held-with_prepared : (keep : ℕ) (documents : List PendingDocument) → NothingPrepared documents
-    → map held documents ≡ map (with_prepared keep) documents
-held-with_prepared keep [] none = refl
-held-with_prepared keep (d ∷ others) none =
+pub record_of-with_prepared : (keep : ℕ) (documents : List PendingDocument) → NothingPrepared documents
+    → map record_of documents ≡ map (with_prepared keep) documents
+record_of-with_prepared keep [] none = refl
+record_of-with_prepared keep (d ∷ others) none =
     ap₂ (λ (e : DocumentRecord) es. e ∷ es)
     (ap (λ (next : List Change). record { name = d.name; past = with_changes keep d.past.past next }) (sym (none 0 d refl)))
-    (held-with_prepared keep others (λ i e read. none (suc i) e read))
+    (record_of-with_prepared keep others (λ i e read. none (suc i) e read))
 
 slice_get-take : {X : Type 0} (n : ℕ) (xs : List X) (i : ℕ) (x : X) → slice_get (take n xs) i ≡ Some x → slice_get xs i ≡ Some x
 slice_get-take zero xs i x read = absurd (none-some x read)

@@ -6,12 +6,12 @@ use Rattle.revision.specs.ChangedAt.{IsAmong}
 use Rattle.revision.specs.Documents.{PreparedState}
 use Rattle.revision.specs.Index.{IsIndex, NoneTwice}
 use Rattle.revision.specs.Invariants.{IsLimits}
-use Rattle.revision.specs.Pending.{PendingDocument, held, with_prepared}
+use Rattle.revision.specs.Pending.{PendingDocument, record_of, with_prepared}
 
 -- what is held are the first documents; the others are creations that are prepared
 abbrev pub states_of : Inside → PreparedState
 states_of d = record {
-  before = record { limits = d.limits; documents = map held (take d.count d.documents.items) };
+  before = record { limits = d.limits; documents = map record_of (take d.count d.documents.items) };
   after = record { limits = d.limits; documents = map (with_prepared d.limits.keep) d.documents.items };
 }
 

@@ -14,8 +14,8 @@ pub record PendingDocument : Type 0 where
   pub past : Prepared
 
 -- the document without them
-abbrev pub held : PendingDocument → DocumentRecord
-held d = record { name = d.name; past = d.past.past }
+abbrev pub record_of : PendingDocument → DocumentRecord
+record_of d = record { name = d.name; past = d.past.past }
 
 -- the document with them
 abbrev pub with_prepared : ℕ → PendingDocument → DocumentRecord

@@ -143,11 +143,17 @@ grown state taken = record state {
   documents = set_document taken.document (record_after state.limits.keep (slice_get state.documents taken.document) taken) state.documents;
 }
 
--- commands in order: each continues the state that those before have made; and the state with them all added
+-- commands in order: each continues the state that those before have made
 abbrev pub all_grow : State → List Taken → Bool
 all_grow state [] = true
 all_grow state (first ∷ others) = grows state first && all_grow (grown state first) others
 
+-- The first of these commands, where there is one, continues the state.
+abbrev pub first_grows : State → List Taken → Bool
+first_grows state [] = true
+first_grows state (first ∷ others) = grows state first
+
+-- the state with commands added in order
 abbrev pub fold : State → List Taken → State
 fold state [] = state
 fold state (first ∷ others) = fold (grown state first) others

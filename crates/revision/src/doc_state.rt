@@ -1,5 +1,5 @@
 //! A document as a state holds it.
-ghost use Rattle.std.specs.Prelude.{◌≡◌, ◌↔◌, ◌+◌, ◌≤◌, ◌<◌, ◌^◌, ◌⊎◌, ◌∷◌, ◌++◌, true, false, [], length, IfOk, IfErr, OnOk, OnErr, IsErrOf, IsOkUnless};
+ghost use Rattle.std.specs.Prelude.{◌≡◌, ◌&&◌, ◌+◌, ◌≤◌, ◌<◌, ◌^◌, ◌⊎◌, ◌∷◌, ◌++◌, true, false, [], length, IfOk, IfErr, OnOk, OnErr, IsErrOf, IsOkUnless};
 ghost use Rattle.delta.specs.Operation.{base_of, out_of};
 ghost use Rattle.delta.specs.Gaps.{counted, apply};
 ghost use Rattle.revision.specs.Floors.{raised};
@@ -7,9 +7,10 @@ ghost use Rattle.revision.specs.Late.{late as late_edit, HasCommandRoom};
 ghost use Rattle.compose.specs.Many.{applied};
 ghost use Rattle.revision.specs.Past.{empty_past, StandInTurn, newest, content_at, sources_at, deltas_of, deltas_above, undo_of, with_changes, prepared_units, prepared_revision};
 ghost use Rattle.document.specs.Outcome.{IsAccepted};
+ghost use Rattle.revision.specs.Invariants.{IsLimits};
 ghost use Rattle.revision.specs.Sources.{last_of, with_last};
-ghost use Rattle.revision.specs.State.{revision_of, units_of, sources_of, follows, change_of};
-ghost use Rattle.revision.specs.Pending.{held, with_prepared, comes_next as spec_comes_next, is_kept};
+ghost use Rattle.revision.specs.State.{revision_of, units_of, sources_of, begins as spec_begins, follows, change_of};
+ghost use Rattle.revision.specs.Pending.{record_of, with_prepared, comes_next as spec_comes_next, is_kept};
 
 use crate::limits::Limits;
 use crate::name::Name;
@@ -100,14 +101,16 @@ impl DocState {
         })
     }
 
-    /// Prepares a change: it has to follow what is prepared so far, and is refused with `Stranger` just where it doesn't.
-    /// Refused else for want of memory alone; refused, nothing more is prepared. What is read stays as it is.
-    pub(crate) fn prepare(
+    /// Prepares a change that follows what is prepared so far, as `is_followed` tells. Refused for want of memory alone, and then
+    /// nothing more is prepared. What is read stays as it is.
+    pub(crate) fn prepare_next(
         &mut self,
         alloc: Global,
         limits: Limits,
         taken: &Taken,
     ) -> Result<(), Refusal>
+        requires limits { IsLimits limits }
+        requires follows { follows limits (with_prepared limits.keep self.old) taken.now ≡ true }
         ensures ok { OnOk result (self.new
             ≡ record self.old {
               past = record self.old.past {
@@ -115,20 +118,15 @@ impl DocState {
                     ++ change_of taken.now ∷ [];
               };
             }) }
-        ensures follows { OnOk result (follows limits (with_prepared limits.keep self.old) taken.now ≡ true) }
-        ensures stranger { IsErrOf result Refusal.Stranger
-            ↔ (follows limits (with_prepared limits.keep self.old) taken.now ≡ false) }
-        ensures only { IfErr result (λ e. (e ≡ Refusal.Stranger) ⊎ (e ≡ Refusal.NoMemory)) }
+        ensures only { IsOkUnless result Refusal.NoMemory }
         ensures unchanged { OnErr result (self.new ≡ self.old) }
     {
-        if !self.is_followed(limits, taken) {
-            return Err(Refusal::Stranger);
-        }
+        let delta = taken.delta();
         match self.next.as_mut() {
             // no document is made anew for a second change
             Some(next) => note_on(alloc, &mut self.past, &mut self.sources, next, taken)?,
             None => {
-                let after = after_taken(alloc, &self.document, taken.delta())?;
+                let after = after_taken(alloc, &self.document, delta)?;
                 note(alloc, &mut self.past, &mut self.sources, taken)?;
                 self.next = Some(after);
             }
@@ -143,18 +141,18 @@ impl DocState {
         self.next.as_ref().unwrap_or(&self.document)
     }
 
-    // whether a change follows what is prepared
-    fn is_followed(&self, limits: Limits, taken: &Taken) -> bool
-        ensures follows { result ≡ follows limits (with_prepared limits.keep self.now) taken.now }
-        ensures revision { result ≡ true → taken.now.revision ≡ prepared_revision self.now.past + 1 }
-        ensures bound { result ≡ true → prepared_revision self.now.past + 1 < 2 ^ 53 }
-        ensures accepted { result ≡ true → IsAccepted (prepared_units self.now.past) (counted taken.now.delta) }
-        ensures short { result ≡ true
-            → length (apply (prepared_units self.now.past) (counted taken.now.delta)) ≤ 2 ^ 29 }
+    /// Whether a change follows what is prepared. It takes no memory.
+    pub(crate) fn is_followed(&self, limits: Limits, taken: &Taken) -> bool
+        ensures { result ≡ follows limits (with_prepared limits.keep self.now) taken.now }
     {
-        let sources = self.sources.prepared();
-        comes_next(limits, self.past.prepared_revision(), sources, taken)
-            && stays_light(limits, self.ahead(), sources, taken)
+        let revision = self.past.prepared_revision();
+        follows_at(
+            limits,
+            revision,
+            self.ahead(),
+            self.sources.prepared(),
+            taken,
+        )
     }
 
     /// Accepts what was prepared: each change is the next revision, and the floor rises to `keep` below the newest one where it
@@ -211,8 +209,8 @@ impl DocState {
 
     /// Its newest revision, below 2^53.
     pub fn revision(&self) -> u64
-        ensures revision { result ≡ revision_of (held self.now) }
-        ensures bound { revision_of (held self.now) < 2 ^ 53 }
+        ensures revision { result ≡ revision_of (record_of self.now) }
+        ensures bound { revision_of (record_of self.now) < 2 ^ 53 }
     {
         self.past.revision()
     }
@@ -226,21 +224,21 @@ impl DocState {
 
     /// What stands in it at the newest revision.
     pub fn document(&self) -> &Document
-        ensures { result.now ≡ units_of (held self.now) }
+        ensures { result.now ≡ units_of (record_of self.now) }
     {
         &self.document
     }
 
     /// Its sources at the newest revision.
     pub fn sources(&self) -> &Sources
-        ensures { result.now ≡ sources_of (held self.now) }
+        ensures { result.now ≡ sources_of (record_of self.now) }
     {
         self.sources.held()
     }
 
     /// What a source has at the newest revision, 0 and 0 where it isn't there.
     pub fn last(&self, source: &Name) -> LastTaken
-        ensures { result ≡ last_of source.now (sources_of (held self.now)) }
+        ensures { result ≡ last_of source.now (sources_of (record_of self.now)) }
     {
         self.sources().last(source)
     }
@@ -310,6 +308,31 @@ impl DocState {
     }
 }
 
+/// Whether a creation begins a document. It takes no memory.
+pub(crate) fn begins(alloc: Global, limits: Limits, taken: &Taken) -> bool
+    requires { IsLimits limits }
+    ensures { result ≡ spec_begins limits taken.now }
+{
+    let sources = Sources::new(alloc);
+    let document = Document::empty(alloc);
+    follows_at(limits, 0, &document, &sources, taken)
+}
+
+// whether a change follows a revision with this document and these sources
+fn follows_at(
+    limits: Limits,
+    revision: u64,
+    document: &Document,
+    sources: &Sources,
+    taken: &Taken,
+) -> bool
+    requires { revision < 2 ^ 53 }
+    ensures { result
+        ≡ (spec_comes_next limits revision sources.now taken.now && is_kept limits document.now sources.now taken.now) }
+{
+    comes_next(limits, revision, sources, taken) && stays_light(limits, document, sources, taken)
+}
+
 // whether a change is the next one after a revision with these sources, and its entry is as short as it has to be
 fn comes_next(limits: Limits, revision: u64, sources: &Sources, taken: &Taken) -> bool
     requires { revision < 2 ^ 53 }
@@ -327,9 +350,7 @@ fn comes_next(limits: Limits, revision: u64, sources: &Sources, taken: &Taken) -
 
 // whether a change's delta is defined on the document, parts no pair, and leaves what is no heavier than it may be
 fn stays_light(limits: Limits, document: &Document, sources: &Sources, taken: &Taken) -> bool
-    ensures kept { result ≡ is_kept limits document.now sources.now taken.now }
-    ensures accepted { result ≡ true → IsAccepted document.now (counted taken.now.delta) }
-    ensures short { result ≡ true → length (apply document.now (counted taken.now.delta)) ≤ 2 ^ 29 }
+    ensures { result ≡ is_kept limits document.now sources.now taken.now }
 {
     let beside = sources.count_after(taken.source()).saturating_mul(64);
     match document.weigh(taken.delta()) {

@@ -1,16 +1,16 @@
 //! Documents with what is prepared to follow.
-ghost use Rattle.std.specs.Prelude.{◌≡◌, ◌⊎◌, ◌≤◌, ◌<◌, ◌∷◌, ◌++◌, [], true, false, None, Some, ℕ, List, length, map, take, slice_get, bytes_eq, ◌==◌, ◌&&◌, nat_lt, is_none, cond, option_map, IfOk, IfErr, OnOk, OnErr, IsErrOf, IsOkUnless};
+ghost use Rattle.std.specs.Prelude.{◌≡◌, ◌↔◌, ◌⊎◌, ◌≤◌, ◌<◌, ◌∷◌, ◌++◌, [], true, false, None, Some, ℕ, List, length, map, take, slice_get, bytes_eq, ◌==◌, ◌&&◌, nat_lt, is_none, cond, option_map, IfOk, IfErr, OnOk, OnErr, IsErrOf, IsOkUnless};
 ghost use Rattle.std.specs.BTreeMap.{get_by_text};
 ghost use Rattle.revision.specs.ChangedAt.{changed_at, changed_at_all};
 ghost use Rattle.revision.specs.Documents.{unprepared};
 ghost use Rattle.revision.specs.DocumentsView.{names_of};
 ghost use Rattle.revision.specs.Index.{IsIndex, NoneTwice};
 ghost use Rattle.revision.specs.Invariants.{IsLimits};
-ghost use Rattle.revision.specs.Pending.{held, with_prepared};
+ghost use Rattle.revision.specs.Pending.{record_of, with_prepared};
 ghost use Rattle.revision.specs.Preparing.{accepted, forgotten, with_next, begun};
-ghost use Rattle.revision.specs.State.{begins, has_room, change_of, continues_by_name, grows, grown, all_grow, fold, find};
+ghost use Rattle.revision.specs.State.{begins as spec_begins, has_room, change_of, continues_by_name, grows, grown, all_grow, first_grows, fold, find};
 
-use crate::doc_state::DocState;
+use crate::doc_state::{DocState, begins};
 use crate::limits::Limits;
 use crate::name::Name;
 use crate::names::Names;
@@ -67,7 +67,7 @@ impl Documents {
 
     /// The documents that are held.
     pub(crate) fn documents(&self) -> &[DocState]
-        ensures documents { map held result.now ≡ self.now.before.documents }
+        ensures documents { map record_of result.now ≡ self.now.before.documents }
         ensures bound { length result.now ≤ 65536 }
     {
         &self.documents.as_slice()[..self.count]
@@ -75,7 +75,7 @@ impl Documents {
 
     /// The document that is held by this name, with its number.
     pub(crate) fn find(&self, name: &Name) -> Option<(u32, &DocState)>
-        ensures { option_map (λ p. (p.0, held p.1.now)) result ≡ find name.now 0 self.now.before.documents }
+        ensures { option_map (λ p. (p.0, record_of p.1.now)) result ≡ find name.now 0 self.now.before.documents }
     {
         match self.names.number(name) {
             Some(number) => {
@@ -88,13 +88,51 @@ impl Documents {
         }
     }
 
-    /// Prepares a command that was taken. Refused with `Stranger` just where it doesn't continue what was prepared, unless
-    /// memory runs out first (`NoMemory`). A refusal leaves all as it is.
+    /// Prepares a command that was taken. Refused with `Stranger` just where it doesn't continue what was prepared, which is
+    /// told before memory is taken; else for want of memory alone (`NoMemory`). A refusal leaves all as it is.
     pub(crate) fn prepare(&mut self, alloc: Global, taken: &Taken) -> Result<(), Refusal>
         ensures ok { OnOk result (self.new ≡ record self.old { after = grown self.old.after taken.now }) }
         ensures grow { OnOk result (grows self.old.after taken.now ≡ true) }
-        ensures stranger { IsErrOf result Refusal.Stranger → grows self.old.after taken.now ≡ false }
+        ensures stranger { IsErrOf result Refusal.Stranger ↔ (grows self.old.after taken.now ≡ false) }
+        ensures memory { IsErrOf result Refusal.NoMemory → grows self.old.after taken.now ≡ true }
         ensures only { IfErr result (λ e. (e ≡ Refusal.Stranger) ⊎ (e ≡ Refusal.NoMemory)) }
+        ensures unchanged { OnErr result (self.new ≡ self.old) }
+    {
+        if !self.continues(alloc, taken) {
+            return Err(Refusal::Stranger);
+        }
+        if let Err(refusal) = self.prepare_next(alloc, taken) {
+            return Err(refusal);
+        }
+        Ok(())
+    }
+
+    // whether a command continues what was prepared; it takes no memory
+    fn continues(&self, alloc: Global, taken: &Taken) -> bool
+        ensures { result ≡ grows self.now.after taken.now }
+    {
+        match taken.name() {
+            Some(name) => self.may_create(alloc, taken, name),
+            None => may_change(self.documents.as_slice(), self.limits, taken),
+        }
+    }
+
+    // whether a creation continues what was prepared
+    fn may_create(&self, alloc: Global, taken: &Taken, name: &Name) -> bool
+        requires name { taken.now.name ≡ Some name.now }
+        ensures { result ≡ grows self.now.after taken.now }
+    {
+        if !self.has_room_for(taken.document(), name) {
+            return false;
+        }
+        begins(alloc, self.limits, taken)
+    }
+
+    // prepares a command that continues what was prepared
+    fn prepare_next(&mut self, alloc: Global, taken: &Taken) -> Result<(), Refusal>
+        requires continues { grows self.old.after taken.now ≡ true }
+        ensures ok { OnOk result (self.new ≡ record self.old { after = grown self.old.after taken.now }) }
+        ensures only { IsOkUnless result Refusal.NoMemory }
         ensures unchanged { OnErr result (self.new ≡ self.old) }
     {
         match taken.name() {
@@ -107,19 +145,15 @@ impl Documents {
         }
     }
 
-    // prepares a creation
+    // prepares a creation that continues what was prepared
     fn create(&mut self, alloc: Global, taken: &Taken, name: &Name) -> Result<(), Refusal>
         requires name { taken.now.name ≡ Some name.now }
+        requires continues { grows self.old.after taken.now ≡ true }
         ensures ok { OnOk result (self.new ≡ record self.old { after = grown self.old.after taken.now }) }
-        ensures grow { OnOk result (grows self.old.after taken.now ≡ true) }
-        ensures stranger { IsErrOf result Refusal.Stranger → grows self.old.after taken.now ≡ false }
-        ensures only { IfErr result (λ e. (e ≡ Refusal.Stranger) ⊎ (e ≡ Refusal.NoMemory)) }
+        ensures only { IsOkUnless result Refusal.NoMemory }
         ensures unchanged { OnErr result (self.new ≡ self.old) }
     {
         let number = taken.document();
-        if !self.has_room_for(number, name) {
-            return Err(Refusal::Stranger);
-        }
         let document = begin(alloc, self.limits, taken, name)?;
         self.touched.push(number)?;
         push_named(
@@ -143,7 +177,7 @@ impl Documents {
             ≡ record self.old {
               after = record self.old.after {
                 documents = self.old.after.documents
-                    ++ held document ∷ [];
+                    ++ record_of document ∷ [];
               };
             }) }
         ensures only { IsOkUnless result Refusal.NoMemory }
@@ -184,13 +218,14 @@ impl Documents {
         self.names.number(name).is_none()
     }
 
-    /// Prepares commands in order. What it is refused with, and when, `prepare` says; then the first of them may be
+    /// Prepares commands in order. What it is refused with, and when, `prepare` says of each; then the first of them may be
     /// prepared, but what is held stays as it is.
     pub(crate) fn prepare_all(&mut self, alloc: Global, batch: &[Taken]) -> Result<(), Refusal>
         ensures before { self.new.before ≡ self.old.before }
         ensures ok { OnOk result (self.new.after ≡ fold self.old.after batch.now) }
         ensures grow { OnOk result (all_grow self.old.after batch.now ≡ true) }
         ensures stranger { IsErrOf result Refusal.Stranger → all_grow self.old.after batch.now ≡ false }
+        ensures memory { IsErrOf result Refusal.NoMemory → first_grows self.old.after batch.now ≡ true }
         ensures only { IfErr result (λ e. (e ≡ Refusal.Stranger) ⊎ (e ≡ Refusal.NoMemory)) }
     {
         for taken in batch {
@@ -218,42 +253,47 @@ impl Documents {
     }
 }
 
-// prepares an edit or an undo of a document that is there
+// whether an edit or an undo continues a document that is there
+fn may_change(documents: &[DocState], limits: Limits, taken: &Taken) -> bool
+    ensures { result
+        ≡ continues_by_name limits (slice_get (map (with_prepared limits.keep) documents.now) taken.now.document)
+        taken.now None }
+{
+    match documents.get(taken.document() as usize) {
+        Some(document) => document.is_followed(limits, taken),
+        None => false,
+    }
+}
+
+// prepares an edit or an undo that continues a document
 fn change(
     alloc: Global,
     documents: &mut Vec<DocState>,
     limits: Limits,
     taken: &Taken,
 ) -> Result<(), Refusal>
+    requires limits { IsLimits limits }
+    requires continues { continues_by_name limits
+        (slice_get (map (with_prepared limits.keep) documents.old.items) taken.now.document) taken.now None ≡ true }
     ensures ok { OnOk result (documents.new.items
         ≡ changed_at (with_next (change_of taken.now)) taken.now.document documents.old.items) }
-    ensures continues { OnOk result
-        (continues_by_name limits (slice_get (map (with_prepared limits.keep) documents.old.items) taken.now.document)
-        taken.now None ≡ true) }
-    ensures stranger { IsErrOf result Refusal.Stranger
-        → continues_by_name limits (slice_get (map (with_prepared limits.keep) documents.old.items) taken.now.document)
-        taken.now None ≡ false }
-    ensures only { IfErr result (λ e. (e ≡ Refusal.Stranger) ⊎ (e ≡ Refusal.NoMemory)) }
+    ensures only { IsOkUnless result Refusal.NoMemory }
     ensures unchanged { OnErr result (documents.new.items ≡ documents.old.items) }
 {
     let number = taken.document() as usize;
-    if number >= documents.len() {
-        return Err(Refusal::Stranger);
-    }
-    documents[number].prepare(alloc, limits, taken)?;
+    documents[number].prepare_next(alloc, limits, taken)?;
     Ok(())
 }
 
 // the document that a creation begins, with its first change prepared
 fn begin(alloc: Global, limits: Limits, taken: &Taken, name: &Name) -> Result<DocState, Refusal>
-    requires { IsLimits limits }
+    requires limits { IsLimits limits }
+    requires begins { spec_begins limits taken.now ≡ true }
     ensures ok { IfOk result (λ made. made ≡ begun name.now (change_of taken.now)) }
-    ensures begins { OnOk result (begins limits taken.now ≡ true) }
-    ensures stranger { IsErrOf result Refusal.Stranger → begins limits taken.now ≡ false }
-    ensures only { IfErr result (λ e. (e ≡ Refusal.Stranger) ⊎ (e ≡ Refusal.NoMemory)) }
+    ensures only { IsOkUnless result Refusal.NoMemory }
 {
     let mut document = DocState::empty(alloc, name.copy(alloc)?);
-    document.prepare(alloc, limits, taken)?;
+    document.prepare_next(alloc, limits, taken)?;
     Ok(document)
 }
 

@@ -1,6 +1,6 @@
 //! What was taken is added to the state.
-ghost use Rattle.std.specs.Prelude.{◌≡◌, ◌⊎◌, true, false, IfOk, IfErr, OnOk, OnErr, IsErrOf};
-ghost use Rattle.revision.specs.State.{grows, grown, fold, all_grow};
+ghost use Rattle.std.specs.Prelude.{◌≡◌, ◌↔◌, ◌⊎◌, true, false, IfOk, IfErr, OnOk, OnErr, IsErrOf};
+ghost use Rattle.revision.specs.State.{grows, grown, fold, all_grow, first_grows};
 
 use crate::state::{PreparedState, State, Unprepared};
 use crate::taken::Taken;
@@ -9,7 +9,9 @@ use std::alloc::Global;
 
 impl State {
     /// Prepares commands in order, all of them or none. Refused with `Stranger` where one of them doesn't continue what
-    /// those before it make, unless memory runs out first (`NoMemory`); the state then comes back as it was.
+    /// those before it make, unless memory runs out before that one is looked at (`NoMemory`). The first command is looked at
+    /// before any memory is taken, so for it alone the order is sure: where it doesn't continue the state, the refusal is
+    /// `Stranger`. The state then comes back as it was.
     #[tactic(auto, using(crate::proofs::Keeping::all_keep))]
     pub fn prepare(self, alloc: Global, batch: &[Taken]) -> Result<PreparedState, Unprepared>
         ensures before { IfOk result (λ prepared. prepared.before ≡ self) }
@@ -18,6 +20,8 @@ impl State {
         ensures unchanged { IfErr result (λ unprepared. unprepared.state ≡ self) }
         ensures stranger { IfErr result (λ unprepared. unprepared.refusal ≡ Refusal.Stranger
             → all_grow self batch.now ≡ false) }
+        ensures memory { IfErr result (λ unprepared. unprepared.refusal ≡ Refusal.NoMemory
+            → first_grows self batch.now ≡ true) }
         ensures only { IfErr result (λ unprepared. (unprepared.refusal ≡ Refusal.Stranger)
             ⊎ (unprepared.refusal ≡ Refusal.NoMemory)) }
     {
@@ -34,12 +38,12 @@ impl State {
         }
     }
 
-    /// Adds a command that was taken. Refused with `Stranger` just where it doesn't continue the state, unless memory
-    /// runs out first (`NoMemory`). A refusal leaves the state unchanged.
+    /// Adds a command that was taken. Refused with `Stranger` just where it doesn't continue the state, which is told before
+    /// memory is taken; else for want of memory alone (`NoMemory`). A refusal leaves the state unchanged.
     pub fn absorb(&mut self, alloc: Global, taken: &Taken) -> Result<(), Refusal>
         ensures ok { OnOk result (self.new ≡ grown self.old taken.now) }
         ensures grow { OnOk result (grows self.old taken.now ≡ true) }
-        ensures stranger { IsErrOf result Refusal.Stranger → grows self.old taken.now ≡ false }
+        ensures stranger { IsErrOf result Refusal.Stranger ↔ (grows self.old taken.now ≡ false) }
         ensures only { IfErr result (λ e. (e ≡ Refusal.Stranger) ⊎ (e ≡ Refusal.NoMemory)) }
         ensures unchanged { OnErr result (self.new ≡ self.old) }
     {
@@ -49,12 +53,14 @@ impl State {
     }
 
     /// Adds commands in order, all of them or none. Refused with `Stranger` where one of them doesn't continue what
-    /// those before it have made, unless memory runs out first (`NoMemory`). A refusal leaves the state unchanged.
+    /// those before it have made, unless memory runs out before that one is looked at (`NoMemory`), which for the first
+    /// command can't be. A refusal leaves the state unchanged.
     #[tactic(auto, using(crate::proofs::Keeping::all_keep))]
     pub fn absorb_all(&mut self, alloc: Global, batch: &[Taken]) -> Result<(), Refusal>
         ensures ok { OnOk result (self.new ≡ fold self.old batch.now) }
         ensures grow { OnOk result (all_grow self.old batch.now ≡ true) }
         ensures stranger { IsErrOf result Refusal.Stranger → all_grow self.old batch.now ≡ false }
+        ensures memory { IsErrOf result Refusal.NoMemory → first_grows self.old batch.now ≡ true }
         ensures only { IfErr result (λ e. (e ≡ Refusal.Stranger) ⊎ (e ≡ Refusal.NoMemory)) }
         ensures unchanged { OnErr result (self.new ≡ self.old) }
     {

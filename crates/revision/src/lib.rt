@@ -8,6 +8,30 @@
 //! in specs/Past.antt, and how an edit is made late in specs/Late.antt; what every state keeps, in specs/Invariants.antt, and
 //! when two states hold the same, in specs/Agree.antt. `laws` has what holds of them. It stands on `delta`, `document`,
 //! `compose` and `xform`.
+//!
+//! A caller, with its contract, which `revision_tests` proves as it stands:
+//!
+//! ```text
+//! ghost use Rattle.std.specs.Prelude.{◌≡◌, ◌⊎◌, IfOk, IfErr};
+//! ghost use Rattle.revision.specs.Acceptance.{TakenAt, AgainAt, Refused, decide};
+//!
+//! use refusal::Refusal;
+//! use revision::{Command, Reply, State};
+//! use std::alloc::Global;
+//!
+//! /// The revision that a command made: now, or when it was sent first, and then the state stays as it is.
+//! pub fn revision_for(alloc: Global, state: &mut State, command: &Command) -> Result<u64, Refusal>
+//!     ensures made { IfOk result (λ rev. (decide state.old command.now ≡ (TakenAt rev, state.new))
+//!         ⊎ (decide state.old command.now ≡ (AgainAt rev, state.new))) }
+//!     ensures refused { IfErr result (λ e. (decide state.old command.now ≡ (Refused e, state.new))
+//!         ⊎ ((e ≡ Refusal.NoMemory) × (state.new ≡ state.old))) }
+//! {
+//!     match state.decide(alloc, command)? {
+//!         Reply::Taken { rev } => Ok(rev),
+//!         Reply::Again { rev } => Ok(rev),
+//!     }
+//! }
+//! ```
 #![tactic(auto)]
 
 mod adopting;

@@ -3,7 +3,7 @@ ghost use Rattle.std.specs.Prelude.{◌≡◌, ◌≢◌, ◌⊎◌, ◌<◌, �
 ghost use Rattle.revision.specs.Acceptance.{answer, by_number, take_on, create_existing, create_new, edit, undo, change, Takes, Refuses};
 ghost use Rattle.revision.specs.Command.{Taken as Change, IsShortDelta};
 ghost use Rattle.revision.specs.Invariants.{IsPast};
-ghost use Rattle.revision.specs.Pending.{held};
+ghost use Rattle.revision.specs.Pending.{record_of};
 ghost use Rattle.revision.specs.Sources.{last_of};
 ghost use Rattle.revision.specs.State.{sources_of, has_place as spec_has_place};
 ghost use Rattle.revision.specs.Planned.{Gives, IsTurn, IsAsked, IsDecided, PlanGrows};
@@ -108,7 +108,7 @@ impl State {
 }
 
 fn plan_existing(found: &DocState, command: &Command) -> Result<Plan, Refusal>
-    ensures { Gives result (create_existing (held found.now) command.now) }
+    ensures { Gives result (create_existing (record_of found.now) command.now) }
 {
     let last = found.last(command.source());
     if 0 < last.number && command.number() == last.number {
@@ -150,11 +150,11 @@ fn plan_edit(
     base: u64,
     delta: &Delta,
 ) -> Result<Plan, Refusal>
-    requires past { IsPast state.now.limits (held found.now).past }
+    requires past { IsPast state.now.limits (record_of found.now).past }
     requires short { IsShortDelta delta.now }
     ensures { Gives result
-        (by_number (last_of command.now.source (sources_of (held found.now))) command.now.number
-        (edit state.now number (held found.now) command.now base delta.now)) }
+        (by_number (last_of command.now.source (sources_of (record_of found.now))) command.now.number
+        (edit state.now number (record_of found.now) command.now base delta.now)) }
 {
     match turn(found.last(command.source()), command.number()) {
         Ok(None) => {}
@@ -181,10 +181,10 @@ fn plan_undo(
     found: &DocState,
     command: &Command,
 ) -> Result<Plan, Refusal>
-    requires past { IsPast state.now.limits (held found.now).past }
+    requires past { IsPast state.now.limits (record_of found.now).past }
     ensures { Gives result
-        (by_number (last_of command.now.source (sources_of (held found.now))) command.now.number
-        (undo state.now number (held found.now) command.now)) }
+        (by_number (last_of command.now.source (sources_of (record_of found.now))) command.now.number
+        (undo state.now number (record_of found.now) command.now)) }
 {
     let last = found.last(command.source());
     match turn(last, command.number()) {
@@ -211,8 +211,8 @@ fn plan_change(
     command: &Command,
     delta: Delta,
 ) -> Result<Plan, Refusal>
-    requires past { IsPast state.now.limits (held found.now).past }
-    ensures { Gives result (change state.now number (held found.now) command.now delta) }
+    requires past { IsPast state.now.limits (record_of found.now).past }
+    ensures { Gives result (change state.now number (record_of found.now) command.now delta) }
 {
     let revision = found.revision();
     if revision == LAST {

@@ -1,7 +1,7 @@
 //! What is read of a document's past.
-ghost use Rattle.std.specs.Prelude.{◌≡◌, ◌⊎◌, ◌≤◌, IfOk};
+ghost use Rattle.std.specs.Prelude.{◌≡◌, ◌≢◌, ◌⊎◌, ◌≤◌, IfOk, IfErr, IsOk, IsErrOf};
 ghost use Rattle.revision.specs.Past.{newest};
-ghost use Rattle.revision.specs.Pending.{held};
+ghost use Rattle.revision.specs.Pending.{record_of};
 ghost use Rattle.revision.specs.Readings.{document_at, taken_since, past_at, read_as};
 
 use crate::doc_state::DocState;
@@ -14,9 +14,11 @@ use std::alloc::Global;
 
 impl State {
     /// What stood in a document at a revision. Refused with `NoDocument`, `Future` where the revision is above the newest one,
-    /// `TooOld` where it is below the floor, or for want of memory. specs/Readings.antt states it as `document_at`.
+    /// `TooOld` where it is below the floor, which is told before memory is taken; else for want of memory alone.
+    /// specs/Readings.antt states it as `document_at`.
     pub fn at(&self, alloc: Global, name: &Name, revision: u64) -> Result<Document, Refusal>
-        ensures { (result ≡ document_at self.now name.now revision) ⊎ (result ≡ Err Refusal.NoMemory) }
+        ensures document { (result ≡ document_at self.now name.now revision) ⊎ (result ≡ Err Refusal.NoMemory) }
+        ensures memory { IsErrOf result Refusal.NoMemory → IsOk (document_at self.now name.now revision) }
     {
         held_at(self, name, revision)?.document_at(alloc, revision)
     }
@@ -32,9 +34,10 @@ impl State {
 
 // the document of a name, where it holds a revision
 fn held_at<'a>(state: &'a State, name: &Name, revision: u64) -> Result<&'a DocState, Refusal>
-    ensures past { read_as (λ found. (held found.now).past) result ≡ past_at state.now name.now revision }
+    ensures past { read_as (λ found. (record_of found.now).past) result ≡ past_at state.now name.now revision }
     ensures held { IfOk result (λ found. found.now.past.past.floor ≤ revision) }
     ensures there { IfOk result (λ found. revision ≤ newest found.now.past.past) }
+    ensures no_memory { IfErr result (λ e. e ≢ Refusal.NoMemory) }
 {
     let found = match state.find(name) {
         Some((_, found)) => found,

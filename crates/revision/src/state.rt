@@ -1,7 +1,7 @@
 //! What a store holds: documents in order of creation, under limits.
 ghost use Rattle.std.specs.Prelude.{◌≡◌, ◌≤◌, [], length, map, option_map};
 ghost use Rattle.revision.specs.Invariants.{IsState};
-ghost use Rattle.revision.specs.Pending.{held};
+ghost use Rattle.revision.specs.Pending.{record_of};
 ghost use Rattle.revision.specs.State.{find};
 
 use crate::doc_state::DocState;
@@ -54,7 +54,7 @@ impl State {
 
     /// The documents in order of creation, at most 65,536.
     pub fn documents(&self) -> &[DocState]
-        ensures documents { map held result.now ≡ self.now.documents }
+        ensures documents { map record_of result.now ≡ self.now.documents }
         ensures bound { length result.now ≤ 65536 }
     {
         self.documents.documents()
@@ -62,7 +62,7 @@ impl State {
 
     /// The document of this name with its number. It doesn't go through all documents.
     pub fn find(&self, name: &Name) -> Option<(u32, &DocState)>
-        ensures { option_map (λ p. (p.0, held p.1.now)) result ≡ find name.now 0 self.now.documents }
+        ensures { option_map (λ p. (p.0, record_of p.1.now)) result ≡ find name.now 0 self.now.documents }
     {
         self.documents.find(name)
     }

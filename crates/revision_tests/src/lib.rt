@@ -1,6 +1,8 @@
 //! Tests of `revision`, by its public calls alone. They stand apart from that crate so that it is proved once. Which revision
 //! and which text comes of a command, what it weighs and how wide its entry is, is worked out by hand from docs/ACCEPTANCE.md
 //! and docs/FORMATS.md.
+//!
+//! `callers` has the callers that open `lib.rt` of revision and of history, proved.
 #![tactic(auto)]
 
 #[cfg(test)]
@@ -9,6 +11,7 @@ mod adopting;
 mod asking;
 #[cfg(test)]
 mod batches;
+pub mod callers;
 #[cfg(test)]
 mod copies;
 #[cfg(test)]

@@ -2,7 +2,7 @@
 ghost use Rattle.std.specs.Prelude.{◌≡◌, ◌⊎◌, OnOk, IfOk, IfErr};
 ghost use Rattle.std.specs.String.{string_bytes};
 ghost use Rattle.std.specs.Io.KnownBytes.{Appends};
-ghost use Rattle.revision.specs.Pending.{held};
+ghost use Rattle.revision.specs.Pending.{record_of};
 ghost use Rattle.serving.specs.Dump as spec;
 
 use crate::failure::Failure;
@@ -32,7 +32,7 @@ pub fn dump<W: Write>(alloc: Global, state: &State, output: &mut W) -> Result<()
 }
 
 fn line_of(alloc: Global, document: &DocState) -> Result<String, Refusal>
-    ensures ok { IfOk result (λ line. string_bytes line ≡ spec.document_line (held document.now)) }
+    ensures ok { IfOk result (λ line. string_bytes line ≡ spec.document_line (record_of document.now)) }
     ensures only { IfErr result (λ e. e ≡ Refusal.NoMemory) }
 {
     let delta = document.document().as_delta(alloc)?;

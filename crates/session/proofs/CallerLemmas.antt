@@ -5,3 +5,5 @@ pub use Rattle.session.proofs.Calling.{calls-joined, calls-one}
 pub use Rattle.session.proofs.Writes.{on_ok, appends-both}
 -- and what fits a state fits each later one
 pub use Rattle.session.proofs.Later.{fits_later, later_by}
+-- and what asks for no less than another line
+pub use Rattle.session.proofs.Sending.{asked_more}

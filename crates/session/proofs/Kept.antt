@@ -9,8 +9,7 @@ use Rattle.std.proofs.Math.ListN.{set}
 use Rattle.std.proofs.lemmas.List.{take_more, drop_more, set_at, get_or_at, take_at, length-take-le}
 use Rattle.attributes.specs.Map.{by_bytes}
 use Rattle.attributes.specs.Place.{IsHere, IsFree}
-use Rattle.attributes.proofs.Maps.{T_parts}
-use Rattle.attributes.proofs.Places.{set-here, remove-here, insert-free}
+use Rattle.attributes.proofs.CallerLemmas.{T_parts, set-here, remove-here, insert-free}
 use Rattle.session.specs.News.{subscription, going_on}
 use Rattle.session.specs.Subscriptions.{Subscriptions, with_subscription, without_subscription}
 

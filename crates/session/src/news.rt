@@ -1,7 +1,7 @@
 //! What is told of the documents that a session follows.
 ghost use Rattle.std.specs.Prelude.{◌≡◌, ◌+◌, ◌<◌, ◌^◌, ◌++◌, Some, length, IfOk, OnOk};
 ghost use Rattle.std.specs.String.{string_bytes};
-ghost use Rattle.revision.specs.Pending.{held};
+ghost use Rattle.revision.specs.Pending.{record_of};
 ghost use Rattle.session.specs.News as spec;
 
 use crate::reply::{ended_line, news_line};
@@ -64,8 +64,8 @@ fn tell_of(
     text: &mut String,
 ) -> Result<Option<u64>, AllocError>
     ensures text { OnOk result (string_bytes text.new ≡ string_bytes text.old
-        ++ spec.lines_after name.now last (held found.now).past) }
-    ensures last { IfOk result (λ told. told ≡ spec.last_after last (held found.now).past) }
+        ++ spec.lines_after name.now last (record_of found.now).past) }
+    ensures last { IfOk result (λ told. told ≡ spec.last_after last (record_of found.now).past) }
 {
     if last < found.floor() {
         let line = ended_line(alloc, name)?;

@@ -3,7 +3,7 @@ ghost use Rattle.std.specs.Prelude.{◌≡◌, ◌≢◌, Some, IfOk};
 ghost use Rattle.revision.specs.Readings.{at_revision};
 ghost use Rattle.session.specs.Subscriptions.{may_follow};
 ghost use Rattle.std.specs.String.{string_bytes};
-ghost use Rattle.revision.specs.Pending.{held};
+ghost use Rattle.revision.specs.Pending.{record_of};
 ghost use Rattle.session.specs.declared.question.Question.TheVariants.{Newest, At, Since};
 ghost use Rattle.session.specs.Reads.{told, line_told, read_line};
 ghost use Rattle.session.specs.Reply.{refusal_line};
@@ -92,7 +92,7 @@ fn read_since(alloc: Global, state: &State, name: &Name, rev: u64) -> Result<Str
 
 fn since_of(alloc: Global, name: &Name, found: &DocState, rev: u64) -> Result<String, AllocError>
     ensures { IfOk result (λ text. string_bytes text
-        ≡ line_told (told name.now (Since rev) (Some (0, held found.now)))) }
+        ≡ line_told (told name.now (Since rev) (Some (0, record_of found.now)))) }
 {
     if rev > found.revision() {
         return refusal_reply(alloc, Refusal::Future);
@@ -114,7 +114,7 @@ pub fn check_held(state: &State, name: &Name, rev: u64) -> Result<(), Refusal>
 }
 
 fn check_rev(found: &DocState, rev: u64) -> Result<(), Refusal>
-    ensures { result ≡ at_revision rev (Some (0, held found.now)) (λ past. tt) }
+    ensures { result ≡ at_revision rev (Some (0, record_of found.now)) (λ past. tt) }
 {
     if rev > found.revision() {
         return Err(Refusal::Future);

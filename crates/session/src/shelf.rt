@@ -3,7 +3,7 @@ ghost use Rattle.std.specs.Prelude.{◌≡◌, ◌≤◌, [], length, IfOk, IfEr
 ghost use Rattle.std.specs.Fn.{FnOnceReturnsAt};
 ghost use Rattle.std.specs.String.{string_bytes};
 ghost use Rattle.revision.specs.Past.{newest};
-ghost use Rattle.revision.specs.Pending.{held};
+ghost use Rattle.revision.specs.Pending.{record_of};
 ghost use Rattle.revision.specs.Readings.{document_at, past_at, read_as};
 ghost use Rattle.revision.specs.State as spec;
 ghost use Rattle.session.specs.Shelf.{Fits, IsGiven, IsGivenLook, IsShown};
@@ -151,7 +151,7 @@ impl Shelf {
 
 // The document of a name, where it holds a revision.
 fn held_at<'a>(state: &'a State, name: &Name, revision: u64) -> Result<&'a DocState, Refusal>
-    ensures past { read_as (λ found. (held found.now).past) result ≡ past_at state.now name.now revision }
+    ensures past { read_as (λ found. (record_of found.now).past) result ≡ past_at state.now name.now revision }
     ensures held { IfOk result (λ found. found.now.past.past.floor ≤ revision) }
     ensures there { IfOk result (λ found. revision ≤ newest found.now.past.past) }
 {

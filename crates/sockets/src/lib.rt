@@ -7,6 +7,28 @@
 //! one, and the system takes a little more where it seemed full, so that this comes about after 5 to 15 seconds. When the listener fails
 //! each session ends within its next read.
 //!
+//! A caller, which `listening_tests` proves safe as it stands:
+//!
+//! ```text
+//! use session::Desk;
+//! use sockets::serve_desks;
+//! use std::alloc::{AllocError, Global};
+//! use std::net::{OpenListener, TcpStream};
+//! use std::sync::Wait;
+//! use std::thread::Threads;
+//!
+//! /// Serves one connection after another by a single desk, until the listener fails.
+//! pub fn serve_in_turn<
+//!     K: Desk + Send + Drop,
+//!     R: Threads + Wait + Sync,
+//!     N: OpenListener<Stream = TcpStream>,
+//! >(rt: &R, alloc: Global, desk: K, listener: &N) -> Result<(), AllocError> {
+//!     let mut desks = Vec::new(alloc);
+//!     desks.push(desk)?;
+//!     serve_desks(rt, alloc, desks, listener)
+//! }
+//! ```
+//!
 //! # What is proved
 //!
 //! What a session answers and writes is the contract of `session` for any desk. This layer adds safety, that no connection waits for a

@@ -20,6 +20,8 @@ mod devices;
 #[cfg(test)]
 mod freeing;
 #[cfg(test)]
+mod heaviest;
+#[cfg(test)]
 mod jobs;
 #[cfg(test)]
 mod large;

@@ -3,8 +3,8 @@ use crate::jobs::{JobRow, has_jobs, job};
 use crate::picks::{FIRST, SECOND, written};
 use crate::stopping::{LEFT, calls_before};
 use crate::stores::{
-    Row, change, device_of, differ_by, has_documents, is_answer, is_opened_as, open_by, open_store,
-    session, small_device,
+    EditRow, Row, change, device_of, differ_by, has_documents, is_answer, is_opened_as, open_by,
+    open_store, session, small_device,
 };
 use disk::{Disk, FaultDisk, FaultPlan, Left};
 use milestone::{Composed, Job, compose_job};
@@ -119,6 +119,29 @@ fn a_milestone_of_an_older_revision(rt: HostRuntime) {
     is_opened_as(&rt, disk.bytes(), "d 3 qzx\n");
     has_floor(&rt, disk.bytes(), Pick::Newer, 2);
     has_floor(&rt, disk.bytes(), Pick::Older, 2);
+}
+
+// The document is held from the milestone's revision on, and has three revisions. Two below the newest would be held without it.
+const EDITS_BEHIND: [EditRow; 3] = [
+    (4, 1, "w", "error 13 TooOld"),
+    (4, 4, "w", "error 12 Future"),
+    (4, 2, "w", "taken 4"),
+];
+
+#[test]
+fn edits_behind_a_milestone(rt: HostRuntime) {
+    let mut store = open_store(&rt, device_of(&rt, &created(&rt)));
+    change(&rt, &mut store, &(2, 1, "x", "taken 2"));
+    change(&rt, &mut store, &(3, 2, "q", "taken 3"));
+    is_put(&rt, &mut store, 2, Ok(()));
+    let disk = store.close();
+    has_floor(&rt, disk.bytes(), Pick::Newer, 2);
+    has_floor(&rt, disk.bytes(), Pick::Older, 2);
+    let mut store = open_store(&rt, disk);
+    for row in &EDITS_BEHIND {
+        change(&rt, &mut store, row);
+    }
+    has_documents(&rt, store.state(), "d 4 qwxz\n");
 }
 
 // Both cells are open, and the put goes wrong at a call of it, counted from 0.

@@ -1,3 +1,4 @@
 pub mod CodeUnits
 pub mod Walk
+pub mod Widths
 pub mod CallerLemmas

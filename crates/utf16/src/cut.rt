@@ -2,6 +2,8 @@
 ghost use Rattle.std.specs.Prelude.{◌≡◌, ◌++◌, ◌<◌, ◌↔◌, length, take, drop, IfOk};
 ghost use Rattle.utf16.specs.Units.{units_of, IsInPair};
 
+use crate::len::widths;
+
 /// Why a text can't be cut at a code unit.
 #[derive(Clone, Copy, Debug, PartialEq, Eq)]
 pub enum Cut {
@@ -20,12 +22,15 @@ pub fn split_at16(text: &str, at: u64) -> Result<(&str, &str), Cut>
     ensures past_end { (result ≡ Err Cut.PastEnd) ↔ (length (units_of text.now) < at) }
     ensures in_pair { (result ≡ Err Cut.InPair) ↔ IsInPair (units_of text.now) at }
 {
-    let mut units = 0;
-    for (bytes, c) in text.char_indices() {
+    let all = text.as_bytes();
+    let (mut bytes, mut units) = (0, 0);
+    while bytes < all.len() {
         if units == at {
             return Ok(text.split_at(bytes));
         }
-        units += c.len_utf16() as u64;
+        let (spelled, wide) = widths(all[bytes]);
+        bytes += spelled;
+        units += wide;
         if units > at {
             return Err(Cut::InPair);
         }

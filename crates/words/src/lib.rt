@@ -4,7 +4,7 @@
 //! asked for help, or who asked for the version. Which words mean what is tested, and not proved. It stands on `clap`,
 //! and on `algebra` for the tasks on deltas.
 //!
-//! A caller, with its contract, which is proved as it stands:
+//! A caller, which is proved to be safe as it stands. It has no other contract:
 //!
 //! ```text
 //! use std::alloc::Global;

@@ -11,7 +11,7 @@ use Rattle.world.specs.Board.{Ticket}
 use Rattle.world.specs.World.{Entry, takens, World, begun, is_of, last_sent}
 use Rattle.world.specs.Step.{run}
 use Rattle.world.specs.Shown.{Shown, all_shown}
-use Rattle.world.specs.Law.{OverAll, revision_named, last_found, last_held, Made, IsKept, AcksStay, TakenOnce, OneRevision, NothingTakenBack, KeptIsAgain, AcksAreShown, ShownStays, StateIsFold}
+use Rattle.world.specs.Law.{OverAll, revision_named, last_found, last_held, Made, HasTaken, AcksStay, TakenOnce, OneRevision, NothingTakenBack, TakenIsAgain, AcksAreShown, ShownStays, StateIsFold}
 use Rattle.world.proofs.Showing.{shown-fold}
 use Rattle.world.proofs.Numbers.{last_in, noted, Placed, same_bytes, last-grown}
 use Rattle.world.proofs.Histories.{AllPlaced, after, placed-take, placed-at, Makes, made_by, all_above, once, sender_same}
@@ -77,10 +77,10 @@ makes-made command revision last is e makes =
 pub nothing-taken_back : (world : World) → Holds world → NothingTakenBack world
 nothing-taken_back world holds kept may =
     All-weaker (StandsSettled (all_shown world.board.start) world.board.order world.board.settled)
-    (λ (ack : Ticket). IsKept world.board.start (take kept world.board.order) ack.command (revision_named ack.reply)) each world.acks holds.acks
+    (λ (ack : Ticket). HasTaken world.board.start (take kept world.board.order) ack.command (revision_named ack.reply)) each world.acks holds.acks
   where
     each : (ack : Ticket) → StandsSettled (all_shown world.board.start) world.board.order world.board.settled ack
-        → IsKept world.board.start (take kept world.board.order) ack.command (revision_named ack.reply)
+        → HasTaken world.board.start (take kept world.board.order) ack.command (revision_named ack.reply)
     each ack stands = elim (made_by ack.command.name ack.command.source (all_shown world.board.start) (take ack.length world.board.order)
         (placed-take ack.length (all_shown world.board.start) world.board.order holds.placed)) [
           | inl there ↦ inl (any-take (Made ack.command (revision_named ack.reply)) ack.length (take kept world.board.order)
@@ -110,8 +110,8 @@ last-at documents entries placed command revision n e lt is made =
     numbered : noted e.taken ≡ record { number = command.number; revision = revision }
     numbered = λ i. record { number = (here.number ∙ sym made.0.2) i; revision = made.1 i }
 
-pub kept-is_again : (world : World) → Holds world → KeptIsAgain world
-kept-is_again world holds command revision some kept greatest =
+pub taken-is_again : (world : World) → Holds world → TakenIsAgain world
+taken-is_again world holds command revision some kept greatest =
     last_repeats world.board.state command revision some (ap (last_in command.name command.source) holds.state ∙ last kept)
   where
     at_start : last_held world.board.start command ≡ last_in command.name command.source (all_shown world.board.start)
@@ -138,7 +138,7 @@ kept-is_again world holds command revision some kept greatest =
         ⊎ (last_in command.name command.source (after (all_shown world.board.start) world.board.order) ≡ last_in command.name command.source (all_shown world.board.start))
     made = made_by command.name command.source (all_shown world.board.start) world.board.order holds.placed
 
-    last : IsKept world.board.start world.board.order command revision
+    last : HasTaken world.board.start world.board.order command revision
         → last_in command.name command.source (after (all_shown world.board.start) world.board.order) ≡ record { number = command.number; revision = revision }
     last (inl there) =
         let is : is_of command.name command.source there.1.command ≡ true = sender_same command there.1.command there.4.0.0 there.4.0.1 in

@@ -14,3 +14,4 @@ pub mod Agreeing
 pub mod SameBoards
 pub mod Milestones
 pub mod Steps
+pub mod CallerLemmas

@@ -47,8 +47,8 @@ abbrev pub Made : Command → ℕ → Entry → Type 0
 Made command revision entry = IsSent command entry.command × (entry.taken.revision ≡ revision)
 
 -- A number made this revision: an entry among these did, or the start had it so.
-abbrev pub IsKept : State → List Entry → Command → ℕ → Type 0
-IsKept start entries command revision =
+abbrev pub HasTaken : State → List Entry → Command → ℕ → Type 0
+HasTaken start entries command revision =
     Any (Made command revision) entries ⊎ (last_held start command ≡ record { number = command.number; revision = revision })
 
 -- No acknowledged edit is missing: whatever is left of the order has all that an acknowledgement waited for.
@@ -72,11 +72,11 @@ OneRevision world = AllPairs (λ (a b : Ticket). IsSent a.command b.command → 
 -- What an acknowledgement names, of a first sending or a retry, is never taken back: whatever is left of the order has it.
 abbrev pub NothingTakenBack : World → Type 0
 NothingTakenBack world =
-    HowMuchIsLeft world (λ kept. All (λ (ack : Ticket). IsKept world.board.start (take kept world.board.order) ack.command (revision_named ack.reply)) world.acks)
+    HowMuchIsLeft world (λ kept. All (λ (ack : Ticket). HasTaken world.board.start (take kept world.board.order) ack.command (revision_named ack.reply)) world.acks)
 
 -- A number that the order or the start has, and that is the last one that its source sent, is answered as a retry, with its revision.
-abbrev pub KeptIsAgain : World → Type 0
-KeptIsAgain world = (command : Command) (revision : ℕ) → 1 ≤ command.number → IsKept world.board.start world.board.order command revision
+abbrev pub TakenIsAgain : World → Type 0
+TakenIsAgain world = (command : Command) (revision : ℕ) → 1 ≤ command.number → HasTaken world.board.start world.board.order command revision
     → last_sent command.name command.source world.sent ≤ command.number → answer world.board.state command ≡ Repeats revision
 
 -- What readers are shown is never taken back: it is a beginning of the order, and whatever is left of that has it.
@@ -86,7 +86,7 @@ pub record ShownStays (world : World) : Type 0 where
 
 -- Nothing that was promised is forgotten or rewritten, whatever happens after it: what is shown, with its deltas, and all
 -- acknowledgements are beginnings of what is shown and acknowledged later.
-pub record GoesOn (early late : World) : Type 0 where
+pub record NothingRewritten (early late : World) : Type 0 where
   pub shown : early.published ≡ take (length early.published) late.published
   pub acks : early.acks ≡ take (length early.acks) late.acks
 

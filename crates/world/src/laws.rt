@@ -1,7 +1,7 @@
 //! What holds of every schedule, as contracts of functions that do nothing.
 ghost use Rattle.world.specs.Boards.{SameBoard, BatchGoesOn};
 ghost use Rattle.world.specs.Following.{Follows};
-ghost use Rattle.world.specs.Law.{OverAll, OverAllFurther, AcksStay, AcksAreShown, TakenOnce, OneRevision, NothingTakenBack, KeptIsAgain, ShownStays, GoesOn, StateIsFold, StateAgrees};
+ghost use Rattle.world.specs.Law.{OverAll, OverAllFurther, AcksStay, AcksAreShown, TakenOnce, OneRevision, NothingTakenBack, TakenIsAgain, ShownStays, NothingRewritten, StateIsFold, StateAgrees};
 
 /// Over every list of events, with crashes and commands sent again, from every state that a store may begin with: no
 /// acknowledged edit is missing, none is taken twice, and none changes its revision. What was shown and acknowledged after some
@@ -12,9 +12,9 @@ pub fn every_schedule()
     ensures taken_once { OverAll TakenOnce }
     ensures one_revision { OverAll OneRevision }
     ensures nothing_taken_back { OverAll NothingTakenBack }
-    ensures kept_is_again { OverAll KeptIsAgain }
+    ensures taken_is_again { OverAll TakenIsAgain }
     ensures shown_stays { OverAll ShownStays }
-    ensures goes_on { OverAllFurther GoesOn }
+    ensures nothing_rewritten { OverAllFurther NothingRewritten }
     ensures state_is_fold { OverAll StateIsFold }
     ensures state_agrees { OverAll StateAgrees }
 {}

@@ -16,6 +16,31 @@
 //! world, event by event (specs/Stepping.antt). A `Follower` is a plainer one, which goes through a schedule of one source's commands
 //! to one document, with what the rule of acceptance says told to it; `laws::follower_follows` ties it to worlds.
 //!
+//! A caller, with its contract, which `world_tests` proves as it stands:
+//!
+//! ```text
+//! ghost use Rattle.std.specs.Prelude.{IfOk};
+//! ghost use Rattle.world.specs.Law.{AcksStay, TakenOnce};
+//!
+//! use refusal::Refusal;
+//! use revision::Limits;
+//! use std::alloc::Global;
+//! use world::{Event, World, laws};
+//!
+//! /// A world after these events, whichever they are: no acknowledged edit is missing of it, and none is taken twice.
+//! pub fn lived(alloc: Global, limits: Limits, events: &[Event]) -> Result<World, Refusal>
+//!     ensures stay { IfOk result (λ world. AcksStay world) }
+//!     ensures once { IfOk result (λ world. TakenOnce world) }
+//! {
+//!     laws::every_schedule();
+//!     let mut world = World::new(alloc, limits);
+//!     for event in events {
+//!         world.step(alloc, *event)?;
+//!     }
+//!     Ok(world)
+//! }
+//! ```
+//!
 //! # What the law doesn't cover
 //!
 //! - A refusal has no ticket, so it waits for nothing: that a number is old, or that a document exists, may rest on an edit that

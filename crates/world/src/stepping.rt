@@ -2,7 +2,7 @@
 ghost use Rattle.std.specs.Prelude.{◌≡◌, ◌<◌, ◌≤◌, ◌+◌, ◌++◌, ◌&&◌, [], true, nat_le, length, take, map, option_to_list, slice_get, if◌then◌else◌, IfOk, OnOk, OnErr, IsOkUnless};
 ghost use Rattle.std.specs.Vec.{vec_len, vec_capacity};
 ghost use Rattle.revision.specs.Acceptance.{answer};
-ghost use Rattle.revision.specs.Pending.{held};
+ghost use Rattle.revision.specs.Pending.{record_of};
 ghost use Rattle.revision.specs.State.{all_grow, fold};
 ghost use Rattle.world.specs.Event as spec_event;
 ghost use Rattle.world.specs.World.{takens, begun, last_composed as spec_last_composed};
@@ -394,7 +394,7 @@ fn recovered(
 
 // Whether no document's floor is above both what was composed of it and `keep` below its newest revision.
 fn are_reached(keep: u32, composed: &[(usize, u64)], documents: &[DocState]) -> bool
-    ensures { result ≡ spec_are_reached keep composed.now 0 (map held documents.now) }
+    ensures { result ≡ spec_are_reached keep composed.now 0 (map record_of documents.now) }
 {
     for (number, document) in documents.iter().enumerate() {
         let least = document.revision().saturating_sub(u64::from(keep));

@@ -24,7 +24,7 @@ pub record IsSteppedOver (old new : List Element) (len : ℕ) : Type 0 where
   pub formed : IsWellFormed taken
 
 -- so many units were stepped over, and put out with a change
-pub record IsKept (old new : List Element) (len : ℕ) (c : Changes) (out made : List Element) : Type 0 where
+pub record IsRetained (old new : List Element) (len : ℕ) (c : Changes) (out made : List Element) : Type 0 where
   pub passed : IsSteppedOver old new len
   pub made_of : made ≡ out ++ with_change c passed.taken
 

@@ -30,7 +30,7 @@ piece_weight (piece.Text text units a) = 0
 piece_weight (piece.Embed key value a) = named_weight key.now value.now
 
 -- so many units were stepped over, and with a change they weigh so much
-pub record IsKeptWeighed (old new : List Element) (len : ℕ) (c : Changes) (weight : ℕ) : Type 0 where
+pub record IsRetainedWeighed (old new : List Element) (len : ℕ) (c : Changes) (weight : ℕ) : Type 0 where
   pub passed : IsSteppedOver old new len
   pub weighs : weight ≡ min (weight_of (with_change c passed.taken)) (2 ^ 64 - 1)
 

@@ -1,7 +1,7 @@
 use Rattle.std.proofs.Common.{◌+◌, ◌<◌, ◌^◌, length, ap, subst, arith}
 use Rattle.std.proofs.lemmas.List.{take_all}
 use Rattle.delta.specs.Operation.{base_of, out_of}
-use Rattle.document.specs.steps.Passes.{IsKept}
+use Rattle.document.specs.steps.Passes.{IsRetained}
 use Rattle.document.specs.steps.Runs.{units_of_runs}
 use Rattle.document.proofs.Progress.{IsApplied, drop-here, take-here, lengths-split, length-ahead, length-made, applied_more, parts_before, whole_at_end, applied_whole}
 use Rattle.document.proofs.applying.applied.Goals as goal
@@ -43,5 +43,5 @@ returns-clause-units c =
     let all = take_all c.loop-op.op-index c.args.ops.now c.loop-op-test.false in
     applied_whole (units_of_runs c.args.runs.now) c.loop-op.cursor c.keep.new.cursor c.args.ops.now (units_of_runs c.loop-op.made.items) (units_of_runs c.keep.new.out.items) c.args.behind
     (subst (λ ops. IsApplied (units_of_runs c.args.runs.now) c.loop-op.cursor ops (units_of_runs c.loop-op.made.items)) all c.loop-op.invariant.applied)
-    (subst (λ same. IsKept c.loop-op.cursor c.keep.new.cursor c.args.behind same (units_of_runs c.loop-op.made.items) (units_of_runs c.keep.new.out.items)) c.new-same.ensures c.in_ok-keep.ensures.kept)
+    (subst (λ same. IsRetained c.loop-op.cursor c.keep.new.cursor c.args.behind same (units_of_runs c.loop-op.made.items) (units_of_runs c.keep.new.out.items)) c.new-same.ensures c.in_ok-keep.ensures.kept)
     (omega (arith, ap base_of all, length-ahead _ _ _ _ c.loop-op.invariant.applied, c.requires.there))

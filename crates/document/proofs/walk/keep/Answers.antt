@@ -1,5 +1,5 @@
 use Rattle.std.proofs.Common.{◌-◌, arith, subst}
-use Rattle.document.specs.steps.Passes.{IsKept}
+use Rattle.document.specs.steps.Passes.{IsRetained}
 use Rattle.document.specs.steps.Runs.{units_of_runs}
 use Rattle.document.proofs.Passing.{kept_none, kept_on, kept_left, kept_length, kept_whole}
 use Rattle.document.proofs.walk.keep.Goals as goal
@@ -31,5 +31,5 @@ loop-left-preserved c =
 
 pub returns-clause-kept : goal.returns-clause-kept
 returns-clause-kept c =
-    subst (λ n. IsKept c.args.cursor.now c.loop-left.cursor n c.args.change.now (units_of_runs c.args.out.now.items) (units_of_runs c.loop-left.out.items))
+    subst (λ n. IsRetained c.args.cursor.now c.loop-left.cursor n c.args.change.now (units_of_runs c.args.out.now.items) (units_of_runs c.loop-left.out.items))
     (omega (arith, c.loop-left.invariant.less)) c.loop-left.invariant.kept

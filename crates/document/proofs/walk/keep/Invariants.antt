@@ -1,12 +1,12 @@
 use Rattle.std.proofs.Common.{◌+◌, ◌≤◌, ◌-◌, ◌<◌, ◌^◌, length}
 use Rattle.document.specs.Pairs.{IsWithinPair}
-use Rattle.document.specs.steps.Passes.{IsKept}
+use Rattle.document.specs.steps.Passes.{IsRetained}
 use Rattle.document.specs.steps.Runs.{units_of_runs, AreRuns}
 use Rattle.document.proofs.walk.keep.Given as goal
 
 abbrev pub invariant-loop-left : goal.invariant-loop-left
 invariant-loop-left l = record {
-  kept : IsKept l.initial.cursor l.cursor (l.len - l.left) l.change (units_of_runs l.initial.out.items) (units_of_runs l.out.items);
+  kept : IsRetained l.initial.cursor l.cursor (l.len - l.left) l.change (units_of_runs l.initial.out.items) (units_of_runs l.out.items);
   less : l.left ≤ l.len;
   there : l.left ≤ length l.cursor;
   whole : ¬ (IsWithinPair l.cursor l.left);

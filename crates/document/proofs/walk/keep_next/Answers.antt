@@ -1,5 +1,5 @@
 use Rattle.std.proofs.Common.{subst}
-use Rattle.document.specs.steps.Passes.{IsKept}
+use Rattle.document.specs.steps.Passes.{IsRetained}
 use Rattle.document.specs.steps.Runs.{units_of_runs}
 use Rattle.document.proofs.Passing.{kept_run}
 use Rattle.document.proofs.walk.keep_next.Goals as goal
@@ -10,5 +10,5 @@ returns-in-Some-clause-kept c =
 
 pub returns-clause-kept : goal.returns-clause-kept
 returns-clause-kept c =
-    subst (λ d. IsKept d c.keep_part.new.cursor c.in_ok-len.len c.args.change.now (units_of_runs c.args.out.now.items) (units_of_runs c.keep_part.new.out.items))
+    subst (λ d. IsRetained d c.keep_part.new.cursor c.in_ok-len.len c.args.change.now (units_of_runs c.args.out.now.items) (units_of_runs c.keep_part.new.out.items))
     (c.next_run.ensures.none c.in_default.is) c.in_ok-len.ensures.kept

@@ -1,5 +1,5 @@
 use Rattle.std.proofs.Common.{refl, subst}
-use Rattle.document.specs.steps.Weighing.{IsKeptWeighed}
+use Rattle.document.specs.steps.Weighing.{IsRetainedWeighed}
 use Rattle.document.proofs.Measured.{kept_run}
 use Rattle.document.proofs.weights.kept_next_weight.Goals as goal
 
@@ -10,4 +10,4 @@ returns-in-Some-clause-kept c =
 pub returns-clause-kept : goal.returns-clause-kept
 returns-clause-kept c =
     let piece = c.kept_piece_weight-units-2 in
-    subst (λ d. IsKeptWeighed d piece.new.cursor piece.result.0 c.args.change.now piece.result.1) (c.next_run.ensures.none c.in_default.is) piece.ensures.kept
+    subst (λ d. IsRetainedWeighed d piece.new.cursor piece.result.0 c.args.change.now piece.result.1) (c.next_run.ensures.none c.in_default.is) piece.ensures.kept

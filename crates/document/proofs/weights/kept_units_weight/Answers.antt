@@ -1,5 +1,5 @@
 use Rattle.std.proofs.Common.{◌-◌, arith, subst}
-use Rattle.document.specs.steps.Weighing.{IsKeptWeighed}
+use Rattle.document.specs.steps.Weighing.{IsRetainedWeighed}
 use Rattle.document.proofs.Measured.{kept_none, kept_on}
 use Rattle.document.proofs.Passing.{passed_left, passed_whole_on}
 use Rattle.document.proofs.weights.kept_units_weight.Goals as goal
@@ -28,4 +28,4 @@ loop-left-preserved c =
 
 pub returns : goal.returns
 returns c =
-    subst (λ n. IsKeptWeighed c.args.cursor.now c.loop-left.cursor n c.args.change.now c.loop-left.weight) (omega (arith, c.loop-left.invariant.less)) c.loop-left.invariant.kept
+    subst (λ n. IsRetainedWeighed c.args.cursor.now c.loop-left.cursor n c.args.change.now c.loop-left.weight) (omega (arith, c.loop-left.invariant.less)) c.loop-left.invariant.kept

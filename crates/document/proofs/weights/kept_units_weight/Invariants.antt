@@ -1,11 +1,11 @@
 use Rattle.std.proofs.Common.{◌≤◌, ◌-◌, length}
 use Rattle.document.specs.Pairs.{IsWithinPair}
-use Rattle.document.specs.steps.Weighing.{IsKeptWeighed}
+use Rattle.document.specs.steps.Weighing.{IsRetainedWeighed}
 use Rattle.document.proofs.weights.kept_units_weight.Given as goal
 
 abbrev pub invariant-loop-left : goal.invariant-loop-left
 invariant-loop-left l = record {
-  kept : IsKeptWeighed l.initial.cursor l.cursor (l.len - l.left) l.change l.weight;
+  kept : IsRetainedWeighed l.initial.cursor l.cursor (l.len - l.left) l.change l.weight;
   less : l.left ≤ l.len;
   there : l.left ≤ length l.cursor;
   whole : ¬ (IsWithinPair l.cursor l.left);

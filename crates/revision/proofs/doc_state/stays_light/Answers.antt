@@ -1,4 +1,4 @@
-use Rattle.std.proofs.Common.{ℕ, ◌≡◌, ◌+◌, ◌*◌, ◌<◌, ◌^◌, ◌↔◌, Err, List, min, ◌-◌, sym, ap, subst, ◌∙◌, arith}
+use Rattle.std.proofs.Common.{ℕ, ◌≡◌, ◌+◌, ◌*◌, ◌<◌, ◌^◌, ◌↔◌, Err, List, min, ◌-◌, sym, ap, subst, ◌∙◌}
 use Rattle.std.specs.Prelude.{nat_le}
 use Rattle.refusal.specs.declared.Refusal.TheVariants.{PastEnd, CutsPair}
 use Rattle.delta.specs.Operation.{Operation}
@@ -7,11 +7,11 @@ use Rattle.delta.specs.Places.{IsDefined}
 use Rattle.document.specs.Places.{Cuts}
 use Rattle.document.specs.Weight as document
 use Rattle.revision.specs.Sources.{count_of, with_last}
-use Rattle.revision.proofs.Light.{reaches, whole, is_defined, no_cut, fails, light_sum, kept_is, light_short}
+use Rattle.revision.proofs.Light.{reaches, whole, fails, light_sum, kept_is}
 use Rattle.revision.proofs.doc_state.stays_light.Goals as goal
 
-pub returns-in-Ok-clause-kept : goal.returns-in-Ok-clause-kept
-returns-in-Ok-clause-kept c =
+pub returns-in-Ok : goal.returns-in-Ok
+returns-in-Ok c =
     let taken = c.args.taken.now in
     let units = c.args.document.now in
     let same = c.delta.ensures.delta in
@@ -30,48 +30,8 @@ returns-in-Ok-clause-kept c =
     kept_is _ _ (nat_le c.saturating_add.result c.from.result) _ (reaches taken.delta units c.weigh.result end cuts c.in-Ok.units c.in-Ok.is)
     (whole taken.delta units c.weigh.result end cuts c.in-Ok.units c.in-Ok.is) light
 
-pub returns-in-Ok-clause-accepted : goal.returns-in-Ok-clause-accepted
-returns-in-Ok-clause-accepted c = λ fits.
-    let taken = c.args.taken.now in
-    let units = c.args.document.now in
-    let same = c.delta.ensures.delta in
-    let end = subst (λ (d : List Operation). (c.weigh.result ≡ Err PastEnd) ↔ (¬ (IsDefined units (counted d)))) same c.weigh.ensures.past_end in
-    let cuts = subst (λ (d : List Operation). (c.weigh.result ≡ Err CutsPair) ↔ (IsDefined units (counted d) × Cuts units (counted d))) same c.weigh.ensures.cuts in
-    let weight = document.weight_of (apply units (counted taken.delta)) in
-    let count = count_of (with_last taken.source taken.number taken.revision c.args.sources.now) in
-    let limit : c.from.result ≡ c.args.limits.weight = c.from.ensures ∙ c.weight.ensures in
-    let bound : c.args.limits.weight < 2 ^ 32 = subst (λ n. n < 2 ^ 32) c.weight.ensures c.weight.type_inv in
-    let w_is : c.in-Ok.units ≡ min weight (2 ^ 64 - 1) = subst (λ (d : List Operation). c.in-Ok.units ≡ min (document.weight_of (apply units (counted d))) (2 ^ 64 - 1)) same c.in-Ok.ensures.ok in
-    let n_is : c.count_after.result ≡ min count (2 ^ 64 - 1) =
-    subst (λ (s : List ℕ). c.count_after.result ≡ min (count_of (with_last s taken.number taken.revision c.args.sources.now)) (2 ^ 64 - 1)) c.source.ensures (c.count_after.ensures taken.number taken.revision) in
-    let light : nat_le c.saturating_add.result c.from.result ≡ nat_le (weight + 64 * count) c.args.limits.weight =
-    ap (nat_le c.saturating_add.result) limit
-    ∙ light_sum weight count c.args.limits.weight c.saturating_add.result c.in-Ok.units c.count_after.result c.saturating_mul-beside.result bound w_is n_is c.saturating_mul-beside.ensures c.saturating_add.ensures in
-    let short = light_short (apply units (counted taken.delta)) count c.args.limits.weight bound (sym light ∙ fits) in (
-      is_defined taken.delta units c.weigh.result end cuts c.in-Ok.units c.in-Ok.is,
-      no_cut taken.delta units c.weigh.result end cuts c.in-Ok.units c.in-Ok.is,
-      omega (arith, short),
-    )
-
-pub returns-in-Ok-clause-short : goal.returns-in-Ok-clause-short
-returns-in-Ok-clause-short c = λ fits.
-    let taken = c.args.taken.now in
-    let units = c.args.document.now in
-    let same = c.delta.ensures.delta in
-    let weight = document.weight_of (apply units (counted taken.delta)) in
-    let count = count_of (with_last taken.source taken.number taken.revision c.args.sources.now) in
-    let limit : c.from.result ≡ c.args.limits.weight = c.from.ensures ∙ c.weight.ensures in
-    let bound : c.args.limits.weight < 2 ^ 32 = subst (λ n. n < 2 ^ 32) c.weight.ensures c.weight.type_inv in
-    let w_is : c.in-Ok.units ≡ min weight (2 ^ 64 - 1) = subst (λ (d : List Operation). c.in-Ok.units ≡ min (document.weight_of (apply units (counted d))) (2 ^ 64 - 1)) same c.in-Ok.ensures.ok in
-    let n_is : c.count_after.result ≡ min count (2 ^ 64 - 1) =
-    subst (λ (s : List ℕ). c.count_after.result ≡ min (count_of (with_last s taken.number taken.revision c.args.sources.now)) (2 ^ 64 - 1)) c.source.ensures (c.count_after.ensures taken.number taken.revision) in
-    let light : nat_le c.saturating_add.result c.from.result ≡ nat_le (weight + 64 * count) c.args.limits.weight =
-    ap (nat_le c.saturating_add.result) limit
-    ∙ light_sum weight count c.args.limits.weight c.saturating_add.result c.in-Ok.units c.count_after.result c.saturating_mul-beside.result bound w_is n_is c.saturating_mul-beside.ensures c.saturating_add.ensures in
-    light_short (apply units (counted taken.delta)) count c.args.limits.weight bound (sym light ∙ fits)
-
-pub returns-in-Err-clause-kept : goal.returns-in-Err-clause-kept
-returns-in-Err-clause-kept c =
+pub returns-in-Err : goal.returns-in-Err
+returns-in-Err c =
     let taken = c.args.taken.now in
     let units = c.args.document.now in
     let same = c.delta.ensures.delta in

@@ -4,7 +4,7 @@ use Rattle.std.proofs.lemmas.Bool.{ltb-true, leb-true, false_from_ne_true}
 use Rattle.std.proofs.lemmas.List.{length-map}
 use Rattle.revision.specs.Acceptance.{Takes, Refuses, creation}
 use Rattle.revision.specs.State.{Limits}
-use Rattle.revision.specs.Pending.{held}
+use Rattle.revision.specs.Pending.{record_of}
 use Rattle.revision.proofs.Admitting.{new_answers, asked_new, same_new}
 use Rattle.revision.proofs.planning.plan_new.Goals as goal
 
@@ -12,7 +12,7 @@ pub returns-in-Err : goal.returns-in-Err
 returns-in-Err c =
     let state = c.args.state.now in
     let asked = creation state c.args.command.now c.args.delta.now in
-    let count : length c.documents-count.result.now ≡ length state.documents = sym (length-map c.documents-count.result.now held) ∙ ap length c.documents-count.ensures.documents in
+    let count : length c.documents-count.result.now ≡ length state.documents = sym (length-map c.documents-count.result.now record_of) ∙ ap length c.documents-count.ensures.documents in
     let first : nat_lt 1 c.args.command.now.number ≡ false =
     false_from_ne_true _ (λ more. absurd (omega (arith, ltb-true 1 c.args.command.now.number more, c.if-number-gt1.false, c.number.ensures.number))) in
     let room : nat_le state.limits.docs (length state.documents) ≡ false =
@@ -28,7 +28,7 @@ pub returns : goal.returns
 returns c =
     let state = c.args.state.now in
     let asked = creation state c.args.command.now c.args.delta.now in
-    let count : length c.documents-count.result.now ≡ length state.documents = sym (length-map c.documents-count.result.now held) ∙ ap length c.documents-count.ensures.documents in
+    let count : length c.documents-count.result.now ≡ length state.documents = sym (length-map c.documents-count.result.now record_of) ∙ ap length c.documents-count.ensures.documents in
     let first : nat_lt 1 c.args.command.now.number ≡ false =
     false_from_ne_true _ (λ more. absurd (omega (arith, ltb-true 1 c.args.command.now.number more, c.if-number-gt1.false, c.number.ensures.number))) in
     let room : nat_le state.limits.docs (length state.documents) ≡ false =

@@ -1,6 +1,6 @@
-use Rattle.revision.specs.Pending.{held}
+use Rattle.revision.specs.Pending.{record_of}
 use Rattle.revision.proofs.Admitting.{last_within}
 use Rattle.revision.proofs.planning.plan_undo.Goals as goal
 
 pub undo-requires-clause-there : goal.undo-requires-clause-there
-undo-requires-clause-there c = rw c.last-last.ensures (last_within c.args.state.now.limits (held c.args.found.now) c.source.result.now c.requires.past)
+undo-requires-clause-there c = rw c.last-last.ensures (last_within c.args.state.now.limits (record_of c.args.found.now) c.source.result.now c.requires.past)

@@ -1,10 +1,10 @@
 use Rattle.std.proofs.Common.{map, take}
 use Rattle.std.specs.Io.KnownBytes.{Appends}
-use Rattle.revision.specs.Pending.{held}
+use Rattle.revision.specs.Pending.{record_of}
 use Rattle.serving.specs.Dump as spec
 use Rattle.serving.proofs.dump.dump.Given as goal
 
 -- the lines of the documents so far are written
 abbrev pub invariant-loop-document : goal.invariant-loop-document
 invariant-loop-document g l =
-    Appends (g.W.Write.contents l.fn.output) (g.W.Write.contents l.output) (spec.dump_of (map held (take l.document-index l.document-items)))
+    Appends (g.W.Write.contents l.fn.output) (g.W.Write.contents l.output) (spec.dump_of (map record_of (take l.document-index l.document-items)))

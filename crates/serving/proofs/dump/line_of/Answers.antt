@@ -5,13 +5,13 @@ use Rattle.delta.specs.Gaps.{End}
 use Rattle.delta.specs.Normal.{nf}
 use Rattle.algebra.specs.Text.{text_of}
 use Rattle.revision.specs.State.{revision_of, units_of}
-use Rattle.revision.specs.Pending.{held}
+use Rattle.revision.specs.Pending.{record_of}
 use Rattle.serving.specs.Dump.{line_of}
 use Rattle.serving.proofs.dump.line_of.Goals as goal
 
 pub returns-clause-ok : goal.returns-clause-ok
 returns-clause-ok c =
-    let document = held c.args.document.now in
+    let document = record_of c.args.document.now in
     let name : c.as_str-name.result.now ≡ document.name = c.as_str-name.ensures.text ∙ c.name.ensures in
     let delta : c.in_ok-delta.delta ≡ nf (End (units_of document)) =
     c.in_ok-delta.ensures.delta ∙ ap (λ (units : List Element). nf (End units)) c.document.ensures in

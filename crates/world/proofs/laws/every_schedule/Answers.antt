@@ -1,6 +1,6 @@
-use Rattle.world.specs.Law.{AcksStay, AcksAreShown, TakenOnce, OneRevision, NothingTakenBack, KeptIsAgain, ShownStays, StateIsFold}
-use Rattle.world.proofs.Clauses.{acks-stay, acks-are_shown, taken-once, acks-one_revision, nothing-taken_back, kept-is_again, shown-stays, state-is_fold, over_all}
-use Rattle.world.proofs.Further.{all-go_on}
+use Rattle.world.specs.Law.{AcksStay, AcksAreShown, TakenOnce, OneRevision, NothingTakenBack, TakenIsAgain, ShownStays, StateIsFold}
+use Rattle.world.proofs.Clauses.{acks-stay, acks-are_shown, taken-once, acks-one_revision, nothing-taken_back, taken-is_again, shown-stays, state-is_fold, over_all}
+use Rattle.world.proofs.Further.{all-nothing_rewritten}
 use Rattle.world.proofs.Agreeing.{all-agree}
 use Rattle.world.proofs.laws.every_schedule.Goals as goal
 
@@ -19,14 +19,14 @@ returns-clause-one_revision c = over_all OneRevision acks-one_revision
 pub returns-clause-nothing_taken_back : goal.returns-clause-nothing_taken_back
 returns-clause-nothing_taken_back c = over_all NothingTakenBack nothing-taken_back
 
-pub returns-clause-kept_is_again : goal.returns-clause-kept_is_again
-returns-clause-kept_is_again c = over_all KeptIsAgain kept-is_again
+pub returns-clause-taken_is_again : goal.returns-clause-taken_is_again
+returns-clause-taken_is_again c = over_all TakenIsAgain taken-is_again
 
 pub returns-clause-shown_stays : goal.returns-clause-shown_stays
 returns-clause-shown_stays c = over_all ShownStays shown-stays
 
-pub returns-clause-goes_on : goal.returns-clause-goes_on
-returns-clause-goes_on c = all-go_on
+pub returns-clause-nothing_rewritten : goal.returns-clause-nothing_rewritten
+returns-clause-nothing_rewritten c = all-nothing_rewritten
 
 pub returns-clause-state_is_fold : goal.returns-clause-state_is_fold
 returns-clause-state_is_fold c = over_all StateIsFold state-is_fold

@@ -1,8 +1,8 @@
 use Rattle.std.proofs.Common.{◌≡◌, drop, map}
-use Rattle.revision.specs.Pending.{held}
+use Rattle.revision.specs.Pending.{record_of}
 use Rattle.world.specs.Stepping.{are_reached}
 use Rattle.world.proofs.stepping.are_reached.Given as goal
 
 -- those that are left decide
 abbrev pub invariant-loop-number : goal.invariant-loop-number
-invariant-loop-number l = are_reached l.keep l.composed l.number (map held (drop l.number l.documents)) ≡ are_reached l.keep l.composed 0 (map held l.documents)
+invariant-loop-number l = are_reached l.keep l.composed l.number (map record_of (drop l.number l.documents)) ≡ are_reached l.keep l.composed 0 (map record_of l.documents)

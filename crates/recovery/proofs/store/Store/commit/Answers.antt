@@ -1,6 +1,6 @@
-use Rattle.std.proofs.Common.{◌≡◌, ◌∙◌, ◌+◌, ⊎_elim, true, false, [], ◌∷◌, ◌++◌, Err, ap, subst, sym, inl, rules}
+use Rattle.std.proofs.Common.{◌≡◌, ◌∙◌, ◌+◌, ⊎_elim, true, false, [], ◌∷◌, ◌++◌, Err, refl, ap, subst, sym, inl, rules}
 use Rattle.journal.specs.BatchSpelling.{batch}
-use Rattle.revision.specs.State.{Limits, State, fold, all_grow}
+use Rattle.revision.specs.State.{Limits, State, fold, all_grow, first_grows}
 use Rattle.history.specs.Running.{Runs}
 use Rattle.recovery.specs.Found.{commands_of, limits_of}
 use Rattle.recovery.specs.steps.Appending.{IsDone}
@@ -9,12 +9,12 @@ use Rattle.refusal.specs.declared.Refusal.TheVariants.{JournalFull, Stranger, No
 use Rattle.disk.specs.Crash.{history_of}
 use Rattle.disk.proofs.CallerLemmas.{begins, leaves_map}
 use Rattle.recovery.proofs.Commits.{found_before, opened_for, with_or_without, parts_after, parts_left, runs_with, limits_with}
-use Rattle.std.proofs.Common.{List}
+use Rattle.std.proofs.Common.{List, length, arith}
 use Rattle.recovery.specs.declared.marks.Mark.{Mark}
 use Rattle.recovery.specs.Marks.{marks_of, IsNoted}
 use Rattle.recovery.specs.Marked.{AreMarked}
 use Rattle.recovery.proofs.Upkeep.{cells_later, marked_with, marked_left}
-use Rattle.recovery.proofs.Folds.{fold-limits}
+use Rattle.recovery.proofs.Folds.{fold-limits, first_of_all}
 use Rattle.recovery.specs.Open.{kept_jobs}
 use Rattle.recovery.proofs.KeptJobs.{kept_later}
 use Rattle.recovery.proofs.Refusals.{refusal_or, ok≢err, no_stranger}
@@ -44,8 +44,8 @@ returns-in-Err-append_batch-clause-any_moment g c unfailed is_open =
     leaves_map (λ content left. with_or_without store is_open c.args.batch.now c.has_room.ensures.is_batch grow content left)
     (c.append_batch.ensures.any_moment is_open.table is_open.synced is_open.fits)
 
-pub returns-in-Ok-append_batch-clause-done : goal.returns-in-Ok-append_batch-clause-done
-returns-in-Ok-append_batch-clause-done g c is_open =
+pub returns-in-Ok-append_batch-clause-committed : goal.returns-in-Ok-append_batch-clause-committed
+returns-in-Ok-append_batch-clause-committed g c is_open =
     let store = c.args.self.now in
     let commands = c.args.batch.now in
     let grow : all_grow store.state commands ≡ true = subst (λ (s : State). all_grow s commands ≡ true) c.replace.ensures.value c.in-Ok.ensures.grow in
@@ -55,24 +55,37 @@ returns-in-Ok-append_batch-clause-done g c is_open =
     let done : IsDone (g.D.Disk.seen store.device) store.ring is_open.table (batch commands) (g.D.Disk.seen c.append_batch.new.disk) c.append_batch.new.ring =
     c.in-Ok-append_batch.ensures.done is_open.table is_open.fits in
     record {
-      synced = c.in-Ok-append_batch.ensures.synced;
-      cells = is_open.cells;
-      table = done.now;
-      batches = is_open.batches ++ commands ∷ [];
-      order = is_open.order ++ commands;
-      holds = parts_after store is_open commands c.has_room.ensures.is_batch grow _ c.append_batch.new.ring places done;
-      fits = done.fits.fits;
-      ring_at = places.at ∙ is_open.ring_at;
-      ring_size = places.size ∙ is_open.ring_size;
-      cells_are = is_open.cells_are;
-      cells_fit = cells_later store is_open _ done.fits.outside;
-      marked = marked_with store is_open commands c.has_room.ensures.is_batch _ c.append_batch.new.ring done (marks_of c.mark_batch.new.marks)
-          (λ slot number newest. subst (λ (m : List Mark). IsNoted number commands m (marks_of c.mark_batch.new.marks)) c.make_room.ensures.same (c.mark_batch.ensures slot number newest));
-      limits = subst (λ (s : State). s.limits ≡ limits_of store.shape) (sym state) (limits_with store is_open commands c.has_room.ensures.is_batch grow);
-      runs = subst (Runs (is_open.order ++ commands) is_open.cells (commands_of (is_open.batches ++ commands ∷ []))) (sym state)
-          (runs_with store is_open commands c.has_room.ensures.is_batch grow);
-      kept = kept_later is_open.order commands is_open.cells (kept_jobs store) is_open.kept;
+      goes_on = record {
+        synced = c.in-Ok-append_batch.ensures.synced;
+        cells = is_open.cells;
+        table = done.now;
+        batches = is_open.batches ++ commands ∷ [];
+        order = is_open.order ++ commands;
+        holds = parts_after store is_open commands c.has_room.ensures.is_batch grow _ c.append_batch.new.ring places done;
+        fits = done.fits.fits;
+        ring_at = places.at ∙ is_open.ring_at;
+        ring_size = places.size ∙ is_open.ring_size;
+        cells_are = is_open.cells_are;
+        cells_fit = cells_later store is_open _ done.fits.outside;
+        marked = marked_with store is_open commands c.has_room.ensures.is_batch _ c.append_batch.new.ring done (marks_of c.mark_batch.new.marks)
+            (λ slot number newest. subst (λ (m : List Mark). IsNoted number commands m (marks_of c.mark_batch.new.marks)) c.make_receipt.ensures.same (c.mark_batch.ensures.noted slot number newest));
+        limits = subst (λ (s : State). s.limits ≡ limits_of store.shape) (sym state) (limits_with store is_open commands c.has_room.ensures.is_batch grow);
+        runs = subst (Runs (is_open.order ++ commands) is_open.cells (commands_of (is_open.batches ++ commands ∷ []))) (sym state)
+            (runs_with store is_open commands c.has_room.ensures.is_batch grow);
+        kept = kept_later is_open.order commands is_open.cells (kept_jobs store) is_open.kept;
+      };
+      same_cells = refl;
+      ready = done.ready;
+      is_ready = done.is_ready;
+      appended = done.appended;
+      jobs = refl;
     }
+
+pub returns-in-Ok-append_batch-clause-done : goal.returns-in-Ok-append_batch-clause-done
+returns-in-Ok-append_batch-clause-done g c is_open = (returns-in-Ok-append_batch-clause-committed g c is_open).goes_on
+
+pub returns-in-Ok-append_batch-clause-marks : goal.returns-in-Ok-append_batch-clause-marks
+returns-in-Ok-append_batch-clause-marks g c = omega (arith, c.mark_batch.ensures.grows, ap (λ (l : List Mark). length l) c.make_receipt.ensures.same)
 
 -- a slot has as many bytes as the limits say
 pub invariant_of-self-in-Ok-append_batch-clause-slot : goal.invariant_of-self-in-Ok-append_batch-clause-slot
@@ -87,7 +100,7 @@ invariant_of-self-in-Ok-append_batch-clause-slot g c =
 pub returns-in-Err-append_batch-clause-kept : goal.returns-in-Err-append_batch-clause-kept
 returns-in-Err-append_batch-clause-kept g c not_fault is_open =
     let store = c.args.self.now in
-    let state : c.forget.result ≡ store.state = c.forget.ensures ∙ c.in-Ok.ensures.before ∙ c.replace.ensures.value in
+    let state : c.forget-in-Err-append_batch.result ≡ store.state = c.forget-in-Err-append_batch.ensures ∙ c.in-Ok.ensures.before ∙ c.replace.ensures.value in
     let places = c.append_batch.ensures.places in
     let fits : c.has_room.result ≡ true = search rules in
     let memory : c.in-Err-append_batch.refusal ≡ NoMemory =
@@ -106,7 +119,7 @@ returns-in-Err-append_batch-clause-kept g c not_fault is_open =
       ring_size = places.size ∙ is_open.ring_size;
       cells_are = is_open.cells_are;
       cells_fit = cells_later store is_open _ kept.fits.outside;
-      marked = subst (AreMarked kept.left) (sym c.make_room.ensures.same) (marked_left store is_open _ kept.left kept.is_left);
+      marked = subst (AreMarked kept.left) (sym c.make_receipt.ensures.same) (marked_left store is_open _ kept.left kept.is_left);
       limits = subst (λ (s : State). s.limits ≡ limits_of store.shape) (sym state) is_open.limits;
       runs = subst (Runs is_open.order is_open.cells (commands_of is_open.batches)) (sym state) is_open.runs;
       kept = is_open.kept;
@@ -120,23 +133,29 @@ pub returns-in-Err-append_batch-clause-unwritten : goal.returns-in-Err-append_ba
 returns-in-Err-append_batch-clause-unwritten g c memory is_open =
     leaves_map (λ content left. opened_for c.args.self.now is_open _ content left) (c.in-Err-append_batch.ensures.unwritten (ap (λ (r : Refusal). Err r) (ap (refusal_or NoMemory) memory)) is_open.table is_open.synced is_open.fits)
 
--- no room could be made for the marks
-pub returns-in_err-make_room-clause-any_moment : goal.returns-in_err-make_room-clause-any_moment
-returns-in_err-make_room-clause-any_moment g c unfailed is_open =
-    begins (history_of g.D.Disk c.args.self.now.device) is_open.synced (inl (found_before c.args.self.now is_open))
-
-pub returns-in_err-make_room-clause-unwritten : goal.returns-in_err-make_room-clause-unwritten
-returns-in_err-make_room-clause-unwritten g c memory is_open =
-    begins (history_of g.D.Disk c.args.self.now.device) is_open.synced (found_before c.args.self.now is_open)
-
 -- the receipt could not be made
-pub returns-in_err-receipt-clause-any_moment : goal.returns-in_err-receipt-clause-any_moment
-returns-in_err-receipt-clause-any_moment g c unfailed is_open =
+pub returns-in_default-clause-any_moment : goal.returns-in_default-clause-any_moment
+returns-in_default-clause-any_moment g c unfailed is_open =
     begins (history_of g.D.Disk c.args.self.now.device) is_open.synced (inl (found_before c.args.self.now is_open))
 
-pub returns-in_err-receipt-clause-unwritten : goal.returns-in_err-receipt-clause-unwritten
-returns-in_err-receipt-clause-unwritten g c memory is_open =
+pub returns-in_default-clause-unwritten : goal.returns-in_default-clause-unwritten
+returns-in_default-clause-unwritten g c memory is_open =
     begins (history_of g.D.Disk c.args.self.now.device) is_open.synced (found_before c.args.self.now is_open)
+
+-- where memory ran out, the batch had room, and its first command continues the state
+pub returns-in-Err-clause-memory : goal.returns-in-Err-clause-memory
+returns-in-Err-clause-memory g c told =
+    let fits : c.has_room.result ≡ true = search rules in (
+      sym c.has_room.ensures.room ∙ fits,
+      subst (λ (s : State). first_grows s c.args.batch.now ≡ true) c.replace.ensures.value (c.in-Err.ensures.memory (ap (refusal_or Stranger) told)),
+    )
+
+pub returns-in-Err-append_batch-clause-memory : goal.returns-in-Err-append_batch-clause-memory
+returns-in-Err-append_batch-clause-memory g c told =
+    let fits : c.has_room.result ≡ true = search rules in (
+      sym c.has_room.ensures.room ∙ fits,
+      first_of_all c.args.self.now.state c.args.batch.now (subst (λ (s : State). all_grow s c.args.batch.now ≡ true) c.replace.ensures.value c.in-Ok.ensures.grow),
+    )
 
 -- the jobs stay
 pub invariant_of-self-in-Ok-append_batch-clause-composable : goal.invariant_of-self-in-Ok-append_batch-clause-composable

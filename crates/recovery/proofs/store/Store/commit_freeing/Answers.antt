@@ -1,5 +1,7 @@
-use Rattle.std.proofs.Common.{◌≡◌, ◌≢◌, ⊎_elim, inl, false, sym, ap, subst, rules}
+use Rattle.std.proofs.Common.{◌≡◌, ◌≢◌, ◌∙◌, ⊎_elim, inl, true, false, sym, ap, subst, rules}
 use Rattle.std.specs.Prelude.{Err, IfErr}
+use Rattle.std.proofs.lemmas.Bool.{false≢true}
+use Rattle.std.proofs.lemmas.Result.{on_ok_weaker}
 use Rattle.disk.specs.Device.{Rose}
 use Rattle.disk.proofs.CallerLemmas.{leaves_map}
 use Rattle.refusal.specs.declared.Refusal.{Refusal}
@@ -16,12 +18,24 @@ use Rattle.recovery.proofs.Going.{goes_call, goes_map, goes_on}
 use Rattle.recovery.proofs.Faults.{done_by, kept_by}
 use Rattle.recovery.proofs.Freed.{no_needed, not_full, widened, freed_still}
 use Rattle.recovery.proofs.Rooms.{freed_up, few_up}
+use Rattle.recovery.proofs.SparedJobs.{spared_same, spared_then}
 use Rattle.recovery.proofs.store.Store.commit_freeing.Goals as goal
 
 -- there was room
 pub returns-then-has_room-clause-goes : goal.returns-then-has_room-clause-goes
 returns-then-has_room-clause-goes g c =
     goes_call c.commit.result c.commit.ensures.failed_before c.commit.ensures.fails c.commit.ensures.any_moment c.commit.ensures.done c.commit.ensures.kept
+
+pub returns-then-has_room-clause-other_jobs : goal.returns-then-has_room-clause-other_jobs
+returns-then-has_room-clause-other_jobs g c is_open slot segment oldest = spared_same segment c.args.self.now c.commit.new.self c.commit.ensures.jobs
+
+pub returns-then-has_room-clause-committed : goal.returns-then-has_room-clause-committed
+returns-then-has_room-clause-committed g c = on_ok_weaker c.commit.result (λ committed room. committed) c.commit.ensures.committed
+
+pub returns-then-has_room-clause-committed_behind : goal.returns-then-has_room-clause-committed_behind
+returns-then-has_room-clause-committed_behind g c =
+    let room : has_room c.args.self.now c.args.batch.now ≡ true = search rules in
+    on_ok_weaker c.commit.result (λ committed none. absurd (false≢true (sym none ∙ room))) c.commit.ensures.committed
 
 -- no segment could be freed
 pub returns-in-Err-clause-full_still : goal.returns-in-Err-clause-full_still
@@ -97,6 +111,21 @@ returns-clause-unwritten g c told works is_open =
     (subst (λ (s : State). Goes (λ content. FoundAs content s) c.free_oldest.new.self c.commit-2.new.self) c.free_oldest.ensures.state
     (goes_call c.commit-2.result c.commit-2.ensures.failed_before c.commit-2.ensures.fails (λ works is_open. c.commit-2.ensures.unwritten told is_open) c.commit-2.ensures.done
     c.commit-2.ensures.kept))).any_moment works is_open
+
+pub returns-clause-other_jobs : goal.returns-clause-other_jobs
+returns-clause-other_jobs g c is_open slot segment oldest =
+    spared_then segment c.args.self.now c.free_oldest.new.self c.commit-2.new.self (c.free_oldest.ensures.jobs is_open slot segment oldest) c.commit-2.ensures.jobs
+
+pub returns-clause-committed : goal.returns-clause-committed
+returns-clause-committed g c =
+    let none : has_room c.args.self.now c.args.batch.now ≡ false = search rules in
+    on_ok_weaker c.commit-2.result (λ committed room. absurd (false≢true (sym none ∙ room))) c.commit-2.ensures.committed
+
+pub returns-clause-committed_behind : goal.returns-clause-committed_behind
+returns-clause-committed_behind g c =
+    on_ok_weaker c.commit-2.result
+    (λ committed none is_open. let freed = c.in_default.ensures.freed is_open in record { mid = c.free_oldest.new.self; freed = freed; committed = committed freed.goes_on })
+    c.commit-2.ensures.committed
 
 pub returns-clause-done : goal.returns-clause-done
 returns-clause-done g c = done_by c.args.self.now c.commit-2.new.self c.commit-2.result (c.commit-2.ensures.fails c.in_default.ensures.works) (returns-clause-goes g c)

@@ -1,4 +1,4 @@
-use Rattle.std.proofs.Common.{◌≡◌, ◌≢◌, ◌∙◌, List, ap, arith, rules}
+use Rattle.std.proofs.Common.{◌≡◌, ◌≢◌, ◌∙◌, ⊎_elim, List, ap, arith, rules}
 use Rattle.milestone.specs.declared.cells.Cells.{Cells}
 use Rattle.recovery.specs.Cells.{lowest_known}
 use Rattle.recovery.specs.Open.{IsOpen}
@@ -43,3 +43,21 @@ returns-then-mark-lowest_of-clause-covered g c is_open reach =
 
 pub returns-then-mark-lowest_of-clause-goes : goal.returns-then-mark-lowest_of-clause-goes
 returns-then-mark-lowest_of-clause-goes g c = goes_nowhere c.args.self.now
+
+-- two milestones are put for a mark of the segment that is above the cells
+pub returns-in-Err-clause-jobs : goal.returns-in-Err-clause-jobs
+returns-in-Err-clause-jobs g c out =
+    let here : c.args.mark.segment ≡ c.args.segment = search rules in
+    let lowest : c.lowest_of.result ≡ lowest_known c.args.self.now.cells.items c.args.mark.document =
+    c.lowest_of.ensures ∙ ap (λ (l : List Cells). lowest_known l c.args.mark.document) c.deref.ensures.value in
+    ⊎_elim (λ away. absurd (away here)) (λ low. absurd (omega (arith, low, lowest, c.if-mark-lowest_of.false))) out
+
+pub returns-clause-jobs : goal.returns-clause-jobs
+returns-clause-jobs g c out =
+    let here : c.args.mark.segment ≡ c.args.segment = search rules in
+    let lowest : c.lowest_of.result ≡ lowest_known c.args.self.now.cells.items c.args.mark.document =
+    c.lowest_of.ensures ∙ ap (λ (l : List Cells). lowest_known l c.args.mark.document) c.deref.ensures.value in
+    ⊎_elim (λ away. absurd (away here)) (λ low. absurd (omega (arith, low, lowest, c.if-mark-lowest_of.false))) out
+
+pub returns-clause-others : goal.returns-clause-others
+returns-clause-others g c = c.raise-2.ensures.others ∙ c.raise.ensures.others

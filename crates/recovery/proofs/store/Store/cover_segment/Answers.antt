@@ -8,6 +8,7 @@ use Rattle.recovery.specs.steps.Freeing.{MayReach}
 use Rattle.recovery.proofs.Going.{goes_nowhere, goes_same}
 use Rattle.recovery.proofs.Faults.{counts_on, works_now}
 use Rattle.recovery.proofs.Raising.{keeps_on, still_over, may_reach, covered_more}
+use Rattle.recovery.proofs.SparedJobs.{spared_same, spared_more}
 use Rattle.recovery.proofs.store.Store.cover_segment.Goals as goal
 
 pub loop-place-init : goal.loop-place-init
@@ -18,6 +19,8 @@ loop-place-init g c = record {
   honest = (λ honest. honest, λ honest. honest);
   goes = goes_nowhere c.args.self.now;
   over = λ is_open. still_over c.args.self.now is_open;
+  none_lower = λ is_open number. omega arith;
+  jobs = λ is_open. spared_same c.args.segment c.args.self.now c.args.self.now refl;
   covered = λ is_open document. omega arith;
 }
 
@@ -47,6 +50,11 @@ loop-place-preserved g c =
           let over = before.over is_open in
           let now = c.in_default.ensures.covered over.goes_on (reach is_open) in
           record { goes_on = now.over.goes_on; same_table = now.over.same_table ∙ over.same_table };
+      none_lower = λ is_open number.
+          let now = c.in_default.ensures.covered (before.over is_open).goes_on (reach is_open) in
+          omega (arith, before.none_lower is_open number, now.none_lower number);
+      jobs = λ is_open.
+          spared_more start store new c.args.segment place mark inside is (before.none_lower is_open) c.cover_mark.ensures.jobs c.cover_mark.ensures.others (before.jobs is_open);
       covered = λ is_open.
           let now = c.in_default.ensures.covered (before.over is_open).goes_on (reach is_open) in
           covered_more store new c.args.segment place (marks_of start.marks) mark inside is now.none_lower now.covers (before.covered is_open);
@@ -62,6 +70,17 @@ returns-in-Err-clause-needed g c told is_open =
     let is : get_or (marks_of start.marks) place mark ≡ mark = subst (λ (l : List Mark). get_or l place mark ≡ mark) before.keeps.marks c.mark_at-mark.ensures in
     c.in-Err.ensures.needed told (before.over is_open).goes_on
     (subst (MayReach c.args.segment mark) (sym before.keeps.state) (may_reach start is_open c.requires.oldest.0 c.args.segment c.requires.oldest.1 place mark inside is))
+
+pub returns-in-Err-clause-jobs : goal.returns-in-Err-clause-jobs
+returns-in-Err-clause-jobs g c is_open =
+    let start = c.args.self.now in
+    let mark = c.mark_at-mark.result in
+    let place = c.loop-place.place in
+    let before = c.loop-place.invariant in
+    let inside : place < length (marks_of start.marks) = omega (arith, c.loop-place-test.true, c.mark_count-place-end.ensures) in
+    let is : get_or (marks_of start.marks) place mark ≡ mark = subst (λ (l : List Mark). get_or l place mark ≡ mark) before.keeps.marks c.mark_at-mark.ensures in
+    spared_more start c.loop-place.self c.cover_mark.new.self c.args.segment place mark inside is (before.none_lower is_open) c.cover_mark.ensures.jobs c.cover_mark.ensures.others
+    (before.jobs is_open)
 
 pub returns-in-Err-clause-faults : goal.returns-in-Err-clause-faults
 returns-in-Err-clause-faults g c = counts_on c.loop-place.invariant.faults c.in-Err.ensures.faults

@@ -1,10 +1,12 @@
-use Rattle.std.proofs.Common.{◌≤◌, subst, rules}
+use Rattle.std.proofs.Common.{◌≤◌, ◌∙◌, refl, subst, rules}
+use Rattle.std.proofs.lemmas.Result.{on_err_weaker}
 use Rattle.disk.specs.Device.{Rose}
 use Rattle.segments.specs.Numbers.{open_count}
 use Rattle.segments.specs.Ring.{known_numbers}
 use Rattle.recovery.proofs.Going.{goes_nowhere, goes_same}
 use Rattle.recovery.proofs.Faults.{retire_goes, works_now, works_still, works_by, done_by, kept_by}
-use Rattle.recovery.proofs.Raising.{may_go, freed_by}
+use Rattle.recovery.proofs.Raising.{may_go, freed_by, marks_gone}
+use Rattle.recovery.proofs.SparedJobs.{spared_same, spared_then, spared_oldest}
 use Rattle.recovery.proofs.store.Store.free_oldest.Goals as goal
 
 -- too few slots are open
@@ -13,6 +15,15 @@ returns-in_default-clause-goes g c = goes_nowhere c.args.self.now
 
 pub returns-in_default-clause-any_moment : goal.returns-in_default-clause-any_moment
 returns-in_default-clause-any_moment g c = (goes_nowhere c.args.self.now).any_moment
+
+pub returns-in_default-clause-jobs : goal.returns-in_default-clause-jobs
+returns-in_default-clause-jobs g c is_open slot segment oldest = spared_same segment c.args.self.now c.args.self.now refl
+
+pub returns-in-Err-clause-jobs : goal.returns-in-Err-clause-jobs
+returns-in-Err-clause-jobs g c is_open slot segment oldest =
+    let store = c.args.self.now in
+    let found = c.in-Some.ensures.oldest in
+    spared_oldest store c.cover_segment.new.self found.0 c.in-Some.oldest slot segment found.1 oldest (c.cover_segment.ensures.jobs is_open)
 
 pub returns-in-Err-clause-kept : goal.returns-in-Err-clause-kept
 returns-in-Err-clause-kept g c other =
@@ -27,6 +38,21 @@ returns-clause-needed g c told is_open =
     let two : 2 ≤ open_count (known_numbers store.ring) = search rules in
     let oldest = c.in-Some.ensures.oldest in
     absurd (c.retire.ensures.needed told none.over.goes_on (may_go store mid is_open.table oldest.0 c.in-Some.oldest c.cover_segment.ensures.keeps oldest.1 two none))
+
+pub returns-clause-jobs : goal.returns-clause-jobs
+returns-clause-jobs g c is_open slot segment oldest =
+    let store = c.args.self.now in
+    let mid = c.cover_segment.new.self in
+    let found = c.in-Some.ensures.oldest in
+    spared_then segment store mid c.retire.new.self
+    (spared_oldest store mid found.0 c.in-Some.oldest slot segment found.1 oldest (c.cover_segment.ensures.jobs is_open)) c.retire.ensures.jobs
+
+pub returns-clause-marks : goal.returns-clause-marks
+returns-clause-marks g c =
+    marks_gone c.args.self.now c.cover_segment.new.self c.retire.new.self c.retire.result c.cover_segment.ensures.keeps c.retire.ensures.marks
+
+pub returns-clause-same_marks : goal.returns-clause-same_marks
+returns-clause-same_marks g c = on_err_weaker c.retire.result (λ same. same ∙ c.cover_segment.ensures.keeps.marks) c.retire.ensures.same_marks
 
 pub returns-clause-fault : goal.returns-clause-fault
 returns-clause-fault g c told works =

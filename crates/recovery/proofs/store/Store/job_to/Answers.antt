@@ -2,7 +2,7 @@ use Rattle.std.proofs.Common.{◌≡◌, ◌∙◌, Option, Some, None, Err, ref
 use Rattle.std.specs.Prelude.{slice_get}
 use Rattle.std.proofs.lemmas.Option.{slice_get_read}
 use Rattle.milestone.specs.declared.cells.Cells.{Cells}
-use Rattle.revision.specs.Pending.{held}
+use Rattle.revision.specs.Pending.{record_of}
 use Rattle.revision.specs.State.{DocumentRecord}
 use Rattle.refusal.specs.declared.Refusal.{Refusal}
 use Rattle.recovery.specs.Cells.{highest_known}
@@ -15,8 +15,8 @@ job_of-requires-clause-sources g c =
     let store = c.args.self.now in
     let found = c.in-Some.found.now in
     let there : slice_get c.documents.result.now c.args.document ≡ Some found = slice_get_read c.documents.result.now (length c.documents.result.now) c.args.document found refl c.in-Some.ensures.lookup.3.0 c.in-Some.ensures.lookup.1 in
-    let none : no_job_of (held found) c.highest_of.result c.args.revision ≡ None = sym c.why_none.ensures.is ∙ c.in_default-why_none.is in
-    sources_here store.state c.limits.ensures.state c.args.document c.args.revision c.highest_of.result (held found)
+    let none : no_job_of (record_of found) c.highest_of.result c.args.revision ≡ None = sym c.why_none.ensures.is ∙ c.in_default-why_none.is in
+    sources_here store.state c.limits.ensures.state c.args.document c.args.revision c.highest_of.result (record_of found)
     (document_there c.documents.result.now store.state.documents c.args.document found c.documents.ensures.documents there) none
 
 pub returns-clause-job : goal.returns-clause-job
@@ -24,8 +24,8 @@ returns-clause-job g c =
     let store = c.args.self.now in
     let found = c.in-Some.found.now in
     let there : slice_get c.documents.result.now c.args.document ≡ Some found = slice_get_read c.documents.result.now (length c.documents.result.now) c.args.document found refl c.in-Some.ensures.lookup.3.0 c.in-Some.ensures.lookup.1 in
-    let none : no_job_of (held found) c.highest_of.result c.args.revision ≡ None = sym c.why_none.ensures.is ∙ c.in_default-why_none.is in
-    job_given store.state c.limits.ensures.state c.args.document c.args.revision c.highest_of.result (held found)
+    let none : no_job_of (record_of found) c.highest_of.result c.args.revision ≡ None = sym c.why_none.ensures.is ∙ c.in_default-why_none.is in
+    job_given store.state c.limits.ensures.state c.args.document c.args.revision c.highest_of.result (record_of found)
     (document_there c.documents.result.now store.state.documents c.args.document found c.documents.ensures.documents there) none
     c.job_of.result c.job_of.ensures.document c.job_of.ensures.is
 
@@ -34,8 +34,8 @@ returns-clause-keeps g c =
     let store = c.args.self.now in
     let found = c.in-Some.found.now in
     let there : slice_get c.documents.result.now c.args.document ≡ Some found = slice_get_read c.documents.result.now (length c.documents.result.now) c.args.document found refl c.in-Some.ensures.lookup.3.0 c.in-Some.ensures.lookup.1 in
-    let none : no_job_of (held found) c.highest_of.result c.args.revision ≡ None = sym c.why_none.ensures.is ∙ c.in_default-why_none.is in
-    job_keeps store.state c.limits.ensures.state c.args.document c.args.revision c.highest_of.result (held found)
+    let none : no_job_of (record_of found) c.highest_of.result c.args.revision ≡ None = sym c.why_none.ensures.is ∙ c.in_default-why_none.is in
+    job_keeps store.state c.limits.ensures.state c.args.document c.args.revision c.highest_of.result (record_of found)
     (document_there c.documents.result.now store.state.documents c.args.document found c.documents.ensures.documents there) none
     c.job_of.result c.job_of.ensures.document c.job_of.ensures.is
 
@@ -45,9 +45,9 @@ returns-clause-given g c =
     let found = c.in-Some.found.now in
     let there : slice_get c.documents.result.now c.args.document ≡ Some found = slice_get_read c.documents.result.now (length c.documents.result.now) c.args.document found refl c.in-Some.ensures.lookup.3.0 c.in-Some.ensures.lookup.1 in
     let highest : c.highest_of.result ≡ highest_known store.cells.items c.args.document = c.highest_of.ensures ∙ ap (λ (l : List Cells). highest_known l c.args.document) c.deref.ensures.value in
-    let none : no_job_of (held found) (highest_known store.cells.items c.args.document) c.args.revision ≡ None =
-    ap (λ n. no_job_of (held found) n c.args.revision) (sym highest) ∙ sym c.why_none.ensures.is ∙ c.in_default-why_none.is in
-    on_ok c.job_of.result (no_reason store.state c.limits.ensures.state c.args.document c.args.revision (highest_known store.cells.items c.args.document) (held found)
+    let none : no_job_of (record_of found) (highest_known store.cells.items c.args.document) c.args.revision ≡ None =
+    ap (λ n. no_job_of (record_of found) n c.args.revision) (sym highest) ∙ sym c.why_none.ensures.is ∙ c.in_default-why_none.is in
+    on_ok c.job_of.result (no_reason store.state c.limits.ensures.state c.args.document c.args.revision (highest_known store.cells.items c.args.document) (record_of found)
     (document_there c.documents.result.now store.state.documents c.args.document found c.documents.ensures.documents there) none)
 
 pub returns-clause-refused : goal.returns-clause-refused
@@ -56,9 +56,9 @@ returns-clause-refused g c why is =
     let found = c.in-Some.found.now in
     let there : slice_get c.documents.result.now c.args.document ≡ Some found = slice_get_read c.documents.result.now (length c.documents.result.now) c.args.document found refl c.in-Some.ensures.lookup.3.0 c.in-Some.ensures.lookup.1 in
     let highest : c.highest_of.result ≡ highest_known store.cells.items c.args.document = c.highest_of.ensures ∙ ap (λ (l : List Cells). highest_known l c.args.document) c.deref.ensures.value in
-    let none : no_job_of (held found) (highest_known store.cells.items c.args.document) c.args.revision ≡ None =
-    ap (λ n. no_job_of (held found) n c.args.revision) (sym highest) ∙ sym c.why_none.ensures.is ∙ c.in_default-why_none.is in
-    let no_one : None ≡ Some why = sym (no_reason store.state c.limits.ensures.state c.args.document c.args.revision (highest_known store.cells.items c.args.document) (held found)
+    let none : no_job_of (record_of found) (highest_known store.cells.items c.args.document) c.args.revision ≡ None =
+    ap (λ n. no_job_of (record_of found) n c.args.revision) (sym highest) ∙ sym c.why_none.ensures.is ∙ c.in_default-why_none.is in
+    let no_one : None ≡ Some why = sym (no_reason store.state c.limits.ensures.state c.args.document c.args.revision (highest_known store.cells.items c.args.document) (record_of found)
     (document_there c.documents.result.now store.state.documents c.args.document found c.documents.ensures.documents there) none) ∙ is in
     absurd (none≢some no_one)
 
@@ -73,7 +73,7 @@ returns-in-Some-why_none-clause-refusal g c other =
     let highest : c.highest_of.result ≡ highest_known store.cells.items c.args.document = c.highest_of.ensures ∙ ap (λ (l : List Cells). highest_known l c.args.document) c.deref.ensures.value in
     ap (λ (d : Option DocumentRecord). no_job_for d (highest_known store.cells.items c.args.document) c.args.revision)
     (document_there c.documents.result.now store.state.documents c.args.document found c.documents.ensures.documents there)
-    ∙ ap (λ n. no_job_of (held found) n c.args.revision) (sym highest) ∙ sym c.why_none.ensures.is ∙ c.in-Some-why_none.is
+    ∙ ap (λ n. no_job_of (record_of found) n c.args.revision) (sym highest) ∙ sym c.why_none.ensures.is ∙ c.in-Some-why_none.is
 
 pub returns-in-Some-why_none-clause-refused : goal.returns-in-Some-why_none-clause-refused
 returns-in-Some-why_none-clause-refused g c why is =
@@ -84,5 +84,5 @@ returns-in-Some-why_none-clause-refused g c why is =
     let reason : no_job_for (slice_get store.state.documents c.args.document) (highest_known store.cells.items c.args.document) c.args.revision ≡ Some c.in-Some-why_none.refusal =
     ap (λ (d : Option DocumentRecord). no_job_for d (highest_known store.cells.items c.args.document) c.args.revision)
     (document_there c.documents.result.now store.state.documents c.args.document found c.documents.ensures.documents there)
-    ∙ ap (λ n. no_job_of (held found) n c.args.revision) (sym highest) ∙ sym c.why_none.ensures.is ∙ c.in-Some-why_none.is in
+    ∙ ap (λ n. no_job_of (record_of found) n c.args.revision) (sym highest) ∙ sym c.why_none.ensures.is ∙ c.in-Some-why_none.is in
     ap (λ (r : Refusal). Err r) (same_some c.in-Some-why_none.refusal why (sym reason ∙ is))

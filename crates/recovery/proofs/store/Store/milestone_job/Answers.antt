@@ -8,7 +8,7 @@ use Rattle.recovery.specs.Open.{IsOpen, has_failed}
 use Rattle.history.specs.Cell.{cells_at}
 use Rattle.milestone.specs.Job.{Job}
 use Rattle.recovery.specs.Cells.{highest_known}
-use Rattle.recovery.specs.Jobs.{highest, no_job_for, no_job_of, jobs_of, AreKept, KeepsLimits, with_job}
+use Rattle.recovery.specs.Jobs.{highest, no_job_for, no_job_of, jobs_of, CanAllBePut, KeepsLimits, with_job}
 use Rattle.recovery.proofs.Retirement.{known_highest}
 use Rattle.recovery.proofs.KeptJobs.{handed_out, kept_with}
 use Rattle.recovery.proofs.HandedOut.{held_here, none≢some, err_of, same_error, keep_after}
@@ -70,7 +70,7 @@ returns-clause-open g c is_open =
     let none : no_job_of to.found (highest (cells_at is_open.cells c.args.document)) c.args.revision ≡ None =
     ap (λ (d : Option DocumentRecord). no_job_for d (highest (cells_at is_open.cells c.args.document)) c.args.revision) (sym to.there)
     ∙ ap (λ n. no_job_for (slice_get store.state.documents c.args.document) n c.args.revision) (sym (known_highest store is_open c.args.document)) ∙ c.in_ok-job.ensures.given in
-    let kept : AreKept is_open.order is_open.cells (with_job job (jobs_of store.jobs)) =
+    let kept : CanAllBePut is_open.order is_open.cells (with_job job (jobs_of store.jobs)) =
     kept_with is_open.order is_open.cells job (jobs_of store.jobs)
     (handed_out is_open.order is_open.cells store.state c.args.document c.args.revision job is_open.runs.shows to (held_here to.found (highest (cells_at is_open.cells c.args.document)) c.args.revision none).3)
     is_open.kept in
@@ -90,7 +90,7 @@ returns-clause-open g c is_open =
       marked = is_open.marked;
       limits = is_open.limits;
       runs = is_open.runs;
-      kept = subst (λ (l : List Job). AreKept is_open.order is_open.cells l) (sym now) kept;
+      kept = subst (λ (l : List Job). CanAllBePut is_open.order is_open.cells l) (sym now) kept;
     }
 
 pub returns-clause-stays : goal.returns-clause-stays

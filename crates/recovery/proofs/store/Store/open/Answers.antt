@@ -3,7 +3,7 @@ use Rattle.disk.proofs.CallerLemmas.{synced_leaves}
 use Rattle.segments.specs.Ring.{Fits}
 use Rattle.recovery.specs.Found.{HoldsParts}
 use Rattle.recovery.specs.Cells.{FitEach}
-use Rattle.recovery.specs.Jobs.{IsKept, AreKept}
+use Rattle.recovery.specs.Jobs.{CanBePut, CanAllBePut}
 use Rattle.milestone.specs.Job.{Job}
 use Rattle.std.proofs.lemmas.List.Elements.{All-nil}
 use Rattle.recovery.proofs.FoundOnce.{found_once, runs_at}
@@ -42,7 +42,7 @@ returns-in-Ok-clause-open g c honest state of =
         marked = read.marked;
         limits = runs.0;
         runs = runs.1;
-        kept = subst (λ (l : List Job). AreKept again.1.order read.cells l) (sym c.new.ensures) (All-nil (IsKept again.1.order read.cells));
+        kept = subst (λ (l : List Job). CanAllBePut again.1.order read.cells l) (sym c.new.ensures) (All-nil (CanBePut again.1.order read.cells));
       },
       again.0,
     )

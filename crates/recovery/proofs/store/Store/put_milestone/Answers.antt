@@ -8,7 +8,7 @@ use Rattle.milestone.specs.CellSpelling.{IsCell, cell_body}
 use Rattle.milestone.specs.Cells.{IsLeftByReplacing, FitsNow, number_of, size_of}
 use Rattle.refusal.specs.declared.Refusal.{Refusal}
 use Rattle.refusal.specs.declared.Refusal.TheVariants.{NoMemory, Stranger, Fault}
-use Rattle.recovery.specs.Jobs.{AreKept, AllKeep, without_job}
+use Rattle.recovery.specs.Jobs.{CanAllBePut, AllKeep, without_job}
 use Rattle.recovery.specs.Open.{kept_jobs}
 use Rattle.recovery.proofs.Commits.{found_before}
 use Rattle.recovery.proofs.Refusals.{refusal_or}
@@ -183,7 +183,7 @@ returns-in-Ok-clause-done g c is_open =
         marked = is_open.marked;
         limits = is_open.limits;
         runs = runs_after store is_open job now_kept inside one its;
-        kept = subst (AreKept is_open.order (with_pair job.document (after store is_open job now_kept inside one its) is_open.cells))
+        kept = subst (CanAllBePut is_open.order (with_pair job.document (after store is_open job now_kept inside one its) is_open.cells))
             (ap (λ n. without_job n (kept_jobs store)) (sym is) ∙ sym c.forget.ensures)
             (kept_put is_open.order is_open.cells job.document (after store is_open job now_kept inside one its) (kept_jobs store) is_open.kept);
       };

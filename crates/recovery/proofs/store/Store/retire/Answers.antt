@@ -1,14 +1,14 @@
-use Rattle.std.proofs.Common.{◌≤◌, ◌<◌, ◌∙◌, ℕ, List, filter, not, subst, sym, rules, refl}
+use Rattle.std.proofs.Common.{◌≤◌, ◌<◌, ◌∙◌, ℕ, List, filter, not, ap, subst, sym, rules, refl}
 use Rattle.disk.specs.Crash.{history_of}
 use Rattle.disk.proofs.CallerLemmas.{begins, leaves_map}
 use Rattle.segments.specs.Numbers.{open_count}
 use Rattle.segments.specs.Ring.{known_numbers}
 use Rattle.recovery.specs.declared.marks.Mark.{Mark}
 use Rattle.recovery.specs.Cells.{lowest_known}
-use Rattle.recovery.specs.Marks.{marks_of, is_of, greatest_marked}
+use Rattle.recovery.specs.Marks.{marks_of, is_of, greatest_marked, without_segment}
 use Rattle.recovery.specs.Marked.{AreMarked}
 use Rattle.recovery.proofs.Commits.{found_before, held_now}
-use Rattle.recovery.proofs.Marked.{marked_retired}
+use Rattle.recovery.proofs.Marked.{one_oldest, marked_retired}
 use Rattle.recovery.proofs.Retirement.{parted, above_cells, same_number, may_retire, runs_on, parts_on, left_retiring}
 use Rattle.recovery.proofs.Upkeep.{cells_later}
 use Rattle.recovery.proofs.store.Store.retire.Goals as goal
@@ -86,3 +86,10 @@ returns-in-Ok-clause-done g c is_open =
       same_cells = refl;
       retired = retired;
     }
+
+-- the marks of the segment are gone
+pub returns-in-Ok-clause-marks : goal.returns-in-Ok-clause-marks
+returns-in-Ok-clause-marks g c slot segment oldest =
+    let store = c.args.self.now in
+    let found = c.in-Some.ensures.oldest in
+    c.forget.ensures ∙ ap (λ n. without_segment n (marks_of store.marks)) (one_oldest (known_numbers store.ring) found.0 slot c.in-Some.oldest segment found.1 oldest)

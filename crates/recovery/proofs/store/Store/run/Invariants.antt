@@ -1,7 +1,7 @@
-use Rattle.std.proofs.Common.{◌≡◌, ◌↔◌, true, false, take, drop}
+use Rattle.std.proofs.Common.{◌≡◌, ◌≤◌, ◌↔◌, ℕ, true, false, take, drop}
 use Rattle.disk.specs.Crash.{LeavesOnly}
 use Rattle.recovery.specs.Open.{IsOpen, IsUnchanged, device_of, state_of, has_failed}
-use Rattle.recovery.specs.Run.{AreTaken, IsAfterSome, state_after}
+use Rattle.recovery.specs.Run.{AreTaken, IsAfterSome, IsKeptFrom, state_after}
 use Rattle.recovery.proofs.store.Store.run.Given as goal
 
 abbrev pub invariant-loop-at : goal.invariant-loop-at
@@ -16,4 +16,5 @@ invariant-loop-at g l = record {
   is_open : IsOpen l.fn.self → IsOpen l.self;
   failed_before : has_failed l.fn.self ≡ true → (l.at ≡ 0) × IsUnchanged l.fn.self l.self;
   moments : has_failed l.fn.self ≡ false → IsOpen l.fn.self → LeavesOnly g.D.Disk (IsAfterSome 0 (state_of l.fn.self) l.steps) (device_of l.fn.self) (device_of l.self);
+  since : has_failed l.fn.self ≡ false → IsOpen l.fn.self → (count : ℕ) → count ≤ l.at → IsKeptFrom count l.steps l.fn.self l.self;
 }

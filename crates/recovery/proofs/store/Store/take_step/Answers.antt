@@ -4,7 +4,7 @@ use Rattle.disk.proofs.CallerLemmas.{leaves_map}
 use Rattle.refusal.specs.declared.Refusal.TheVariants.{NoMemory, Fault}
 use Rattle.recovery.specs.declared.run.StoreStep.{StoreStep}
 use Rattle.recovery.specs.Run.{IsTaken, IsWhy}
-use Rattle.recovery.proofs.PutAtOnce.{put_taken, given_up, retire_why, goes_on_retired, goes_on_needed}
+use Rattle.recovery.proofs.PutAtOnce.{committed_by, put_taken, given_up, retire_why, goes_on_retired, goes_on_needed}
 use Rattle.recovery.proofs.store.Store.take_step.Goals as goal
 
 -- without a batch the state stays
@@ -21,6 +21,12 @@ pub returns-in-Retire-clause-kept : goal.returns-in-Retire-clause-kept
 returns-in-Retire-clause-kept g c = goes_on_needed c.args.self.now c.retire.new.self c.retire.result c.retire.ensures.only c.retire.ensures.untouched
 
 -- what the step was
+pub returns-in_default-clause-taken : goal.returns-in_default-clause-taken
+returns-in_default-clause-taken g c =
+    let done = c.in_default.ensures in
+    subst (λ (s : StoreStep). IsTaken s c.args.self.now c.commit.new.self) (sym c.in-Commit.is)
+    (committed_by c.args.self.now c.commit.new.self c.deref.result.now c.in-Commit.batch.items c.deref.ensures.value done.works done.grow done.state done.committed done.room)
+
 pub returns-in-Milestone-clause-taken : goal.returns-in-Milestone-clause-taken
 returns-in-Milestone-clause-taken g c =
     subst (λ (s : StoreStep). OnOk c.put_document.result (IsTaken s c.args.self.now c.put_document.new.self)) (sym c.in-Milestone.is)

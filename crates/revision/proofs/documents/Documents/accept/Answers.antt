@@ -3,11 +3,11 @@ use Rattle.std.proofs.lemmas.List.{take_all}
 use Rattle.revision.specs.Documents.{PreparedState, unprepared}
 use Rattle.revision.specs.DocumentsView.{names_of}
 use Rattle.revision.specs.Index.{number_of}
-use Rattle.revision.specs.Pending.{PendingDocument, held, with_prepared}
+use Rattle.revision.specs.Pending.{PendingDocument, record_of, with_prepared}
 use Rattle.revision.specs.Preparing.{accepted}
 use Rattle.revision.specs.State.{DocumentRecord}
 use Rattle.revision.proofs.ChangedAt.{map-changed_at_all, length-changed_at_all}
-use Rattle.revision.proofs.Untouched.{NothingPrepared, nothing_left, rest-none, held-with_prepared}
+use Rattle.revision.proofs.Untouched.{NothingPrepared, nothing_left, rest-none, record_of-with_prepared}
 use Rattle.revision.proofs.documents.Documents.accept.Goals as goal
 
 -- nothing is prepared afterwards
@@ -40,9 +40,9 @@ invariant_of-self c = record {
 
 pub returns : goal.returns
 returns c =
-    let all : map held (take c.len-self-inside.result c.accept_each.new.documents.items) ≡ map (with_prepared c.self.inside.limits.keep) c.self.inside.documents.items =
-    ap (map held) (take_all _ _ (omega (arith, c.len-self-inside.ensures)))
-    ∙ held-with_prepared c.self.inside.limits.keep _ (emptied c) ∙ same_after c in
+    let all : map record_of (take c.len-self-inside.result c.accept_each.new.documents.items) ≡ map (with_prepared c.self.inside.limits.keep) c.self.inside.documents.items =
+    ap (map record_of) (take_all _ _ (omega (arith, c.len-self-inside.ensures)))
+    ∙ record_of-with_prepared c.self.inside.limits.keep _ (emptied c) ∙ same_after c in
     ap₂ (λ (b a : List DocumentRecord). record { before = record { limits = c.self.inside.limits; documents = b }; after = record { limits = c.self.inside.limits; documents = a } })
     all (same_after c)
     ∙ ap (λ (p : PreparedState). unprepared p.after) c.self.view_is

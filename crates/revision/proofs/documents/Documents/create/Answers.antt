@@ -5,10 +5,10 @@ use Rattle.std.proofs.lemmas.List.{map-append, length-append}
 use Rattle.revision.specs.Documents.{PreparedState}
 use Rattle.revision.specs.DocumentsView.{names_of}
 use Rattle.revision.specs.Index.{number_of}
-use Rattle.revision.specs.Pending.{PendingDocument, held, with_prepared}
+use Rattle.revision.specs.Pending.{PendingDocument, record_of, with_prepared}
 use Rattle.revision.specs.State.{DocumentRecord, has_room, grows, grown}
 use Rattle.revision.proofs.Indexed.{index-more, none_twice-more, take_init, names_length}
-use Rattle.revision.proofs.OneMore.{room_for, created_by, created_grows, state_by}
+use Rattle.revision.proofs.OneMore.{room_for, created_by, created_parts, state_by}
 use Rattle.revision.proofs.Untouched.{rest-touch, rest-more}
 use Rattle.revision.proofs.documents.Documents.create.Goals as goal
 
@@ -35,8 +35,10 @@ invariant_of-self-in_err-push_named c =
     }
 
 -- there is room for the document
-room : (c : goal.In_ok-push_named) → has_room (state_by c.self.inside.limits c.self.inside.documents.items) c.document-number.result (Some c.args.name.now) ≡ true
-room c = ap (λ (p : PreparedState). has_room p.after c.document-number.result (Some c.args.name.now)) c.self.view_is ∙ sym c.has_room_for.ensures ∙ c.if-not-has_room_for.false
+room : (c : goal.In_ok-push_named) → has_room (state_by c.self.inside.limits c.self.inside.documents.items) c.args.taken.now.document (Some c.args.name.now) ≡ true
+room c =
+    (created_parts (state_by c.self.inside.limits c.self.inside.documents.items) c.args.taken.now c.args.name.now c.requires.name
+    (ap (λ (p : PreparedState). grows p.after c.args.taken.now) c.self.view_is ∙ c.requires.continues)).0
 
 made : (c : goal.In_ok-push_named) → c.push_named.new.documents.items ≡ c.self.inside.documents.items ++ c.in_ok-document.document ∷ []
 made c = c.in_ok-push_named.ensures.documents
@@ -44,7 +46,7 @@ made c = c.in_ok-push_named.ensures.documents
 pub invariant_of-self-2 : goal.invariant_of-self-2
 invariant_of-self-2 c =
     let documents = c.self.inside.documents.items in
-    let there = room_for c.self.inside.limits documents c.args.taken.now c.args.name.now c.document-number.result (room c) in
+    let there = room_for c.self.inside.limits documents c.args.taken.now c.args.name.now c.args.taken.now.document (room c) in
     let names : names_of c.push_named.new.documents.items ≡ names_of documents ++ c.args.name.now ∷ [] =
     ap names_of (made c) ∙ map-append (λ (d : PendingDocument). d.name) documents _
     ∙ ap (λ (d : PendingDocument). names_of documents ++ d.name ∷ []) c.in_ok-document.ensures.ok in
@@ -56,26 +58,18 @@ invariant_of-self-2 c =
       index = λ q. index-more (get_by_text c.self.inside.names.map) (get_by_text c.push_named.new.names.map) (names_of documents) c.args.name.now
           c.self.invariant.index there.2
           (λ q. c.in_ok-push_named.ensures.names q
-          ∙ ap (λ (n : ℕ). cond (bytes_eq c.args.name.now q) (Some n) (get_by_text c.self.inside.names.map q)) (there.0 ∙ sym (names_length documents))) q
+          ∙ ap (λ (n : ℕ). cond (bytes_eq c.args.name.now q) (Some n) (get_by_text c.self.inside.names.map q)) (c.document-number.ensures ∙ there.0 ∙ sym (names_length documents))) q
           ∙ ap (number_of q 0) (sym names);
       none_twice = rw names (none_twice-more (names_of documents) c.args.name.now c.self.invariant.none_twice there.2);
-      rest = rw (made c) (rw c.in_ok-push.ensures.items (rest-more c.self.inside.touched.items c.document-number.result documents c.in_ok-document.document there.0 c.self.invariant.rest));
+      rest = rw (made c) (rw c.in_ok-push.ensures.items (rest-more c.self.inside.touched.items c.document-number.result documents c.in_ok-document.document (c.document-number.ensures ∙ there.0) c.self.invariant.rest));
     }
 
 pub returns-clause-ok : goal.returns-clause-ok
 returns-clause-ok c =
     let documents = c.self.inside.documents.items in
-    let there = room_for c.self.inside.limits documents c.args.taken.now c.args.name.now c.document-number.result (room c) in
+    let there = room_for c.self.inside.limits documents c.args.taken.now c.args.name.now c.args.taken.now.document (room c) in
     ap₂ (λ (b a : List DocumentRecord). record { before = record { limits = c.self.inside.limits; documents = b }; after = record { limits = c.self.inside.limits; documents = a } })
-    (ap (λ ds. map held (take c.self.inside.count ds)) (made c) ∙ ap (map held) (take_init c.self.inside.count documents _ c.self.invariant.held))
+    (ap (λ ds. map record_of (take c.self.inside.count ds)) (made c) ∙ ap (map record_of) (take_init c.self.inside.count documents _ c.self.invariant.held))
     (ap (map (with_prepared c.self.inside.limits.keep)) (made c ∙ ap (λ (d : PendingDocument). documents ++ d ∷ []) c.in_ok-document.ensures.ok)
-    ∙ created_by c.self.inside.limits documents c.args.taken.now c.args.name.now (sym c.document-number.ensures ∙ there.0) c.requires.name)
+    ∙ created_by c.self.inside.limits documents c.args.taken.now c.args.name.now there.0 c.requires.name)
     ∙ ap (λ (p : PreparedState). record { before = p.before; after = grown p.after c.args.taken.now }) c.self.view_is
-
-pub returns-clause-grow : goal.returns-clause-grow
-returns-clause-grow c =
-    let documents = c.self.inside.documents.items in
-    let there = room_for c.self.inside.limits documents c.args.taken.now c.args.name.now c.document-number.result (room c) in
-    ap (λ (p : PreparedState). grows p.after c.args.taken.now) (sym c.self.view_is)
-    ∙ created_grows c.self.inside.limits documents c.args.taken.now c.args.name.now (sym c.document-number.ensures ∙ there.0) c.requires.name
-    (ap (λ n. has_room (state_by c.self.inside.limits documents) n (Some c.args.name.now)) (sym c.document-number.ensures) ∙ room c) c.in_ok-document.ensures.begins

@@ -4,11 +4,11 @@ use Rattle.revision.specs.Documents.{PreparedState, unprepared}
 use Rattle.revision.specs.ChangedAt.{changed_at_all}
 use Rattle.revision.specs.DocumentsView.{names_of}
 use Rattle.revision.specs.Index.{number_of}
-use Rattle.revision.specs.Pending.{PendingDocument, held}
+use Rattle.revision.specs.Pending.{PendingDocument, record_of}
 use Rattle.revision.specs.Preparing.{forgotten}
 use Rattle.revision.specs.State.{DocumentRecord}
 use Rattle.revision.proofs.ChangedAt.{map-changed_at_all, length-changed_at_all}
-use Rattle.revision.proofs.Untouched.{NothingPrepared, nothing_left, rest-none, rest-take, held-with_prepared}
+use Rattle.revision.proofs.Untouched.{NothingPrepared, nothing_left, rest-none, rest-take, record_of-with_prepared}
 use Rattle.revision.proofs.documents.Documents.forget.Goals as goal
 
 -- what is left are the documents that are held
@@ -21,10 +21,10 @@ emptied c =
     (nothing_left forgotten (λ d. refl) c.self.inside.touched.items (take c.self.inside.count c.self.inside.documents.items)
     (rest-take c.self.inside.count c.self.inside.touched.items c.self.inside.documents.items c.self.invariant.rest))
 
-same_held : (c : goal.After-clear) → map held c.forget_each.new.documents.items ≡ map held (take c.self.inside.count c.self.inside.documents.items)
+same_held : (c : goal.After-clear) → map record_of c.forget_each.new.documents.items ≡ map record_of (take c.self.inside.count c.self.inside.documents.items)
 same_held c =
-    ap (map held) (left c)
-    ∙ map-changed_at_all held forgotten (λ d. refl) c.self.inside.touched.items (take c.self.inside.count c.self.inside.documents.items)
+    ap (map record_of) (left c)
+    ∙ map-changed_at_all record_of forgotten (λ d. refl) c.self.inside.touched.items (take c.self.inside.count c.self.inside.documents.items)
 
 same_names : (c : goal.After-clear) → names_of c.forget_each.new.documents.items ≡ names_of c.drop_creations.new.documents.items
 same_names c =
@@ -48,8 +48,8 @@ invariant_of-self c = record {
 
 pub returns : goal.returns
 returns c =
-    let all : map held (take c.self.inside.count c.forget_each.new.documents.items) ≡ map held (take c.self.inside.count c.self.inside.documents.items) =
-    ap (map held) (take_all _ _ (omega (arith, count_is c))) ∙ same_held c in
+    let all : map record_of (take c.self.inside.count c.forget_each.new.documents.items) ≡ map record_of (take c.self.inside.count c.self.inside.documents.items) =
+    ap (map record_of) (take_all _ _ (omega (arith, count_is c))) ∙ same_held c in
     ap₂ (λ (b a : List DocumentRecord). record { before = record { limits = c.self.inside.limits; documents = b }; after = record { limits = c.self.inside.limits; documents = a } })
-    all (sym (held-with_prepared c.self.inside.limits.keep _ (emptied c)) ∙ same_held c)
+    all (sym (record_of-with_prepared c.self.inside.limits.keep _ (emptied c)) ∙ same_held c)
     ∙ ap (λ (p : PreparedState). unprepared p.before) c.self.view_is

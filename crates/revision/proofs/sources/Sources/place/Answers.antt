@@ -1,6 +1,6 @@
 use Rattle.std.proofs.Common.{◌+◌, ◌-◌, ◌/◌, length, ap, arith}
 use Rattle.attributes.specs.Map.{entries_of}
-use Rattle.attributes.proofs.Places.{none_before, here_at, before_more, read_at, compared}
+use Rattle.attributes.proofs.CallerLemmas.{none_before, here_at, before_more, read_at, compared}
 use Rattle.revision.proofs.Halves.{before-equal, before-greater, free_between}
 use Rattle.revision.proofs.sources.Sources.place.Goals as goal
 

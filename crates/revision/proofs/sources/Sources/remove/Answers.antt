@@ -1,7 +1,7 @@
 use Rattle.std.proofs.Common.{◌≡◌, true, sym, ap, subst, ◌∙◌}
 use Rattle.std.specs.List.{remove as list_remove}
 use Rattle.attributes.specs.Map.{entries_of, remove, same_entries_map}
-use Rattle.attributes.proofs.Places.{remove-here, entries-remove, remove-absent, ascending_as}
+use Rattle.attributes.proofs.CallerLemmas.{remove-here, entries-remove, remove-absent, ascending_as}
 use Rattle.revision.specs.Sources.{are_named}
 use Rattle.revision.proofs.Named.{named-remove}
 use Rattle.revision.proofs.sources.Sources.remove.Goals as goal

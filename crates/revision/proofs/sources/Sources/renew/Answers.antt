@@ -2,7 +2,7 @@ use Rattle.std.proofs.Common.{◌≡◌, true, sym, ap, subst}
 use Rattle.attributes.specs.Map.{entries_of, insert, same_entries_map}
 use Rattle.revision.specs.Sources.{are_named}
 use Rattle.revision.proofs.Named.{named-insert}
-use Rattle.attributes.proofs.Places.{written, ascending_as}
+use Rattle.attributes.proofs.CallerLemmas.{written, ascending_as}
 use Rattle.revision.proofs.sources.Sources.renew.Goals as goal
 
 pub invariant_of-self-inside : goal.invariant_of-self-inside

@@ -2,7 +2,7 @@ use Rattle.std.proofs.Common.{◌≡◌, true, ◌∙◌, ◌∷◌, ◌++◌, [
 use Rattle.revision.specs.Documents.{PreparedState}
 use Rattle.revision.specs.Invariants.{IsState}
 use Rattle.revision.specs.Past.{Content}
-use Rattle.revision.specs.Pending.{PendingDocument, held}
+use Rattle.revision.specs.Pending.{PendingDocument, record_of}
 use Rattle.revision.specs.State.{State, adopts, adopted}
 use Rattle.revision.proofs.Keeping.{adopting_keeps, adopted-light}
 use Rattle.revision.proofs.Room.{weight-some}
@@ -27,5 +27,5 @@ invariant_of-self-2 c =
     adopting_keeps old.before c.args.name content c.args.revision c.args.sources c.self.invariant.1 may in
     let after : c.accept.new.self.before ≡ adopted old.before c.args.name content c.args.revision c.args.sources
     = ap (λ (p : PreparedState). p.before) c.accept.ensures ∙ ap (λ (p : PreparedState). p.after) c.in_ok-adopt.ensures.ok
-    ∙ ap₂ (λ (s : State) (d : PendingDocument). record s { documents = s.documents ++ held d ∷ [] }) c.self.invariant.0 c.in_ok-made.ensures.ok in
+    ∙ ap₂ (λ (s : State) (d : PendingDocument). record s { documents = s.documents ++ record_of d ∷ [] }) c.self.invariant.0 c.in_ok-made.ensures.ok in
     (ap (λ (p : PreparedState). p.after) c.accept.ensures ∙ sym (ap (λ (p : PreparedState). p.before) c.accept.ensures), subst IsState (sym after) is)

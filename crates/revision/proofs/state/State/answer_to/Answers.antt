@@ -1,13 +1,13 @@
 use Rattle.std.proofs.Common.{sym}
-use Rattle.revision.specs.Pending.{held}
+use Rattle.revision.specs.Pending.{record_of}
 use Rattle.revision.proofs.Admitting.{found_past}
 use Rattle.revision.proofs.state.State.answer_to.Goals as goal
 
 pub plan_edit-requires-clause-past : goal.plan_edit-requires-clause-past
 plan_edit-requires-clause-past c =
-    found_past c.args.self.now c.name.result.now c.in-Some-found.number (held c.in-Some-found.found.now) c.limits.ensures.state (sym c.in-Some-found.ensures)
+    found_past c.args.self.now c.name.result.now c.in-Some-found.number (record_of c.in-Some-found.found.now) c.limits.ensures.state (sym c.in-Some-found.ensures)
 
 pub plan_undo-requires : goal.plan_undo-requires
 plan_undo-requires c = record {
-  past = found_past c.args.self.now c.name.result.now c.in-Some-found-2.number (held c.in-Some-found-2.found.now) c.limits.ensures.state (sym c.in-Some-found-2.ensures);
+  past = found_past c.args.self.now c.name.result.now c.in-Some-found-2.number (record_of c.in-Some-found-2.found.now) c.limits.ensures.state (sym c.in-Some-found-2.ensures);
 }

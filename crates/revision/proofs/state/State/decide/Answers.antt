@@ -18,4 +18,4 @@ returns-in-Err c = decided_refused c.args.self.now c.args.command.now c.in-Err.r
 pub returns-in-Err-absorb : goal.returns-in-Err-absorb
 returns-in-Err-absorb c =
     decided_without_memory c.args.self.now c.absorb.new.self c.args.command.now c.in-Ok-Taken.field-0 c.in-Ok-Taken.taken c.in-Err-absorb.refusal c.in-Ok-Taken.field-0-is
-    c.in-Ok-Taken.ensures.grows c.in-Err-absorb.ensures.only (λ strange. c.in-Err-absorb.ensures.stranger (ap not_absorbed strange)) c.in-Err-absorb.ensures.unchanged
+    c.in-Ok-Taken.ensures.grows c.in-Err-absorb.ensures.only (λ strange. c.in-Err-absorb.ensures.stranger.0 (ap not_absorbed strange)) c.in-Err-absorb.ensures.unchanged

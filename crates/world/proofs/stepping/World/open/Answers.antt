@@ -1,6 +1,6 @@
 use Rattle.std.proofs.Common.{◌≡◌, ℕ, Bool, true, false, List, map, sym, ap, ap₂, ◌∙◌, subst, take, arith}
 use Rattle.std.specs.Prelude.{if◌then◌else◌}
-use Rattle.revision.specs.Pending.{PendingDocument, held}
+use Rattle.revision.specs.Pending.{PendingDocument, record_of}
 use Rattle.revision.specs.State.{DocumentRecord, all_grow}
 use Rattle.world.specs.Board.{reopened}
 use Rattle.world.specs.World.{World, takens}
@@ -17,10 +17,10 @@ recovered-requires c = record {
 
 -- what the test of the floors says
 told : (keep asked : ℕ) (composed given : List (ℕ × ℕ)) (documents : List DocumentRecord) (items : List PendingDocument) (said answer : Bool) → asked ≡ keep → given ≡ composed
-    → map held items ≡ documents → said ≡ are_reached asked given 0 (map held items) → said ≡ answer → are_reached keep composed 0 documents ≡ answer
+    → map record_of items ≡ documents → said ≡ are_reached asked given 0 (map record_of items) → said ≡ answer → are_reached keep composed 0 documents ≡ answer
 told keep asked composed given documents items said answer keep_is composed_is held_are is answered =
     ap (are_reached keep composed 0) (sym held_are)
-    ∙ (ap₂ (λ k l. are_reached k l 0 (map held items)) (sym keep_is) (sym composed_is) ∙ (sym is ∙ answered))
+    ∙ (ap₂ (λ k l. are_reached k l 0 (map record_of items)) (sym keep_is) (sym composed_is) ∙ (sym is ∙ answered))
 
 may : (c : goal.After-self-5-1) → may_leave (world_of c.self.inside) c.args.kept ≡ true
 may c = ap (λ (w : World). may_leave w c.args.kept) c.self.view_is ∙ (sym c.may_leave.ensures ∙ c.if-not-may_leave.false)

@@ -4,13 +4,13 @@ use Rattle.revision.specs.ChangedAt.{IsAmong}
 use Rattle.revision.specs.Documents.{PreparedState}
 use Rattle.revision.specs.DocumentsView.{names_of}
 use Rattle.revision.specs.Index.{number_of}
-use Rattle.revision.specs.Pending.{PendingDocument, held, with_prepared}
+use Rattle.revision.specs.Pending.{PendingDocument, record_of, with_prepared}
 use Rattle.revision.specs.Preparing.{with_next}
 use Rattle.revision.specs.State.{DocumentRecord, change_of, record_by_name, set_document, grown}
 use Rattle.revision.proofs.ChangedAt.{map-changed_at, length-changed_at, among-last}
 use Rattle.revision.proofs.Untouched.{rest-touch, rest-changed}
-use Rattle.revision.proofs.OneMore.{changed_by, held-changed}
-use Rattle.revision.proofs.documents.Documents.prepare.Goals as goal
+use Rattle.revision.proofs.OneMore.{changed_by, record_of-changed}
+use Rattle.revision.proofs.documents.Documents.prepare_next.Goals as goal
 
 pub invariant_of-self-in_err-change-in-None : goal.invariant_of-self-in_err-change-in-None
 invariant_of-self-in_err-change-in-None c =
@@ -53,7 +53,7 @@ returns-in_ok-change-in-None-clause-ok c =
     let documents = c.self.inside.documents.items in
     let keep = c.self.inside.limits.keep in
     ap₂ (λ (b a : List DocumentRecord). record { before = record { limits = c.self.inside.limits; documents = b }; after = record { limits = c.self.inside.limits; documents = a } })
-    (ap (λ ds. map held (take c.self.inside.count ds)) made ∙ held-changed f (λ d. refl) c.self.inside.count i documents)
+    (ap (λ ds. map record_of (take c.self.inside.count ds)) made ∙ record_of-changed f (λ d. refl) c.self.inside.count i documents)
     (ap (map (with_prepared keep)) made ∙ sym (changed_by keep i documents c.args.taken.now)
     ∙ ap (λ n. set_document i (record_by_name keep (slice_get (map (with_prepared keep) documents) i) c.args.taken.now n) (map (with_prepared keep) documents)) c.in-None.ensures)
     ∙ ap (λ (p : PreparedState). record { before = p.before; after = grown p.after c.args.taken.now }) c.self.view_is

@@ -1,0 +1,53 @@
+-- The kept jobs of documents that need no milestone while a segment is freed.
+use Rattle.std.proofs.Common.{◌≡◌, ◌≢◌, ◌⊎◌, inl, inr, ℕ, ◌≤◌, ◌<◌, List, length, get_or, sym, ◌∙◌, ap, subst, arith}
+use Rattle.std.proofs.lemmas.Bool.{cases_eq}
+use Rattle.disk.specs.declared.device.Disk.{Ghosts}
+use Rattle.milestone.specs.Job.{Job}
+use Rattle.recovery.specs.declared.marks.Mark.{Mark}
+use Rattle.recovery.specs.declared.store.Store.{Store}
+use Rattle.segments.specs.Numbers.{IsOldest}
+use Rattle.segments.specs.Ring.{known_numbers}
+use Rattle.recovery.specs.Cells.{lowest_known}
+use Rattle.recovery.specs.Jobs.{jobs_for, without_job}
+use Rattle.recovery.specs.Open.{IsSpared, KeepsJobs, ring_of, known_cells, known_marks, kept_jobs}
+use Rattle.recovery.specs.steps.Freeing.{NoneLower}
+use Rattle.recovery.proofs.Marked.{one_oldest}
+use Rattle.recovery.proofs.Marking.{marked_member}
+use Rattle.recovery.proofs.OtherJobs.{own_stay}
+
+module _ {D : Type 0} {disk : Ghosts D} where
+  -- nothing but other things changed
+  pub spared_same : (segment : ℕ) (old new : Store D disk) → kept_jobs new ≡ kept_jobs old → KeepsJobs segment old new
+  spared_same segment old new same document spared = ap (λ (l : List Job). jobs_for document l) same
+
+  pub spared_then : (segment : ℕ) (old mid new : Store D disk) → KeepsJobs segment old mid → kept_jobs new ≡ kept_jobs mid → KeepsJobs segment old new
+  spared_then segment old mid new keeps same document spared = ap (λ (l : List Job). jobs_for document l) same ∙ keeps document spared
+
+  -- one segment is the oldest
+  pub spared_oldest : (old new : Store D disk) (slot segment other number : ℕ) → IsOldest (known_numbers (ring_of old)) slot segment
+      → IsOldest (known_numbers (ring_of old)) other number → KeepsJobs segment old new → KeepsJobs number old new
+  spared_oldest old new slot segment other number first second keeps =
+      subst (λ n. KeepsJobs n old new) (one_oldest (known_numbers (ring_of old)) slot other segment number first second) keeps
+
+  -- one mark more was looked at
+  pub spared_more : (start store new : Store D disk) (segment place : ℕ) (mark : Mark) → place < length (known_marks start) → get_or (known_marks start) place mark ≡ mark
+      → NoneLower start store
+      → ((mark.segment ≢ segment) ⊎ (mark.revision ≤ lowest_known (known_cells store) mark.document) → kept_jobs new ≡ kept_jobs store)
+      → without_job mark.document (kept_jobs new) ≡ without_job mark.document (kept_jobs store)
+      → KeepsJobs segment start store → KeepsJobs segment start new
+  spared_more start store new segment place mark inside is none_lower same others keeps document spared =
+      now ∙ keeps document spared
+    where
+      unmoved : mark.document ≡ document → kept_jobs new ≡ kept_jobs store
+      unmoved own = elim (cases_eq mark.segment segment) [
+        | inl one ↦
+            let here : IsSpared segment mark.document start = subst (λ n. IsSpared segment n start) (sym own) spared in
+            same (inr (omega (arith, marked_member segment (known_marks start) place mark inside is one, here, none_lower mark.document)))
+        | inr away ↦ same (inl away)
+      ]
+
+      now : jobs_for document (kept_jobs new) ≡ jobs_for document (kept_jobs store)
+      now = elim (cases_eq mark.document document) [
+        | inl own ↦ ap (λ (l : List Job). jobs_for document l) (unmoved own)
+        | inr apart ↦ own_stay document mark.document (kept_jobs store) (kept_jobs new) (λ is. apart (sym is)) others
+      ]
