@@ -1,11 +1,14 @@
 //! Milestones that are put: which bytes a cell then has, which jobs are refused, and what a stop within leaves.
+use crate::batches::EDIT;
 use crate::jobs::{JobRow, has_jobs, job};
 use crate::picks::{FIRST, SECOND, written};
+use crate::running::is_run_of;
 use crate::stopping::{LEFT, calls_before};
 use crate::stores::{
     EditRow, Row, change, device_of, differ_by, has_documents, is_answer, is_opened_as, open_by,
     open_store, session, small_device,
 };
+use crate::upkeep::DELETION;
 use disk::{Disk, FaultDisk, FaultPlan, Left};
 use milestone::{Composed, Job, compose_job};
 use recovery::{Pick, Store};
@@ -119,6 +122,39 @@ fn a_milestone_of_an_older_revision(rt: HostRuntime) {
     is_opened_as(&rt, disk.bytes(), "d 3 qzx\n");
     has_floor(&rt, disk.bytes(), Pick::Newer, 2);
     has_floor(&rt, disk.bytes(), Pick::Older, 2);
+}
+
+// A device without milestones whose store has put "x" behind the "z" of "d", and deleted the "z" then.
+fn deleted(rt: &(impl Abort + AllocGlobal)) -> Vec<u8> {
+    let mut store = open_store(rt, device_of(rt, &created(rt)));
+    is_run_of(rt, &mut store, &EDIT, Ok(()));
+    is_run_of(rt, &mut store, &DELETION, Ok(()));
+    let disk = store.close();
+    disk.bytes().to_vec(rt.alloc()).expect(rt, "memory")
+}
+
+// The bytes of such a device once a milestone at revision 2 was put. Revision 1 is held until then, and no longer.
+fn put_below(rt: &(impl Abort + AllocGlobal), before: &[u8]) -> Vec<u8> {
+    let mut store = open_store(rt, device_of(rt, before));
+    has_jobs(rt, &mut store, &[(0, 1, "z")]);
+    is_put(rt, &mut store, 2, Ok(()));
+    has_jobs(rt, &mut store, &JOBS_BEHIND);
+    let disk = store.close();
+    disk.bytes().to_vec(rt.alloc()).expect(rt, "memory")
+}
+
+// A milestone before a deletion: its cell has what is deleted behind it, and the source as of revision 2. Opened by either pick the
+// document has lost it.
+#[test]
+fn a_milestone_before_a_deletion(rt: HostRuntime) {
+    let before = deleted(&rt);
+    is_opened_as(&rt, &before, "d 3 x\n");
+    has_floor(&rt, &before, Pick::Newer, 1);
+    let after = put_below(&rt, &before);
+    differ_by(&rt, &after, &before, 64, &SECOND);
+    is_opened_as(&rt, &after, "d 3 x\n");
+    has_floor(&rt, &after, Pick::Newer, 2);
+    has_floor(&rt, &after, Pick::Older, 2);
 }
 
 // The document is held from the milestone's revision on, and has three revisions. Two below the newest would be held without it.
