@@ -1,17 +1,22 @@
 //! How each layer is called.
-ghost use Rattle.std.specs.Prelude.{◌≡◌, ◌+◌, ◌≤◌, ◌<◌, ◌^◌, ℕ, List, [], ◌∷◌, ◌++◌, Option, length, false, OnOk, IfOk, IfErr};
+ghost use Rattle.std.specs.Prelude.{◌≡◌, ◌+◌, ◌*◌, ◌≤◌, ◌<◌, ◌^◌, ℕ, List, [], ◌∷◌, ◌++◌, Option, length, false, OnOk, IfOk, IfErr, IfSome, IfNone, OnSome};
 ghost use Rattle.compose.specs.Many.{applied};
 ghost use Rattle.disk.specs.Device.{overwritten};
+ghost use Rattle.disk.specs.Calls.{HasOnlyRead};
 ghost use Rattle.disk.specs.Crash.{LeavesOnly};
 ghost use Rattle.journal.specs.Area.{Stands};
 ghost use Rattle.journal.specs.BatchSpelling as spelling;
+ghost use Rattle.milestone.specs.CellSpelling.{cell_body, IsCell};
+ghost use Rattle.milestone.specs.OneCell.{HoldsPair};
+ghost use Rattle.milestone.specs.Cells.{with_cell};
+ghost use Rattle.milestone.specs.ReadCells.{pair_of};
 ghost use Rattle.segments.specs.Slot.{Segment};
 ghost use Rattle.segments.specs.Ring.{Fits, IsLeftByAppend, end_of};
 ghost use Rattle.recovery.specs.Open.{FitsSlot, IsOpen, IsWithOrWithout, device_of, state_of, has_failed};
 
 use disk::{Disk, Fault};
 use journal::{Area, encode_batch};
-use milestone::{Job, Uncomposed, compose_job};
+use milestone::{Cells, Job, Milestone, ReadCells, Uncomposed, compose_job};
 use recovery::{Receipt, Store};
 use refusal::Refusal;
 use revision::Taken;
@@ -70,6 +75,39 @@ pub fn length_of(alloc: Global, job: Job) -> Result<u64, Uncomposed>
         Ok(composed) => Ok(composed.milestone().document().len16()),
         Err(back) => Err(back),
     }
+}
+
+/// Reads the two cells of the document of a number, of 256 to 16,777,216 bytes each, and puts a milestone, as `Composed::milestone`
+/// gives it, into one that is closed, the first one where both are. Then it answers what the cells held before. Where both are open it
+/// answers None, and has only read.
+pub fn put_where_closed<D: Disk>(
+    alloc: Global,
+    disk: &mut D,
+    place: u64,
+    size: u64,
+    number: u32,
+    milestone: &Milestone,
+) -> Result<Option<ReadCells>, Refusal>
+    requires low { 256 ≤ size }
+    requires high { size ≤ 16777216 }
+    requires end { place + 2 * size < 2 ^ 62 }
+    requires within { place + 2 * size ≤ length (D.seen disk.old) }
+    requires is { IsCell number milestone.now }
+    requires fits { 5 + length (cell_body number milestone.now) ≤ size }
+
+    ensures before { IfOk result (λ answer. IfSome answer (λ read. D.honest disk.new
+        → HoldsPair place size number (D.seen disk.old) (pair_of read))) }
+    ensures put { IfOk result (λ answer. IfSome answer (λ read. D.honest disk.new
+        → HoldsPair place size number (D.seen disk.new) (with_cell milestone.now (pair_of read)))) }
+    ensures synced { IfOk result (λ answer. OnSome answer (D.unsynced disk.new ≡ [])) }
+    ensures both { IfOk result (λ answer. IfNone answer (HasOnlyRead ⟦<D as Disk>⟧ disk.old disk.new)) }
+{
+    let mut read = Cells::read_both(alloc, disk, place, size, number)?;
+    if read.first.is_some() && read.second.is_some() {
+        return Ok(None);
+    }
+    read.cells.put(alloc, disk, milestone)?;
+    Ok(Some(read))
 }
 
 /// Commits one command. A crash at any moment leaves the state without it or with it, and at Ok the store goes on.

@@ -1,7 +1,8 @@
 //! Devices with open cells, byte for byte: shape S of docs/FORMATS.md, whose cells lie at 64, 320, 576 and 832.
 use crate::batches::EDIT;
 use crate::stores::{
-    EditRow, change, device_of, is_opened_as, is_picked_as, open_store, small_device, with_bytes_at,
+    EditRow, change, device_of, is_opened_as, is_opened_with, is_picked_as, open_store,
+    small_device, with_bytes_at,
 };
 use recovery::Pick;
 use std::process::Abort;
@@ -30,6 +31,25 @@ const TWO_SOURCES: [u8; 66] = [
     1, 0, b'a', 1, 0, 0, 0, 0, 0, 0, 0, 1, 0, 0, 0, 0, 0, 0, 0, //
     1, 0, b'b', 1, 0, 0, 0, 0, 0, 0, 0, 1, 0, 0, 0, 0, 0, 0, 0, //
 ];
+
+/// A cell of document 0 whose text has five letters. With its source they weigh 124, of the 128 that are allowed.
+const LIGHT: [u8; 61] = [
+    0xa5, 56, 0, 0, 0, // the gate, and the length of the body
+    0, 0, 0, 0, 1, 0, b'd', 1, 0, 0, 0, 0, 0, 0, 0, // document 0, d, revision 1
+    1, 0, 0, 0, 1, 5, 0, 0, 0, b'a', b'b', b'c', b'd', b'e', 0, 0, 0, 0, // its text
+    1, 0, 0, 0, 1, 0, b'a', 1, 0, 0, 0, 0, 0, 0, 0, 1, 0, 0, 0, 0, 0, 0, 0, // its source
+];
+
+/// The same with six letters, which weigh 136.
+const HEAVY: [u8; 62] = [
+    0xa5, 57, 0, 0, 0, //
+    0, 0, 0, 0, 1, 0, b'd', 1, 0, 0, 0, 0, 0, 0, 0, //
+    1, 0, 0, 0, 1, 6, 0, 0, 0, b'a', b'b', b'c', b'd', b'e', b'f', 0, 0, 0, 0, //
+    1, 0, 0, 0, 1, 0, b'a', 1, 0, 0, 0, 0, 0, 0, 0, 1, 0, 0, 0, 0, 0, 0, 0, //
+];
+
+/// Where the superblock has the number of sources that are allowed.
+const SOURCES: usize = 25;
 
 /// Where the parts of a cell stand in it.
 const NUMBER: usize = 5;
@@ -105,6 +125,26 @@ fn sources_of_a_cell_are_in_order(rt: HostRuntime) {
     is_opened_as(&rt, &device, "d 1 \n");
     is_opened_as(&rt, &with_bytes_at(&rt, &device, 64 + 30, b"b"), DAMAGED);
     is_opened_as(&rt, &with_bytes_at(&rt, &device, 64 + 30, b"c"), DAMAGED);
+}
+
+// Of two open cells the picked one alone has to keep the limit of weight.
+#[test]
+fn a_cell_keeps_the_limit_of_weight(rt: HostRuntime) {
+    let device = empty(&rt);
+    is_opened_with(&rt, &device, 64, &LIGHT, "d 1 abcde\n");
+    is_opened_with(&rt, &device, 64, &HEAVY, DAMAGED);
+    let newer = with_bytes_at(&rt, &CELL, REVISION, &[2]);
+    let two = with_bytes_at(&rt, &with_bytes_at(&rt, &device, 64, &HEAVY), 320, &newer);
+    is_picked_as(&rt, &two, Pick::Newer, "d 2 z\n");
+    is_picked_as(&rt, &two, Pick::Older, DAMAGED);
+}
+
+// Two sources alone weigh 128, so the cell is light enough, whatever number of sources is allowed.
+#[test]
+fn a_cell_keeps_the_limit_of_sources(rt: HostRuntime) {
+    let device = with_bytes_at(&rt, &empty(&rt), 64, &TWO_SOURCES);
+    is_opened_with(&rt, &device, SOURCES, &[2], "d 1 \n");
+    is_opened_with(&rt, &device, SOURCES, &[1], DAMAGED);
 }
 
 // What is at or below a cell's revision is passed over. Without the cell the edit is the first entry of a document that was never made.

@@ -1,13 +1,23 @@
 //! Milestones that are put: which bytes a cell then has, which jobs are refused, and what a stop within leaves.
+ghost use Rattle.std.specs.Prelude.{◌≡◌, ◌+◌, ◌≤◌, length};
+ghost use Rattle.disk.specs.Memory.{bytes_of};
+ghost use Rattle.milestone.specs.CellSpelling.{cell_body, IsCell};
+ghost use Rattle.milestone.specs.Cells.{Fits};
+ghost use Rattle.milestone.specs.ReadCells.{pair_of, IsReadAs};
+
+use crate::batches::EDIT;
+use crate::callers::put_where_closed;
 use crate::jobs::{JobRow, has_jobs, job};
 use crate::picks::{FIRST, SECOND, written};
+use crate::running::is_run_of;
 use crate::stopping::{LEFT, calls_before};
 use crate::stores::{
     EditRow, Row, change, device_of, differ_by, has_documents, is_answer, is_opened_as, open_by,
-    open_store, session, small_device,
+    open_store, session, small_device, with_bytes_at,
 };
-use disk::{Disk, FaultDisk, FaultPlan, Left};
-use milestone::{Composed, Job, compose_job};
+use crate::upkeep::DELETION;
+use disk::{Disk, FaultDisk, FaultPlan, Left, MemDisk};
+use milestone::{Cells, Composed, Job, Milestone, ReadCells, compose_job};
 use recovery::{Pick, Store};
 use refusal::Refusal;
 use std::process::Abort;
@@ -119,6 +129,90 @@ fn a_milestone_of_an_older_revision(rt: HostRuntime) {
     is_opened_as(&rt, disk.bytes(), "d 3 qzx\n");
     has_floor(&rt, disk.bytes(), Pick::Newer, 2);
     has_floor(&rt, disk.bytes(), Pick::Older, 2);
+}
+
+// A device without milestones whose store has put "x" behind the "z" of "d", and deleted the "z" then.
+fn deleted(rt: &(impl Abort + AllocGlobal)) -> Vec<u8> {
+    let mut store = open_store(rt, device_of(rt, &created(rt)));
+    is_run_of(rt, &mut store, &EDIT, Ok(()));
+    is_run_of(rt, &mut store, &DELETION, Ok(()));
+    let disk = store.close();
+    disk.bytes().to_vec(rt.alloc()).expect(rt, "memory")
+}
+
+// The bytes of such a device once a milestone at revision 2 was put. Revision 1 is held until then, and no longer.
+fn put_below(rt: &(impl Abort + AllocGlobal), before: &[u8]) -> Vec<u8> {
+    let mut store = open_store(rt, device_of(rt, before));
+    has_jobs(rt, &mut store, &[(0, 1, "z")]);
+    is_put(rt, &mut store, 2, Ok(()));
+    has_jobs(rt, &mut store, &JOBS_BEHIND);
+    let disk = store.close();
+    disk.bytes().to_vec(rt.alloc()).expect(rt, "memory")
+}
+
+// A milestone before a deletion: its cell has what is deleted behind it, and the source as of revision 2. Opened by either pick the
+// document has lost it.
+#[test]
+fn a_milestone_before_a_deletion(rt: HostRuntime) {
+    let before = deleted(&rt);
+    is_opened_as(&rt, &before, "d 3 x\n");
+    has_floor(&rt, &before, Pick::Newer, 1);
+    let after = put_below(&rt, &before);
+    differ_by(&rt, &after, &before, 64, &SECOND);
+    is_opened_as(&rt, &after, "d 3 x\n");
+    has_floor(&rt, &after, Pick::Newer, 2);
+    has_floor(&rt, &after, Pick::Older, 2);
+}
+
+// Reads the two cells of document 0, at 64 and 320.
+fn cells_of(rt: &(impl Abort + AllocGlobal), disk: &mut MemDisk) -> ReadCells
+    requires { 576 ≤ length (bytes_of disk.old) }
+    ensures fits { Fits (bytes_of disk.old) result.cells (pair_of result) }
+    ensures known { IsReadAs 64 256 0 result }
+    ensures same { bytes_of disk.new ≡ bytes_of disk.old }
+{
+    match Cells::read_both(rt.alloc(), disk, 64, 256, 0) {
+        Ok(read) => read,
+        Err(refusal) => panic!(rt; "{refusal}"),
+    }
+}
+
+// A milestone is put into one of these cells, or both are open.
+fn is_put_again(
+    rt: &(impl Abort + AllocGlobal),
+    disk: &mut MemDisk,
+    milestone: &Milestone,
+    wanted: bool,
+)
+    requires within { 576 ≤ length (bytes_of disk.old) }
+    requires is { IsCell 0 milestone.now }
+    requires fits { 5 + length (cell_body 0 milestone.now) ≤ 256 }
+{
+    match put_where_closed(rt.alloc(), disk, 64, 256, 0, milestone) {
+        Ok(answer) => assert_eq!(rt; answer.is_some(), wanted),
+        Err(refusal) => panic!(rt; "{refusal}"),
+    }
+}
+
+// What the first cell holds is put into a cell that is closed, or both are open.
+fn first_is_put_again(rt: &(impl Abort + AllocGlobal), disk: &mut MemDisk, wanted: bool) {
+    assert!(rt; 576 <= disk.bytes().len());
+    let read = cells_of(rt, disk);
+    match &read.first {
+        Some(milestone) => is_put_again(rt, disk, milestone, wanted),
+        None => panic!(rt; "an open cell"),
+    }
+}
+
+// A milestone that was read of one cell is put into the other one, and nowhere once both are open.
+#[test]
+fn a_milestone_is_put_where_a_cell_is_closed(rt: HostRuntime) {
+    let before = with_bytes_at(&rt, small_device(&rt).bytes(), 64, &FIRST);
+    let mut disk = device_of(&rt, &before);
+    first_is_put_again(&rt, &mut disk, true);
+    differ_by(&rt, disk.bytes(), &before, 320, &FIRST);
+    first_is_put_again(&rt, &mut disk, false);
+    differ_by(&rt, disk.bytes(), &before, 320, &FIRST);
 }
 
 // The document is held from the milestone's revision on, and has three revisions. Two below the newest would be held without it.

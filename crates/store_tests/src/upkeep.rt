@@ -12,8 +12,8 @@ use refusal::Refusal;
 use revision::{DocState, Name};
 use std::process::Abort;
 
-// Batch 3 deletes the first unit, by number 3 of the source a.
-const DELETION: [u8; 41] = [
+/// Batch 3 deletes the first unit, by number 3 of the source a.
+pub const DELETION: [u8; 41] = [
     1, 0, 0, 0, // one entry
     2, 0, 0, 0, 0, 3, 0, 0, 0, 0, 0, 0, 0, // a change, document 0, revision 3
     1, 0, b'a', 3, 0, 0, 0, 0, 0, 0, 0, // source a, its number 3
