@@ -6,6 +6,42 @@
 //! specs/Writing.antt, that no batch that it was given is dropped, none that was published is taken back, and what a crash leaves of them; and
 //! by `IsTurnFailed` why it fails the board. The rest stands in the types of what it passes: a run is one that a board took off, a
 //! receipt is of a batch that the store has committed, and a board settles only by one.
+//!
+//! A caller, with its contract, which `flusher_tests` proves:
+//!
+//! ```text
+//! ghost use Rattle.std.specs.Prelude.{◌≡◌, ◌++◌, List, OnOk};
+//! ghost use Rattle.revision.specs.Command.{Taken};
+//! ghost use Rattle.revision.specs.State.{fold};
+//! ghost use Rattle.recovery.specs.Found.{commands_of};
+//! ghost use Rattle.recovery.specs.Open.{state_of};
+//! ghost use Rattle.flusher.specs.Holding.{store_of, told_of};
+//!
+//! use disk::Disk;
+//! use flusher::{Flusher, OpenGate};
+//! use hub::Hub;
+//! use published::Site;
+//! use refusal::Refusal;
+//! use std::alloc::Global;
+//! use std::sync::Wait;
+//! use turns::flush_all;
+//!
+//! /// Writes all that is ordered until the hub is ended, and puts no milestones. Nothing that was published is taken back, and at Ok the
+//! /// store holds just what is published.
+//! pub fn flush_to_the_end<D: Disk, J: Site, R: Wait>(
+//!     rt: &R,
+//!     alloc: Global,
+//!     flusher: &mut Flusher<D, J>,
+//!     hub: &Hub<D, J>,
+//! ) -> Result<(), Refusal>
+//!     ensures stays { (more : List (List Taken)) × (told_of flusher.new ≡ told_of flusher.old ++ more) }
+//!     ensures holds { OnOk result (state_of (store_of flusher.new) ≡ fold J.start (commands_of (told_of flusher.new))) }
+//! {
+//!     flush_all(rt, alloc, flusher, hub, 0, &mut OpenGate)?;
+//!     flusher.kept();
+//!     Ok(())
+//! }
+//! ```
 #![tactic(auto)]
 
 mod turn;
