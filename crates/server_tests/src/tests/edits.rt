@@ -1,4 +1,4 @@
-use super::{GREETED, path, runs};
+use super::{GREETED, HELLO, path, runs};
 use std::fs::{self, File};
 use std::io;
 use std::net::{Net, TcpListener, TcpStream};
@@ -155,6 +155,25 @@ const BASES: [Said; 7] = [
     ),
 ];
 
+/// What a store holds after each line of these two.
+const NUMBERS_DUMPS: [&str; 5] = [
+    "d 1 0 {\"ops\":[{\"insert\":\"a\"}]}\n",
+    "d 2 0 {\"ops\":[{\"insert\":\"ba\"}]}\n",
+    "d 2 0 {\"ops\":[{\"insert\":\"ba\"}]}\n",
+    "d 2 0 {\"ops\":[{\"insert\":\"ba\"}]}\n",
+    "d 2 0 {\"ops\":[{\"insert\":\"ba\"}]}\n",
+];
+
+const BASES_DUMPS: [&str; 7] = [
+    "d 1 0 {\"ops\":[]}\n",
+    "d 2 0 {\"ops\":[{\"insert\":\"a\"}]}\n",
+    "d 3 1 {\"ops\":[{\"insert\":\"ba\"}]}\n",
+    "d 4 2 {\"ops\":[{\"insert\":\"cba\"}]}\n",
+    "d 4 2 {\"ops\":[{\"insert\":\"cba\"}]}\n",
+    "d 4 2 {\"ops\":[{\"insert\":\"cba\"}]}\n",
+    "d 5 3 {\"ops\":[{\"insert\":\"cbda\"}]}\n",
+];
+
 /// Each undoes its own last change, past what others did since.
 const UNDONE: [Said; 8] = [
     (
@@ -265,9 +284,8 @@ fn say<
     )
 }
 
-/// A new store that keeps two revisions, of so many sources, is said all of it, each in a run of its own, and then prints
-/// this.
-fn talk<
+/// Makes a store that keeps two revisions, of so many sources.
+fn format_two<
     R: Files<File = File>
         + AllocGlobal
         + Net<Listener = TcpListener, Stream = TcpStream>
@@ -275,7 +293,7 @@ fn talk<
         + Wait
         + Sync
         + Abort,
->(rt: &R, path: &str, sources: &str, rows: &[Said], dump: &str) -> Result<(), Fail> {
+>(rt: &R, path: &str, sources: &str) -> Result<(), Fail> {
     let words = [
         "richd",
         "format",
@@ -293,10 +311,19 @@ fn talk<
         "--keep",
         "2",
     ];
-    runs(rt, &words, &mut io::empty(), (0, "", ""))?;
-    for said in rows {
-        say(rt, path, said)?;
-    }
+    runs(rt, &words, &mut io::empty(), (0, "", ""))
+}
+
+/// A store prints this, and is removed.
+fn holds<
+    R: Files<File = File>
+        + AllocGlobal
+        + Net<Listener = TcpListener, Stream = TcpStream>
+        + Threads
+        + Wait
+        + Sync
+        + Abort,
+>(rt: &R, path: &str, dump: &str) -> Result<(), Fail> {
     runs(
         rt,
         &["richd", "dump", path],
@@ -305,6 +332,57 @@ fn talk<
     )?;
     fs::remove_file(rt, path)?;
     Ok(())
+}
+
+/// A new store is said all of it, each in a run of its own, and then prints this.
+fn talk<
+    R: Files<File = File>
+        + AllocGlobal
+        + Net<Listener = TcpListener, Stream = TcpStream>
+        + Threads
+        + Wait
+        + Sync
+        + Abort,
+>(rt: &R, path: &str, sources: &str, rows: &[Said], dump: &str) -> Result<(), Fail> {
+    format_two(rt, path, sources)?;
+    for said in rows {
+        say(rt, path, said)?;
+    }
+    holds(rt, path, dump)
+}
+
+/// A greeting, and then each line, or each reply where these are asked for.
+fn texts_of(rt: &(impl AllocGlobal + Abort), first: &str, rows: &[Said], replies: bool) -> String {
+    let mut text = String::new(rt.alloc());
+    text.push_str(first).expect(rt, "memory");
+    for (_, line, reply) in rows {
+        text.push_str(if replies { reply } else { line })
+            .expect(rt, "memory");
+        text.push('\n').expect(rt, "memory");
+    }
+    text
+}
+
+/// A new store is said all of it in one run by one source, and then prints this.
+fn talk_at_once<
+    R: Files<File = File>
+        + AllocGlobal
+        + Net<Listener = TcpListener, Stream = TcpStream>
+        + Threads
+        + Wait
+        + Sync
+        + Abort,
+>(rt: &R, path: &str, rows: &[Said], dump: &str) -> Result<(), Fail> {
+    format_two(rt, path, "4")?;
+    let input = texts_of(rt, HELLO, rows, false);
+    let wanted = texts_of(rt, GREETED, rows, true);
+    runs(
+        rt,
+        &["richd", "serve", path],
+        &mut input.as_bytes(),
+        (0, wanted.as_str(), ""),
+    )?;
+    holds(rt, path, dump)
 }
 
 #[test]
@@ -364,6 +442,19 @@ fn two_revisions_are_kept(rt: HostRuntime) -> Result<(), Fail> {
         &BASES,
         "d 5 3 {\"ops\":[{\"insert\":\"cbda\"}]}\n",
     )
+}
+
+// In one run as in many: after each line the store has what it is to have.
+#[test]
+fn numbers_and_bases_hold_in_one_run(rt: HostRuntime) -> Result<(), Fail> {
+    let path = path(&rt, "at-once")?;
+    for (at, dump) in NUMBERS_DUMPS.iter().enumerate() {
+        talk_at_once(&rt, path.as_str(), &NUMBERS[..=at], dump)?;
+    }
+    for (at, dump) in BASES_DUMPS.iter().enumerate() {
+        talk_at_once(&rt, path.as_str(), &BASES[..=at], dump)?;
+    }
+    Ok(())
 }
 
 #[test]
