@@ -18,6 +18,7 @@ use Rattle.recovery.specs.Run.{IsPutAt, IsTaken, IsWhy}
 use Rattle.recovery.specs.Goes.{Goes}
 use Rattle.recovery.proofs.CallerLemmas.{goes_none, goes_call, open_unchanged, found_as, found_open}
 use Rattle.view.specs.Published.{Published}
+use Rattle.hub.specs.Runs.{Run}
 use Rattle.flusher.proofs.Beginnings.{commands-append, fold-append}
 
 -- the refusal of an answer, or this one where there is none
@@ -29,12 +30,12 @@ refusal_in none (Err refusal) = refusal
 pub same_refusal : {S T : Type 0} (one : Refusal) (two : Refusal) → IsErrOf {T = S} (Err one) two → IsErrOf {T = T} (Err one) two
 same_refusal one two is = ap (λ (e : Refusal). Err e) (ap (refusal_in one) is)
 
-abbrev pub held_in : Option (Vec Taken Global) → List (List Taken)
-held_in waiting = option_to_list (option_map (λ v. v.items) waiting)
+abbrev pub held_in : Option Run → List (List Taken)
+held_in waiting = option_to_list (option_map (λ r. r.commands) waiting)
 
-pub none_of_held : (waiting : Option (Vec Taken Global)) → held_in waiting ≡ [] → waiting ≡ None
+pub none_of_held : (waiting : Option Run) → held_in waiting ≡ [] → waiting ≡ None
 none_of_held None is = refl
-none_of_held (Some v) is = absurd (let no : ⊥ = cc in no)
+none_of_held (Some r) is = absurd (let no : ⊥ = cc in no)
 
 pub same_batch : (batches : List (List Taken)) (one two : List Taken) → batches ≡ one ∷ [] → batches ≡ two ∷ [] → one ≡ two
 same_batch batches one two first second = cc

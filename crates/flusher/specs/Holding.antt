@@ -23,7 +23,7 @@ module _ {D J : Type 0} {disk : Ghosts D} where
 
   -- the batch that is held and not committed yet, if there is one
   abbrev pub waiting_of : Flusher D J disk → List (List Taken)
-  waiting_of flusher = option_to_list (option_map (λ v. v.items) flusher.waiting)
+  waiting_of flusher = option_to_list (option_map (λ r. r.commands) flusher.waiting)
 
   -- The batch that was held is committed, and it or the one that was committed before isn't published.
   pub record IsLost (old new : Flusher D J disk) : Type 0 where

@@ -1,5 +1,5 @@
 //! The flusher.
-ghost use Rattle.std.specs.Prelude.{List, ◌≡◌, ◌≢◌, ◌⊎◌, ◌↔◌, ◌<◌, ◌≤◌, ◌^◌, [], ◌∷◌, ◌++◌, true, false, length, OnOk, OnErr, IfOk, IfErr, IfSome, IfNone, IsErrOf};
+ghost use Rattle.std.specs.Prelude.{List, ◌≡◌, ◌≢◌, ◌⊎◌, ◌↔◌, ◌<◌, ◌≤◌, ◌^◌, [], ◌∷◌, ◌++◌, true, false, Some, None, length, OnOk, OnErr, IfOk, IfErr, IfSome, IfNone, IsErrOf};
 ghost use Rattle.std.specs.Option.{ForSome};
 ghost use Rattle.revision.specs.State.{fold, all_grow};
 ghost use Rattle.recovery.specs.Found.{commands_of};
@@ -8,24 +8,24 @@ ghost use Rattle.flusher.specs.Flushers.{MayCommit};
 
 use crate::begun::Begun;
 use crate::gate::{Gate, Moment};
+use crate::written::{Written, to_settle};
 use disk::Disk;
 use hub::Run;
-use published::{Opened, Site, Told};
-use recovery::{Receipt, Store};
+use published::Site;
+use recovery::Store;
 use refusal::Refusal;
-use revision::Taken;
 use std::alloc::Global;
 use std::sync::Wait;
 use view::{Publisher, Viewer};
 
-/// The store, what publishes its batches to readers, and at most one batch that is to be written.
+/// The store, what publishes its batches to readers, and at most one run that is to be written as a batch.
 pub struct Flusher<D: Disk, J: Site> {
     pub(crate) store: Store<D>,
     publisher: Publisher<D, J>,
-    waiting: Option<Vec<Taken>>,
+    waiting: Option<Run<D, J>>,
     begun: Begun<J>,
     ghost kept: { state_of store ≡ fold begun (commands_of (publisher.told ++ publisher.held)) },
-    ghost fits: { ForSome waiting (λ batch. MayCommit (state_of store) batch.items publisher.held) },
+    ghost fits: { ForSome waiting (λ run. MayCommit (state_of store) run.commands publisher.held) },
 }
 
 impl<D: Disk, J: Site> Flusher<D, J> {
@@ -59,7 +59,7 @@ impl<D: Disk, J: Site> Flusher<D, J> {
 
     /// Holds a run as the batch that the next `commit_held` or `write` commits. It has to be one that a board took off for this flusher's
     /// `cap`. It takes no memory.
-    pub fn hold(&mut self, run: Run<J>)
+    pub fn hold(&mut self, run: Run<D, J>)
         requires none { (committed_of self.old ≡ []) × (waiting_of self.old ≡ []) }
         requires some { 1 ≤ length run.commands }
         requires short { length run.commands < 2 ^ 32 }
@@ -70,7 +70,7 @@ impl<D: Disk, J: Site> Flusher<D, J> {
         ensures committed { committed_of self.new ≡ committed_of self.old }
         ensures waiting { waiting_of self.new ≡ run.commands ∷ [] }
     {
-        self.waiting = Some(run.into_commands());
+        fill(&mut self.waiting, run);
     }
 
     /// Commits the batch that is held, if it isn't yet, and keeps the receipt. Where the journal is full the oldest segment is freed
@@ -110,13 +110,14 @@ impl<D: Disk, J: Site> Flusher<D, J> {
     {
         match self.waiting.take() {
             None => Ok(()),
-            Some(batch) => match self.store.commit_freeing(alloc, &batch) {
+            Some(batch) => match self.store.commit_freeing(alloc, batch.commands()) {
                 Ok(receipt) => {
+                    batch.committed(&receipt);
                     self.publisher.accept(receipt);
                     Ok(())
                 }
                 Err(refusal) => {
-                    self.waiting = Some(batch);
+                    fill(&mut self.waiting, batch);
                     Err(refusal)
                 }
             },
@@ -124,7 +125,7 @@ impl<D: Disk, J: Site> Flusher<D, J> {
     }
 
     /// Commits the batch that is held, if it isn't yet, and publishes it, between the gate's moments: gives the receipt of the commit
-    /// and the token that ends with the batch, or `None` where no batch is held. On a refusal the next call goes on where this one
+    /// and the token that ends with the batch, to be settled by, or `None` where no batch is held. On a refusal the next call goes on where this one
     /// stopped: the same batch is committed, or published, by then. Refused as `commit_held`, with `JournalFull` or `StillNeeded` where
     /// the journal is full and can't be freed, and then as the publish: for want of memory, or with `StoreFailed` where the log of what is
     /// published can't be made longer. The batch is on the disk then.
@@ -133,7 +134,7 @@ impl<D: Disk, J: Site> Flusher<D, J> {
         rt: &R,
         alloc: Global,
         gate: &mut G,
-    ) -> Result<Option<(Receipt<D>, Told<D, J>)>, Refusal>
+    ) -> Result<Option<Written<D, J>>, Refusal>
         // A crash at any moment leaves the state before it, or the one with the batch.
         ensures goes { Goes (IsWithOrWithout (state_of (store_of self.old)) (commands_of (waiting_of self.old)))
             (store_of self.old) (store_of self.new) }
@@ -178,7 +179,8 @@ impl<D: Disk, J: Site> Flusher<D, J> {
             return Err(refusal);
         }
         gate.pass(Moment::AfterCommit);
-        self.publisher.publish(rt, alloc)
+        let published = self.publisher.publish(rt, alloc);
+        to_settle(published)
     }
 
     /// Whether a batch is held that isn't committed yet, or one is committed that isn't published yet.
@@ -203,17 +205,31 @@ impl<D: Disk, J: Site> Flusher<D, J> {
         self.publisher.viewer()
     }
 
-    /// Ends the publishing, and gives the store back.
+    /// Ends the publishing, and gives the store back. A run that is held is given up.
     pub fn end<R: Wait>(self, rt: &R) -> Store<D>
         ensures { result ≡ store_of self }
     {
         let Flusher {
             store,
             publisher,
-            waiting: _,
+            waiting,
             begun: _,
         } = self;
         publisher.end(rt);
-        store
+        match waiting {
+            None => store,
+            Some(run) => run.unwritten(store),
+        }
+    }
+}
+
+// Holds a run where none was held.
+fn fill<D, J: Site>(waiting: &mut Option<Run<D, J>>, run: Run<D, J>)
+    requires none { waiting.old ≡ None }
+    ensures some { waiting.new ≡ Some run }
+{
+    match waiting.replace(run) {
+        None => {}
+        Some(_other) => unreachable!(),
     }
 }

@@ -1,7 +1,8 @@
 //! The flusher, which commits what a board has ordered, batch by batch, and then publishes it to readers.
 //!
-//! A `Flusher` holds the store, what publishes its batches, and at most one batch that is to be written. `write` commits that batch and
-//! publishes it, between the moments of a `Gate`; what stops it goes on in the next call. `turn` takes a run off a board of the same
+//! A `Flusher` holds the store, what publishes its batches, and at most one run that is to be written. `write` commits it as a batch and
+//! publishes it, between the moments of a `Gate`; what stops it goes on in the next call. What it gives is a `Written`, which isn't `Drop`: it
+//! has to be settled. `turn` takes a run off a board of the same
 //! thread, writes it and settles it: specs/Standing.antt says by `RunGoes` which batches a crash at any moment of it leaves. `start`
 //! makes a flusher and its board over an open store.
 //!
@@ -45,6 +46,7 @@ pub mod laws;
 mod starting;
 mod turning;
 mod upkeep;
+mod written;
 
 pub use calls::{Answer, Call};
 pub use driving::{Driven, drive};
@@ -52,3 +54,4 @@ pub use flusher::Flusher;
 pub use gate::{Gate, Moment, OpenGate};
 pub use starting::{StartFault, start};
 pub use turning::turn;
+pub use written::Written;

@@ -49,13 +49,14 @@ pub fn turn<D: Disk, J: Site, R: Wait>(
     let run = board.take(alloc, flusher.cap())?;
     let count = run.len();
     if count == 0 {
+        run.nothing();
         return Ok(0);
     }
     flusher.hold(run);
     match flusher.write(rt, alloc, &mut OpenGate)? {
         None => Ok(count),
         Some(both) => {
-            let (receipt, told) = both;
+            let (receipt, told) = both.parts();
             board.settle(&receipt, told)?;
             flusher.kept();
             Ok(count)

@@ -5,7 +5,7 @@ ghost use Rattle.recovery.specs.Open.{state_of};
 use crate::made::{command, new_store};
 use disk::MemDisk;
 use flusher::{Flusher, Gate, Moment, start};
-use hub::{Board, Hub};
+use hub::{Board, Hub, Seat};
 use published::{Opened, Site};
 use recovery::Store;
 use refusal::Refusal;
@@ -62,18 +62,16 @@ fn wait_for(reached: &AtomicBool) -> bool {
 fn submitted<J: Site, R: Wait + Abort + AllocGlobal>(
     rt: &R,
     hub: &Hub<MemDisk, J>,
+    one: &mut Seat<J>,
+    other: &mut Seat<J>,
     reached: &AtomicBool,
 ) -> u64 {
     let alloc = rt.alloc();
-    let mut one = hub.seat(rt).expect(rt, "a seat");
-    let mut other = hub.seat(rt).expect(rt, "a seat");
     let first = command(rt, 1, 1);
-    let ticket = hub.submit(rt, alloc, &mut one, &first).expect(rt, "taken");
+    let ticket = hub.submit(rt, alloc, one, &first).expect(rt, "taken");
     assert!(rt; wait_for(reached));
     let second = command(rt, 2, 1);
-    let last = hub
-        .submit(rt, alloc, &mut other, &second)
-        .expect(rt, "taken");
+    let last = hub.submit(rt, alloc, other, &second).expect(rt, "taken");
     let _ = hub.wait_ack(rt, &ticket).expect(rt, "acknowledged");
     let told = hub.wait_ack(rt, &last).expect(rt, "acknowledged");
     told.len()
@@ -83,9 +81,11 @@ fn submitted<J: Site, R: Wait + Abort + AllocGlobal>(
 fn submitted_all<J: Site, R: Wait + Abort + AllocGlobal>(
     rt: &R,
     hub: &Hub<MemDisk, J>,
+    one: &mut Seat<J>,
+    other: &mut Seat<J>,
     reached: &AtomicBool,
 ) -> u64 {
-    let held = submitted(rt, hub, reached);
+    let held = submitted(rt, hub, one, other, reached);
     hub.end(rt);
     held
 }
@@ -105,8 +105,10 @@ fn flushed<J: Site, R: Wait>(
         reached,
         saw: false,
     };
-    flush_all(rt, alloc, flusher, hub, 1, &mut gate)?;
-    Ok(gate.saw)
+    match flush_all(rt, alloc, flusher, hub, 1, &mut gate) {
+        Ok(_idle) => Ok(gate.saw),
+        Err(failed) => Err(failed.refusal()),
+    }
 }
 
 fn started<J: Site, R: Abort + AllocGlobal>(
@@ -140,12 +142,14 @@ fn beside<J: Site + Send + Sync, R: Threads + Wait + Abort + AllocGlobal + Sync>
     requires begin { state_of store ≡ J.start }
 {
     let alloc = rt.alloc();
-    let (mut flusher, board) = started::<J, R>(rt, store, opened, blank);
+    let (mut flusher, mut board) = started::<J, R>(rt, store, opened, blank);
+    let mut one = board.seat().expect(rt, "a seat");
+    let mut other = board.seat().expect(rt, "a seat");
     let hub = Hub::new(board);
     let reached = AtomicBool::new(false);
     let (held, saw) = join(
         rt,
-        || submitted_all(rt, &hub, &reached),
+        || submitted_all(rt, &hub, &mut one, &mut other, &reached),
         || flushed(rt, alloc, &mut flusher, &hub, &reached),
     );
     let store = flusher.end(rt);

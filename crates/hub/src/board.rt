@@ -183,7 +183,7 @@ impl<D, J: Site> Board<D, J> {
 
     /// Takes off the longest run of the next commands whose batch has at most `cap` bytes, and gives a copy of it; it is empty where
     /// there is none. Refused for want of memory alone, and then nothing has changed.
-    pub fn take(&mut self, alloc: Global, cap: u32) -> Result<Run<J>, Refusal>
+    pub fn take(&mut self, alloc: Global, cap: u32) -> Result<Run<D, J>, Refusal>
         ensures longest { IfOk result (λ run. IsLongest cap (untaken self.old.board) (length run.commands)) }
         ensures run { IfOk result (λ run. run.commands ≡ takens (next_run self.old.board (length run.commands))) }
         ensures cap { IfOk result (λ run. run.cap ≡ cap) }

@@ -12,6 +12,7 @@ ghost use Rattle.hub.specs.Waiting.{AreWoken};
 use crate::board::Board;
 use crate::run::Run;
 use crate::seat::{PLACES, Seat, Ticket};
+use crate::tokens::{Failed, Idle, Settled};
 use published::{Site, Told};
 use recovery::Receipt;
 use refusal::Refusal;
@@ -130,19 +131,6 @@ impl<D, J: Site> Hub<D, J> {
         }
     }
 
-    /// A seat of the board, of which nothing is counted yet. Refused with `NoSeat` where none is left to give.
-    pub fn seat<R: Wait>(&self, rt: &R) -> Result<Seat<J>, Refusal>
-        ensures new { IfOk result (λ seat. seat ≡ 0) }
-        ensures only { IfErr result (λ e. e ≡ Refusal.NoSeat) }
-    {
-        self.kept.lock(rt).board.seat()
-    }
-
-    /// Gives a seat back to the board, so that it can be given again.
-    pub fn give_back<R: Wait>(&self, rt: &R, seat: Seat<J>) {
-        self.kept.lock(rt).board.give_back(seat)
-    }
-
     /// Submits a command to the board, and wakes the flusher. The ticket is of this command, and the seat counts it just where the
     /// reply is that it was taken. Refused as `Board::submit` refuses it, and with `StoreFailed` once the end was called, since nobody
     /// would write it; the seat is as it was then. What is given, a ticket or a refusal, is what the board gave at some moment of its run.
@@ -164,7 +152,7 @@ impl<D, J: Site> Hub<D, J> {
     }
 
     /// Takes the next run off the board, as `Board::take` does: it fits `cap` bytes as one batch, or is empty. Refused for want of memory alone.
-    pub fn take<R: Wait>(&self, rt: &R, alloc: Global, cap: u32) -> Result<Run<J>, Refusal>
+    pub fn take<R: Wait>(&self, rt: &R, alloc: Global, cap: u32) -> Result<Run<D, J>, Refusal>
         ensures fits { IfOk result (λ run. (run.commands ≡ []) ⊎ (batch_width run.commands ≤ cap)) }
         ensures cap { IfOk result (λ run. run.cap ≡ cap) }
         ensures only { IfErr result (λ e. e ≡ Refusal.NoMemory) }
@@ -178,7 +166,7 @@ impl<D, J: Site> Hub<D, J> {
         rt: &R,
         receipt: &Receipt<D>,
         told: Told<D, J>,
-    ) -> Result<(), Refusal>
+    ) -> Result<Settled<J>, Refusal>
         ensures { IfErr result (λ e. e ≡ Refusal.Stranger) }
     {
         let (answer, covered) = self.kept.lock(rt).settle(receipt, told);
@@ -187,16 +175,22 @@ impl<D, J: Site> Hub<D, J> {
                 condition.notify_all();
             }
         }
-        answer
+        match answer {
+            Ok(()) => Ok(Settled::by_hub()),
+            Err(refusal) => Err(refusal),
+        }
     }
 
-    /// Notes that the store has failed, and wakes all who wait.
-    pub fn fail<R: Wait>(&self, rt: &R) {
+    /// Notes that the store has failed, for this reason, and wakes all who wait.
+    pub fn fail<R: Wait>(&self, rt: &R, why: Refusal) -> Failed<J>
+        ensures { result ≡ why }
+    {
         self.kept.lock(rt).board.fail();
         for condition in self.moved.iter() {
             condition.notify_all();
         }
         self.work.notify_all();
+        Failed::by_hub(why)
     }
 
     /// What `Board::ack` gives for a ticket, at once: a token that holds the ticket's length, `None` where it isn't settled yet, or `StoreFailed`.
@@ -227,15 +221,15 @@ impl<D, J: Site> Hub<D, J> {
         unreachable!()
     }
 
-    /// Waits until a command of the order isn't taken off, and answers `true`; `false` where the end was called and all are.
-    pub fn wait_work<R: Wait>(&self, rt: &R) -> bool {
+    /// Waits until a command of the order isn't taken off, and answers `None`; a token where the end was called and all are.
+    pub fn wait_work<R: Wait>(&self, rt: &R) -> Option<Idle<J>> {
         let mut kept = self.kept.lock(rt);
         for _ in rt.forever() {
             if !kept.board.is_idle() {
-                return true;
+                return None;
             }
             if kept.ended {
-                return false;
+                return Some(Idle::by_hub());
             }
             kept = self.work.wait(rt, kept);
         }

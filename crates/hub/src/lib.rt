@@ -7,7 +7,11 @@
 //! type. Each call moves the board as the definition of that step in `world` says (specs/Legal.antt, specs/Runs.antt). What is
 //! settled was committed: `Board::settle` wants the receipt of a commit, which a store alone makes, and the token of a publish.
 //!
-//! What `take` takes off is a `Run`, which nothing else makes and nobody can change: so a flusher can only hold what a board took off.
+//! What `take` takes off is a `Run`, which nothing else makes and nobody can change: so a flusher can only hold what a board took off. It
+//! isn't `Drop`, so no path lets one go: it ends by the receipt of its commit, or with its store.
+//!
+//! Some answers of a hub are tokens that it alone makes: `Settled` where a batch was settled, `Failed` where the hub was told of a failure,
+//! `Idle` where it was ended and nothing is left to take. A function that answers with one has called it.
 //!
 //! A `Hub` is shared by threads: sessions submit and wait for their acknowledgements, and one flusher takes batches, writes them with
 //! the board unlocked, and settles them. After it has let the lock go, `settle` wakes the seats whose tickets are covered
@@ -59,8 +63,10 @@ mod board;
 mod hub;
 mod run;
 mod seat;
+mod tokens;
 
 pub use board::Board;
 pub use hub::Hub;
 pub use run::Run;
 pub use seat::{Seat, Ticket};
+pub use tokens::{Failed, Idle, Settled};

@@ -3,7 +3,9 @@ ghost use Rattle.std.specs.Prelude.{◌≡◌, ◌↔◌, ◌≤◌, true, lengt
 ghost use Rattle.world.specs.World.{takens};
 ghost use Rattle.hub.specs.Runs.{IsLongest};
 
+use disk::Disk;
 use published::Site;
+use recovery::{Receipt, Store};
 use refusal::Refusal;
 use revision::Taken;
 use std::alloc::Global;
@@ -11,15 +13,15 @@ use std::marker::{Model, PhantomData};
 use world::Entry;
 
 /// A run that was taken off a board to be written, with how many bytes its batch could have. Only a board's `take` makes one, of the
-/// longest run that fits, and it can't be changed: so what is written is what the board took off.
-#[derive(Drop)]
-pub struct Run<J: Site> {
+/// longest run that fits, and it can't be changed: so what is written is what the board took off. It isn't `Drop`, so that no run is
+/// lost: it ends with the receipt of its commit, or where it has no command, or with the store that would have written it.
+pub struct Run<D, J: Site> {
     commands: Vec<Taken>,
     cap: u32,
-    of: PhantomData<J>,
+    of: PhantomData<(D, J)>,
 }
 
-impl<J: Site> Model for Run<J> {
+impl<D, J: Site> Model for Run<D, J> {
     ghost use Rattle.hub.specs.Runs as spec;
 
     ghost Value = { spec.Run };
@@ -27,9 +29,9 @@ impl<J: Site> Model for Run<J> {
     ghost view = { λ r. record { commands = r.commands.items; cap = r.cap } };
 }
 
-impl<J: Site> Run<J> {
+impl<D, J: Site> Run<D, J> {
     // A run that was taken off.
-    pub(crate) fn taken(commands: Vec<Taken>, cap: u32) -> Run<J>
+    pub(crate) fn taken(commands: Vec<Taken>, cap: u32) -> Run<D, J>
         ensures { result ≡ record { commands = commands.items; cap = cap } }
     {
         Run {
@@ -53,16 +55,41 @@ impl<J: Site> Run<J> {
         self.commands.as_slice()
     }
 
-    /// Its commands alone, which are no run any more.
-    pub fn into_commands(self) -> Vec<Taken>
-        ensures { result.items ≡ self.commands }
+    /// Ends a run that was committed, by the receipt of its commit.
+    pub fn committed(self, receipt: &Receipt<D>)
+        requires { receipt.now ≡ self.commands }
     {
         let Run {
-            commands,
+            commands: _commands,
             cap: _,
             of: _,
         } = self;
-        commands
+        let _ = receipt;
+    }
+
+    /// Ends a run that has no command.
+    pub fn nothing(self)
+        requires { length self.commands ≡ 0 }
+    {
+        let Run {
+            commands: _commands,
+            cap: _,
+            of: _,
+        } = self;
+    }
+
+    /// Gives a run up, which isn't written any more: by whoever has the store itself, and gets it back.
+    pub fn unwritten(self, store: Store<D>) -> Store<D>
+    where
+        D: Disk,
+        ensures { result ≡ store }
+    {
+        let Run {
+            commands: _commands,
+            cap: _,
+            of: _,
+        } = self;
+        store
     }
 }
 

@@ -7,7 +7,7 @@ use hub::{Board, Seat, Ticket};
 use published::{Log, Opened, Site, Told};
 use recovery::{Receipt, Store};
 use refusal::Refusal;
-use revision::{Reply, State, Taken};
+use revision::{Reply, State};
 use std::marker::Brand;
 use std::process::Abort;
 use std::sync::ledger::Blank;
@@ -44,23 +44,31 @@ fn is_again<J: Site, R: Abort + AllocGlobal>(
     ticket
 }
 
-// the next batch has so many commands
-fn batch<J: Site, R: Abort + AllocGlobal>(
+// the next batch has so many commands, and is committed
+fn receipt_of<J: Site, R: Abort + AllocGlobal>(
     rt: &R,
     board: &mut Board<MemDisk, J>,
+    store: &mut Store<MemDisk>,
     count: usize,
-) -> Vec<Taken> {
+) -> Receipt<MemDisk> {
     let run = board.take(rt.alloc(), CAP).expect(rt, "memory");
     assert_eq!(rt; run.len(), count);
-    run.into_commands()
+    match commit(rt.alloc(), store, run.commands()) {
+        Ok(receipt) => {
+            run.committed(&receipt);
+            receipt
+        }
+        Err(refusal) => panic!(rt; "{refusal}"),
+    }
 }
 
-fn receipt_of<R: Abort + AllocGlobal>(
-    rt: &R,
-    store: &mut Store<MemDisk>,
-    batch: &[Taken],
-) -> Receipt<MemDisk> {
-    commit(rt.alloc(), store, batch).expect(rt, "room")
+// nothing is left to take
+fn is_idle<J: Site, R: Abort + AllocGlobal>(rt: &R, board: &mut Board<MemDisk, J>) {
+    let run = board.take(rt.alloc(), CAP).expect(rt, "memory");
+    if run.len() > 0 {
+        panic!(rt; "a run is left");
+    }
+    run.nothing();
 }
 
 fn told_more<J: Site, R: Abort>(
@@ -124,12 +132,10 @@ fn batches_fit<J: Site, R: Abort + AllocGlobal>(rt: &R, opened: Opened, blank: B
     is_ordered(rt, &mut board, &mut seat, 2, 14);
     is_ordered(rt, &mut board, &mut seat, 3, 199);
     let again = is_again(rt, &mut board, &mut seat, 3, 199);
-    let first = batch(rt, &mut board, 2);
-    let second = batch(rt, &mut board, 1);
-    let _ = batch(rt, &mut board, 0);
     let mut store = new_store(rt, 2);
-    let one = receipt_of(rt, &mut store, &first);
-    let two = receipt_of(rt, &mut store, &second);
+    let one = receipt_of(rt, &mut board, &mut store, 2);
+    let two = receipt_of(rt, &mut board, &mut store, 1);
+    is_idle(rt, &mut board);
     let told = told_more(rt, &told, &log, &one);
     let last = told_more(rt, &told, &log, &two);
     settled_in_order(rt, &mut board, &one, &two, &told, &last);
@@ -200,9 +206,8 @@ fn settled_before_a_failure<J: Site, R: Abort + AllocGlobal>(
     let mut seat = board.seat().expect(rt, "a seat");
     is_ordered(rt, &mut board, &mut seat, 1, 1);
     let create = is_again(rt, &mut board, &mut seat, 1, 1);
-    let first = batch(rt, &mut board, 1);
     let mut store = new_store(rt, 2);
-    let one = receipt_of(rt, &mut store, &first);
+    let one = receipt_of(rt, &mut board, &mut store, 1);
     assert_eq!(rt;
         board.settle(&one, told_more(rt, &told, &log, &one)),
         Ok(())

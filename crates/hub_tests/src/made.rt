@@ -1,5 +1,5 @@
 //! Commands, and a store in memory.
-ghost use Rattle.std.specs.Prelude.{◌≡◌};
+ghost use Rattle.std.specs.Prelude.{◌≡◌, IfOk};
 
 use attributes::Attrs;
 use delta::{Builder, Delta, Op};
@@ -71,7 +71,9 @@ pub fn commit<D: Disk>(
     alloc: Global,
     store: &mut Store<D>,
     batch: &[Taken],
-) -> Result<Receipt<D>, Refusal> {
+) -> Result<Receipt<D>, Refusal>
+    ensures { IfOk result (λ receipt. receipt ≡ batch.now) }
+{
     if batch.is_empty() || batch.len() > 1_000 || !store.fits(batch) {
         return Err(Refusal::Stranger);
     }

@@ -3,7 +3,7 @@ ghost use Rattle.std.specs.Prelude.{◌≡◌};
 
 use crate::made::{CAP, SHAPE, command, commit, new_store};
 use disk::MemDisk;
-use hub::{Board, Hub};
+use hub::{Board, Hub, Seat};
 use published::{Log, Opened, Site, Told};
 use recovery::Store;
 use refusal::Refusal;
@@ -21,13 +21,13 @@ fn submitted<J: Site, R: Wait>(
     rt: &R,
     alloc: Global,
     hub: &Hub<MemDisk, J>,
+    seat: &mut Seat<J>,
     edits: &[(u64, u32)],
 ) -> Result<u64, Refusal> {
-    let mut seat = hub.seat(rt)?;
     let mut held = 0;
     for (number, count) in edits {
         let command = command(alloc, *number, *count)?;
-        let ticket = hub.submit(rt, alloc, &mut seat, &command)?;
+        let ticket = hub.submit(rt, alloc, seat, &command)?;
         let told = hub.wait_ack(rt, &ticket)?;
         held = told.len();
         if held < ticket.length() as u64 {
@@ -38,7 +38,6 @@ fn submitted<J: Site, R: Wait>(
         };
         held = told.len();
     }
-    hub.give_back(rt, seat);
     Ok(held)
 }
 
@@ -47,9 +46,10 @@ fn submitted_all<J: Site, R: Wait>(
     rt: &R,
     alloc: Global,
     hub: &Hub<MemDisk, J>,
+    seat: &mut Seat<J>,
     edits: &[(u64, u32)],
 ) -> Result<u64, Refusal> {
-    let answer = submitted(rt, alloc, hub, edits);
+    let answer = submitted(rt, alloc, hub, seat, edits);
     hub.end(rt);
     answer
 }
@@ -59,20 +59,28 @@ fn written<J: Site, R: Wait>(
     rt: &R,
     alloc: Global,
     hub: &Hub<MemDisk, J>,
-    store: &mut Store<MemDisk>,
+    store: Store<MemDisk>,
     log: &Log<MemDisk, J>,
     start: &Told<MemDisk, J>,
 ) -> Result<u64, Refusal> {
+    let mut store = store;
     let mut told = start.copy();
     let mut batches: u64 = 0;
     for _ in rt.forever() {
-        if !hub.wait_work(rt) {
+        if let Some(_idle) = hub.wait_work(rt) {
             return Ok(batches);
         }
         let run = hub.take(rt, alloc, CAP)?;
-        let receipt = commit(alloc, store, run.commands())?;
+        let receipt = match commit(alloc, &mut store, run.commands()) {
+            Ok(receipt) => receipt,
+            Err(refusal) => {
+                let _ = run.unwritten(store);
+                return Err(refusal);
+            }
+        };
+        run.committed(&receipt);
         told = told.add(log, &receipt).ok_or(Refusal::Stranger)?;
-        hub.settle(rt, &receipt, told.copy())?;
+        let _settled = hub.settle(rt, &receipt, told.copy())?;
         batches = batches.saturating_add(1);
     }
     unreachable!()
@@ -83,15 +91,14 @@ fn written_or_failed<J: Site, R: Wait>(
     rt: &R,
     alloc: Global,
     hub: &Hub<MemDisk, J>,
-    store: &mut Store<MemDisk>,
+    store: Store<MemDisk>,
     log: &Log<MemDisk, J>,
     start: &Told<MemDisk, J>,
 ) -> Result<u64, Refusal> {
-    let answer = written(rt, alloc, hub, store, log, start);
-    if answer.is_err() {
-        hub.fail(rt);
+    match written(rt, alloc, hub, store, log, start) {
+        Ok(batches) => Ok(batches),
+        Err(refusal) => Err(hub.fail(rt, refusal).refusal()),
     }
-    answer
 }
 
 fn both<J: Site + Send + Sync, R: Threads + Wait + Abort + AllocGlobal + Sync>(
@@ -109,13 +116,15 @@ fn both<J: Site + Send + Sync, R: Threads + Wait + Abort + AllocGlobal + Sync>(
     requires start { state ≡ J.start }
 {
     let alloc = rt.alloc();
-    let mut store = new_store(rt, slots);
+    let store = new_store(rt, slots);
     let (log, told) = opened.named::<_, J>();
-    let hub = Hub::new(Board::new(alloc, state, told.copy(), blank, 64));
+    let mut board = Board::new(alloc, state, told.copy(), blank, 64);
+    let mut seat = board.seat().expect(rt, "a seat");
+    let hub = Hub::new(board);
     join(
         rt,
-        || submitted_all(rt, alloc, &hub, edits),
-        || written_or_failed(rt, alloc, &hub, &mut store, &log, &told),
+        || submitted_all(rt, alloc, &hub, &mut seat, edits),
+        || written_or_failed(rt, alloc, &hub, store, &log, &told),
     )
 }
 

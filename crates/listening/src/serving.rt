@@ -4,7 +4,7 @@ ghost use Rattle.recovery.specs.Open.{state_of};
 
 use disk::Disk;
 use flusher::{Flusher, OpenGate, StartFault, start};
-use hub::{Board, Hub};
+use hub::{Board, Hub, Seat};
 use hub_desk::HubDesk;
 use published::{Opened, Site};
 use recovery::Store;
@@ -84,9 +84,24 @@ fn serve_board<
     every: u32,
 ) -> (Store<D>, Result<(), Refusal>) {
     let mut flusher = flusher;
-    let hub = Hub::new(board);
-    let served = serve_hub(rt, alloc, &mut flusher, &hub, listener, every);
+    let mut board = board;
+    let served = match seats_of(alloc, &mut board) {
+        Ok(seats) => {
+            let hub = Hub::new(board);
+            serve_hub(rt, alloc, &mut flusher, &hub, seats, listener, every)
+        }
+        Err(refusal) => Err(refusal),
+    };
     (flusher.end(rt), served)
+}
+
+// All seats of the board.
+fn seats_of<J: Site, D>(alloc: Global, board: &mut Board<D, J>) -> Result<Vec<Seat<J>>, Refusal> {
+    let mut seats = Vec::new(alloc);
+    for _ in 0..SEATS {
+        seats.push(board.seat()?)?;
+    }
+    Ok(seats)
 }
 
 // Writes in this thread, beside those of the sessions, until they have ended and all that was ordered is settled.
@@ -100,17 +115,31 @@ fn serve_hub<
     alloc: Global,
     flusher: &mut Flusher<D, J>,
     hub: &Hub<D, J>,
+    seats: Vec<Seat<J>>,
     listener: &N,
     every: u32,
 ) -> Result<(), Refusal> {
-    let desks = desks_at(rt, alloc, flusher, hub)?;
+    let desks = desks_at(rt, alloc, flusher, hub, seats)?;
     let (served, flushed) = thread::join(
         rt,
         || serve_all(rt, alloc, hub, desks, listener),
-        || flush_all(rt, alloc, flusher, hub, every, &mut OpenGate),
+        || write_all(rt, alloc, flusher, hub, every),
     );
     flushed?;
     served
+}
+
+fn write_all<J: Site, R: Wait, D: Disk>(
+    rt: &R,
+    alloc: Global,
+    flusher: &mut Flusher<D, J>,
+    hub: &Hub<D, J>,
+    every: u32,
+) -> Result<(), Refusal> {
+    match flush_all(rt, alloc, flusher, hub, every, &mut OpenGate) {
+        Ok(_idle) => Ok(()),
+        Err(failed) => Err(failed.refusal()),
+    }
 }
 
 fn serve_all<
@@ -136,10 +165,10 @@ fn desks_at<'a, J: Site, R: Wait, D: Disk + Drop>(
     alloc: Global,
     flusher: &Flusher<D, J>,
     hub: &'a Hub<D, J>,
+    seats: Vec<Seat<J>>,
 ) -> Result<Vec<HubDesk<'a, D, J, R>>, Refusal> {
     let mut desks = Vec::new(alloc);
-    for _ in 0..SEATS {
-        let seat = hub.seat(rt)?;
+    for seat in seats {
         let Some(viewer) = flusher.viewer() else {
             return Err(Refusal::NoMemory);
         };

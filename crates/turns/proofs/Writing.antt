@@ -1,6 +1,6 @@
 -- How what the flusher's thread does goes on from call to call.
 use Rattle.std.proofs.Common.{◌≡◌, ◌≢◌, ◌↔◌, ◌⊎◌, ◌≤◌, ◌+◌, inl, inr, ℕ, Bool, true, false, List, [], ◌∷◌, ◌++◌, length, refl, sym, ◌∙◌, ap, subst, arith, append_assoc, append-nil, length-append}
-use Rattle.std.specs.Prelude.{Result, Ok, Err, IfOk, IfErr, IsErrOf}
+use Rattle.std.specs.Prelude.{Result, Ok, Err, Option, Some, None, IfOk, IfErr, IfSome, IfNone, IsErrOf}
 use Rattle.std.proofs.lemmas.Bool.{false≢true}
 use Rattle.disk.specs.declared.device.Disk.{Ghosts}
 use Rattle.refusal.specs.declared.Refusal.{Refusal}
@@ -285,9 +285,10 @@ module _ {D J : Type 0} {disk : Ghosts D} where
   failed_before old mid new refusal first works same (inr (inr lost)) = inr (inr lost)
 
   -- what a write answered, told of the flusher before it was kept up
-  pub one_after : {E : Type 0} (result : Result Bool E) (old mid new : Flusher D J disk) → told_of mid ≡ told_of old → IfOk result (λ settled. settled ≡ true → IsOneMore mid new)
-      → IfOk result (λ settled. settled ≡ true → IsOneMore old new)
-  one_after (Ok settled) old mid new same one = λ is. one_before old mid new same (one is)
+  pub one_after : {A E : Type 0} (result : Result (Option A) E) (old mid new : Flusher D J disk) → told_of mid ≡ told_of old
+      → IfOk result (λ answer. IfSome answer (λ settled. IsOneMore mid new)) → IfOk result (λ answer. IfSome answer (λ settled. IsOneMore old new))
+  one_after (Ok (Some settled)) old mid new same one = one_before old mid new same one
+  one_after (Ok None) old mid new same one = tt
   one_after (Err refusal) old mid new same one = tt
 
   pub causes_after : {A : Type 0} (result : Result A Refusal) (old mid new : Flusher D J disk) → IsKeptUp (store_of old) (store_of mid)
@@ -297,7 +298,8 @@ module _ {D J : Type 0} {disk : Ghosts D} where
   causes_after (Err refusal) old mid new first works same causes = λ no_memory no_fault. failed_before old mid new refusal first works same (causes no_memory no_fault)
 
   -- where one is held, a write doesn't answer that none was
-  pub none_after : {E : Type 0} (result : Result Bool E) (old mid new : Flusher D J disk) → committed_of mid ++ waiting_of mid ≢ []
-      → IfOk result (λ settled. settled ≡ false → committed_of mid ++ waiting_of mid ≡ []) → IfOk result (λ settled. settled ≡ false → told_of new ≡ told_of old)
-  none_after (Ok settled) old mid new held none = λ is. absurd (held (none is))
+  pub none_after : {A E : Type 0} (result : Result (Option A) E) (old mid new : Flusher D J disk) → committed_of mid ++ waiting_of mid ≢ []
+      → IfOk result (λ answer. IfNone answer (committed_of mid ++ waiting_of mid ≡ [])) → IfOk result (λ answer. IfNone answer (told_of new ≡ told_of old))
+  none_after (Ok (Some settled)) old mid new held none = tt
+  none_after (Ok None) old mid new held none = absurd (held none)
   none_after (Err refusal) old mid new held none = tt

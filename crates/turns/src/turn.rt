@@ -1,14 +1,15 @@
 //! One turn, and all of them.
-ghost use Rattle.std.specs.Prelude.{◌≡◌, ◌≢◌, ◌↔◌, ◌≤◌, [], ◌++◌, true, false, length, OnOk, IfOk, IfErr, IfSome, IsErrOf};
+ghost use Rattle.std.specs.Prelude.{◌≡◌, ◌≢◌, ◌↔◌, ◌≤◌, [], ◌++◌, true, false, length, OnOk, IfOk, IfErr, IfSome, IfNone, IsErrOf};
 ghost use Rattle.journal.specs.BatchSpelling.{batch_width};
 ghost use Rattle.recovery.specs.Open.{has_failed};
 ghost use Rattle.flusher.specs.Holding.{store_of, told_of, committed_of, waiting_of};
 ghost use Rattle.turns.specs.Writing.{Writes, IsOneMore, IsTurnFailed, IsEndedBy};
 
+use crate::stop::{Stop, stopped};
 use crate::upkeep::Upkeep;
 use disk::Disk;
 use flusher::{Flusher, Gate};
-use hub::{Hub, Run};
+use hub::{Failed, Hub, Idle, Run, Settled};
 use published::Site;
 use refusal::Refusal;
 use std::alloc::Global;
@@ -16,12 +17,12 @@ use std::sync::Wait;
 use std::thread;
 
 /// Puts the milestones that are due of the documents of the batch before, as `upkeep` knows them. Then takes the longest run of the next
-/// commands that makes one batch, writes it while the board is unlocked, and settles it. It answers whether it settled one: `false`
+/// commands that makes one batch, writes it while the board is unlocked, and settles it. It answers with the hub's token of that: `None`
 /// where nothing was to be taken.
 ///
 /// Refused with `NoMemory` where memory was wanted for a batch, and then the next turn goes on with the same batch, or with its
-/// publishing; where it was wanted for a milestone, the next turn looks for it again. Each other refusal fails the board: the device
-/// failed, the journal is full and can't be freed, or the batch isn't what the board has to settle next.
+/// publishing; where it was wanted for a milestone, the next turn looks for it again. Each other refusal fails the board, and has the
+/// hub's token of that: the device failed, the journal is full and can't be freed, or the batch isn't what the board has to settle next.
 pub fn flush_turn<D: Disk, J: Site, R: Wait, G: Gate>(
     rt: &R,
     alloc: Global,
@@ -29,11 +30,11 @@ pub fn flush_turn<D: Disk, J: Site, R: Wait, G: Gate>(
     hub: &Hub<D, J>,
     upkeep: &mut Upkeep<D>,
     gate: &mut G,
-) -> Result<bool, Refusal>
+) -> Result<Option<Settled<J>>, Stop<J>>
     // What a crash leaves, and what is published and held after it.
     ensures writes { Writes J.start flusher.old flusher.new }
-    ensures one { IfOk result (λ settled. settled ≡ true → IsOneMore flusher.old flusher.new) }
-    ensures none { IfOk result (λ settled. settled ≡ false → told_of flusher.new ≡ told_of flusher.old) }
+    ensures one { IfOk result (λ answer. IfSome answer (λ settled. IsOneMore flusher.old flusher.new)) }
+    ensures none { IfOk result (λ answer. IfNone answer (told_of flusher.new ≡ told_of flusher.old)) }
     ensures nothing { OnOk result ((committed_of flusher.new ≡ []) × (waiting_of flusher.new ≡ [])) }
 
     // When each refusal comes: a failure of the device is told as such, and nothing else is.
@@ -44,16 +45,11 @@ pub fn flush_turn<D: Disk, J: Site, R: Wait, G: Gate>(
 {
     match turn_made(rt, alloc, flusher, hub, upkeep, gate) {
         Ok(settled) => Ok(settled),
-        Err(refusal) => {
-            if refusal != Refusal::NoMemory {
-                hub.fail(rt);
-            }
-            Err(refusal)
-        }
+        Err(refusal) => Err(stopped(rt, hub, refusal)),
     }
 }
 
-// A turn, which leaves it to its caller to fail the board.
+// A turn, which leaves it to its caller to stop.
 fn turn_made<D: Disk, J: Site, R: Wait, G: Gate>(
     rt: &R,
     alloc: Global,
@@ -61,10 +57,10 @@ fn turn_made<D: Disk, J: Site, R: Wait, G: Gate>(
     hub: &Hub<D, J>,
     upkeep: &mut Upkeep<D>,
     gate: &mut G,
-) -> Result<bool, Refusal>
+) -> Result<Option<Settled<J>>, Refusal>
     ensures writes { Writes J.start flusher.old flusher.new }
-    ensures one { IfOk result (λ settled. settled ≡ true → IsOneMore flusher.old flusher.new) }
-    ensures none { IfOk result (λ settled. settled ≡ false → told_of flusher.new ≡ told_of flusher.old) }
+    ensures one { IfOk result (λ answer. IfSome answer (λ settled. IsOneMore flusher.old flusher.new)) }
+    ensures none { IfOk result (λ answer. IfNone answer (told_of flusher.new ≡ told_of flusher.old)) }
     ensures nothing { OnOk result ((committed_of flusher.new ≡ []) × (waiting_of flusher.new ≡ [])) }
     ensures fails { has_failed (store_of flusher.old) ≡ false
         → (has_failed (store_of flusher.new) ≡ true ↔ IsErrOf result Refusal.Fault) }
@@ -80,7 +76,7 @@ fn turn_made<D: Disk, J: Site, R: Wait, G: Gate>(
         Err(refusal) => return Err(refusal),
     };
     if !held {
-        return Ok(false);
+        return Ok(None);
     }
     write_held(rt, alloc, flusher, hub, upkeep, gate)
 }
@@ -124,7 +120,7 @@ fn take_some<D: Disk, J: Site, R: Wait>(
     alloc: Global,
     cap: u32,
     hub: &Hub<D, J>,
-) -> Result<Option<Run<J>>, Refusal>
+) -> Result<Option<Run<D, J>>, Refusal>
     ensures fits { IfOk result (λ taken. IfSome taken (λ run. (1 ≤ length run.commands)
         × (batch_width run.commands ≤ cap))) }
     ensures cap { IfOk result (λ taken. IfSome taken (λ run. run.cap ≡ cap)) }
@@ -135,6 +131,7 @@ fn take_some<D: Disk, J: Site, R: Wait>(
         Err(refusal) => return Err(refusal),
     };
     if run.len() == 0 {
+        run.nothing();
         return Ok(None);
     }
     Ok(Some(run))
@@ -148,10 +145,10 @@ fn write_held<D: Disk, J: Site, R: Wait, G: Gate>(
     hub: &Hub<D, J>,
     upkeep: &mut Upkeep<D>,
     gate: &mut G,
-) -> Result<bool, Refusal>
+) -> Result<Option<Settled<J>>, Refusal>
     ensures writes { Writes J.start flusher.old flusher.new }
-    ensures one { IfOk result (λ settled. settled ≡ true → IsOneMore flusher.old flusher.new) }
-    ensures none { IfOk result (λ settled. settled ≡ false → committed_of flusher.old ++ waiting_of flusher.old ≡ []) }
+    ensures one { IfOk result (λ answer. IfSome answer (λ settled. IsOneMore flusher.old flusher.new)) }
+    ensures none { IfOk result (λ answer. IfNone answer (committed_of flusher.old ++ waiting_of flusher.old ≡ [])) }
     ensures nothing { OnOk result ((committed_of flusher.new ≡ []) × (waiting_of flusher.new ≡ [])) }
     ensures fails { has_failed (store_of flusher.old) ≡ false
         → (has_failed (store_of flusher.new) ≡ true ↔ IsErrOf result Refusal.Fault) }
@@ -164,22 +161,24 @@ fn write_held<D: Disk, J: Site, R: Wait, G: Gate>(
         Err(refusal) => return Err(refusal),
     };
     match written {
-        None => Ok(false),
+        None => Ok(None),
         Some(both) => {
-            let (receipt, told) = both;
             flusher.kept();
-            if let Err(refusal) = hub.settle(rt, &receipt, told) {
-                return Err(refusal);
+            match both.settle(rt, hub) {
+                Ok((receipt, settled)) => {
+                    upkeep.note(receipt);
+                    Ok(Some(settled))
+                }
+                Err(failed) => Err(failed.refusal()),
             }
-            upkeep.note(receipt);
-            Ok(true)
         }
     }
 }
 
 /// Makes turns until the hub is ended and all that was ordered is settled, or until a turn fails the board. It waits where nothing is
 /// to be taken, and where memory is wanted it lets other threads run and tries again. A document's milestone is due where it passes a
-/// multiple of `every` revisions; 0 puts none.
+/// multiple of `every` revisions; 0 puts none. It answers with the hub's token of its end, or with the one that the hub was told of a
+/// failure.
 ///
 /// A crash at any moment of it leaves some first batches of those that were given, and no fewer commands than were published when it
 /// began; one after its return no fewer than are published then. Of each turn `flush_turn` says the same.
@@ -190,7 +189,7 @@ pub fn flush_all<D: Disk, J: Site, R: Wait, G: Gate>(
     hub: &Hub<D, J>,
     every: u32,
     gate: &mut G,
-) -> Result<(), Refusal>
+) -> Result<Idle<J>, Failed<J>>
     ensures writes { Writes J.start flusher.old flusher.new }
     ensures nothing { OnOk result ((committed_of flusher.new ≡ []) × (waiting_of flusher.new ≡ [])) }
     ensures fails { has_failed (store_of flusher.old) ≡ false
@@ -200,12 +199,14 @@ pub fn flush_all<D: Disk, J: Site, R: Wait, G: Gate>(
     flusher.kept();
     let mut upkeep = Upkeep::new(every);
     for _ in rt.forever() {
-        if !flusher.holds() && !hub.wait_work(rt) {
-            return Ok(());
+        if !flusher.holds() {
+            if let Some(idle) = hub.wait_work(rt) {
+                return Ok(idle);
+            }
         }
-        if let Err(refusal) = flush_turn(rt, alloc, flusher, hub, &mut upkeep, gate) {
-            if refusal != Refusal::NoMemory {
-                return Err(refusal);
+        if let Err(stop) = flush_turn(rt, alloc, flusher, hub, &mut upkeep, gate) {
+            if let Some(failed) = stop.into_failed() {
+                return Err(failed);
             }
             thread::yield_now();
         }

@@ -24,14 +24,14 @@ returns-in-None-clause-state g c =
 pub returns-in-Ok-clause-goes : goal.returns-in-Ok-clause-goes
 returns-in-Ok-clause-goes g c =
     let held : c.args.self.now.waiting ≡ Some c.in-Some.batch = cc in
-    let same : c.deref.result.now ≡ c.in-Some.batch.items = cc in
+    let same : c.commands.result.now ≡ c.in-Some.batch.commands = cc in
     let e = c.commit_freeing.ensures in
-    goes_batch _ _ c.deref.result.now _ (ap held_in held ∙ ap (λ (b : List Taken). b ∷ []) (sym same)) e.goes
+    goes_batch _ _ c.commands.result.now _ (ap held_in held ∙ ap (λ (b : List Taken). b ∷ []) (sym same)) e.goes
 
 pub returns-in-Ok-clause-ok : goal.returns-in-Ok-clause-ok
 returns-in-Ok-clause-ok g c =
     let held : c.args.self.now.waiting ≡ Some c.in-Some.batch = cc in
-    let same : c.deref.result.now ≡ c.in-Some.batch.items = cc in
+    let same : c.commands.result.now ≡ c.in-Some.batch.commands = cc in
     let alone = (c.args.self.now.fits c.in-Some.batch held).alone in (
       ap (λ (p : Published). p.held) c.accept.ensures ∙ ap (λ (b : List Taken). b ∷ []) (c.in-Ok.ensures.receipt ∙ same) ∙ sym (ap held_in held)
           ∙ sym (ap (λ (l : List (List Taken)). l ++ held_in c.args.self.now.waiting) alone),
@@ -41,15 +41,15 @@ returns-in-Ok-clause-ok g c =
 pub returns-in-Ok-clause-state : goal.returns-in-Ok-clause-state
 returns-in-Ok-clause-state g c =
     let held : c.args.self.now.waiting ≡ Some c.in-Some.batch = cc in
-    let same : c.deref.result.now ≡ c.in-Some.batch.items = cc in
+    let same : c.commands.result.now ≡ c.in-Some.batch.commands = cc in
     c.in-Ok.ensures.state ∙ ap (fold c.args.self.now.store.state) (same ∙ sym (ap commands_of (ap held_in held) ∙ append-nil _))
 
 pub returns-in-Err-clause-goes : goal.returns-in-Err-clause-goes
 returns-in-Err-clause-goes g c =
     let held : c.args.self.now.waiting ≡ Some c.in-Some.batch = cc in
-    let same : c.deref.result.now ≡ c.in-Some.batch.items = cc in
+    let same : c.commands.result.now ≡ c.in-Some.batch.commands = cc in
     let e = c.commit_freeing.ensures in
-    goes_batch _ _ c.deref.result.now _ (ap held_in held ∙ ap (λ (b : List Taken). b ∷ []) (sym same)) e.goes
+    goes_batch _ _ c.commands.result.now _ (ap held_in held ∙ ap (λ (b : List Taken). b ∷ []) (sym same)) e.goes
 
 pub returns-in-Err-clause-held : goal.returns-in-Err-clause-held
 returns-in-Err-clause-held g c =
@@ -59,15 +59,15 @@ returns-in-Err-clause-held g c =
 pub returns-in-Err-clause-full : goal.returns-in-Err-clause-full
 returns-in-Err-clause-full g c is =
     let held : c.args.self.now.waiting ≡ Some c.in-Some.batch = cc in
-    let same : c.deref.result.now ≡ c.in-Some.batch.items = cc in
+    let same : c.commands.result.now ≡ c.in-Some.batch.commands = cc in
     let room = c.in-Err.ensures.full (same_refusal c.in-Err.refusal JournalFull is) in
-    (c.deref.result.now, ap held_in held ∙ ap (λ (b : List Taken). b ∷ []) (sym same), room.0, room.1)
+    (c.commands.result.now, ap held_in held ∙ ap (λ (b : List Taken). b ∷ []) (sym same), room.0, room.1)
 
 pub returns-in-Err-clause-needed : goal.returns-in-Err-clause-needed
 returns-in-Err-clause-needed g c is =
     let held : c.args.self.now.waiting ≡ Some c.in-Some.batch = cc in
-    let same : c.deref.result.now ≡ c.in-Some.batch.items = cc in
-    (c.deref.result.now, ap held_in held ∙ ap (λ (b : List Taken). b ∷ []) (sym same), c.in-Err.ensures.needed (same_refusal c.in-Err.refusal StillNeeded is))
+    let same : c.commands.result.now ≡ c.in-Some.batch.commands = cc in
+    (c.commands.result.now, ap held_in held ∙ ap (λ (b : List Taken). b ∷ []) (sym same), c.in-Err.ensures.needed (same_refusal c.in-Err.refusal StillNeeded is))
 
 pub returns-in-Err-clause-never_full : goal.returns-in-Err-clause-never_full
 returns-in-Err-clause-never_full g c told =
@@ -77,13 +77,13 @@ returns-in-Err-clause-never_full g c told =
 pub returns-in-Err-clause-stranger : goal.returns-in-Err-clause-stranger
 returns-in-Err-clause-stranger g c is =
     let held : c.args.self.now.waiting ≡ Some c.in-Some.batch = cc in
-    let same : c.deref.result.now ≡ c.in-Some.batch.items = cc in
+    let same : c.commands.result.now ≡ c.in-Some.batch.commands = cc in
     ap (all_grow c.args.self.now.store.state) (ap commands_of (ap held_in held) ∙ append-nil _ ∙ sym same) ∙ c.in-Err.ensures.stranger (same_refusal c.in-Err.refusal Stranger is)
 
 pub invariant_of-self-in-Ok : goal.invariant_of-self-in-Ok
 invariant_of-self-in-Ok g c =
     let held : c.args.self.now.waiting ≡ Some c.in-Some.batch = cc in
     record {
-      kept = kept_more _ _ _ _ _ _ c.deref.result.now c.args.self.now.kept (c.args.self.now.fits c.in-Some.batch held).alone c.accept.ensures c.in-Ok.ensures.receipt c.in-Ok.ensures.state;
+      kept = kept_more _ _ _ _ _ _ c.commands.result.now c.args.self.now.kept (c.args.self.now.fits c.in-Some.batch held).alone c.accept.ensures c.in-Ok.ensures.receipt c.in-Ok.ensures.state;
       fits = λ x is. absurd (let none : ⊥ = cc in none);
     }

@@ -14,9 +14,9 @@ returns-in-Err-clause-uncommitted g c =
 pub returns-clause-lost : goal.returns-clause-lost
 returns-clause-lost g c told = record {
   waiting = c.in_default.ensures.ok.1;
-  committed = lost_still c.publish.result c.commit_held.new.self.publisher c.publish.new.self c.publish.ensures.lost c.publish.ensures.unchanged told;
+  committed = lost_still c.publish-published.result c.commit_held.new.self.publisher c.publish-published.new.self c.publish-published.ensures.lost c.publish-published.ensures.unchanged told;
   state = c.in_default.ensures.state;
 }
 
 pub returns-clause-uncommitted : goal.returns-clause-uncommitted
-returns-clause-uncommitted g c = publish_only _ c.publish.result c.publish.ensures.only
+returns-clause-uncommitted g c = publish_only _ c.publish-published.result c.publish-published.ensures.only

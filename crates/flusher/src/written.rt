@@ -1,0 +1,65 @@
+//! A batch that was written and isn't settled yet.
+ghost use Rattle.std.specs.Prelude.{◌≡◌, IfOk, IfErr};
+
+use hub::{Failed, Hub, Settled};
+use published::{Site, Told};
+use recovery::Receipt;
+use refusal::Refusal;
+use std::marker::Model;
+use std::sync::Wait;
+
+/// A batch that was committed and published, and that the board has to settle next: the receipt of its commit, and the token that ends with
+/// it. Only `Flusher::write` makes one. It isn't `Drop`, so that each one is settled, or the hub is told that the store has failed.
+pub struct Written<D, J: Site> {
+    receipt: Receipt<D>,
+    told: Told<D, J>,
+}
+
+impl<D, J: Site> Model for Written<D, J> {
+    ghost use Rattle.std.specs.Prelude.{List};
+    ghost use Rattle.revision.specs.Command.{Taken};
+
+    ghost Value = { List Taken × List (List Taken) };
+
+    ghost view = { λ w. (w.receipt, w.told) };
+}
+
+impl<D, J: Site> Written<D, J> {
+    /// Settles it at the hub, and gives the receipt of its commit. Where the hub refuses it as `Stranger`, the hub is told that the store has
+    /// failed.
+    pub fn settle<R: Wait>(
+        self,
+        rt: &R,
+        hub: &Hub<D, J>,
+    ) -> Result<(Receipt<D>, Settled<J>), Failed<J>>
+        ensures receipt { IfOk result (λ done. done.0 ≡ self.0) }
+        ensures only { IfErr result (λ failed. failed ≡ Refusal.Stranger) }
+    {
+        let Written { receipt, told } = self;
+        match hub.settle(rt, &receipt, told) {
+            Ok(settled) => Ok((receipt, settled)),
+            Err(refusal) => Err(hub.fail(rt, refusal)),
+        }
+    }
+
+    // Its receipt and its token, for a board of the same thread.
+    pub(crate) fn parts(self) -> (Receipt<D>, Told<D, J>)
+        ensures { result ≡ self }
+    {
+        let Written { receipt, told } = self;
+        (receipt, told)
+    }
+}
+
+// What a publish gave, to be settled.
+pub(crate) fn to_settle<D, J: Site>(
+    published: Result<Option<(Receipt<D>, Told<D, J>)>, Refusal>,
+) -> Result<Option<Written<D, J>>, Refusal>
+    ensures { result ≡ published }
+{
+    match published {
+        Ok(Some((receipt, told))) => Ok(Some(Written { receipt, told })),
+        Ok(None) => Ok(None),
+        Err(refusal) => Err(refusal),
+    }
+}
