@@ -1,6 +1,7 @@
 //! The flusher.
 ghost use Rattle.std.specs.Prelude.{List, ◌≡◌, ◌≢◌, ◌⊎◌, ◌↔◌, ◌<◌, ◌≤◌, ◌^◌, [], ◌∷◌, ◌++◌, true, false, Some, None, length, OnOk, OnErr, IfOk, IfErr, IfSome, IfNone, IsErrOf};
 ghost use Rattle.std.specs.Option.{ForSome};
+ghost use Rattle.revision.specs.Command.{Taken};
 ghost use Rattle.revision.specs.State.{fold, all_grow};
 ghost use Rattle.recovery.specs.Found.{commands_of};
 ghost use Rattle.recovery.specs.Open.{FitsSlot, state_of};

@@ -82,11 +82,11 @@ returns-in_err-settle-in-Some-clause-goes g c =
     let run = c.in_ok-run.run'.commands in
     let some : 0 < length run = omega arith in
     let held = ap (λ (l : List (List Taken)). l ++ waiting_of c.hold.new.self) (c.hold.ensures.committed ∙ c.requires.calm.committed) ∙ c.hold.ensures.waiting in
-    let written = rw (sym c.parts.ensures) at (rw c.in-Some.is at c.in_ok-write.ensures.some) in
-    let same = same_batch _ c.parts.result.0 run written.batch held in
+    let written = rw (sym c.parts-receipt.ensures) at (rw c.in-Some.is at c.in_ok-write.ensures.some) in
+    let same = same_batch _ c.parts-receipt.result.0 run written.batch held in
     let tells = written.token_is ∙ written.published ∙ ap (λ (l : List (List Taken)). told_of c.hold.new.self ++ l) held ∙ ap (λ (l : List (List Taken)). l ++ run ∷ []) c.hold.ensures.told in
     absurd (false≢true (c.in_err-settle-in-Some.ensures.stranger
-    (may_settle g.J.Site.start (standing c.args.board.now c.args.flusher.now) c.take.new.self.board run c.parts.result.0 c.parts.result.1 c.requires.calm c.in_ok-run.ensures.run
+    (may_settle g.J.Site.start (standing c.args.board.now c.args.flusher.now) c.take.new.self.board run c.parts-receipt.result.0 c.parts-receipt.result.1 c.requires.calm c.in_ok-run.ensures.run
     (ap (λ (b : Board). b.board) c.in_ok-run.ensures.board) some same tells)))
 
 pub returns-in_ok-settle-in-Some-clause-goes : goal.returns-in_ok-settle-in-Some-clause-goes
@@ -94,8 +94,8 @@ returns-in_ok-settle-in-Some-clause-goes g c =
     let run = c.in_ok-run.run'.commands in
     let within = run_within c.cap.result c.args.board.now.board (length run) c.requires.calm.even.taken c.in_ok-run.ensures.longest in
     let held = ap (λ (l : List (List Taken)). l ++ waiting_of c.hold.new.self) (c.hold.ensures.committed ∙ c.requires.calm.committed) ∙ c.hold.ensures.waiting in
-    let written = rw (sym c.parts.ensures) at (rw c.in-Some.is at c.in_ok-write.ensures.some) in
-    let same = same_batch _ c.parts.result.0 run written.batch held in
+    let written = rw (sym c.parts-receipt.ensures) at (rw c.in-Some.is at c.in_ok-write.ensures.some) in
+    let same = same_batch _ c.parts-receipt.result.0 run written.batch held in
     let tells = written.published ∙ ap (λ (l : List (List Taken)). told_of c.hold.new.self ++ l) held ∙ ap (λ (l : List (List Taken)). l ++ run ∷ []) c.hold.ensures.told in
     let knows = ap (λ (b : Board). b.told) c.in_ok-settle-in-Some.ensures.ok ∙ written.token_is in
     let boards =
@@ -115,8 +115,8 @@ returns-in_ok-settle-in-Some-clause-calm g c =
     let run = c.in_ok-run.run'.commands in
     let within = run_within c.cap.result c.args.board.now.board (length run) c.requires.calm.even.taken c.in_ok-run.ensures.longest in
     let held = ap (λ (l : List (List Taken)). l ++ waiting_of c.hold.new.self) (c.hold.ensures.committed ∙ c.requires.calm.committed) ∙ c.hold.ensures.waiting in
-    let written = rw (sym c.parts.ensures) at (rw c.in-Some.is at c.in_ok-write.ensures.some) in
-    let same = same_batch _ c.parts.result.0 run written.batch held in
+    let written = rw (sym c.parts-receipt.ensures) at (rw c.in-Some.is at c.in_ok-write.ensures.some) in
+    let same = same_batch _ c.parts-receipt.result.0 run written.batch held in
     let tells = written.published ∙ ap (λ (l : List (List Taken)). told_of c.hold.new.self ++ l) held ∙ ap (λ (l : List (List Taken)). l ++ run ∷ []) c.hold.ensures.told in
     let knows = ap (λ (b : Board). b.told) c.in_ok-settle-in-Some.ensures.ok ∙ written.token_is in
     let boards =
@@ -136,14 +136,14 @@ returns-in_ok-settle-in-Some-clause-settled g c =
     let run = c.in_ok-run.run'.commands in
     let some : 0 < length run = omega arith in
     let held = ap (λ (l : List (List Taken)). l ++ waiting_of c.hold.new.self) (c.hold.ensures.committed ∙ c.requires.calm.committed) ∙ c.hold.ensures.waiting in
-    let written = rw (sym c.parts.ensures) at (rw c.in-Some.is at c.in_ok-write.ensures.some) in
-    let same = same_batch _ c.parts.result.0 run written.batch held in
+    let written = rw (sym c.parts-receipt.ensures) at (rw c.in-Some.is at c.in_ok-write.ensures.some) in
+    let same = same_batch _ c.parts-receipt.result.0 run written.batch held in
     let tells =
     written.token_is ∙ written.published ∙ ap (λ (l : List (List Taken)). told_of c.hold.new.self ++ l) held
     ∙ ap (λ (l : List (List Taken)). l ++ run ∷ []) (c.hold.ensures.told ∙ sym c.requires.calm.known) in
     let count : length run ≡ c.len-count.result = omega arith in
-    turned_by c.args.board.now c.take.new.self c.settle.new.self (length run) run c.parts.result.1 c.in_ok-run.ensures.board
-    (c.in_ok-settle-in-Some.ensures.ok ∙ ap (λ (r : List Taken). record c.take.new.self { board = settled_more c.take.new.self.board (length r); told = c.parts.result.1 }) same)
+    turned_by c.args.board.now c.take.new.self c.settle.new.self (length run) run c.parts-receipt.result.1 c.in_ok-run.ensures.board
+    (c.in_ok-settle-in-Some.ensures.ok ∙ ap (λ (r : List Taken). record c.take.new.self { board = settled_more c.take.new.self.board (length r); told = c.parts-receipt.result.1 }) same)
     c.in_ok-run.ensures.run some tells ∙ ap (turned c.args.board.now) count
 
 pub returns-in_ok-settle-in-Some-clause-state : goal.returns-in_ok-settle-in-Some-clause-state
@@ -174,9 +174,9 @@ returns-in_err-settle-in-Some-clause-refused g c =
     let run = c.in_ok-run.run'.commands in
     let some : 0 < length run = omega arith in
     let held = ap (λ (l : List (List Taken)). l ++ waiting_of c.hold.new.self) (c.hold.ensures.committed ∙ c.requires.calm.committed) ∙ c.hold.ensures.waiting in
-    let written = rw (sym c.parts.ensures) at (rw c.in-Some.is at c.in_ok-write.ensures.some) in
-    let same = same_batch _ c.parts.result.0 run written.batch held in
+    let written = rw (sym c.parts-receipt.ensures) at (rw c.in-Some.is at c.in_ok-write.ensures.some) in
+    let same = same_batch _ c.parts-receipt.result.0 run written.batch held in
     let tells = written.token_is ∙ written.published ∙ ap (λ (l : List (List Taken)). told_of c.hold.new.self ++ l) held ∙ ap (λ (l : List (List Taken)). l ++ run ∷ []) c.hold.ensures.told in
     absurd (false≢true (c.in_err-settle-in-Some.ensures.stranger
-    (may_settle g.J.Site.start (standing c.args.board.now c.args.flusher.now) c.take.new.self.board run c.parts.result.0 c.parts.result.1 c.requires.calm c.in_ok-run.ensures.run
+    (may_settle g.J.Site.start (standing c.args.board.now c.args.flusher.now) c.take.new.self.board run c.parts-receipt.result.0 c.parts-receipt.result.1 c.requires.calm c.in_ok-run.ensures.run
     (ap (λ (b : Board). b.board) c.in_ok-run.ensures.board) some same tells)))

@@ -54,7 +54,7 @@ returns-in-Err-clause-goes g c =
 pub returns-in-Err-clause-held : goal.returns-in-Err-clause-held
 returns-in-Err-clause-held g c =
     let held : c.args.self.now.waiting ≡ Some c.in-Some.batch = cc in
-    (refl, sym (ap held_in held))
+    (refl, ap held_in c.fill.ensures.some ∙ sym (ap held_in held))
 
 pub returns-in-Err-clause-full : goal.returns-in-Err-clause-full
 returns-in-Err-clause-full g c is =

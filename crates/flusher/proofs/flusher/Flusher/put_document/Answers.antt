@@ -1,4 +1,6 @@
+use Rattle.std.proofs.Common.{sym, subst, ◌∙◌}
 use Rattle.recovery.proofs.CallerLemmas.{goes_call}
+use Rattle.flusher.specs.Flushers.{MayCommit}
 use Rattle.flusher.proofs.Holdings.{put_now}
 use Rattle.flusher.proofs.flusher.Flusher.put_document.Goals as goal
 
@@ -11,3 +13,11 @@ pub returns-clause-put : goal.returns-clause-put
 returns-clause-put g c =
     let e = c.put_document.ensures in
     put_now c.args.self.now.store c.put_document.new.self c.args.document c.args.revision c.put_document.result e.works e.state e.put
+
+pub invariant_of-self : goal.invariant_of-self
+invariant_of-self g c =
+    let same = c.put_document.ensures.state in
+    record {
+      kept = same ∙ c.args.self.now.kept;
+      fits = λ run is. subst (λ s. MayCommit s run.commands c.args.self.now.publisher.held) (sym same) (c.args.self.now.fits run is);
+    }

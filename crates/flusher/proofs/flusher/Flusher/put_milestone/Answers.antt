@@ -1,3 +1,5 @@
+use Rattle.std.proofs.Common.{sym, subst, ◌∙◌}
+use Rattle.flusher.specs.Flushers.{MayCommit}
 use Rattle.flusher.proofs.Holdings.{goes_put}
 use Rattle.flusher.proofs.flusher.Flusher.put_milestone.Goals as goal
 
@@ -5,3 +7,11 @@ pub returns-clause-goes : goal.returns-clause-goes
 returns-clause-goes g c =
     let e = c.put_milestone.ensures in
     goes_put c.args.self.now.store c.put_milestone.new.self c.args.composed.now c.put_milestone.result e.failed_before e.fails e.any_moment e.done e.kept
+
+pub invariant_of-self : goal.invariant_of-self
+invariant_of-self g c =
+    let same = c.put_milestone.ensures.state in
+    record {
+      kept = same ∙ c.args.self.now.kept;
+      fits = λ run is. subst (λ s. MayCommit s run.commands c.args.self.now.publisher.held) (sym same) (c.args.self.now.fits run is);
+    }

@@ -1,3 +1,5 @@
+use Rattle.std.proofs.Common.{sym, subst, ◌∙◌}
+use Rattle.flusher.specs.Flushers.{MayCommit}
 use Rattle.flusher.proofs.Holdings.{goes_retired, retired_now, retire_why}
 use Rattle.flusher.proofs.flusher.Flusher.retire.Goals as goal
 
@@ -15,3 +17,11 @@ pub returns-clause-needed : goal.returns-clause-needed
 returns-clause-needed g c =
     let e = c.retire.ensures in
     retire_why c.args.self.now.store c.retire.new.self c.retire.result e.only e.needed
+
+pub invariant_of-self : goal.invariant_of-self
+invariant_of-self g c =
+    let same = c.retire.ensures.state in
+    record {
+      kept = same ∙ c.args.self.now.kept;
+      fits = λ run is. subst (λ s. MayCommit s run.commands c.args.self.now.publisher.held) (sym same) (c.args.self.now.fits run is);
+    }

@@ -1,0 +1,11 @@
+use Rattle.std.proofs.Common.{sym, subst, ◌∙◌}
+use Rattle.flusher.specs.Flushers.{MayCommit}
+use Rattle.flusher.proofs.flusher.Flusher.put_due.Goals as goal
+
+pub invariant_of-self : goal.invariant_of-self
+invariant_of-self g c =
+    let same = c.put_due.ensures.state in
+    record {
+      kept = same ∙ c.args.self.now.kept;
+      fits = λ run is. subst (λ s. MayCommit s run.commands c.args.self.now.publisher.held) (sym same) (c.args.self.now.fits run is);
+    }
