@@ -161,6 +161,12 @@ pub fails_err : {S T : Type 0} (refusal : Refusal) (old new : Bool) → (old ≡
     → new ≡ true ↔ IsErrOf {T = T} (Err refusal) Fault
 fails_err refusal old new fails works = (λ failed. same_refusal refusal Fault ((fails works).0 failed), λ is. (fails works).1 (same_refusal refusal Fault is))
 
+-- the same refusal, of another answer
+pub fails_same : {S T : Type 0} (one two : Refusal) (old new : Bool) → one ≡ two → (old ≡ false → (new ≡ true ↔ IsErrOf {T = S} (Err two) Fault)) → old ≡ false
+    → new ≡ true ↔ IsErrOf {T = T} (Err one) Fault
+fails_same {S} {T} one two old new is fails =
+    fails_err one old new (subst (λ (r : Refusal). old ≡ false → (new ≡ true ↔ IsErrOf {T = S} (Err r) Fault)) (sym is) fails)
+
 pub fails_not : {T : Type 0} (refusal : Refusal) (old new : Bool) → (old ≡ false → new ≡ false) → refusal ≢ Fault → old ≡ false → new ≡ true ↔ IsErrOf {T = T} (Err refusal) Fault
 fails_not refusal old new works other worked = (λ failed. absurd (false≢true (sym (works worked) ∙ failed)), λ is. absurd (other (ap (refusal_in refusal) is)))
 

@@ -1,4 +1,5 @@
-use Rattle.std.proofs.Common.{◌≡◌, ◌∙◌, ap, false, true, rules}
+use Rattle.std.proofs.Common.{◌≡◌, ◌∙◌, ap, true, rules}
+use Rattle.std.specs.Prelude.{None}
 use Rattle.recovery.specs.Open.{has_failed}
 use Rattle.flusher.specs.Holding.{store_of}
 use Rattle.turns.proofs.Writing.{kept_up_same, writes_kept_up, writes_on, works_after, fails_ok, fails_err, fails_not, memory_not_fault, one_after, none_after, causes_after}
@@ -46,7 +47,7 @@ pub returns-then-not-held-clause-fails : goal.returns-then-not-held-clause-fails
 returns-then-not-held-clause-fails g c =
     let old = has_failed (store_of c.args.flusher.now) in
     let works = works_after c.in_default.field-0 old (has_failed (store_of c.put_due.new.flusher)) c.in_default.ensures.fails in
-    fails_ok false old (has_failed (store_of c.hold_next.new.flusher)) (λ worked. ap has_failed c.hold_next.ensures.store ∙ works worked)
+    fails_ok None old (has_failed (store_of c.hold_next.new.flusher)) (λ worked. ap has_failed c.hold_next.ensures.store ∙ works worked)
 
 -- it is written
 pub returns-clause-writes : goal.returns-clause-writes

@@ -1,6 +1,6 @@
-use Rattle.std.proofs.Common.{⊎_elim, inl, inr, ap, false, true}
+use Rattle.std.proofs.Common.{⊎_elim, inl, inr, ap, ◌∙◌}
 use Rattle.refusal.specs.declared.Refusal.{Refusal}
-use Rattle.std.specs.Prelude.{Err}
+use Rattle.std.specs.Prelude.{Err, Some, None}
 use Rattle.recovery.specs.Open.{has_failed}
 use Rattle.flusher.specs.Holding.{store_of}
 use Rattle.turns.proofs.Writing.{writes_refused, writes_nothing, writes_written, one_written, turn_failed, turn_unsettled, works_after, fails_ok, fails_err, fails_not, stranger_not_fault}
@@ -33,7 +33,7 @@ pub returns-in-None-clause-fails : goal.returns-in-None-clause-fails
 returns-in-None-clause-fails g c =
     let old = has_failed (store_of c.args.flusher.now) in
     let new = has_failed (store_of c.write.new.self) in
-    fails_ok false old new (works_after c.in-Ok.written old new c.in-Ok.ensures.fails)
+    fails_ok None old new (works_after c.in-Ok.written old new c.in-Ok.ensures.fails)
 
 -- it is written, and the board doesn't settle it
 pub returns-in-Err-settle-clause-writes : goal.returns-in-Err-settle-clause-writes
@@ -46,27 +46,27 @@ pub returns-in-Err-settle-clause-fails : goal.returns-in-Err-settle-clause-fails
 returns-in-Err-settle-clause-fails g c =
     let old = has_failed (store_of c.args.flusher.now) in
     let new = has_failed (store_of c.write.new.self) in
-    let refusal = c.in-Err-settle.refusal in
-    fails_not refusal old new (works_after c.in-Ok.written old new c.in-Ok.ensures.fails) (stranger_not_fault refusal c.in-Err-settle.ensures)
+    let refusal = c.refusal.result in
+    fails_not refusal old new (works_after c.in-Ok.written old new c.in-Ok.ensures.fails) (stranger_not_fault refusal (c.refusal.ensures ∙ c.in-Err-settle.ensures.only))
 
 pub returns-in-Err-settle-clause-causes : goal.returns-in-Err-settle-clause-causes
 returns-in-Err-settle-clause-causes g c = λ no_memory no_fault.
-    turn_unsettled c.args.flusher.now c.write.new.self c.in-Err-settle.refusal c.in-Err-settle.ensures
+    turn_unsettled c.args.flusher.now c.write.new.self c.refusal.result (c.refusal.ensures ∙ c.in-Err-settle.ensures.only)
     (one_written c.args.flusher.now c.write.new.self c.in-Some.both.0 c.in-Some.both.1 (rw c.in-Some.is at c.in-Ok.ensures.some))
 
 -- and it is settled
-pub returns-in_default-clause-writes : goal.returns-in_default-clause-writes
-returns-in_default-clause-writes g c =
+pub returns-in-Ok-settle-clause-writes : goal.returns-in-Ok-settle-clause-writes
+returns-in-Ok-settle-clause-writes g c =
     let e = c.in-Ok.ensures in
     writes_written g.J.Site.start c.args.flusher.now c.write.new.self c.in-Some.both.0 c.in-Some.both.1 c.kept.ensures c.kept-in-Some.ensures c.write.ensures.goes
     (works_after c.in-Ok.written (has_failed (store_of c.args.flusher.now)) (has_failed (store_of c.write.new.self)) e.fails) (rw c.in-Some.is at e.some) e.done.0 e.done.1
 
-pub returns-in_default-clause-one : goal.returns-in_default-clause-one
-returns-in_default-clause-one g c =
-    λ settled. one_written c.args.flusher.now c.write.new.self c.in-Some.both.0 c.in-Some.both.1 (rw c.in-Some.is at c.in-Ok.ensures.some)
+pub returns-in-Ok-settle-clause-one : goal.returns-in-Ok-settle-clause-one
+returns-in-Ok-settle-clause-one g c =
+    one_written c.args.flusher.now c.write.new.self c.in-Some.both.0 c.in-Some.both.1 (rw c.in-Some.is at c.in-Ok.ensures.some)
 
-pub returns-in_default-clause-fails : goal.returns-in_default-clause-fails
-returns-in_default-clause-fails g c =
+pub returns-in-Ok-settle-clause-fails : goal.returns-in-Ok-settle-clause-fails
+returns-in-Ok-settle-clause-fails g c =
     let old = has_failed (store_of c.args.flusher.now) in
     let new = has_failed (store_of c.write.new.self) in
-    fails_ok true old new (works_after c.in-Ok.written old new c.in-Ok.ensures.fails)
+    fails_ok (Some _) old new (works_after c.in-Ok.written old new c.in-Ok.ensures.fails)
