@@ -6,7 +6,7 @@ ghost use Rattle.flusher.specs.Holding.{committed_of, waiting_of};
 use crate::made::{command, new_store};
 use disk::MemDisk;
 use flusher::{Flusher, Gate, Moment, start};
-use hub::{Board, Seat};
+use hub::{Hub, Seat};
 use published::{Opened, Site};
 use recovery::Store;
 use refusal::Refusal;
@@ -44,14 +44,15 @@ impl<J: Site> Gate for Looks<J> {
 }
 
 // Takes the one command that was submitted off the board, and holds it.
-fn hold_next<J: Site, R: Abort + AllocGlobal>(
+#[tactic(auto, using(crate::proofs::Fitting::fits_slot))]
+fn hold_next<J: Site, R: Wait + Abort + AllocGlobal>(
     rt: &R,
     flusher: &mut Flusher<MemDisk, J>,
-    board: &mut Board<MemDisk, J>,
+    hub: &Hub<MemDisk, J>,
 )
     requires nothing { (committed_of flusher.old ≡ []) × (waiting_of flusher.old ≡ []) }
 {
-    let run = match board.take(rt.alloc(), flusher.cap()) {
+    let run = match hub.take(rt, rt.alloc(), flusher.cap()) {
         Ok(run) => run,
         Err(refusal) => panic!(rt; "{refusal}"),
     };
@@ -63,7 +64,7 @@ fn hold_next<J: Site, R: Abort + AllocGlobal>(
 fn is_shown<J: Site, R: Wait + Abort + AllocGlobal>(
     rt: &R,
     flusher: &mut Flusher<MemDisk, J>,
-    board: &mut Board<MemDisk, J>,
+    hub: &Hub<MemDisk, J>,
     seat: &mut Seat<J>,
     gate: &mut Looks<J>,
     number: u64,
@@ -73,12 +74,13 @@ fn is_shown<J: Site, R: Wait + Abort + AllocGlobal>(
 {
     let alloc = rt.alloc();
     let next = command(rt, number, 1);
-    assert!(rt; board.submit(alloc, seat, &next).is_ok());
-    hold_next(rt, flusher, board);
+    let ticket = hub.submit(rt, alloc, seat, &next).expect(rt, "taken");
+    hold_next(rt, flusher, hub);
     let written = flusher.write(rt, alloc, gate).expect(rt, "written");
-    let (receipt, told) = written.expect(rt, "a batch");
+    let batch = written.expect(rt, "a batch");
+    assert!(rt; batch.settle(rt, hub).is_ok());
+    let told = hub.wait_ack(rt, &ticket).expect(rt, "acknowledged");
     assert!(rt; told.len() == number);
-    assert_eq!(rt; board.settle(&receipt, told), Ok(()));
     assert!(rt; gate.before == Ok(number.saturating_sub(1)) && gate.after == gate.before);
     assert!(rt; gate.viewer.read(newest) == Ok(number));
 }
@@ -100,13 +102,14 @@ fn two_batches<J: Site, R: Wait + Abort + AllocGlobal>(
         Err(fault) => panic!(rt; "{}", fault.refusal),
     };
     let mut seat = board.seat().expect(rt, "a seat");
+    let hub = Hub::new(board);
     let mut gate = Looks {
         viewer: flusher.viewer().expect(rt, "a place"),
         before: Ok(0),
         after: Ok(0),
     };
-    is_shown(rt, &mut flusher, &mut board, &mut seat, &mut gate, 1);
-    is_shown(rt, &mut flusher, &mut board, &mut seat, &mut gate, 2);
+    is_shown(rt, &mut flusher, &hub, &mut seat, &mut gate, 1);
+    is_shown(rt, &mut flusher, &hub, &mut seat, &mut gate, 2);
     let _store = flusher.end(rt);
 }
 

@@ -156,7 +156,7 @@ fn batches_fit_their_slots(rt: HostRuntime) {
 /// How many letters the second command adds, and how many commands the first batch then has.
 const WIDTHS: [(u32, usize); 2] = [(159, 2), (160, 1)];
 
-// Two commands are taken off in one batch, or in two of one.
+// Two commands are taken off and committed in one batch, or in two of one.
 fn taken_off<J: Site, R: Abort + AllocGlobal>(
     rt: &R,
     opened: Opened,
@@ -176,8 +176,12 @@ fn taken_off<J: Site, R: Abort + AllocGlobal>(
     let mut seat = board.seat().expect(rt, "a seat");
     is_ordered(rt, &mut board, &mut seat, 1, 1);
     is_ordered(rt, &mut board, &mut seat, 2, count);
-    let _ = batch(rt, &mut board, first);
-    let _ = batch(rt, &mut board, 2usize.saturating_sub(first));
+    let mut store = new_store(rt, 2);
+    let _ = receipt_of(rt, &mut board, &mut store, first);
+    if first == 1 {
+        let _ = receipt_of(rt, &mut board, &mut store, 1);
+    }
+    is_idle(rt, &mut board);
 }
 
 // The create's entry has 41 bytes, the edit's 37 and one a letter, and a batch 4 more: 241 bytes are one batch, and 242 are two.
