@@ -35,6 +35,50 @@
 //!
 //! Where the journal is full, a commit frees its oldest segment first, by milestones of that segment's documents. Milestones that are due
 //! are put by `put_due` between batches; `milestone_job` and `put_milestone` let another thread compose one.
+//!
+//! A caller, with its contract, which `flusher_tests` proves:
+//!
+//! ```text
+//! ghost use Rattle.std.specs.Prelude.{◌≡◌, None, false};
+//! ghost use Rattle.disk.specs.Crash.{LeavesOnly};
+//! ghost use Rattle.world.specs.World.{takens};
+//! ghost use Rattle.recovery.specs.Open.{IsOpen, device_of, has_failed};
+//! ghost use Rattle.flusher.specs.Batches.{IsFirst};
+//! ghost use Rattle.flusher.specs.Holding.{store_of};
+//! ghost use Rattle.flusher.specs.Standing.{IsCalm, batches_of};
+//! ghost use Rattle.flusher.specs.Run.{standing};
+//!
+//! use disk::Disk;
+//! use flusher::{Call, Driven, Flusher, drive};
+//! use hub::{Board, Seat};
+//! use published::Site;
+//! use revision::Command;
+//! use std::alloc::Global;
+//! use std::sync::Wait;
+//!
+//! /// Submits a command, writes it, and asks for its acknowledgement. A crash at any moment leaves first commands of the board's order,
+//! /// no fewer than were settled before; and unless something stopped it, more can be saved.
+//! pub fn save<D: Disk, J: Site, R: Wait>(
+//!     rt: &R,
+//!     alloc: Global,
+//!     flusher: &mut Flusher<D, J>,
+//!     board: &mut Board<D, J>,
+//!     seat: &mut Seat<J>,
+//!     command: Command,
+//! ) -> Driven<D, J>
+//!     requires calm { IsCalm J.start (standing board.old flusher.old) }
+//!     requires works { (has_failed (store_of flusher.old) ≡ false) × (board.old.failed ≡ false) }
+//!     ensures any_moment { IsOpen (store_of flusher.old)
+//!         → LeavesOnly ⟦<D as Disk>⟧
+//!         (IsFirst board.old.board.settled J.start (takens board.new.board.order)
+//!         (batches_of (standing board.new flusher.new)))
+//!         (device_of (store_of flusher.old)) (device_of (store_of flusher.new)) }
+//!     ensures calm { result.stopped ≡ None → IsCalm J.start (standing board.new flusher.new) }
+//! {
+//!     let calls = [Call::Submit(command), Call::Turn, Call::Ack(0)];
+//!     drive(rt, alloc, flusher, board, seat, &calls)
+//! }
+//! ```
 #![tactic(auto)]
 
 mod begun;

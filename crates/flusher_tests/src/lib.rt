@@ -1,6 +1,10 @@
 //! Tests of `flusher` and of `turns`, by their public calls alone.
+//!
+//! `callers` has the callers that open `lib.rt` of both, proved.
 #![tactic(auto)]
 
+#[cfg(test)]
+pub mod callers;
 #[cfg(test)]
 mod freeing;
 #[cfg(test)]

@@ -1,9 +1,12 @@
-//! The callers that open `lib.rt` of hub_desk and of sockets.
+//! The callers that open `lib.rt` of hub_desk, sockets and listening.
 ghost use Rattle.std.specs.Prelude.{IfErr, IfOk};
 ghost use Rattle.hub_desk.specs.AtHub.{Acknowledges, Refuses};
 
+use disk::Disk;
 use hub_desk::HubDesk;
+use listening::serve_on;
 use published::Site;
+use recovery::Store;
 use refusal::Refusal;
 use revision::Command;
 use session::{Desk, Reply};
@@ -34,4 +37,16 @@ pub fn serve_in_turn<
     let mut desks = Vec::new(alloc);
     desks.push(desk)?;
     serve_desks(rt, alloc, desks, listener)
+}
+
+/// Serves a store until the listener fails, with a milestone after about every 256 revisions, and gives it back where all that was
+/// ordered is written.
+pub fn serve_store<
+    R: Threads + Wait + Sync,
+    N: OpenListener<Stream = TcpStream> + Sync,
+    D: Disk + Send + Drop,
+>(rt: &R, alloc: Global, store: Store<D>, listener: &N) -> Result<Store<D>, Refusal> {
+    let (store, served) = serve_on(rt, alloc, store, listener, 256);
+    served?;
+    Ok(store)
 }

@@ -9,6 +9,41 @@
 //! that is taken is given to the flusher, and each batch that is written is settled, or the hub is told of a failure. What a turn answers
 //! with, and what `flush_all` does, are tokens that the hub alone makes: that it settled, that it was told of a failure, that it was ended
 //! and nothing is left to take. A refusal without such a token is want of memory, after which the next turn goes on.
+//!
+//! A caller, with its contract, which `flusher_tests` proves:
+//!
+//! ```text
+//! ghost use Rattle.std.specs.Prelude.{◌≡◌, ◌++◌, List, OnOk};
+//! ghost use Rattle.revision.specs.Command.{Taken};
+//! ghost use Rattle.revision.specs.State.{fold};
+//! ghost use Rattle.recovery.specs.Found.{commands_of};
+//! ghost use Rattle.recovery.specs.Open.{state_of};
+//! ghost use Rattle.flusher.specs.Holding.{store_of, told_of};
+//!
+//! use disk::Disk;
+//! use flusher::{Flusher, OpenGate};
+//! use hub::{Failed, Hub, Idle};
+//! use published::Site;
+//! use std::alloc::Global;
+//! use std::sync::Wait;
+//! use turns::flush_all;
+//!
+//! /// Writes all that is ordered until the hub is ended, and puts no milestones. Nothing that was published is taken back. At Ok the store
+//! /// holds just what is published, and the hub's token says that it was ended; at Err the hub was told of the failure.
+//! pub fn flush_to_the_end<D: Disk, J: Site, R: Wait>(
+//!     rt: &R,
+//!     alloc: Global,
+//!     flusher: &mut Flusher<D, J>,
+//!     hub: &Hub<D, J>,
+//! ) -> Result<Idle<J>, Failed<J>>
+//!     ensures stays { (more : List (List Taken)) × (told_of flusher.new ≡ told_of flusher.old ++ more) }
+//!     ensures holds { OnOk result (state_of (store_of flusher.new) ≡ fold J.start (commands_of (told_of flusher.new))) }
+//! {
+//!     let ended = flush_all(rt, alloc, flusher, hub, 0, &mut OpenGate);
+//!     flusher.kept();
+//!     ended
+//! }
+//! ```
 #![tactic(auto)]
 
 mod stop;

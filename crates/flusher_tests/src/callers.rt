@@ -1,0 +1,60 @@
+//! The callers that open `lib.rt` of flusher and of turns.
+ghost use Rattle.std.specs.Prelude.{◌≡◌, ◌++◌, List, None, false, OnOk};
+ghost use Rattle.disk.specs.Crash.{LeavesOnly};
+ghost use Rattle.revision.specs.Command.{Taken};
+ghost use Rattle.revision.specs.State.{fold};
+ghost use Rattle.world.specs.World.{takens};
+ghost use Rattle.recovery.specs.Found.{commands_of};
+ghost use Rattle.recovery.specs.Open.{IsOpen, device_of, state_of, has_failed};
+ghost use Rattle.flusher.specs.Batches.{IsFirst};
+ghost use Rattle.flusher.specs.Holding.{store_of, told_of};
+ghost use Rattle.flusher.specs.Standing.{IsCalm, batches_of};
+ghost use Rattle.flusher.specs.Run.{standing};
+
+use disk::Disk;
+use flusher::{Call, Driven, Flusher, OpenGate, drive};
+use hub::{Board, Failed, Hub, Idle, Seat};
+use published::Site;
+use revision::Command;
+use std::alloc::Global;
+use std::sync::Wait;
+use turns::flush_all;
+
+/// Submits a command, writes it, and asks for its acknowledgement. A crash at any moment leaves first commands of the board's order,
+/// no fewer than were settled before; and unless something stopped it, more can be saved.
+pub fn save<D: Disk, J: Site, R: Wait>(
+    rt: &R,
+    alloc: Global,
+    flusher: &mut Flusher<D, J>,
+    board: &mut Board<D, J>,
+    seat: &mut Seat<J>,
+    command: Command,
+) -> Driven<D, J>
+    requires calm { IsCalm J.start (standing board.old flusher.old) }
+    requires works { (has_failed (store_of flusher.old) ≡ false) × (board.old.failed ≡ false) }
+    ensures any_moment { IsOpen (store_of flusher.old)
+        → LeavesOnly ⟦<D as Disk>⟧
+        (IsFirst board.old.board.settled J.start (takens board.new.board.order)
+        (batches_of (standing board.new flusher.new)))
+        (device_of (store_of flusher.old)) (device_of (store_of flusher.new)) }
+    ensures calm { result.stopped ≡ None → IsCalm J.start (standing board.new flusher.new) }
+{
+    let calls = [Call::Submit(command), Call::Turn, Call::Ack(0)];
+    drive(rt, alloc, flusher, board, seat, &calls)
+}
+
+/// Writes all that is ordered until the hub is ended, and puts no milestones. Nothing that was published is taken back. At Ok the store
+/// holds just what is published, and the hub's token says that it was ended; at Err the hub was told of the failure.
+pub fn flush_to_the_end<D: Disk, J: Site, R: Wait>(
+    rt: &R,
+    alloc: Global,
+    flusher: &mut Flusher<D, J>,
+    hub: &Hub<D, J>,
+) -> Result<Idle<J>, Failed<J>>
+    ensures stays { (more : List (List Taken)) × (told_of flusher.new ≡ told_of flusher.old ++ more) }
+    ensures holds { OnOk result (state_of (store_of flusher.new) ≡ fold J.start (commands_of (told_of flusher.new))) }
+{
+    let ended = flush_all(rt, alloc, flusher, hub, 0, &mut OpenGate);
+    flusher.kept();
+    ended
+}
