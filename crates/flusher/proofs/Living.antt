@@ -16,7 +16,10 @@ use Rattle.flusher.specs.Batches.{IsFirst}
 use Rattle.flusher.specs.declared.calls.Call.{Call}
 use Rattle.flusher.specs.Schedule.{at_rest, schedule, acked, commands_in, AreNumbered, IsAllSettled}
 use Rattle.flusher.specs.Lives.{counted_from, Life, Opens, Drives, Lives, First, Crashed, IsPromised, AllLives, OneLife, LivesGoOn, RunGoesOn}
-use Rattle.world.proofs.CallerLemmas.{grown_shown, shown-fold, fold_shown, fold_shown-append, last_in, AllPlaced, after, placed-take, Stands, stands-take, Counts, WasSent, StandsSettled, Holds, begun-holds, run-holds, acks-stay, acks-one_revision, taken-once, nothing-taken_back, taken-is_again, state-is_fold}
+use Rattle.world.specs.steps.Showing.{grown_shown, fold_shown}
+use Rattle.world.specs.steps.Placing.{last_in, AllPlaced, after}
+use Rattle.world.specs.steps.Holding.{Stands, Counts, WasSent, StandsSettled, Holds}
+use Rattle.world.proofs.CallerLemmas.{shown-fold, fold_shown-append, placed-take, stands-take, begun-holds, run-holds, acks-stay, acks-one_revision, taken-once, nothing-taken_back, taken-is_again, state-is_fold}
 use Rattle.flusher.proofs.Scheduling.{run_is_schedule}
 
 -- a board of which everything is settled

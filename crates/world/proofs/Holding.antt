@@ -13,40 +13,13 @@ use Rattle.world.specs.Event.{Outcome, Done, Failed, Stopped, Event, Submit, Tak
 use Rattle.world.specs.World.{Entry, entry_of, takens, World, begun, is_of, last_sent}
 use Rattle.world.specs.Step.{is_numbered, with_command, is_written, written, acknowledged, may_leave, stopped, opened, can_open, running_step, crashed_step, step, run, whole, may_pick}
 use Rattle.world.specs.Shown.{Shown, all_shown}
+pub use Rattle.world.specs.steps.Holding.{Counts, WasSent, StandsSettled, Holds}
 use Rattle.world.proofs.Showing.{grown_shown, shown-grown}
 use Rattle.world.proofs.Numbers.{last_in, noted, Placed, last-grown}
 use Rattle.world.proofs.Histories.{AllPlaced, after, placed-more, placed-take, sender_same}
 use Rattle.world.proofs.Answered.{takes_placed, repeats_last}
 use Rattle.world.proofs.Standing.{Stands, stands-more, stands-take, after-more}
 use Rattle.world.proofs.Openings.{shown-opened}
-
--- each step of the way to the device is at most as far as the one before it
-pub record Counts (settled shown without with_batch taken long : ℕ) : Type 0 where
-  pub settled_shown : settled ≤ shown
-  pub shown_without : shown ≤ without
-  pub without_with : without ≤ with_batch
-  pub with_taken : with_batch ≤ taken
-  pub taken_long : taken ≤ long
-
--- a number in the order was sent
-abbrev pub WasSent : List Command → Entry → Type 0
-WasSent sent entry = entry.command.number ≤ last_sent entry.command.name entry.command.source sent
-
--- an acknowledged ticket: it stands, and its length is settled
-abbrev pub StandsSettled : List Shown → List Entry → ℕ → Ticket → Type 0
-StandsSettled documents entries settled ticket = Stands documents entries ticket × (ticket.length ≤ settled)
-
--- What holds of a world: the order's commands have their places; the state shows what they make of the start; the counts are in
--- order; what is shown is the order's beginning; every number in the order was sent; and each ticket tells the truth.
-pub record Holds (world : World) : Type 0 where
-  pub placed : AllPlaced (all_shown world.board.start) world.board.order
-  pub state : all_shown world.board.state ≡ after (all_shown world.board.start) world.board.order
-  pub limits : world.board.state.limits ≡ world.board.start.limits
-  pub counts : Counts world.board.settled (length world.published) world.without world.with_batch world.board.taken (length world.board.order)
-  pub shown : world.published ≡ takens (take (length world.published) world.board.order)
-  pub sent : All (WasSent world.sent) world.board.order
-  pub tickets : All (Stands (all_shown world.board.start) world.board.order) world.tickets
-  pub acks : All (StandsSettled (all_shown world.board.start) world.board.order world.board.settled) world.acks
 
 pub begun-holds : (start : State) → Holds (begun start)
 begun-holds start = record {
