@@ -6,7 +6,8 @@ use Rattle.std.proofs.lemmas.Bool.Decides.{same_from_decides}
 use Rattle.std.proofs.lemmas.Slice.Eq.{bytes_eq-Decides}
 use Rattle.std.proofs.lemmas.Map.Text.{is_eq-slice_cmp}
 use Rattle.attributes.specs.Map.{get}
-use Rattle.attributes.proofs.CallerLemmas.{get-insert, is_name}
+use Rattle.attributes.specs.Table.{is_name}
+use Rattle.attributes.proofs.CallerLemmas.{get-insert}
 use Rattle.revision.specs.Command.{Taken}
 use Rattle.revision.specs.declared.sources.LastTaken.{LastTaken}
 use Rattle.revision.specs.Sources.{Sources, last_of, with_last}
