@@ -9,19 +9,19 @@ use Rattle.world.specs.Step.{run}
 use Rattle.world.specs.Shown.{Shown, all_shown}
 use Rattle.world.specs.steps.Showing.{fold_shown}
 use Rattle.world.specs.steps.Placing.{AllPlaced}
-use Rattle.world.specs.steps.Holding.{Stands, Holds}
+use Rattle.world.specs.steps.Holding.{Stands, IsConsistent}
 
 -- what holds of worlds holds of one that begins
 abbrev pub BegunHolds : Type 0
-BegunHolds = (start : State) → Holds (begun start)
+BegunHolds = (start : State) → IsConsistent (begun start)
 
 -- and after all events
 abbrev pub RunHolds : Type 0
-RunHolds = (world : World) (events : List Event) → Holds world → Holds (run world events)
+RunHolds = (world : World) (events : List Event) → IsConsistent world → IsConsistent (run world events)
 
 -- what follows of a world of which it holds
 abbrev pub HoldsSo : (World → Type 0) → Type 0
-HoldsSo P = (world : World) → Holds world → P world
+HoldsSo P = (world : World) → IsConsistent world → P world
 
 -- what a state shows after commands is what it showed before, with them
 abbrev pub ShownFold : Type 0

@@ -32,7 +32,7 @@ StandsSettled documents entries settled ticket = Stands documents entries ticket
 
 -- What holds of a world: the order's commands have their places; the state shows what they make of the start; the counts are in
 -- order; what is shown is the order's beginning; every number in the order was sent; and each ticket tells the truth.
-pub record Holds (world : World) : Type 0 where
+pub record IsConsistent (world : World) : Type 0 where
   pub placed : AllPlaced (all_shown world.board.start) world.board.order
   pub state : all_shown world.board.state ≡ after (all_shown world.board.start) world.board.order
   pub limits : world.board.state.limits ≡ world.board.start.limits
