@@ -8,6 +8,7 @@ use Rattle.std.specs.FinMap.Entries.{find, find-put, find-where_key, same_entrie
 use Rattle.std.specs.Ordering.{eq_by_cmp, is_eq, is_lt}
 use Rattle.attributes.specs.Map.{Map, by_bytes, get, contains, insert, retain, remove, insert_all, overwritten, without, same_entries_map}
 use Rattle.attributes.specs.Laws.{first_of}
+pub use Rattle.attributes.specs.Table.{is_name}
 
 -- names that tie are equal
 pub same_name : (x y : List ℕ) → by_bytes x y ≡ Equal → x ≡ y
@@ -25,10 +26,6 @@ less_from Greater h = absurd h
 
 pub same_name_from : (x y : List ℕ) → eq_by_cmp by_bytes x y ≡ true → x ≡ y
 same_name_from x y tie = same_name x y (equal_from (by_bytes x y) tie)
-
--- a name is the other's
-abbrev pub is_name : List ℕ → List ℕ → Bool
-is_name = eq_by_cmp by_bytes
 
 -- the two parts of a test
 pub T_parts : (a b : Bool) → T (a && b) → T a × T b

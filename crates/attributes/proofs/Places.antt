@@ -10,12 +10,8 @@ use Rattle.std.specs.List.{insert as list_insert, remove as list_remove}
 use Rattle.std.proofs.Math.ListN.{set}
 use Rattle.attributes.specs.Map.{Map, by_bytes, insert, retain, remove, same_entries_map}
 use Rattle.attributes.specs.Place.{IsHere, IsFree}
+pub use Rattle.attributes.specs.Table.{AllBefore, none_before, one_before}
 use Rattle.attributes.proofs.Maps.{find_below, find_once, same_name, T_parts, less_from}
-
--- each of the names stands before this one
-pub data AllBefore {X : Type 0} (name : List ℕ) : List (List ℕ × X) → Type 0 where
-  none_before : AllBefore name []
-  one_before : {e : List ℕ × X} {es : List (List ℕ × X)} → by_bytes name e.0 ≡ Greater → AllBefore name es → AllBefore name (e ∷ es)
 
 AllBefore-append : {X : Type 0} {name : List ℕ} {es : List (List ℕ × X)} (e : List ℕ × X) → AllBefore name es → by_bytes name e.0 ≡ Greater → AllBefore name (es ++ e ∷ [])
 AllBefore-append e none_before here = one_before here none_before

@@ -4,4 +4,6 @@ pub mod Map
 pub mod Attributes
 pub mod Laws
 pub mod Place
+pub mod Table
+pub mod TableLaws
 mod Examples

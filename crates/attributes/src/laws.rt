@@ -1,5 +1,6 @@
 //! What holds of attributes and changes, as contracts to cite: each function does nothing and promises one law.
 ghost use Rattle.attributes.specs.Laws.{SameAttributes, SameChanges, GetInserted, EntriesMakeMap, FirstEntriesAscend, GetChanged, GetComposed, GetTransformed, GetReverted, ChangedTwice, ChangedEitherWay, ChangedBack};
+ghost use Rattle.attributes.specs.TableLaws as table;
 
 /// Attributes are told apart by what stands at their names.
 pub fn same_attributes()
@@ -59,4 +60,43 @@ pub fn changed_either_way()
 /// A change and its way back leave everything as it was.
 pub fn changed_back()
     ensures { ChangedBack }
+{}
+
+/// Names that tie are equal, and so by the test.
+pub fn same_name()
+    ensures tie { table.SameName }
+    ensures test { table.SameNameByTest }
+{}
+
+/// A table is told from others by what stands at each name, and this is what stands there after a change.
+pub fn table_values<X>()
+    ensures same { table.SameMap X }
+    ensures put { table.GetPut X }
+    ensures removed { table.GetRemoved X }
+{}
+
+/// The entries of a table after a change, and that they are in order.
+pub fn table_entries<X>()
+    ensures put { table.EntriesPut X }
+    ensures removed { table.EntriesRemoved X }
+    ensures ascend { table.ListAscends X }
+    ensures ascend_if { table.ListAscendsIf X }
+{}
+
+/// Going over entries in order, from the first one on, to the place of a name.
+pub fn table_places<X>()
+    ensures here { table.HereAt X }
+    ensures free { table.FreeAt X }
+    ensures end { table.FreeEnd X }
+    ensures more { table.BeforeMore X }
+{}
+
+/// An edit of the entries at the place of a name is that edit of the table.
+pub fn table_edits<X>()
+    ensures set { table.SetHere X }
+    ensures removed { table.RemoveHere X }
+    ensures inserted { table.InsertFree X }
+    ensures absent { table.RemoveAbsent X }
+    ensures written_list { table.Written X }
+    ensures inserted_list { table.Inserted X }
 {}

@@ -2,7 +2,8 @@
 use Rattle.std.specs.Prelude.{◌≡◌, ◌≤◌, ◌↔◌, true, List, length}
 use Rattle.delta.specs.Element.{Element}
 use Rattle.delta.specs.Operation.{Operation}
-use Rattle.delta.specs.Gaps.{Gaps, units_below, apply}
+use Rattle.delta.specs.Gaps.{Gaps, counted, units_below, apply}
+use Rattle.delta.specs.Places.{IsDefined}
 use Rattle.document.specs.Places.{Cuts}
 use Rattle.compose.specs.Composes.{Composes}
 use Rattle.compose.specs.Composed.{composed, one_for}
@@ -17,6 +18,12 @@ EffectOfComposed = (d : List Element) (a b : Gaps) → units_below a ≤ length 
 -- its normal form composes them
 abbrev pub ComposesByNormal : Type 0
 ComposesByNormal = (a b : List Operation) → Composes (one_for a b) a b
+
+-- and is defined where the first, and then the second, is
+abbrev pub DefinedComposed : Type 0
+DefinedComposed =
+    (d : List Element) (a b : List Operation) → IsDefined d (counted a) → IsDefined (apply d (counted a)) (counted b)
+    → IsDefined d (counted (one_for a b))
 
 -- at most one list composes two
 abbrev pub ComposesOnce : Type 0

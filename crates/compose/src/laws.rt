@@ -1,5 +1,5 @@
 //! What holds of one delta for two and of the way back, as contracts to cite: each function does nothing and promises one law.
-ghost use Rattle.compose.specs.Laws.{EffectOfComposed, ComposesByNormal, ComposesOnce, Undone, CutsOfUnits, CutsOfInserted};
+ghost use Rattle.compose.specs.Laws.{EffectOfComposed, ComposesByNormal, DefinedComposed, ComposesOnce, Undone, CutsOfUnits, CutsOfInserted};
 
 /// One gap form for two has their effect.
 pub fn effect_of_composed()
@@ -9,6 +9,11 @@ pub fn effect_of_composed()
 /// Its normal form composes the two.
 pub fn composes_by_normal()
     ensures { ComposesByNormal }
+{}
+
+/// It is defined where the first, and then the second, is.
+pub fn defined_composed()
+    ensures { DefinedComposed }
 {}
 
 /// Nothing else composes them.

@@ -106,7 +106,8 @@ fn merge_before(ops: &mut Vec<Op>, at: usize, op: &Op) -> Result<bool, Refusal>
     requires base { base_of ops.old.items + op_base op.now ≤ 2 ^ 48 }
     requires out { out_of ops.old.items + op_out op.now ≤ 2 ^ 48 }
     ensures ok { IfOk result (λ yes.
-        MatchBool yes (ops.new.items ≡ added_at ops.old.items at op.now) (IsAddedApart ops.old.items ops.new.items at op.now)) }
+        MatchBool yes (ops.new.items ≡ added_at ops.old.items at op.now)
+        (IsAddedApart ops.old.items ops.new.items at op.now)) }
     ensures err { OnErr result (ops.new.items ≡ ops.old.items) }
     ensures only { IsOkUnless result Refusal.NoMemory }
     ensures len { vec_len ops.new ≡ vec_len ops.old }

@@ -39,7 +39,8 @@ impl<'a> Cursor<'a> {
 
     /// What stands first, and the operations behind it; None at the end.
     pub fn split_first(self) -> Option<(Part<'a>, &'a [Op])>
-        ensures { MatchOption result (operations_left self.entry ≡ []) (λ first. operations_left self.entry ≡ operation_of_part first.0 ∷ first.1.now) }
+        ensures { MatchOption result (operations_left self.entry ≡ [])
+            (λ first. operations_left self.entry ≡ operation_of_part first.0 ∷ first.1.now) }
     {
         match self.begun {
             Some(part) => Some((part, self.rest)),
@@ -57,8 +58,10 @@ impl<'a> Part<'a> {
     pub fn take(self, n: u64, ops: &'a [Op]) -> Result<(Part<'a>, Cursor<'a>), Refusal>
         requires some { 0 < n }
         requires within { n ≤ op_len (operation_of_part self) }
-        ensures first { IfOk result (λ parts. operation_of_part parts.0 ≡ first_units n (operation_of_part self.entry)) }
-        ensures left { IfOk result (λ parts. operations_left parts.1 ≡ left_after n (operation_of_part self.entry) ops.entry.now) }
+        ensures first { IfOk result (λ parts. operation_of_part parts.0
+            ≡ first_units n (operation_of_part self.entry)) }
+        ensures left { IfOk result (λ parts. operations_left parts.1
+            ≡ left_after n (operation_of_part self.entry) ops.entry.now) }
         ensures cut { (result ≡ Err Refusal.CutsPair) ↔ EndsInPair n (operation_of_part self.entry) }
         ensures only { IsOkUnless result Refusal.CutsPair }
     {

@@ -199,7 +199,8 @@ impl Op {
     // takes the next operation in, where they merge, and says whether they do
     pub(crate) fn merge(&mut self, next: &Op) -> Result<bool, Refusal>
         requires { op_len self.old + op_len next.now < 2 ^ 64 }
-        ensures ok { IfOk result (λ yes. MatchBool yes (merged self.old next.now ≡ Some self.new) ((merged self.old next.now ≡ None) × (self.new ≡ self.old))) }
+        ensures ok { IfOk result (λ yes. MatchBool yes (merged self.old next.now ≡ Some self.new)
+            ((merged self.old next.now ≡ None) × (self.new ≡ self.old))) }
         ensures err { OnErr result (self.new ≡ self.old) }
         ensures only { IsOkUnless result Refusal.NoMemory }
     {

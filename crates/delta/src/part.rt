@@ -91,7 +91,8 @@ impl<'a> Part<'a> {
 
     /// The length of a retain without attributes.
     pub fn plain_len(self) -> Option<u64>
-        ensures { MatchOption result (is_plain (operation_of_part self.entry) ≡ false) (λ len. operation_of_part self.entry ≡ retain len empty) }
+        ensures { MatchOption result (is_plain (operation_of_part self.entry) ≡ false)
+            (λ len. operation_of_part self.entry ≡ retain len empty) }
     {
         match self.op {
             OpRef::Retain(len, change) => { if change.is_empty() { Some(len) } else { None } }
@@ -121,7 +122,8 @@ impl<'a> Part<'a> {
     pub(crate) fn cut(self, n: u64) -> Result<(Part<'a>, Part<'a>), Refusal>
         requires some { 0 < n }
         requires within { n < op_len (operation_of_part self) }
-        ensures first { IfOk result (λ parts. operation_of_part parts.0 ≡ first_units n (operation_of_part self.entry)) }
+        ensures first { IfOk result (λ parts. operation_of_part parts.0
+            ≡ first_units n (operation_of_part self.entry)) }
         ensures last { IfOk result (λ parts. operation_of_part parts.1 ≡ last_units n (operation_of_part self.entry)) }
         ensures cut { (result ≡ Err Refusal.CutsPair) ↔ EndsInPair n (operation_of_part self.entry) }
         ensures only { IsOkUnless result Refusal.CutsPair }

@@ -51,7 +51,8 @@ impl TrimmingBuilder {
         requires room { base_of self.old + op_base op < 2 ^ 64 }
         ensures ok { OnOk result (self.new ≡ built (self.old ++ op ∷ [])) }
         ensures err { OnErr result (self.new ≡ self.old) }
-        ensures bad { result ≡ Err Refusal.BadOps → (rest : Gaps) → ¬ (IsBounded (nf (joined (counted (self.old ++ op ∷ [])) rest))) }
+        ensures bad { result ≡ Err Refusal.BadOps → (rest : Gaps)
+            → ¬ (IsBounded (nf (joined (counted (self.old ++ op ∷ [])) rest))) }
         ensures only { IfErr result (λ e. (e ≡ Refusal.BadOps) ⊎ (e ≡ Refusal.NoMemory)) }
     {
         let plain = self.plain;

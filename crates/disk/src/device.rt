@@ -82,7 +82,8 @@ pub trait Disk {
         ensures length { length (seen self.new) ≡ length (seen self.old) }
 
         // Good or not: nothing changed, or the range holds some bytes and is unsynced.
-        ensures time { IsAtMostOneStep (IsWrite at (length bytes.now)) (history seen unsynced past self.old) (history seen unsynced past self.new) }
+        ensures time { IsAtMostOneStep (IsWrite at (length bytes.now))
+            (history seen unsynced past self.old) (history seen unsynced past self.new) }
         ensures honest { honest self.new ↔ honest self.old }
 
         ensures good { OnOk result ((faults self.new ≡ faults self.old) × (faults self.old < most_faults)) }
@@ -94,7 +95,8 @@ pub trait Disk {
         ensures closed { OnOk result (unsynced self.new ≡ []) }
         ensures open { OnErr result (unsynced self.new ≡ unsynced self.old) }
 
-        ensures time { IsAtMostOneStep IsSync (history seen unsynced past self.old) (history seen unsynced past self.new) }
+        ensures time { IsAtMostOneStep IsSync
+            (history seen unsynced past self.old) (history seen unsynced past self.new) }
         ensures honest { honest self.new ↔ honest self.old }
 
         ensures good { OnOk result ((faults self.new ≡ faults self.old) × (faults self.old < most_faults)) }

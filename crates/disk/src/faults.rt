@@ -144,7 +144,8 @@ impl FaultDisk {
     fn tear(&mut self, at: u64, bytes: &[u8], left: Left) -> Fault
         requires { at + length bytes.now ≤ length (bytes_of (disk_of self.old)) }
         ensures length { length (bytes_of (disk_of self.new)) ≡ length (bytes_of (disk_of self.old)) }
-        ensures time { IsAtMostOneStep (IsWrite at (length bytes.now)) (history_of ⟦<FaultDisk as Disk>⟧ self.old) (history_of ⟦<FaultDisk as Disk>⟧ self.new) }
+        ensures time { IsAtMostOneStep (IsWrite at (length bytes.now))
+            (history_of ⟦<FaultDisk as Disk>⟧ self.old) (history_of ⟦<FaultDisk as Disk>⟧ self.new) }
         ensures failed { failures_of (disk_of self.new) ≡ min (failures_of (disk_of self.old) + 1) most_faults }
     {
         let start = at as usize;

@@ -89,7 +89,8 @@ impl MemDisk {
         ensures kept { OnOk result (calls_of self.new ≡ calls_of self.old ++ call ∷ []) }
         ensures lost { OnErr result (calls_of self.new ≡ calls_of self.old) }
         ensures bytes { bytes_of self.new ≡ bytes_of self.old }
-        ensures good { OnOk result ((failures_of self.new ≡ failures_of self.old) × (failures_of self.old < most_faults)) }
+        ensures good { OnOk result ((failures_of self.new ≡ failures_of self.old)
+            × (failures_of self.old < most_faults)) }
         ensures failed { OnErr result (failures_of self.new ≡ min (failures_of self.old + 1) most_faults) }
     {
         if self.failures == u64::MAX || self.calls.push(call).is_err() {

@@ -103,7 +103,8 @@ impl SharedRun {
         requires counted { units ≡ length (units_of text.now) }
         requires bound { length self.old + units < 2 ^ 64 }
         ensures ok { IfOk result (λ yes. MatchBool yes
-            ((self.new ≡ self.old ++ letters (units_of text.now) attrs.now) × (text_attributes self.old ≡ Some attrs.now))
+            ((self.new ≡ self.old ++ letters (units_of text.now) attrs.now)
+            × (text_attributes self.old ≡ Some attrs.now))
             ((self.new ≡ self.old) × (text_attributes self.old ≢ Some attrs.now))) }
         ensures err { OnErr result (self.new ≡ self.old) }
         ensures only { IsOkUnless result Refusal.NoMemory }

@@ -1,3 +1,3 @@
--- What follows from the definitions, as the proofs of other crates cite it.
+-- Laws of `laws`, as the proofs of other crates cite them.
 pub use Rattle.flusher.proofs.Fitting.{fits_slot}
-pub use Rattle.flusher.proofs.Beginnings.{commands-append, fewer, longer, these, within_write}
+pub use Rattle.flusher.proofs.Beginnings.{commands-append, fewer, longer, within_write}

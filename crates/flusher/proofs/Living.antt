@@ -16,7 +16,10 @@ use Rattle.flusher.specs.Batches.{IsFirst}
 use Rattle.flusher.specs.declared.calls.Call.{Call}
 use Rattle.flusher.specs.Schedule.{at_rest, schedule, acked, commands_in, AreNumbered, IsAllSettled}
 use Rattle.flusher.specs.Lives.{counted_from, Life, Opens, Drives, Lives, First, Crashed, IsPromised, AllLives, OneLife, LivesGoOn, RunGoesOn}
-use Rattle.world.proofs.CallerLemmas.{grown_shown, shown-fold, fold_shown, fold_shown-append, last_in, AllPlaced, after, placed-take, Stands, stands-take, Counts, WasSent, StandsSettled, Holds, begun-holds, run-holds, acks-stay, acks-one_revision, taken-once, nothing-taken_back, taken-is_again, state-is_fold}
+use Rattle.world.specs.steps.Showing.{grown_shown, fold_shown}
+use Rattle.world.specs.steps.Placing.{last_in, AllPlaced, after}
+use Rattle.world.specs.steps.Holding.{Stands, Counts, WasSent, StandsSettled, IsConsistent}
+use Rattle.world.proofs.CallerLemmas.{shown-fold, fold_shown-append, placed-take, stands-take, begun-holds, run-holds, acks-stay, acks-one_revision, taken-once, nothing-taken_back, taken-is_again, state-is_fold}
 use Rattle.flusher.proofs.Scheduling.{run_is_schedule}
 
 -- a board of which everything is settled
@@ -40,7 +43,7 @@ kept_again start order n a b revision same (inr held) =
     inr (sym alike ∙ (held ∙ (λ i. record { number = same.2 i; revision = revision })))
 
 -- what is promised holds of a world at rest
-promises : (board : Board Entry) (tickets acks : List Ticket) (sent : List Command) (composed : List (ℕ × ℕ)) → Holds (at_rest board tickets acks sent composed)
+promises : (board : Board Entry) (tickets acks : List Ticket) (sent : List Command) (composed : List (ℕ × ℕ)) → IsConsistent (at_rest board tickets acks sent composed)
     → IsPromised board.start board.order board.settled board.state acks sent
 promises board tickets acks sent composed holds =
     let world = at_rest board tickets acks sent composed in
@@ -139,9 +142,9 @@ counts_at_rest order settled within =
     }
 
 -- What a crash leaves of a life, and what is opened then.
-cut : (board : Board Entry) (tickets given : List Ticket) (asked : List Command) (composed : List (ℕ × ℕ)) (heard left : ℕ) (next : State) → Holds (at_rest board tickets given asked composed)
+cut : (board : Board Entry) (tickets given : List Ticket) (asked : List Command) (composed : List (ℕ × ℕ)) (heard left : ℕ) (next : State) → IsConsistent (at_rest board tickets given asked composed)
     → left ≤ length board.order → All (λ (ack : Ticket). ack.length ≤ left) (take heard given) → Agree next (fold board.start (takens (take left board.order)))
-    → Holds (at_rest (settled_board board.start (take left board.order) left next) [] (take heard given) asked [])
+    → IsConsistent (at_rest (settled_board board.start (take left board.order) left next) [] (take heard given) asked [])
 cut board tickets given asked composed heard left next holds within enough agrees =
     let long : length (take left board.order) ≡ left = length-take-le left board.order within in
     let lefts : left ≤ length (take left board.order) = omega (arith, long) in
@@ -160,8 +163,8 @@ cut board tickets given asked composed heard left next holds within enough agree
 
 -- What stood, with what a life has done behind it.
 joined : (start now : State) (stand : List Entry) (acks : List Ticket) (sent : List Command) (board : Board Entry) (tickets given : List Ticket) (asked : List Command) (composed : List (ℕ × ℕ))
-    → Holds (at_rest (settled_board start stand (length stand) now) [] acks sent []) → board.start ≡ now → Holds (at_rest board tickets given asked composed)
-    → Holds (at_rest (settled_board start (stand ++ board.order) (length stand + board.settled) board.state) [] (acks ++ counted_from (length stand) given) (sent ++ asked) [])
+    → IsConsistent (at_rest (settled_board start stand (length stand) now) [] acks sent []) → board.start ≡ now → IsConsistent (at_rest board tickets given asked composed)
+    → IsConsistent (at_rest (settled_board start (stand ++ board.order) (length stand + board.settled) board.state) [] (acks ++ counted_from (length stand) given) (sent ++ asked) [])
 joined start now stand acks sent board tickets given asked composed before began holds = record {
   placed = placed-append (all_shown start) stand board.order before.placed (subst (λ (d : List Shown). AllPlaced d board.order) documents holds.placed);
   state = holds.state ∙ (ap (λ (d : List Shown). after d board.order) documents ∙ sym (after-append (all_shown start) stand board.order));
@@ -196,7 +199,7 @@ record LifeHolds (start : State) (board : Board Entry) (acks : List Ticket) (sen
   pub settled : IsAllSettled board
   pub tickets : List Ticket
   pub composed : List (ℕ × ℕ)
-  pub holds : Holds (at_rest board tickets acks sent composed)
+  pub holds : IsConsistent (at_rest board tickets acks sent composed)
 
 life_holds : (D J : Type 0) (disk : Ghosts D) (start : State) (board : Board Entry) (acks : List Ticket) (sent : List Command) → Life D J disk start board acks sent → LifeHolds start board acks sent
 life_holds D J disk start _ _ _ Opens = record {
@@ -215,19 +218,19 @@ life_holds D J disk start _ _ _ (Drives board acks sent cap begin here calls ans
       settled = goes.settled;
       tickets = life.tickets ++ here.tickets;
       composed = there.0;
-      holds = subst Holds there.1 (run-holds (at_rest begin.board.board life.tickets acks sent life.composed) (schedule (length life.tickets) calls answers)
-          (subst (λ (b : Board Entry). Holds (at_rest b life.tickets acks sent life.composed)) (sym from) life.holds));
+      holds = subst IsConsistent there.1 (run-holds (at_rest begin.board.board life.tickets acks sent life.composed) (schedule (length life.tickets) calls answers)
+          (subst (λ (b : Board Entry). IsConsistent (at_rest b life.tickets acks sent life.composed)) (sym from) life.holds));
     }
 
 lives_hold : (D J : Type 0) (disk : Ghosts D) (start : State) (stand : List Entry) (acks : List Ticket) (sent : List Command) (now : State) → Lives D J disk start stand acks sent now
-    → Holds (at_rest (settled_board start stand (length stand) now) [] acks sent [])
+    → IsConsistent (at_rest (settled_board start stand (length stand) now) [] acks sent [])
 lives_hold D J disk start _ _ _ _ First = begun-holds start
 lives_hold D J disk start _ _ _ _ (Crashed stand acks sent now board given asked heard left next before life within enough agrees) =
     let here = life_holds D J disk now board given asked life in
     let agreed = subst (λ (s : State). Agree next (fold s (takens (take left board.order)))) (sym here.began) agrees in
     let left_over = cut board here.tickets given asked here.composed heard left next here.holds within enough agreed in
     let all = joined start now stand acks sent (settled_board board.start (take left board.order) left next) [] (take heard given) asked [] (lives_hold D J disk start stand acks sent now before) here.began left_over in
-    subst (λ (n : ℕ). Holds (at_rest (settled_board start (stand ++ take left board.order) n next) [] (acks ++ counted_from (length stand) (take heard given)) (sent ++ asked) []))
+    subst (λ (n : ℕ). IsConsistent (at_rest (settled_board start (stand ++ take left board.order) n next) [] (acks ++ counted_from (length stand) (take heard given)) (sent ++ asked) []))
     (ap (λ (n : ℕ). length stand + n) (sym (length-take-le left board.order within)) ∙ sym (length-append stand (take left board.order))) all
 
 pub all_lives : (D J : Type 0) (disk : Ghosts D) → AllLives D J disk

@@ -6,4 +6,5 @@ pub mod Driving
 pub mod Run
 pub mod Schedule
 pub mod Lives
+pub mod Laws
 mod ScheduleExamples

@@ -1,4 +1,5 @@
 //! What holds of every run of a thread, and over all lives of a server: laws, as contracts of functions that do nothing.
+ghost use Rattle.flusher.specs.Laws as law;
 ghost use Rattle.flusher.specs.Schedule.{AreNumbered, FirstIsSchedule, IsNumbered, RunIsSchedule};
 ghost use Rattle.flusher.specs.Lives.{AllLives, LivesGoOn, OneLife, RunGoesOn};
 
@@ -23,6 +24,19 @@ pub fn lives<D: Disk, J: Site>()
     ensures all { AllLives D J ⟦<D as Disk>⟧ }
     ensures run { RunGoesOn D J ⟦<D as Disk>⟧ }
     ensures go_on { LivesGoOn D J ⟦<D as Disk>⟧ }
+{}
+
+/// A batch of as many bytes as a flusher's cap fits a slot.
+pub fn cap_fits_slot()
+    ensures { law.CapFitsSlot }
+{}
+
+/// What holds of the first batches that a content stands for, as fewer are asked for, as more come, and while some are written.
+pub fn first_batches()
+    ensures commands { law.CommandsJoined }
+    ensures fewer { law.FewerAtLeast }
+    ensures more { law.MoreBatches }
+    ensures during_write { law.WithinWrite }
 {}
 
 /// The number of each command of these calls is one that a world takes, since a command's type keeps it so.

@@ -1,5 +1,5 @@
 -- Laws of `laws`, as the proofs of other crates cite them.
 pub use Rattle.milestone.proofs.Sizes.{cell_fits}
 pub use Rattle.milestone.proofs.Light.{light_content}
-pub use Rattle.milestone.proofs.OnePair.{one_pair, pair_stays}
+pub use Rattle.milestone.proofs.OnePair.{one_pair}
 pub use Rattle.milestone.proofs.Holding.{agree_within}

@@ -7,6 +7,7 @@ pub mod Marked
 pub mod Jobs
 pub mod Open
 pub mod Goes
+pub mod Laws
 pub mod Run
 pub mod Due
 pub mod Formatting

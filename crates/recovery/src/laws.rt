@@ -8,8 +8,10 @@ ghost use Rattle.history.specs.declared.pick.Pick.{Pick};
 ghost use Rattle.recovery.specs.Found.{Found, FoundAs, RunsWith};
 ghost use Rattle.recovery.specs.Open.{FitsSlot, IsOpen, device_of, state_of};
 ghost use Rattle.recovery.specs.declared.store.Store.{Store};
+ghost use Rattle.recovery.specs.Laws as law;
 
 use disk::Disk;
+use disk::laws::Property;
 
 /// By each pick a content is found as one state at most.
 pub fn found_once()
@@ -36,4 +38,27 @@ pub fn found_again()
 /// A command that continues a state fits a slot alone.
 pub fn one_fits()
     ensures { (state : State) (taken : Taken) → grows state taken ≡ true → FitsSlot state (taken ∷ []) }
+{}
+
+/// A store that a call left as it was is open still, and whatever a crash leaves under an open store is found as its state.
+pub fn open_now<D: Disk>()
+    ensures unchanged { law.OpenUnchanged ⟦<D as Disk>⟧ }
+    ensures found { law.FoundNow ⟦<D as Disk>⟧ }
+{}
+
+/// What one call of a store keeps of contents, by the clauses that each of its calls has.
+pub fn one_call_goes<D: Disk, A, P: Property>()
+    ensures { law.OneCallGoes ⟦<D as Disk>⟧ A P.holds }
+{}
+
+/// What calls keep of contents, of none to many.
+pub fn calls_go_on<D: Disk, P: Property>()
+    ensures none { law.NoCallGoes ⟦<D as Disk>⟧ P.holds }
+    ensures in_memory { law.CallInMemoryGoes ⟦<D as Disk>⟧ P.holds }
+    ensures run { law.CallsGoOn ⟦<D as Disk>⟧ P.holds }
+{}
+
+/// Calls that keep a property of contents keep each property that follows from it.
+pub fn going_implies<D: Disk, P: Property, Q: Property>()
+    ensures { law.GoesMap ⟦<D as Disk>⟧ P.holds Q.holds }
 {}

@@ -1,5 +1,5 @@
 -- Halving a sorted list in the search of a name.
-use Rattle.std.proofs.Common.{◌≡◌, ℕ, zero, suc, ◌<◌, ◌≤◌, ◌⊎◌, inl, inr, List, [], ◌∷◌, length, take, get_or, Some, None, Less, Greater, Equal, sym, ap, ◌∙◌, arith}
+use Rattle.std.proofs.Common.{◌≡◌, ℕ, zero, suc, ◌<◌, ◌≤◌, ◌⊎◌, inl, inr, Bool, true, false, ◌&&◌, List, [], ◌∷◌, length, take, get_or, Some, None, Ordering, Less, Greater, Equal, refl, sym, ap, subst, ◌∙◌, arith}
 use Rattle.std.specs.Prelude.{T, slice_get}
 use Rattle.std.proofs.lemmas.Option.{slice_get_cases}
 use Rattle.attributes.specs.Place.{IsFree}
@@ -7,7 +7,25 @@ use Rattle.std.specs.Ordering.{is_lt, ordering_reverse}
 use Rattle.std.specs.Cmp.Lexicographic.{nat_list_cmp_total}
 use Rattle.std.specs.FinMap.Entries.{is_sorted, below_all}
 use Rattle.attributes.specs.Map.{by_bytes}
-use Rattle.attributes.proofs.CallerLemmas.{T_parts, less_from, same_name, AllBefore, none_before, one_before, free_at, free_end}
+use Rattle.attributes.specs.Table.{AllBefore, none_before, one_before}
+use Rattle.attributes.proofs.CallerLemmas.{same_name, free_at, free_end}
+
+-- the two parts of a test
+T_parts : (a b : Bool) → T (a && b) → T a × T b
+T_parts true b h = (tt, h)
+T_parts false b h = absurd h
+
+less_from : (r : Ordering) → T (is_lt r) → r ≡ Less
+less_from Less h = refl
+less_from Equal h = absurd h
+less_from Greater h = absurd h
+
+-- what the search reads of the list, of the map's entries
+pub read_at : {A : Type 0} (items es : List A) (i : ℕ) (e : A) → items ≡ es → i < length items → e ≡ get_or items i e → (i < length es) × (e ≡ get_or es i e)
+read_at items es i e same inside is = subst (λ l. (i < length l) × (e ≡ get_or l i e)) same (inside, is)
+
+pub compared : (name text key : List ℕ) (order : Ordering) → order ≡ by_bytes name text → text ≡ key → by_bytes name key ≡ order
+compared name text key order is same = ap (by_bytes name) (sym same) ∙ sym is
 
 -- the entry at this place, where there is one, stands after the name
 abbrev pub AboveAt : {X : Type 0} → List ℕ → List (List ℕ × X) → ℕ → Type 0

@@ -6,6 +6,7 @@ mod Untouched
 mod Indexed
 mod OneMore
 mod Noted
+mod Outcomes
 mod Named
 mod Following
 mod Light

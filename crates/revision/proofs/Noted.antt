@@ -6,7 +6,8 @@ use Rattle.std.specs.Cmp.{eq_by_cmp_equiv}
 use Rattle.std.specs.Cmp.Lexicographic.{nat_list_cmp_total}
 use Rattle.std.specs.FinMap.Entries.{length-put}
 use Rattle.attributes.specs.Map.{by_bytes, get, insert}
-use Rattle.attributes.proofs.CallerLemmas.{is_name, same_name_from, same_map, get-insert, get-remove, entries-insert}
+use Rattle.attributes.specs.Table.{is_name}
+use Rattle.attributes.proofs.CallerLemmas.{same_name_from, same_map, get-insert, get-remove, entries-insert}
 use Rattle.revision.specs.Sources.{Sources, LastTaken, count_of, with_last, with_entry, is_among, EqualBut}
 
 -- how many there are once one was noted

@@ -1,6 +1,7 @@
 -- The list of subscriptions under each change.
-use Rattle.std.proofs.Common.{◌≡◌, ◌+◌, ◌-◌, ◌<◌, ◌≤◌, ◌++◌, ℕ, zero, suc, List, [], ◌∷◌, length, take, drop, get_or, Bool, true, false, cond, Option, Some, None, refl, sym, ap, ap₂, subst, ◌∙◌, append_assoc, arith}
+use Rattle.std.proofs.Common.{◌≡◌, ◌+◌, ◌-◌, ◌<◌, ◌≤◌, ◌++◌, ℕ, zero, suc, List, [], ◌∷◌, length, take, drop, get_or, Bool, true, false, cond, Option, Some, None, Result, Ok, Err, Ordering, refl, sym, ap, ap₂, subst, ◌∙◌, append_assoc, arith}
 use Rattle.std.specs.Prelude.{T, ◌&&◌, not}
+use Rattle.std.specs.Result.{OnOk, is_ok}
 use Rattle.std.specs.Cmp.Lexicographic.{nat_list_cmp_total}
 use Rattle.std.specs.FinMap.Entries.{put, is_sorted, below_all, is_sorted-put, is_sorted-where_key}
 use Rattle.std.specs.Ordering.{eq_by_cmp, is_lt}
@@ -9,9 +10,29 @@ use Rattle.std.proofs.Math.ListN.{set}
 use Rattle.std.proofs.lemmas.List.{take_more, drop_more, set_at, get_or_at, take_at, length-take-le}
 use Rattle.attributes.specs.Map.{by_bytes}
 use Rattle.attributes.specs.Place.{IsHere, IsFree}
-use Rattle.attributes.proofs.CallerLemmas.{T_parts, set-here, remove-here, insert-free}
+use Rattle.attributes.proofs.CallerLemmas.{set-here, remove-here, insert-free}
 use Rattle.session.specs.News.{subscription, going_on}
 use Rattle.session.specs.Subscriptions.{Subscriptions, with_subscription, without_subscription}
+
+-- the two parts of a test
+T_parts : (a b : Bool) → T (a && b) → T a × T b
+T_parts true b h = (tt, h)
+T_parts false b h = absurd h
+
+-- what a loop over a list reads, of the list that it is
+pub read_at : {A : Type 0} (items es : List A) (i : ℕ) (e : A) → items ≡ es → i < length items → e ≡ get_or items i e → (i < length es) × (e ≡ get_or es i e)
+read_at items es i e same inside is = subst (λ l. (i < length l) × (e ≡ get_or l i e)) same (inside, is)
+
+pub compared : (name text key : List ℕ) (order : Ordering) → order ≡ by_bytes name text → text ≡ key → by_bytes name key ≡ order
+compared name text key order is same = ap (by_bytes name) (sym same) ∙ sym is
+
+-- what holds where a step of memory succeeded
+pub OnOk-from : {T E : Type 0} (r : Result T E) (done : Bool) {P : Type 0} → is_ok r ≡ done → (done ≡ true → P) → OnOk r P
+OnOk-from (Ok x) done is holds = holds (sym is)
+OnOk-from (Err e) done is holds = tt
+
+pub chosen_true : {A : Type 0} {x : A} (done : Bool) (y z : A) → x ≡ cond done y z → done ≡ true → x ≡ y
+chosen_true done y z is so = is ∙ ap (λ b. cond b y z) so
 
 -- a change at the place of a name
 module _ (old list : Subscriptions) (text name : List ℕ) (i : ℕ) (is_list : list ≡ old) (is_name : text ≡ name) where

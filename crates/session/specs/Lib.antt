@@ -15,3 +15,4 @@ pub mod Ahead
 pub mod Calls
 pub mod Alone
 pub mod Shelf
+pub mod Laws

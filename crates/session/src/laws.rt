@@ -17,6 +17,9 @@ ghost use Rattle.session.specs.Calls.{Call, Calls, Passes, call_of};
 ghost use Rattle.revision.specs.Past.{Past, newest, deltas_above};
 ghost use Rattle.session.specs.Alone.{Alone, FedAlone, HearsAlone, FindsMemory, transcript, after_calls, of_session};
 ghost use Rattle.session.specs.Shelf.{FitsLater};
+ghost use Rattle.session.specs.Laws as law;
+
+use crate::desk::Desk;
 
 /// It doesn't matter in which pieces the input comes: what comes of two pieces, one after the other, is what comes of
 /// them joined.
@@ -105,4 +108,22 @@ pub fn told_once()
 /// What is kept of a state's documents at older revisions stays right of it as it goes on.
 pub fn kept_documents_stay()
     ensures { FitsLater }
+{}
+
+/// What comes of calls of a session, one behind another, and what they write.
+pub fn calls_joined()
+    ensures one { law.CallsOfOne }
+    ensures more { law.CallsJoined }
+    ensures written { law.WritesJoined }
+{}
+
+/// What is asked of a desk, one exchange behind another, also for commands that were sent ahead.
+pub fn asked_joined<D: Desk>()
+    ensures more { law.AsksJoined D.does }
+    ensures sent_ahead { law.OneMoreAsked D.does }
+{}
+
+/// A state that took a command where a call succeeded, and else stayed as it was, is later than it was.
+pub fn later_by<A, E>()
+    ensures { law.LaterBy A E }
 {}

@@ -6,7 +6,8 @@ use std::alloc::AllocError;
 
 /// Puts a text at the end of another; where there is no memory, that is left as it was.
 pub fn append(text: &mut String, more: &str) -> Result<(), AllocError>
-    ensures ok { OnOk result (units_of (string_bytes text.new) ≡ units_of (string_bytes text.old) ++ units_of more.now) }
+    ensures ok { OnOk result (units_of (string_bytes text.new)
+        ≡ units_of (string_bytes text.old) ++ units_of more.now) }
     ensures err { OnErr result (string_bytes text.new ≡ string_bytes text.old) }
 {
     // that it's UTF-8

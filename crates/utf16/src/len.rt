@@ -19,9 +19,12 @@ pub fn len16(text: &str) -> u64
 
 // How many bytes a character has, and how many code units, by its first byte.
 pub(crate) fn widths(first: u8) -> (usize, u64)
-    ensures bytes { (c : ℕ) (after : List ℕ) → slice_index (encode_utf8 c ++ after) 0 ≡ first → result.0 ≡ length (encode_utf8 c) }
-    ensures bmp { (c : ℕ) (after : List ℕ) → slice_index (encode_utf8 c ++ after) 0 ≡ first → c < 0x1_0000 → result.1 ≡ 1 }
-    ensures surrogate_pair { (c : ℕ) (after : List ℕ) → slice_index (encode_utf8 c ++ after) 0 ≡ first → 0x1_0000 ≤ c → result.1 ≡ 2 }
+    ensures bytes { (c : ℕ) (after : List ℕ) → slice_index (encode_utf8 c ++ after) 0 ≡ first
+        → result.0 ≡ length (encode_utf8 c) }
+    ensures bmp { (c : ℕ) (after : List ℕ) → slice_index (encode_utf8 c ++ after) 0 ≡ first
+        → c < 0x1_0000 → result.1 ≡ 1 }
+    ensures surrogate_pair { (c : ℕ) (after : List ℕ) → slice_index (encode_utf8 c ++ after) 0 ≡ first
+        → 0x1_0000 ≤ c → result.1 ≡ 2 }
 {
     if first < 0x80 {
         (1, 1)

@@ -82,10 +82,11 @@ fn beside<J: Site + Send + Sync, R: Threads + Wait + Abort + AllocGlobal + Sync>
     );
     let mut viewer = publisher.viewer().expect(rt, "a place");
     let mut other = publisher.viewer().expect(rt, "a place");
-    let (_, last) = join(
+    // the reader goes to another thread, and not what publishes
+    let (last, _) = join(
         rt,
-        || publish_all(rt, &mut store, &mut publisher),
         || read_on(rt, &mut viewer),
+        || publish_all(rt, &mut store, &mut publisher),
     );
     assert_eq!(rt; last, COUNT);
     other.learn(publisher.told());

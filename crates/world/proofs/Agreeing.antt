@@ -16,7 +16,7 @@ use Rattle.world.specs.Law.{OverAll, StateAgrees}
 use Rattle.world.proofs.Pasts.{newest-from_floor, units-from_floor, sources-from_floor}
 use Rattle.revision.specs.Floors.{longer}
 use Rattle.world.proofs.Cutting.{IsCut, cut-itself, cut-floor, cut-change, cuts-agree}
-use Rattle.world.proofs.Holding.{Holds, with_answer, begun-holds, run-holds}
+use Rattle.world.proofs.Holding.{IsConsistent, with_answer, begun-holds, run-holds}
 
 record CutDocument (all document : DocumentRecord) : Type 0 where
   pub name : document.name ≡ all.name
@@ -199,7 +199,7 @@ run-cut : (world : World) (events : List Event) → IsCutWorld world → IsCutWo
 run-cut world [] cut = cut
 run-cut world (first ∷ others) cut = run-cut (step world first) others (step-cut world cut first)
 
-state-agrees : (world : World) → Holds world → IsCutWorld world → StateAgrees world
+state-agrees : (world : World) → IsConsistent world → IsCutWorld world → StateAgrees world
 state-agrees world holds cut = record {
   limits = holds.limits ∙ sym (limits-fold world.board.start (takens world.board.order));
   documents = λ number. places-agree _ (slice_get world.board.state.documents number) (slice_get (fold world.board.start (takens world.board.order)).documents number)

@@ -17,19 +17,19 @@ use Rattle.world.proofs.Numbers.{last_in, noted, Placed, same_bytes, last-grown}
 use Rattle.world.proofs.Histories.{AllPlaced, after, placed-take, placed-at, Makes, made_by, all_above, once, sender_same}
 use Rattle.world.proofs.Answered.{found-last, new-last, none-new, last_repeats}
 use Rattle.world.proofs.Standing.{one_revision, after-more, never_falls-from, same_last-from}
-use Rattle.world.proofs.Holding.{Holds, StandsSettled, WasSent, begun-holds, left-between, run-holds}
+use Rattle.world.proofs.Holding.{IsConsistent, StandsSettled, WasSent, begun-holds, left-between, run-holds}
 
-pub acks-stay : (world : World) → Holds world → AcksStay world
+pub acks-stay : (world : World) → IsConsistent world → AcksStay world
 acks-stay world holds kept may =
     All-weaker (StandsSettled (all_shown world.board.start) world.board.order world.board.settled) (λ (ack : Ticket). ack.length ≤ kept)
     (λ t stands. omega (arith, stands.1, holds.counts.settled_shown, (left-between world holds kept may).0)) world.acks holds.acks
 
-pub acks-are_shown : (world : World) → Holds world → AcksAreShown world
+pub acks-are_shown : (world : World) → IsConsistent world → AcksAreShown world
 acks-are_shown world holds =
     All-weaker (StandsSettled (all_shown world.board.start) world.board.order world.board.settled) (λ (ack : Ticket). ack.length ≤ length world.published)
     (λ t stands. omega (arith, stands.1, holds.counts.settled_shown)) world.acks holds.acks
 
-pub acks-one_revision : (world : World) → Holds world → OneRevision world
+pub acks-one_revision : (world : World) → IsConsistent world → OneRevision world
 acks-one_revision world holds i j d lt long =
     one_revision (all_shown world.board.start) world.board.order holds.placed (get_or world.acks i d) (get_or world.acks j d)
     (holds.acks i d (omega (arith, lt, long))).0 (holds.acks j d long).0
@@ -42,7 +42,7 @@ held-last state command = by_found (find command.name 0 state.documents) refl
     by_found None is = sym (new-last command.name command.source (all_shown state) (none-new command.name 0 state.documents is))
     by_found (Some found) is = sym (found-last command.name command.source 0 found.0 state.documents found.1 is)
 
-pub taken-once : (world : World) → Holds world → TakenOnce world
+pub taken-once : (world : World) → IsConsistent world → TakenOnce world
 taken-once world holds = record {
   apart = once (all_shown world.board.start) world.board.order holds.placed;
   anew = λ i d lt. let e = get_or world.board.order i d in
@@ -74,7 +74,7 @@ makes-made command revision last is e makes =
       ap (λ (l : LastTaken). l.revision) (makes.2 ∙ is),
     )
 
-pub nothing-taken_back : (world : World) → Holds world → NothingTakenBack world
+pub nothing-taken_back : (world : World) → IsConsistent world → NothingTakenBack world
 nothing-taken_back world holds kept may =
     All-weaker (StandsSettled (all_shown world.board.start) world.board.order world.board.settled)
     (λ (ack : Ticket). HasTaken world.board.start (take kept world.board.order) ack.command (revision_named ack.reply)) each world.acks holds.acks
@@ -110,7 +110,7 @@ last-at documents entries placed command revision n e lt is made =
     numbered : noted e.taken ≡ record { number = command.number; revision = revision }
     numbered = λ i. record { number = (here.number ∙ sym made.0.2) i; revision = made.1 i }
 
-pub taken-is_again : (world : World) → Holds world → TakenIsAgain world
+pub taken-is_again : (world : World) → IsConsistent world → TakenIsAgain world
 taken-is_again world holds command revision some kept greatest =
     last_repeats world.board.state command revision some (ap (last_in command.name command.source) holds.state ∙ last kept)
   where
@@ -158,12 +158,12 @@ taken-is_again world holds command revision some kept greatest =
     ]
 
 -- what is shown stays
-pub shown-stays : (world : World) → Holds world → ShownStays world
+pub shown-stays : (world : World) → IsConsistent world → ShownStays world
 shown-stays world holds = record { beginning = holds.shown; stays = λ kept may. (left-between world holds kept may).0 }
 
-pub state-is_fold : (world : World) → Holds world → StateIsFold world
+pub state-is_fold : (world : World) → IsConsistent world → StateIsFold world
 state-is_fold world holds = record { limits = holds.limits; documents = holds.state ∙ sym (shown-fold world.board.start (takens world.board.order)) }
 
 -- what holds of each world in which the invariant does holds over all lists of events
-pub over_all : (P : World → Type 0) → ((world : World) → Holds world → P world) → OverAll P
+pub over_all : (P : World → Type 0) → ((world : World) → IsConsistent world → P world) → OverAll P
 over_all P each start events = each (run (begun start) events) (run-holds (begun start) events (begun-holds start))

@@ -25,7 +25,7 @@ use Rattle.world.proofs.Numbers.{last_in, noted, Placed, bytes_same, last-grown}
 use Rattle.world.proofs.Showing.{grown_shown}
 use Rattle.world.proofs.Histories.{AllPlaced, after}
 use Rattle.world.proofs.Answered.{takes_placed, repeats_last, last_repeats}
-use Rattle.world.proofs.Holding.{Holds, with_answer, begun-holds, left-between, step-holds}
+use Rattle.world.proofs.Holding.{IsConsistent, with_answer, begun-holds, left-between, step-holds}
 
 then_is : {A : Type 0} (b : Bool) (x y z : A) → b ≡ true → z ≡ x → z ≡ cond b x y
 then_is true x y z e same = same
@@ -92,7 +92,7 @@ module _ (name source : List ℕ) where
 
   -- a world of a store that began without documents, in whose order all commands are the source's to the document
   record Ours (world : World) : Type 0 where
-    pub holds : Holds world
+    pub holds : IsConsistent world
     pub empty : world.board.start.documents ≡ []
     pub own : All Own world.board.order
 

@@ -8,7 +8,7 @@ use Rattle.world.specs.Event.{Outcome, Done, Failed, Stopped, Event, Submit, Tak
 use Rattle.world.specs.World.{Entry, takens, World, begun, last_sent}
 use Rattle.world.specs.Step.{is_numbered, with_command, is_written, written, acknowledged, may_leave, stopped, opened, can_open, running_step, crashed_step, step, run}
 use Rattle.world.specs.Law.{NothingRewritten, OverAllFurther}
-use Rattle.world.proofs.Holding.{Holds, begun-holds, left-between, step-holds, run-holds}
+use Rattle.world.proofs.Holding.{IsConsistent, begun-holds, left-between, step-holds, run-holds}
 
 begins-itself : {A : Type 0} (list : List A) → list ≡ take (length list) list
 begins-itself list = sym (take_all (length list) list (omega arith))
@@ -35,7 +35,7 @@ go_on-further a b c first second = record {
   acks = begins-further a.acks b.acks c.acks first.acks second.acks;
 }
 
-module _ (world : World) (holds : Holds world) where
+module _ (world : World) (holds : IsConsistent world) where
   -- what leaves both alone
   kept-shown : world.published ≡ take (length world.published) world.published
   kept-shown = begins-itself world.published
@@ -104,7 +104,7 @@ module _ (world : World) (holds : Holds world) where
   step-go_on : (event : Event) → NothingRewritten world (step world event)
   step-go_on event = cond_both world.crashed (crashed_step world event) (running_step world event) (NothingRewritten world) (λ yes. crashed-go_on event) (λ no. running-go_on event)
 
-run-go_on : (world : World) (events : List Event) → Holds world → NothingRewritten world (run world events)
+run-go_on : (world : World) (events : List Event) → IsConsistent world → NothingRewritten world (run world events)
 run-go_on world [] holds = go_on-same world
 run-go_on world (first ∷ others) holds =
     go_on-further world (step world first) (run (step world first) others) (step-go_on world holds first) (run-go_on (step world first) others (step-holds world holds first))

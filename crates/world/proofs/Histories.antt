@@ -8,16 +8,9 @@ use Rattle.revision.specs.Command.{Command}
 use Rattle.world.specs.World.{Entry, takens, is_of}
 use Rattle.world.specs.Shown.{Shown}
 use Rattle.world.specs.Law.{IsSent}
+pub use Rattle.world.specs.steps.Placing.{AllPlaced, after}
 use Rattle.world.proofs.Showing.{grown_shown, fold_shown}
 use Rattle.world.proofs.Numbers.{last_in, Placed, noted, last-grown, same_bytes, bytes_same}
-
--- each command has its place in the documents that those before it leave
-abbrev pub AllPlaced : List Shown → List Entry → Type 0
-AllPlaced documents [] = Unit {0}
-AllPlaced documents (first ∷ others) = Placed documents first × AllPlaced (grown_shown first.taken documents) others
-
-abbrev pub after : List Shown → List Entry → List Shown
-after documents entries = fold_shown documents (takens entries)
 
 pub placed-more : (documents : List Shown) (entries : List Entry) (entry : Entry) → AllPlaced documents entries → Placed (after documents entries) entry
     → AllPlaced documents (entries ++ entry ∷ [])

@@ -13,6 +13,7 @@ use Rattle.world.specs.Event.{Outcome, Done, Failed, Stopped, Event, Submit, Tak
 use Rattle.world.specs.World.{Entry, entry_of, takens, World, begun, is_of, last_sent}
 use Rattle.world.specs.Step.{is_numbered, with_command, is_written, written, acknowledged, may_leave, stopped, opened, can_open, running_step, crashed_step, step, run, whole, may_pick}
 use Rattle.world.specs.Shown.{Shown, all_shown}
+pub use Rattle.world.specs.steps.Holding.{Counts, WasSent, StandsSettled, IsConsistent}
 use Rattle.world.proofs.Showing.{grown_shown, shown-grown}
 use Rattle.world.proofs.Numbers.{last_in, noted, Placed, last-grown}
 use Rattle.world.proofs.Histories.{AllPlaced, after, placed-more, placed-take, sender_same}
@@ -20,35 +21,7 @@ use Rattle.world.proofs.Answered.{takes_placed, repeats_last}
 use Rattle.world.proofs.Standing.{Stands, stands-more, stands-take, after-more}
 use Rattle.world.proofs.Openings.{shown-opened}
 
--- each step of the way to the device is at most as far as the one before it
-pub record Counts (settled shown without with_batch taken long : ℕ) : Type 0 where
-  pub settled_shown : settled ≤ shown
-  pub shown_without : shown ≤ without
-  pub without_with : without ≤ with_batch
-  pub with_taken : with_batch ≤ taken
-  pub taken_long : taken ≤ long
-
--- a number in the order was sent
-abbrev pub WasSent : List Command → Entry → Type 0
-WasSent sent entry = entry.command.number ≤ last_sent entry.command.name entry.command.source sent
-
--- an acknowledged ticket: it stands, and its length is settled
-abbrev pub StandsSettled : List Shown → List Entry → ℕ → Ticket → Type 0
-StandsSettled documents entries settled ticket = Stands documents entries ticket × (ticket.length ≤ settled)
-
--- What holds of a world: the order's commands have their places; the state shows what they make of the start; the counts are in
--- order; what is shown is the order's beginning; every number in the order was sent; and each ticket tells the truth.
-pub record Holds (world : World) : Type 0 where
-  pub placed : AllPlaced (all_shown world.board.start) world.board.order
-  pub state : all_shown world.board.state ≡ after (all_shown world.board.start) world.board.order
-  pub limits : world.board.state.limits ≡ world.board.start.limits
-  pub counts : Counts world.board.settled (length world.published) world.without world.with_batch world.board.taken (length world.board.order)
-  pub shown : world.published ≡ takens (take (length world.published) world.board.order)
-  pub sent : All (WasSent world.sent) world.board.order
-  pub tickets : All (Stands (all_shown world.board.start) world.board.order) world.tickets
-  pub acks : All (StandsSettled (all_shown world.board.start) world.board.order world.board.settled) world.acks
-
-pub begun-holds : (start : State) → Holds (begun start)
+pub begun-holds : (start : State) → IsConsistent (begun start)
 begun-holds start = record {
   placed = tt;
   state = refl;
@@ -86,7 +59,7 @@ with_answer world command answer = record world {
   sent = world.sent ++ command ∷ [];
 }
 
-module _ (world : World) (holds : Holds world) where
+module _ (world : World) (holds : IsConsistent world) where
   documents : List Shown
   documents = all_shown world.board.start
 
@@ -96,7 +69,7 @@ module _ (world : World) (holds : Holds world) where
 
   -- a command comes
   answered-holds : (command : Command) → 1 ≤ command.number → (answered : Answer) → answer world.board.state command ≡ answered
-      → Holds (with_answer world command answered)
+      → IsConsistent (with_answer world command answered)
   answered-holds command some (Refuses refusal) is = record {
     placed = holds.placed;
     state = holds.state;
@@ -158,12 +131,12 @@ module _ (world : World) (holds : Holds world) where
       shown_long : length world.published ≤ length world.board.order
       shown_long = omega (arith, holds.counts.shown_without, holds.counts.without_with, holds.counts.with_taken, holds.counts.taken_long)
 
-  command-holds : (command : Command) → is_numbered command ≡ true → Holds (with_command world command)
+  command-holds : (command : Command) → is_numbered command ≡ true → IsConsistent (with_command world command)
   command-holds command numbered =
       answered-holds command (leb-true 1 command.number (and_parts (nat_le 1 command.number) (nat_le command.number last_of_all) numbered).0) (answer world.board.state command) refl
 
   take-holds : (count : ℕ) → (can_take world.board count && (world.board.settled == world.board.taken)) ≡ true
-      → Holds (record world { board = record world.board { taken = world.board.taken + count }; with_batch = world.board.taken + count })
+      → IsConsistent (record world { board = record world.board { taken = world.board.taken + count }; with_batch = world.board.taken + count })
   take-holds count can =
       let tests = and_parts (can_take world.board count) (world.board.settled == world.board.taken) can in
       let long = leb-true (world.board.taken + count) (length world.board.order) (and_parts (nat_lt 0 count) (nat_le (world.board.taken + count) (length world.board.order)) tests.0).1 in
@@ -184,7 +157,7 @@ module _ (world : World) (holds : Holds world) where
         acks = holds.acks;
       }
 
-  written-holds : (outcome : Outcome) → Holds (written world outcome)
+  written-holds : (outcome : Outcome) → IsConsistent (written world outcome)
   written-holds Done = record {
     placed = holds.placed;
     state = holds.state;
@@ -205,7 +178,7 @@ module _ (world : World) (holds : Holds world) where
   written-holds Stopped = record { placed = holds.placed; state = holds.state; limits = holds.limits; counts = holds.counts; shown = holds.shown; sent = holds.sent; tickets = holds.tickets; acks = holds.acks }
 
   publish-holds : (nat_lt (length world.published) world.board.taken && (world.without == world.board.taken)) ≡ true
-      → Holds (record world { published = world.published ++ takens (taken_beyond world.board (length world.published)) })
+      → IsConsistent (record world { published = world.published ++ takens (taken_beyond world.board (length world.published)) })
   publish-holds can = record {
     placed = holds.placed;
     state = holds.state;
@@ -240,7 +213,7 @@ module _ (world : World) (holds : Holds world) where
       long = ap length all ∙ (length-map (take world.board.taken world.board.order) (λ (e : Entry). e.taken) ∙ length-take-le world.board.taken world.board.order holds.counts.taken_long)
 
   settle-holds : (count : ℕ) → can_settle world.board count (length world.published) ≡ true
-      → Holds (record world { board = record world.board { settled = world.board.settled + count } })
+      → IsConsistent (record world { board = record world.board { settled = world.board.settled + count } })
   settle-holds count can = record {
     placed = holds.placed;
     state = holds.state;
@@ -263,9 +236,9 @@ module _ (world : World) (holds : Holds world) where
       told = eqb-true (length world.published) (world.board.settled + count)
           (and_parts (nat_lt 0 count && nat_le (world.board.settled + count) world.board.taken) (length world.published == world.board.settled + count) can).1
 
-  acknowledged-holds : (place : ℕ) (ticket : Option Ticket) → slice_get world.tickets place ≡ ticket → Holds (acknowledged world ticket)
+  acknowledged-holds : (place : ℕ) (ticket : Option Ticket) → slice_get world.tickets place ≡ ticket → IsConsistent (acknowledged world ticket)
   acknowledged-holds place None is = holds
-  acknowledged-holds place (Some ticket) is = cond_both (can_ack world.board ticket) (record world { acks = world.acks ++ ticket ∷ [] }) world Holds
+  acknowledged-holds place (Some ticket) is = cond_both (can_ack world.board ticket) (record world { acks = world.acks ++ ticket ∷ [] }) world IsConsistent
       (λ can. record {
         placed = holds.placed;
         state = holds.state;
@@ -281,7 +254,7 @@ module _ (world : World) (holds : Holds world) where
       })
       (λ no. holds)
 
-  composed-holds : (composed : List (ℕ × ℕ)) → Holds (record world { composed = composed })
+  composed-holds : (composed : List (ℕ × ℕ)) → IsConsistent (record world { composed = composed })
   composed-holds composed = record { placed = holds.placed; state = holds.state; limits = holds.limits; counts = holds.counts; shown = holds.shown; sent = holds.sent; tickets = holds.tickets; acks = holds.acks }
 
   -- what a crash may leave lies between what is shown and what is taken off
@@ -293,7 +266,7 @@ module _ (world : World) (holds : Holds world) where
         (omega (arith, is, holds.counts.shown_without, holds.counts.without_with), omega (arith, is, holds.counts.with_taken))
   ]
 
-  stopped-holds : (kept : ℕ) → may_leave world kept ≡ true → Holds (stopped world kept)
+  stopped-holds : (kept : ℕ) → may_leave world kept ≡ true → IsConsistent (stopped world kept)
   stopped-holds kept may = record {
     placed = holds.placed;
     state = holds.state;
@@ -311,7 +284,7 @@ module _ (world : World) (holds : Holds world) where
     acks = holds.acks;
   }
 
-  opened-holds : (kept : ℕ) (floors : List ℕ) → can_open world kept floors ≡ true → Holds (opened world kept floors)
+  opened-holds : (kept : ℕ) (floors : List ℕ) → can_open world kept floors ≡ true → IsConsistent (opened world kept floors)
   opened-holds kept floors can = record {
     placed = placed-take kept (all_shown world.board.start) world.board.order holds.placed;
     state = shown-opened world.board.start (takens (take kept world.board.order)) world.composed floors picked;
@@ -350,22 +323,22 @@ module _ (world : World) (holds : Holds world) where
       shown_count : length (takens (take kept world.board.order)) ≡ kept
       shown_count = length-map (take kept world.board.order) (λ (e : Entry). e.taken) ∙ count
 
-  running-holds : (event : Event) → Holds (running_step world event)
-  running-holds (Submit command) = cond_both (is_numbered command) (with_command world command) world Holds (λ numbered. command-holds command numbered) (λ no. holds)
-  running-holds (Take count) = cond_both (can_take world.board count && (world.board.settled == world.board.taken)) _ world Holds (λ can. take-holds count can) (λ no. holds)
-  running-holds (Device outcome) = cond_both (is_written world) (written world outcome) world Holds (λ can. written-holds outcome) (λ no. holds)
-  running-holds Publish = cond_both (nat_lt (length world.published) world.board.taken && (world.without == world.board.taken)) _ world Holds (λ can. publish-holds can) (λ no. holds)
-  running-holds Settle = cond_both (can_settle world.board (world.board.taken - world.board.settled) (length world.published)) _ world Holds (λ can. settle-holds (world.board.taken - world.board.settled) can) (λ no. holds)
+  running-holds : (event : Event) → IsConsistent (running_step world event)
+  running-holds (Submit command) = cond_both (is_numbered command) (with_command world command) world IsConsistent (λ numbered. command-holds command numbered) (λ no. holds)
+  running-holds (Take count) = cond_both (can_take world.board count && (world.board.settled == world.board.taken)) _ world IsConsistent (λ can. take-holds count can) (λ no. holds)
+  running-holds (Device outcome) = cond_both (is_written world) (written world outcome) world IsConsistent (λ can. written-holds outcome) (λ no. holds)
+  running-holds Publish = cond_both (nat_lt (length world.published) world.board.taken && (world.without == world.board.taken)) _ world IsConsistent (λ can. publish-holds can) (λ no. holds)
+  running-holds Settle = cond_both (can_settle world.board (world.board.taken - world.board.settled) (length world.published)) _ world IsConsistent (λ can. settle-holds (world.board.taken - world.board.settled) can) (λ no. holds)
   running-holds (Ack place) = acknowledged-holds place (slice_get world.tickets place) refl
-  running-holds (Compose document revision) = cond_both _ _ world Holds (λ can. composed-holds (world.composed ++ (document, revision) ∷ [])) (λ no. holds)
-  running-holds (Crash kept) = cond_both (may_leave world kept) (stopped world kept) world Holds (λ may. stopped-holds kept may) (λ no. holds)
-  running-holds (Open kept floors) = cond_both (world.failed && can_open world kept floors) (opened world kept floors) world Holds
+  running-holds (Compose document revision) = cond_both _ _ world IsConsistent (λ can. composed-holds (world.composed ++ (document, revision) ∷ [])) (λ no. holds)
+  running-holds (Crash kept) = cond_both (may_leave world kept) (stopped world kept) world IsConsistent (λ may. stopped-holds kept may) (λ no. holds)
+  running-holds (Open kept floors) = cond_both (world.failed && can_open world kept floors) (opened world kept floors) world IsConsistent
       (λ can. opened-holds kept floors (and_parts world.failed (can_open world kept floors) can).1) (λ no. holds)
-  running-holds (Resend command) = cond_both (is_numbered command && (command.number == last_sent command.name command.source world.sent)) (with_command world command) world Holds
+  running-holds (Resend command) = cond_both (is_numbered command && (command.number == last_sent command.name command.source world.sent)) (with_command world command) world IsConsistent
       (λ can. command-holds command (and_parts (is_numbered command) _ can).0) (λ no. holds)
 
-  crashed-holds : (event : Event) → Holds (crashed_step world event)
-  crashed-holds (Open kept floors) = cond_both (can_open world kept floors) (opened world kept floors) world Holds (λ can. opened-holds kept floors can) (λ no. holds)
+  crashed-holds : (event : Event) → IsConsistent (crashed_step world event)
+  crashed-holds (Open kept floors) = cond_both (can_open world kept floors) (opened world kept floors) world IsConsistent (λ can. opened-holds kept floors can) (λ no. holds)
   crashed-holds (Submit command) = holds
   crashed-holds (Take count) = holds
   crashed-holds (Device outcome) = holds
@@ -376,9 +349,9 @@ module _ (world : World) (holds : Holds world) where
   crashed-holds (Crash kept) = holds
   crashed-holds (Resend command) = holds
 
-  pub step-holds : (event : Event) → Holds (step world event)
-  step-holds event = cond_both world.crashed (crashed_step world event) (running_step world event) Holds (λ yes. crashed-holds event) (λ no. running-holds event)
+  pub step-holds : (event : Event) → IsConsistent (step world event)
+  step-holds event = cond_both world.crashed (crashed_step world event) (running_step world event) IsConsistent (λ yes. crashed-holds event) (λ no. running-holds event)
 
-pub run-holds : (world : World) (events : List Event) → Holds world → Holds (run world events)
+pub run-holds : (world : World) (events : List Event) → IsConsistent world → IsConsistent (run world events)
 run-holds world [] holds = holds
 run-holds world (first ∷ others) holds = run-holds (step world first) others (step-holds world holds first)

@@ -6,44 +6,15 @@ use Rattle.std.proofs.lemmas.Bool.Decides.{same_from_decides}
 use Rattle.std.proofs.lemmas.Slice.Eq.{bytes_eq-Decides}
 use Rattle.std.proofs.lemmas.Map.Text.{is_eq-slice_cmp}
 use Rattle.attributes.specs.Map.{get}
-use Rattle.attributes.proofs.CallerLemmas.{get-insert, is_name}
+use Rattle.attributes.specs.Table.{is_name}
+use Rattle.attributes.proofs.CallerLemmas.{get-insert}
 use Rattle.revision.specs.Command.{Taken}
 use Rattle.revision.specs.declared.sources.LastTaken.{LastTaken}
 use Rattle.revision.specs.Sources.{Sources, last_of, with_last}
 use Rattle.world.specs.World.{Entry, is_of}
 use Rattle.world.specs.Shown.{Shown}
+pub use Rattle.world.specs.steps.Placing.{nothing_yet, last_in, IsNew, IsNextAt, HasPlace, Placed, noted}
 use Rattle.world.proofs.Showing.{next_shown, blank, shown_by_name, set_shown, grown_shown}
-
--- what a source has of which nothing was taken
-abbrev pub nothing_yet : LastTaken
-nothing_yet = record { number = 0; revision = 0 }
-
--- the last that a source has in the document of a name, 0 and 0 where there is none
-abbrev pub last_in : List ℕ → List ℕ → List Shown → LastTaken
-last_in name source [] = nothing_yet
-last_in name source (first ∷ others) = cond (bytes_eq first.name name) (last_of source first.sources) (last_in name source others)
-
--- no document has this name
-abbrev pub IsNew : List ℕ → List Shown → Type 0
-IsNew name [] = Unit {0}
-IsNew name (first ∷ others) = (bytes_eq first.name name ≡ false) × IsNew name others
-
--- the document of this name has this number, and this revision is its next one
-abbrev pub IsNextAt : List ℕ → ℕ → ℕ → List Shown → Type 0
-IsNextAt name revision number [] = ⊥
-IsNextAt name revision zero (first ∷ others) = (bytes_eq first.name name ≡ true) × (revision ≡ first.revision + 1)
-IsNextAt name revision (suc number) (first ∷ others) = (bytes_eq first.name name ≡ false) × IsNextAt name revision number others
-
-abbrev pub HasPlace : List ℕ → Taken → List Shown → Option (List ℕ) → Type 0
-HasPlace name taken documents None = IsNextAt name taken.revision taken.document documents
-HasPlace name taken documents (Some new) = (new ≡ name) × (taken.document ≡ length documents) × (taken.revision ≡ 1) × IsNew name documents
-
--- a command that these documents took: it is its source's next one, and has its place
-pub record Placed (documents : List Shown) (entry : Entry) : Type 0 where
-  pub source : entry.taken.source ≡ entry.command.source
-  pub number : entry.taken.number ≡ entry.command.number
-  pub next : entry.command.number ≡ (last_in entry.command.name entry.command.source documents).number + 1
-  pub place : HasPlace entry.command.name entry.taken documents entry.taken.name
 
 pub same_bytes : (a b : List ℕ) → bytes_eq a b ≡ true → a ≡ b
 same_bytes a b = (bytes_eq-Decides a b).0
@@ -72,10 +43,6 @@ last_of-with_last source by number revision sources =
         ≡ cond b (record { number = number; revision = revision }) (last_of source sources)
     by_test true = refl
     by_test false = refl
-
--- what a source has after a command
-abbrev pub noted : Taken → LastTaken
-noted taken = record { number = taken.number; revision = taken.revision }
 
 module _ (name source own : List ℕ) (taken : Taken) where
   -- the record of the document itself, after the command that makes its next revision

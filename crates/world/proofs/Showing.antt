@@ -9,34 +9,8 @@ use Rattle.revision.specs.Sources.{with_last}
 use Rattle.revision.specs.Past.{empty_past, with_change}
 use Rattle.revision.specs.State.{change_of, DocumentRecord, State, record_by_name, record_after, set_document, grown, fold}
 use Rattle.world.specs.Shown.{Shown, shown, all_shown}
+pub use Rattle.world.specs.steps.Showing.{next_shown, blank, shown_by_name, set_shown, grown_shown, fold_shown}
 use Rattle.world.proofs.Pasts.{newest-with_change, units-with_change, sources-with_change}
-
--- a document after one command more
-abbrev pub next_shown : Taken → Shown → Shown
-next_shown taken found = record found {
-  units = apply found.units (counted taken.delta);
-  revision = found.revision + 1;
-  sources = with_last taken.source taken.number (found.revision + 1) found.sources;
-}
-
--- a document that nothing was taken of yet
-abbrev pub blank : List ℕ → Shown
-blank name = record { name = name; units = []; revision = 0; sources = empty }
-
-abbrev pub shown_by_name : Option Shown → Taken → Option (List ℕ) → Option Shown
-shown_by_name None taken None = None
-shown_by_name None taken (Some name) = Some (next_shown taken (blank name))
-shown_by_name (Some found) taken name = Some (next_shown taken found)
-
-abbrev pub set_shown : ℕ → Option Shown → List Shown → List Shown
-set_shown number None documents = documents
-set_shown zero (Some document) [] = document ∷ []
-set_shown (suc number) (Some document) [] = []
-set_shown zero (Some document) (first ∷ others) = document ∷ others
-set_shown (suc number) (Some document) (first ∷ others) = first ∷ set_shown number (Some document) others
-
-abbrev pub grown_shown : Taken → List Shown → List Shown
-grown_shown taken documents = set_shown taken.document (shown_by_name (slice_get documents taken.document) taken taken.name) documents
 
 pub shown-next : (keep : ℕ) (found : DocumentRecord) (taken : Taken)
     → shown (record found { past = with_change keep found.past (change_of taken) }) ≡ next_shown taken (shown found)
@@ -73,11 +47,6 @@ shown-grown state taken =
     ∙ ap (λ o. set_shown taken.document o (all_shown state))
     (shown-by_name state.limits.keep (slice_get state.documents taken.document) taken taken.name
     ∙ ap (λ o. shown_by_name o taken taken.name) (sym (slice_get-map shown state.documents taken.document)))
-
--- all commands in order
-abbrev pub fold_shown : List Shown → List Taken → List Shown
-fold_shown documents [] = documents
-fold_shown documents (first ∷ others) = fold_shown (grown_shown first documents) others
 
 pub shown-fold : (state : State) (commands : List Taken) → all_shown (fold state commands) ≡ fold_shown (all_shown state) commands
 shown-fold state [] = refl

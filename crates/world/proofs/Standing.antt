@@ -8,15 +8,10 @@ use Rattle.world.specs.Board.{Ticket}
 use Rattle.world.specs.World.{Entry, takens}
 use Rattle.world.specs.Law.{IsSent, revision_named}
 use Rattle.world.specs.Shown.{Shown}
+pub use Rattle.world.specs.steps.Holding.{Stands}
 use Rattle.world.proofs.Showing.{grown_shown, fold_shown, fold_shown-append}
 use Rattle.world.proofs.Numbers.{last_in}
 use Rattle.world.proofs.Histories.{AllPlaced, after, placed-rest, placed-take, never_falls, same_last}
-
--- After the first `length` commands the ticket's number is its source's last one, and made the revision that the reply names.
-pub record Stands (documents : List Shown) (entries : List Entry) (ticket : Ticket) : Type 0 where
-  pub within : ticket.length ≤ length entries
-  pub last : last_in ticket.command.name ticket.command.source (after documents (take ticket.length entries))
-      ≡ record { number = ticket.command.number; revision = revision_named ticket.reply }
 
 pub stands-more : (documents : List Shown) (entries : List Entry) (entry : Entry) (ticket : Ticket) → Stands documents entries ticket
     → Stands documents (entries ++ entry ∷ []) ticket

@@ -8,4 +8,6 @@ pub mod Shown
 pub mod Law
 pub mod Followed
 pub mod Following
+pub mod Laws
+pub mod steps
 mod Examples

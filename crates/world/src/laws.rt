@@ -1,6 +1,7 @@
 //! What holds of every schedule, as contracts of functions that do nothing.
 ghost use Rattle.world.specs.Boards.{SameBoard, BatchGoesOn};
 ghost use Rattle.world.specs.Following.{Follows};
+ghost use Rattle.world.specs.Laws as law;
 ghost use Rattle.world.specs.Law.{OverAll, OverAllFurther, AcksStay, AcksAreShown, TakenOnce, OneRevision, NothingTakenBack, TakenIsAgain, ShownStays, NothingRewritten, StateIsFold, StateAgrees};
 
 /// Over every list of events, with crashes and commands sent again, from every state that a store may begin with: no
@@ -33,4 +34,28 @@ pub fn same_board()
 /// Folding a batch onto the state before it gives the state of the order with the batch. The law says nothing of crashes.
 pub fn batch_goes_on()
     ensures { BatchGoesOn }
+{}
+
+/// What is kept from life to life (`specs/steps/Holding.antt`): it holds of a world that begins, and every event keeps it.
+pub fn every_event_keeps()
+    ensures begun { law.BegunHolds }
+    ensures run { law.RunHolds }
+{}
+
+/// What follows of a world of which that holds.
+pub fn what_is_kept()
+    ensures acks_stay { law.HoldsSo AcksStay }
+    ensures taken_once { law.HoldsSo TakenOnce }
+    ensures one_revision { law.HoldsSo OneRevision }
+    ensures nothing_taken_back { law.HoldsSo NothingTakenBack }
+    ensures taken_is_again { law.HoldsSo TakenIsAgain }
+    ensures state_is_fold { law.HoldsSo StateIsFold }
+{}
+
+/// What commands in order show, and what a first part of an order keeps of it.
+pub fn order_shown()
+    ensures fold { law.ShownFold }
+    ensures joined { law.FoldJoined }
+    ensures placed { law.FirstPlaced }
+    ensures stands { law.FirstStand }
 {}

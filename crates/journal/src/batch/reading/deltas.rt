@@ -18,7 +18,8 @@ pub fn read_delta(alloc: Global, bytes: &[u8]) -> Result<Option<(Delta, &[u8])>,
     ensures found { IfOk result (λ found. IfSome found
         (λ x. IsSpellable x.0 × (bytes.now ≡ spelling.delta x.0 ++ x.1.now))) }
     ensures none { IfOk result (λ found. IfNone found
-        ((operations : List Operation) (rest : List ℕ) → IsSpellable operations → bytes.now ≡ spelling.delta operations ++ rest → ⊥)) }
+        ((operations : List Operation) (rest : List ℕ) → IsSpellable operations
+        → bytes.now ≡ spelling.delta operations ++ rest → ⊥)) }
 {
     match delta_in(alloc, bytes) {
         Ok((delta, rest)) => Ok(Some((delta, rest))),

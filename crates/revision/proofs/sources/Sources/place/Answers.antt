@@ -1,7 +1,8 @@
 use Rattle.std.proofs.Common.{◌+◌, ◌-◌, ◌/◌, length, ap, arith}
 use Rattle.attributes.specs.Map.{entries_of}
-use Rattle.attributes.proofs.CallerLemmas.{none_before, here_at, before_more, read_at, compared}
-use Rattle.revision.proofs.Halves.{before-equal, before-greater, free_between}
+use Rattle.attributes.specs.Table.{none_before}
+use Rattle.attributes.proofs.CallerLemmas.{here_at, before_more}
+use Rattle.revision.proofs.Halves.{read_at, compared, before-equal, before-greater, free_between}
 use Rattle.revision.proofs.sources.Sources.place.Goals as goal
 
 pub loop-low-init : goal.loop-low-init

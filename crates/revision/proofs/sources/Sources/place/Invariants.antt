@@ -1,5 +1,5 @@
 use Rattle.std.proofs.Common.{◌-◌, ◌≤◌, take, length}
-use Rattle.attributes.proofs.CallerLemmas.{AllBefore}
+use Rattle.attributes.specs.Table.{AllBefore}
 use Rattle.revision.proofs.Halves.{AboveAt}
 use Rattle.revision.proofs.sources.Sources.place.Given as goal
 

@@ -3,7 +3,8 @@ use Rattle.std.specs.Result.{is_ok}
 use Rattle.attributes.specs.Map.{entries_of, insert, same_entries_map}
 use Rattle.revision.specs.Sources.{LastTaken, are_named}
 use Rattle.revision.proofs.Named.{named-insert, named_if}
-use Rattle.attributes.proofs.CallerLemmas.{OnOk-from, OnErr-from, chosen_true, chosen_false, written, inserted, ascending_as, ascending_if}
+use Rattle.revision.proofs.Outcomes.{OnOk-from, OnErr-from, chosen_true, chosen_false}
+use Rattle.attributes.proofs.CallerLemmas.{written, inserted, ascending_as, ascending_if}
 use Rattle.revision.proofs.sources.Sources.set.Goals as goal
 
 pub invariant_of-self-inside : goal.invariant_of-self-inside

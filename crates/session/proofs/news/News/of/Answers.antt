@@ -1,6 +1,6 @@
 use Rattle.std.proofs.Common.{◌≡◌, ◌++◌, ◌∷◌, [], length, map, take, ap, ap₂, ◌∙◌, rules, arith}
 use Rattle.std.specs.String.{string_bytes}
-use Rattle.attributes.proofs.CallerLemmas.{read_at}
+use Rattle.session.proofs.Kept.{read_at}
 use Rattle.std.proofs.lemmas.List.{take_all, length-map}
 use Rattle.session.specs.News.{lines_in, last_in, news, going_on}
 use Rattle.session.proofs.Newsworthy.{news-next, last-next, goes_on}

@@ -2,7 +2,9 @@ use Rattle.std.proofs.Common.{◌≡◌, length, take, subst, sym, ap, ◌∙◌
 use Rattle.std.specs.Prelude.{T}
 use Rattle.std.specs.FinMap.Entries.{is_sorted}
 use Rattle.attributes.specs.Map.{by_bytes}
-use Rattle.attributes.proofs.CallerLemmas.{AllBefore, none_before, here_at, free_at, free_end, before_more, read_at, compared}
+use Rattle.attributes.specs.Table.{AllBefore, none_before}
+use Rattle.attributes.proofs.CallerLemmas.{here_at, free_at, free_end, before_more}
+use Rattle.session.proofs.Kept.{read_at, compared}
 use Rattle.session.proofs.subscriptions.Subscriptions.place.Goals as goal
 
 pub loop-i-init : goal.loop-i-init

@@ -1,5 +1,5 @@
 use Rattle.std.proofs.Common.{take}
-use Rattle.attributes.proofs.CallerLemmas.{AllBefore}
+use Rattle.attributes.specs.Table.{AllBefore}
 use Rattle.session.proofs.subscriptions.Subscriptions.place.Given as goal
 
 -- the names so far stand before the name

@@ -3,8 +3,7 @@ use Rattle.std.specs.Prelude.{T}
 use Rattle.std.specs.Result.{is_ok}
 use Rattle.std.specs.FinMap.Entries.{is_sorted}
 use Rattle.attributes.specs.Map.{by_bytes}
-use Rattle.attributes.proofs.CallerLemmas.{OnOk-from, chosen_true}
-use Rattle.session.proofs.Kept.{set_is, inserted_is, sorted_with, sorted_if}
+use Rattle.session.proofs.Kept.{OnOk-from, chosen_true, set_is, inserted_is, sorted_with, sorted_if}
 use Rattle.session.proofs.subscriptions.Subscriptions.set.Goals as goal
 
 pub invariant_of-self : goal.invariant_of-self

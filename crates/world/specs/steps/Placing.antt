@@ -1,0 +1,53 @@
+-- Commands that each have their place in an order, and what a source has after them.
+use Rattle.std.specs.Prelude.{◌≡◌, ℕ, zero, suc, ◌+◌, true, false, cond, List, [], ◌∷◌, length, Option, Some, None, bytes_eq}
+use Rattle.revision.specs.declared.sources.LastTaken.{LastTaken}
+use Rattle.revision.specs.Command.{Taken}
+use Rattle.revision.specs.Sources.{last_of}
+use Rattle.world.specs.World.{Entry, takens}
+use Rattle.world.specs.Shown.{Shown}
+use Rattle.world.specs.steps.Showing.{grown_shown, fold_shown}
+
+-- what a source has of which nothing was taken
+abbrev pub nothing_yet : LastTaken
+nothing_yet = record { number = 0; revision = 0 }
+
+-- the last that a source has in the document of a name, 0 and 0 where there is none
+abbrev pub last_in : List ℕ → List ℕ → List Shown → LastTaken
+last_in name source [] = nothing_yet
+last_in name source (first ∷ others) = cond (bytes_eq first.name name) (last_of source first.sources) (last_in name source others)
+
+-- no document has this name
+abbrev pub IsNew : List ℕ → List Shown → Type 0
+IsNew name [] = Unit {0}
+IsNew name (first ∷ others) = (bytes_eq first.name name ≡ false) × IsNew name others
+
+-- the document of this name has this number, and this revision is its next one
+abbrev pub IsNextAt : List ℕ → ℕ → ℕ → List Shown → Type 0
+IsNextAt name revision number [] = ⊥
+IsNextAt name revision zero (first ∷ others) = (bytes_eq first.name name ≡ true) × (revision ≡ first.revision + 1)
+IsNextAt name revision (suc number) (first ∷ others) = (bytes_eq first.name name ≡ false) × IsNextAt name revision number others
+
+-- a command's place: in the document of its name, which is the next new one where it makes it
+abbrev pub HasPlace : List ℕ → Taken → List Shown → Option (List ℕ) → Type 0
+HasPlace name taken documents None = IsNextAt name taken.revision taken.document documents
+HasPlace name taken documents (Some new) = (new ≡ name) × (taken.document ≡ length documents) × (taken.revision ≡ 1) × IsNew name documents
+
+-- a command that these documents took: it is its source's next one, and has its place
+pub record Placed (documents : List Shown) (entry : Entry) : Type 0 where
+  pub source : entry.taken.source ≡ entry.command.source
+  pub number : entry.taken.number ≡ entry.command.number
+  pub next : entry.command.number ≡ (last_in entry.command.name entry.command.source documents).number + 1
+  pub place : HasPlace entry.command.name entry.taken documents entry.taken.name
+
+-- what a source has after a command
+abbrev pub noted : Taken → LastTaken
+noted taken = record { number = taken.number; revision = taken.revision }
+
+-- each command has its place in the documents that those before it leave
+abbrev pub AllPlaced : List Shown → List Entry → Type 0
+AllPlaced documents [] = Unit {0}
+AllPlaced documents (first ∷ others) = Placed documents first × AllPlaced (grown_shown first.taken documents) others
+
+-- what is shown after these
+abbrev pub after : List Shown → List Entry → List Shown
+after documents entries = fold_shown documents (takens entries)
