@@ -27,7 +27,7 @@ returns-clause-job g c =
     let none : no_job_of (record_of found) c.highest_of.result c.args.revision ≡ None = sym c.why_none.ensures.is ∙ c.in_default-why_none.is in
     job_given store.state c.limits.ensures.state c.args.document c.args.revision c.highest_of.result (record_of found)
     (document_there c.documents.result.now store.state.documents c.args.document found c.documents.ensures.documents there) none
-    c.job_of.result c.job_of.ensures.document c.job_of.ensures.is
+    c.job_of.result c.job_of.ensures.document c.job_of.ensures.is c.job_of.ensures.deltas
 
 pub returns-clause-keeps : goal.returns-clause-keeps
 returns-clause-keeps g c =

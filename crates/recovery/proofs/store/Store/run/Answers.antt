@@ -9,7 +9,7 @@ use Rattle.refusal.specs.declared.Refusal.TheVariants.{Fault}
 use Rattle.std.proofs.lemmas.List.{at_drop_more, take_all, get_or_default}
 use Rattle.recovery.specs.Found.{FoundAs}
 use Rattle.recovery.specs.Open.{IsOpen, device_of, state_of, has_failed}
-use Rattle.recovery.specs.Run.{AreTaken, IsAfterSome, IsKeptFrom, IsWhy, batch_of, state_after}
+use Rattle.recovery.specs.Run.{AreTaken, IsAfterSome, IsKeptFrom, IsWhy, IsLeftBy, batch_of, state_after}
 use Rattle.recovery.proofs.PutAtOnce.{taken_more}
 use Rattle.recovery.proofs.KeptFrom.{kept_here, kept_on, kept_more}
 use Rattle.recovery.proofs.Folds.{fold-limits}
@@ -26,6 +26,7 @@ loop-at-init g c = record {
   faults = refl;
   honest = (λ h. h, λ h. h);
   taken = refl;
+  calls = omega arith;
   is_open = λ o. o;
   failed_before = λ failed. (refl, unchanged c.args.self.now);
   moments = λ u o. begins (history_of g.D.Disk c.args.self.now.device) o.synced (before_all c.args.self.now.state c.args.steps.now _ (found_as _ _ (found_open c.args.self.now o)));
@@ -81,7 +82,7 @@ loop-at-preserved g c =
     let state : c.take_step.new.self.state ≡ fold now (batch_of step) = c.in_default.ensures.state in
     let so_far : new.state ≡ state_after start.state (take (at + 1) steps) =
     state ∙ ap (λ (s : State). fold s (batch_of step)) c.loop-at.invariant.so_far ∙ sym (state_after-more start.state steps at step c.loop-at-test.true c.index-steps-at.is) in
-    let taken = taken_more steps at step c.loop-at-test.true c.index-steps-at.is start c.loop-at.self new c.loop-at.invariant.taken c.in_default.ensures.taken in
+    let taken = taken_more steps at step c.loop-at-test.true c.index-steps-at.is start c.loop-at.self new c.loop-at.invariant.taken c.in_default.ensures.taken c.in_default.ensures.jobs in
     let within : has_failed start ≡ false → IsOpen start → LeavesOnly g.D.Disk (IsAfterSome at (state_of start) steps) (device_of c.loop-at.self) (device_of new) =
     λ unfailed is_open.
     leaves_map (λ content left. within_step start.state steps at step c.loop-at-test.true c.index-steps-at.is now (batch_of step) content c.loop-at.invariant.so_far refl left)
@@ -99,6 +100,7 @@ loop-at-preserved g c =
       unfailed = λ unfailed. c.in_default.ensures.works;
       honest = (λ h. c.loop-at.invariant.honest.0 (c.take_step.ensures.honest.0 h), λ h. c.take_step.ensures.honest.1 (c.loop-at.invariant.honest.1 h));
       taken = taken;
+      calls = omega (arith, c.loop-at.invariant.calls, c.take_step.ensures.calls);
       is_open = λ is_open. c.in_default.ensures.done (c.loop-at.invariant.is_open is_open);
       failed_before = λ failed.
           let before = (c.loop-at.invariant.failed_before failed).1 in
@@ -140,4 +142,6 @@ returns-in-Err-clause-refused g c =
           subst (λ (s : StoreStep). IsWhy s c.in-Err.refusal c.loop-at.self) (c.index-steps-at.is ∙ get_or_default steps at step Retire c.loop-at-test.true)
           (c.in-Err.ensures.refused memory fault);
       left = λ memory fault. c.in-Err.ensures.untouched memory fault;
+      begun = subst (λ (s : StoreStep). IsLeftBy s c.in-Err.refusal c.loop-at.self c.take_step.new.self)
+          (c.index-steps-at.is ∙ get_or_default steps at step Retire c.loop-at-test.true) c.in-Err.ensures.left;
     }
