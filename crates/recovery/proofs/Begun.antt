@@ -1,5 +1,6 @@
 -- What a step of a run leaves that was refused.
-use Rattle.std.proofs.Common.{◌≡◌, ◌⊎◌, inl, inr, ℕ, ◌+◌, ◌≤◌, false, List, Vec, length, ap, sym, subst, arith, ◌∙◌}
+use Rattle.std.proofs.Common.{◌≡◌, ◌⊎◌, inl, inr, ℕ, ◌+◌, ◌≤◌, ◌<◌, false, List, [], ◌∷◌, ◌++◌, Vec, length, take, get_or, refl, ap, sym, subst, arith, ◌∙◌}
+use Rattle.std.proofs.lemmas.List.{take_more}
 use Rattle.std.specs.Prelude.{Result, Ok, Err, OnErr, IfErr, IsErrOf}
 use Rattle.std.specs.declared.alloc.Global.{Global}
 use Rattle.disk.specs.declared.device.Disk.{Ghosts}
@@ -8,13 +9,16 @@ use Rattle.disk.proofs.CallerLemmas.{leaves_map}
 use Rattle.refusal.specs.declared.Refusal.{Refusal}
 use Rattle.refusal.specs.declared.Refusal.TheVariants.{StillNeeded, NoMemory, Fault}
 use Rattle.revision.specs.Command.{Taken}
+use Rattle.milestone.specs.Job.{Job}
 use Rattle.segments.specs.Ring.{IsSameOrOpened}
 use Rattle.recovery.specs.declared.run.StoreStep.TheVariants.{Commit, Milestone, Retire}
 use Rattle.recovery.specs.declared.store.Store.{Store}
 use Rattle.recovery.specs.Found.{FoundAs}
 use Rattle.recovery.specs.Jobs.{without_job}
-use Rattle.recovery.specs.Open.{IsOpen, IsUnwritten, IsWithOrWithout, device_of, ring_of, state_of, known_cells, known_marks, kept_jobs, has_failed}
-use Rattle.recovery.specs.Run.{IsLeftBy}
+use Rattle.recovery.specs.Unwritten.{IsUnwritten}
+use Rattle.recovery.specs.Open.{IsOpen, IsWithOrWithout, device_of, ring_of, state_of, known_cells, known_marks, kept_jobs, has_failed}
+use Rattle.recovery.specs.declared.run.StoreStep.{StoreStep}
+use Rattle.recovery.specs.Begun.{IsLeftBy, jobs_behind, jobs_after}
 
 module _ {D : Type 0} {disk : Ghosts D} (old new : Store D disk) where
   pub left_commit : (batch : Vec Taken Global) (commands : List Taken) → commands ≡ batch.items → (refusal : Refusal) → state_of new ≡ state_of old → known_marks new ≡ known_marks old
@@ -62,3 +66,14 @@ module _ {D : Type 0} {disk : Ghosts D} (old new : Store D disk) where
       no_memory : (refusal ≡ StillNeeded) ⊎ (refusal ≡ Fault) → refusal ≡ NoMemory → ⊥
       no_memory (inl is) memory = let same : StillNeeded ≡ NoMemory = sym is ∙ memory in cc
       no_memory (inr is) memory = let same : Fault ≡ NoMemory = sym is ∙ memory in cc
+
+jobs_after-append : (first : List StoreStep) (step : StoreStep) (jobs : List Job) → jobs_after (first ++ step ∷ []) jobs ≡ jobs_behind step (jobs_after first jobs)
+jobs_after-append [] step jobs = refl
+jobs_after-append (one ∷ first) step jobs = jobs_after-append first step (jobs_behind one jobs)
+
+-- the jobs that are kept after one step more
+pub jobs_after-more : (steps : List StoreStep) (i : ℕ) (step : StoreStep) (jobs : List Job) → i < length steps → step ≡ get_or steps i step
+    → jobs_after (take (i + 1) steps) jobs ≡ jobs_behind step (jobs_after (take i steps) jobs)
+jobs_after-more steps i step jobs inside is =
+    ap (λ (l : List StoreStep). jobs_after l jobs) (take_more steps i step inside) ∙ jobs_after-append (take i steps) (get_or steps i step) jobs
+    ∙ ap (λ (s : StoreStep). jobs_behind s (jobs_after (take i steps) jobs)) (sym is)

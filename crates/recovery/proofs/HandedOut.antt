@@ -6,7 +6,7 @@ use Rattle.std.proofs.lemmas.Option.{slice_get_within}
 use Rattle.std.proofs.lemmas.List.Elements.{All-push}
 use Rattle.refusal.specs.declared.Refusal.{Refusal}
 use Rattle.refusal.specs.declared.Refusal.TheVariants.{NoMemory}
-use Rattle.revision.specs.Past.{sources_at, replay_of}
+use Rattle.revision.specs.Past.{sources_at}
 use Rattle.revision.specs.Pending.{PendingDocument, record_of}
 use Rattle.revision.specs.State.{Limits, DocumentRecord, State, revision_of, are_sources}
 use Rattle.revision.specs.Invariants.{IsState}
@@ -60,9 +60,8 @@ module _ (state : State) (is_state : IsState state) (document revision highest :
   pub sources_here : are_sources revision (sources_at found.past revision).entries ≡ true
   sources_here = let here = held_here found highest revision none in ((is_state.each document found there).each revision here.1 here.2).sources
 
-  one_job : (job : Job) → job.document ≡ document → cell_of_job job ≡ cell_of found revision → job.deltas ≡ replay_of found.past revision
-      → IsJobTo state.documents document revision job
-  one_job job number is deltas = let here = held_here found highest revision none in record {
+  one_job : (job : Job) → job.document ≡ document → cell_of_job job ≡ cell_of found revision → IsJobTo state.documents document revision job
+  one_job job number is = let here = held_here found highest revision none in record {
     number = number;
     found = found;
     there = there;
@@ -70,7 +69,6 @@ module _ (state : State) (is_state : IsState state) (document revision highest :
     held = here.1;
     reached = here.2;
     is = is;
-    deltas = deltas;
   }
 
   one_keeps : (job : Job) → job.document ≡ document → cell_of_job job ≡ cell_of found revision → KeepsLimits state.limits job
@@ -90,9 +88,9 @@ module _ (state : State) (is_state : IsState state) (document revision highest :
       }
 
   pub job_given : (result : Result Job Refusal) → IfOk result (λ job. job.document ≡ document) → IfOk result (λ job. cell_of_job job ≡ cell_of found revision)
-      → IfOk result (λ job. job.deltas ≡ replay_of found.past revision) → IfOk result (λ job. IsJobTo state.documents document revision job)
-  job_given (Ok job) number is deltas = one_job job number is deltas
-  job_given (Err refusal) number is deltas = tt
+      → IfOk result (λ job. IsJobTo state.documents document revision job)
+  job_given (Ok job) number is = one_job job number is
+  job_given (Err refusal) number is = tt
 
   pub job_keeps : (result : Result Job Refusal) → IfOk result (λ job. job.document ≡ document) → IfOk result (λ job. cell_of_job job ≡ cell_of found revision)
       → IfOk result (λ job. KeepsLimits state.limits job)

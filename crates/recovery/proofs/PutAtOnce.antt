@@ -18,8 +18,8 @@ use Rattle.recovery.specs.declared.store.Store.{Store}
 use Rattle.recovery.specs.Found.{FoundAs}
 use Rattle.recovery.specs.Jobs.{with_job, without_job, IsJobTo}
 use Rattle.recovery.specs.Marked.{MayRetire}
-use Rattle.recovery.specs.Open.{IsOpen, IsUnchanged, IsCommittedNow, IsRetiredNow, IsPutNow, device_of, state_of, has_failed, has_room, kept_jobs}
-use Rattle.recovery.specs.Run.{IsPutAt, IsTaken, AreTaken, IsWhy, jobs_behind}
+use Rattle.recovery.specs.Open.{IsOpen, IsUnchanged, IsCommittedNow, IsRetiredNow, IsPutNow, device_of, state_of, has_failed, has_room}
+use Rattle.recovery.specs.Run.{IsPutAt, IsTaken, AreTaken, IsWhy}
 use Rattle.recovery.proofs.Refusals.{refusal_or, ok≢err}
 use Rattle.recovery.proofs.Runs.{found_as, found_open}
 use Rattle.recovery.proofs.Going.{goes_still, open_unchanged}
@@ -109,18 +109,15 @@ module _ {D : Type 0} {disk : Ghosts D} where
       × ((is_open : IsOpen old) → IsCommittedNow l old is_open new) × (has_room old l ≡ true)) same (works, grow, state, committed, room)
 
   -- one step more was taken
-  abbrev pub IsOneTaken : StoreStep → Store D disk → Store D disk → Type 0
-  IsOneTaken step old new = IsTaken step old new × (kept_jobs new ≡ jobs_behind step (kept_jobs old))
-
-  pushed : (first : List StoreStep) (step : StoreStep) (old mid new : Store D disk) → AreTaken first old mid → IsOneTaken step mid new → AreTaken (first ++ step ∷ []) old new
-  pushed [] step old mid new same taken = (new, subst (λ (s : Store D disk). IsOneTaken step s new) same taken, refl)
+  pushed : (first : List StoreStep) (step : StoreStep) (old mid new : Store D disk) → AreTaken first old mid → IsTaken step mid new → AreTaken (first ++ step ∷ []) old new
+  pushed [] step old mid new same taken = (new, subst (λ (s : Store D disk). IsTaken step s new) same taken, refl)
   pushed (one ∷ first) step old mid new before taken = (before.0, before.1, pushed first step before.0 mid new before.2 taken)
 
   pub taken_more : (steps : List StoreStep) (i : ℕ) (step : StoreStep) → i < length steps → step ≡ get_or steps i step → (old mid new : Store D disk)
-      → AreTaken (take i steps) old mid → IsTaken step mid new → kept_jobs new ≡ jobs_behind step (kept_jobs mid) → AreTaken (take (i + 1) steps) old new
-  taken_more steps i step inside is old mid new before taken jobs =
+      → AreTaken (take i steps) old mid → IsTaken step mid new → AreTaken (take (i + 1) steps) old new
+  taken_more steps i step inside is old mid new before taken =
       subst (λ (l : List StoreStep). AreTaken l old new) (sym (take_more steps i step inside))
-      (pushed (take i steps) (get_or steps i step) old mid new before (subst (λ (s : StoreStep). IsOneTaken s mid new) is (taken, jobs)))
+      (pushed (take i steps) (get_or steps i step) old mid new before (subst (λ (s : StoreStep). IsTaken s mid new) is taken))
 
   -- a refusal that isn't told of a failed device is one of a store that hadn't failed
   pub refused_unfailed : {A : Type 0} (old new : Store D disk) (refusal : Refusal)

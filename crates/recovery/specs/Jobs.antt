@@ -3,7 +3,6 @@ use Rattle.std.specs.Prelude.{◌≡◌, ◌≤◌, ◌<◌, ℕ, ◌==◌, ◌|
 use Rattle.refusal.specs.declared.Refusal.{Refusal}
 use Rattle.refusal.specs.declared.Refusal.TheVariants.{NoDocument, Future, TooOld}
 use Rattle.revision.specs.Command.{Taken}
-use Rattle.revision.specs.Past.{replay_of}
 use Rattle.revision.specs.State.{Limits, DocumentRecord, revision_of}
 use Rattle.history.specs.Entries.{of_document}
 use Rattle.history.specs.Cell.{Pair, cells_at, cell_of, CellKeeps}
@@ -62,7 +61,7 @@ abbrev pub AllKeep : Limits → List Job → Type 0
 AllKeep limits jobs = All (KeepsLimits limits) jobs
 
 -- A job to a revision that the document of this number holds: what comes of it is the document with its sources after the edits up to
--- that revision, and it is made of just those edits, behind the delta that makes what the document held at its floor.
+-- that revision.
 pub record IsJobTo (documents : List DocumentRecord) (document revision : ℕ) (job : Job) : Type 0 where
   pub number : job.document ≡ document
   pub found : DocumentRecord
@@ -71,4 +70,3 @@ pub record IsJobTo (documents : List DocumentRecord) (document revision : ℕ) (
   pub held : found.past.floor ≤ revision
   pub reached : revision ≤ revision_of found
   pub is : cell_of_job job ≡ cell_of found revision
-  pub deltas : job.deltas ≡ replay_of found.past revision

@@ -6,8 +6,11 @@ pub mod Marks
 pub mod Marked
 pub mod Jobs
 pub mod Open
+pub mod Knows
+pub mod Unwritten
 pub mod Goes
 pub mod Run
+pub mod Begun
 pub mod Due
 pub mod Formatting
 pub mod steps

@@ -5,8 +5,6 @@ use Rattle.revision.specs.Command.{Taken}
 use Rattle.journal.specs.BatchSpelling.{batch as spelled, batch_width}
 use Rattle.revision.specs.State.{State, fold}
 use Rattle.history.specs.Cell.{Pair, cells_at, freed, with_pair}
-use Rattle.history.specs.declared.pick.Pick.{Pick}
-use Rattle.history.specs.Found.{StandFor}
 use Rattle.history.specs.Running.{Runs}
 use Rattle.milestone.specs.Job.{Job, cell_of_job}
 use Rattle.milestone.specs.Cells.{with_cell}
@@ -22,7 +20,7 @@ use Rattle.recovery.specs.Cells.{AreCellsOf, FitEach, lowest_known}
 use Rattle.recovery.specs.declared.marks.Mark.{Mark}
 use Rattle.recovery.specs.Marks.{marks_of, greatest_marked}
 use Rattle.recovery.specs.Marked.{AreMarked}
-use Rattle.recovery.specs.Jobs.{jobs_of, jobs_for, with_job, CanAllBePut, IsJobTo}
+use Rattle.recovery.specs.Jobs.{jobs_of, jobs_for, CanAllBePut}
 use Rattle.recovery.specs.Found.{limits_of, commands_of, HoldsParts, FoundAs}
 
 -- a content that stands for a state that agrees with the one before a batch, or with the one with it
@@ -81,41 +79,6 @@ module _ {D : Type 0} {disk : Ghosts D} where
     pub jobs : kept_jobs new ≡ kept_jobs old
     pub state : new.state ≡ old.state
     pub failed : new.failed ≡ old.failed
-
-  -- a call has left all of the store as it was but for the jobs that it keeps
-  pub record IsUnchangedButJobs (old new : Store D disk) : Type 0 where
-    pub device : new.device ≡ old.device
-    pub shape : new.shape ≡ old.shape
-    pub ring : new.ring ≡ old.ring
-    pub cells : known_cells new ≡ known_cells old
-    pub marks : known_marks new ≡ known_marks old
-    pub state : new.state ≡ old.state
-    pub failed : new.failed ≡ old.failed
-
-  -- the kept jobs are those of before, or those with a job to this revision of a document, in place of what was kept of it
-  abbrev pub MayKeepJob : ℕ → ℕ → Store D disk → Store D disk → Type 0
-  MayKeepJob document revision old new =
-      (kept_jobs new ≡ kept_jobs old) ⊎ ((job : Job) × IsJobTo (state_of old).documents document revision job × (kept_jobs new ≡ with_job job (kept_jobs old)))
-
-  -- nothing of a milestone of a document at a revision was put, though its job may be kept
-  pub record IsUnwritten (document revision : ℕ) (old new : Store D disk) : Type 0 where
-    pub same : IsUnchangedButJobs old new
-    pub jobs : MayKeepJob document revision old new
-
-  -- What a store knows is what a content holds, whoever wrote that: its shape, the ring of its slots, its cells and the marks of its
-  -- segments are those of the content's parts, which stand by this pick for the state that it holds.
-  pub record Knows (content : List ℕ) (pick : Pick) (store : Store D disk) : Type 0 where
-    pub cells : List Pair
-    pub table : List (Option Segment)
-    pub batches : List (List Taken)
-    pub holds : HoldsParts content store.shape cells table batches
-    pub fits : Fits content store.ring table
-    pub ring_at : at_of store.ring ≡ slots_place store.shape
-    pub ring_size : size_of store.ring ≡ store.shape.slot
-    pub cells_are : AreCellsOf store.shape store.cells.items
-    pub cells_fit : FitEach content store.cells.items cells
-    pub marked : AreMarked table (marks_of store.marks)
-    pub stand : StandFor (limits_of store.shape) cells (commands_of batches) pick store.state
 
   -- The device is synced, and a store runs on it with the state that is held: its content holds these parts, the ring is that of its
   -- slots, its cells and the marks of its segments are known, its cells and entries are of the order of commands that the state

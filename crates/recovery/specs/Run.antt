@@ -1,5 +1,5 @@
 -- Runs of steps, and what a crash within one leaves.
-use Rattle.std.specs.Prelude.{◌≡◌, ◌≢◌, ◌⊎◌, true, false, Some, slice_get, ◌+◌, ◌≤◌, ◌<◌, ◌^◌, ℕ, List, [], ◌∷◌, length, take, map, get_or}
+use Rattle.std.specs.Prelude.{◌≡◌, ◌≢◌, ◌⊎◌, true, false, Some, slice_get, ◌≤◌, ◌<◌, ◌^◌, ℕ, List, [], ◌∷◌, length, take, map, get_or}
 use Rattle.disk.specs.declared.device.Disk.{Ghosts}
 use Rattle.disk.specs.Crash.{LeavesOnly}
 use Rattle.refusal.specs.declared.Refusal.{Refusal}
@@ -8,14 +8,13 @@ use Rattle.revision.specs.Command.{Taken}
 use Rattle.revision.specs.State.{State, fold, all_grow}
 use Rattle.history.specs.Cell.{cells_at}
 use Rattle.milestone.specs.Job.{Job}
-use Rattle.segments.specs.Ring.{IsSameOrOpened}
 use Rattle.recovery.specs.declared.store.Store.{Store}
 use Rattle.recovery.specs.declared.run.StoreStep.{StoreStep}
 use Rattle.recovery.specs.declared.run.StoreStep.TheVariants.{Commit, Milestone, Retire}
 use Rattle.recovery.specs.Found.{FoundAs}
-use Rattle.recovery.specs.Jobs.{IsJobTo, no_job_for, highest, without_job}
+use Rattle.recovery.specs.Jobs.{IsJobTo, no_job_for, highest}
 use Rattle.recovery.specs.Marked.{MayRetire}
-use Rattle.recovery.specs.Open.{FitsSlot, IsOpen, IsCommittedNow, IsPutNow, IsRetiredNow, IsUnchanged, IsUnwritten, IsWithOrWithout, device_of, ring_of, state_of, known_cells, known_marks, kept_jobs, has_failed, has_room}
+use Rattle.recovery.specs.Open.{FitsSlot, IsOpen, IsCommittedNow, IsPutNow, IsRetiredNow, IsUnchanged, device_of, state_of, has_failed, has_room}
 
 -- the batch of a step, empty where it commits none
 abbrev pub batch_of : StoreStep → List Taken
@@ -26,12 +25,6 @@ batch_of Retire = []
 -- the batch of the step at a place, from 0
 abbrev pub batch_at : List StoreStep → ℕ → List Taken
 batch_at steps at = get_or (map batch_of steps) at []
-
--- the jobs that are kept behind a step: a milestone that is put drops the job of its document
-abbrev pub jobs_behind : StoreStep → List Job → List Job
-jobs_behind (Commit batch) jobs = jobs
-jobs_behind (Milestone document revision) jobs = without_job document jobs
-jobs_behind Retire jobs = jobs
 
 -- the state after steps in order
 abbrev pub state_after : State → List StoreStep → State
@@ -85,11 +78,10 @@ module _ {D : Type 0} {disk : Ghosts D} where
   IsTaken Retire old new =
       (has_failed new ≡ false) × (state_of new ≡ state_of old) × ((is_open : IsOpen old) → IsGivenUp old is_open new)
 
-  -- steps were taken, one behind the other, and of the kept jobs each dropped what it drops
+  -- steps were taken, one behind the other
   abbrev pub AreTaken : List StoreStep → Store D disk → Store D disk → Type 0
   AreTaken [] old new = new ≡ old
-  AreTaken (step ∷ steps) old new =
-      (mid : Store D disk) × (IsTaken step old mid × (kept_jobs mid ≡ jobs_behind step (kept_jobs old))) × AreTaken steps mid new
+  AreTaken (step ∷ steps) old new = (mid : Store D disk) × IsTaken step old mid × AreTaken steps mid new
 
   -- Within a run so many of its first steps had been taken at a moment, by a store in the middle of it. A crash at that moment or at any
   -- later one leaves the state after no fewer of them.
@@ -107,31 +99,10 @@ module _ {D : Type 0} {disk : Ghosts D} where
       (is_open : IsOpen store) → no_job_for (slice_get (state_of store).documents document) (highest (cells_at is_open.cells document)) revision ≡ Some refusal
   IsWhy Retire refusal store = (refusal ≡ StillNeeded) × ((is_open : IsOpen store) → ¬ MayRetire is_open.table is_open.cells)
 
-  -- What a step leaves for which memory ran out: a commit at most a slot that was opened for its batch, a milestone at most its job. A
-  -- retirement takes no memory.
-  abbrev pub IsLeftByMemory : StoreStep → Store D disk → Store D disk → Type 0
-  IsLeftByMemory (Commit batch) old new =
-      IsSameOrOpened (ring_of old) (ring_of new) × (known_cells new ≡ known_cells old)
-      × (length (disk.past (device_of new)) ≤ length (disk.past (device_of old)) + 4)
-  IsLeftByMemory (Milestone document revision) old new = IsUnwritten document revision old new
-  IsLeftByMemory Retire old new = ⊥
-
-  -- What a refused step leaves, whatever refused it: nothing behind that step was begun. The state, the marks and the jobs of other
-  -- documents stay, and a crash at any moment of its few calls of the device leaves the state before it, or the one with its batch.
-  pub record IsLeftBy (step : StoreStep) (refusal : Refusal) (old new : Store D disk) : Type 0 where
-    pub state : state_of new ≡ state_of old
-    pub marks : known_marks new ≡ known_marks old
-    pub jobs : jobs_behind step (kept_jobs new) ≡ jobs_behind step (kept_jobs old)
-    pub calls : length (disk.past (device_of new)) ≤ length (disk.past (device_of old)) + 8
-    pub any_moment : has_failed old ≡ false → IsOpen old
-        → LeavesOnly disk (IsWithOrWithout (state_of old) (batch_of step)) (device_of old) (device_of new)
-    pub memory : refusal ≡ NoMemory → IsLeftByMemory step old new
-
   -- A run stopped at a step: those before it were taken, and the store that they led to refused it for this reason, and was left
-  -- as it was, where neither its device failed nor memory ran out, and else with no more than that step began.
+  -- as it was, where neither its device failed nor memory ran out.
   pub record IsStopped (steps : List StoreStep) (at : ℕ) (refusal : Refusal) (old new : Store D disk) : Type 0 where
     pub last : Store D disk
     pub taken : AreTaken (take at steps) old last
     pub why : refusal ≢ NoMemory → refusal ≢ Fault → IsWhy (get_or steps at Retire) refusal last
     pub left : refusal ≢ NoMemory → refusal ≢ Fault → IsUnchanged last new
-    pub begun : IsLeftBy (get_or steps at Retire) refusal last new

@@ -10,7 +10,8 @@ ghost use Rattle.recovery.specs.Due.{due_of, due_for, IsPutDue};
 ghost use Rattle.recovery.specs.Found.{FoundAs};
 ghost use Rattle.recovery.specs.Goes.{Goes};
 ghost use Rattle.recovery.specs.Jobs.{highest, no_job_of, no_job_for, without_job};
-ghost use Rattle.recovery.specs.Open.{IsOpen, IsUnchanged, IsUnwritten, device_of, state_of, known_cells, kept_jobs, has_failed};
+ghost use Rattle.recovery.specs.Open.{IsOpen, IsUnchanged, device_of, state_of, known_cells, kept_jobs, has_failed};
+ghost use Rattle.recovery.specs.Unwritten.{IsUnwritten};
 ghost use Rattle.recovery.specs.steps.Freeing.{IsOverFewer};
 
 use crate::milestone_jobs::highest_of;

@@ -1,14 +1,16 @@
 //! Handing out the jobs of milestones.
 ghost use Rattle.std.specs.Prelude.{◌≡◌, ◌≢◌, ◌⊎◌, ◌≤◌, true, false, Some, None, slice_get, OnOk, OnErr, IfOk, IfErr, IfSome, IsErrOf, IsOkUnless};
 ghost use Rattle.refusal.specs.declared.Refusal.{Refusal as Why};
-ghost use Rattle.revision.specs.Past.{sources_at, replay_of};
+ghost use Rattle.revision.specs.Past.{sources_at};
 ghost use Rattle.revision.specs.Pending.{record_of};
+ghost use Rattle.revision.specs.Replay.{replay_of};
 ghost use Rattle.revision.specs.State.{are_sources, revision_of};
 ghost use Rattle.history.specs.Cell.{cells_at, cell_of};
 ghost use Rattle.milestone.specs.Job.{cell_of_job};
 ghost use Rattle.recovery.specs.Cells.{highest_known};
 ghost use Rattle.recovery.specs.Jobs.{IsJobTo, KeepsLimits, highest, no_job_of, no_job_for, with_job};
-ghost use Rattle.recovery.specs.Open.{IsOpen, IsUnchanged, IsUnchangedButJobs, IsStillOver, device_of, ring_of, state_of, known_cells, known_marks, has_failed, kept_jobs};
+ghost use Rattle.recovery.specs.Open.{IsOpen, IsUnchanged, IsStillOver, device_of, ring_of, state_of, known_cells, known_marks, has_failed, kept_jobs};
+ghost use Rattle.recovery.specs.Unwritten.{IsMadeOf, IsUnchangedButJobs};
 
 use crate::store::Store;
 use disk::Disk;
@@ -45,12 +47,16 @@ impl<D: Disk> Store<D> {
         ensures refusal_by { IfErr result (λ e. e ≢ Refusal.NoMemory → e ≢ Refusal.Fault
             → no_job_for (slice_get (state_of self.old).documents document)
             (highest_known (known_cells self.old) document) revision ≡ Some e) }
+        ensures refused_by { has_failed self.old ≡ false → (why : Why)
+            → no_job_for (slice_get (state_of self.old).documents document)
+            (highest_known (known_cells self.old) document) revision ≡ Some why → IsErrOf result why }
         ensures works { has_failed self.old ≡ false → ¬ IsErrOf result Refusal.Fault }
         ensures only { IfErr result (λ e. ((e ≡ Refusal.NoDocument) ⊎ ((e ≡ Refusal.Future) ⊎ (e ≡ Refusal.TooOld)))
             ⊎ ((e ≡ Refusal.NoMemory) ⊎ (e ≡ Refusal.Fault))) }
 
         // What it gives.
         ensures job { IfOk result (λ job. IsJobTo (state_of self.old).documents document revision job) }
+        ensures made { IfOk result (λ job. IsMadeOf (state_of self.old).documents document revision job) }
         ensures keeps { IfOk result (λ job. kept_jobs self.new ≡ with_job job (kept_jobs self.old)) }
 
         // Nothing but the kept jobs changes.
@@ -76,6 +82,7 @@ impl<D: Disk> Store<D> {
     // The job, or why there is none.
     fn job_to(&self, alloc: Global, document: u32, revision: u64) -> Result<Job, Refusal>
         ensures job { IfOk result (λ job. IsJobTo (state_of self.now).documents document revision job) }
+        ensures made { IfOk result (λ job. IsMadeOf (state_of self.now).documents document revision job) }
         ensures keeps { IfOk result (λ job. KeepsLimits (state_of self.now).limits job) }
         ensures given { OnOk result
             (no_job_for (slice_get (state_of self.now).documents document)

@@ -7,8 +7,9 @@ ghost use Rattle.milestone.specs.Job.{cell_of_job};
 ghost use Rattle.recovery.specs.Cells.{highest_known};
 ghost use Rattle.recovery.specs.Found.{FoundAs};
 ghost use Rattle.recovery.specs.Jobs.{highest, no_job_for, without_job};
-ghost use Rattle.recovery.specs.Open.{IsOpen, IsUnchanged, IsUnwritten, MayKeepJob, IsPutNow, device_of, ring_of, state_of, known_cells, known_marks, has_failed, kept_jobs};
+ghost use Rattle.recovery.specs.Open.{IsOpen, IsUnchanged, IsPutNow, device_of, ring_of, state_of, known_cells, known_marks, has_failed, kept_jobs};
 ghost use Rattle.recovery.specs.Run.{IsPutAt};
+ghost use Rattle.recovery.specs.Unwritten.{IsUnwritten, MayKeepJob};
 
 use crate::store::Store;
 use disk::Disk;

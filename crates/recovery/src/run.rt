@@ -5,7 +5,8 @@ ghost use Rattle.disk.specs.Crash.{LeavesOnly, MayLeaveNow};
 ghost use Rattle.refusal.specs.declared.Refusal.TheVariants.{JournalFull, Stranger, NoMemory, Fault};
 ghost use Rattle.revision.specs.State.{all_grow, fold};
 ghost use Rattle.recovery.specs.Open.{IsOpen, IsUnchanged, IsWithOrWithout, device_of, state_of, has_failed, has_room, kept_jobs};
-ghost use Rattle.recovery.specs.Run.{CanTake, IsOfStep, IsTaken, AreTaken, IsWhy, IsStopped, IsLeftBy, IsAfterSome, IsKeptFrom, state_after, batch_of, batch_at, jobs_behind};
+ghost use Rattle.recovery.specs.Begun.{IsBegun, IsLeftBy, jobs_behind, jobs_after};
+ghost use Rattle.recovery.specs.Run.{CanTake, IsOfStep, IsTaken, AreTaken, IsWhy, IsStopped, IsAfterSome, IsKeptFrom, state_after, batch_of, batch_at};
 
 use crate::store::Store;
 use disk::Disk;
@@ -48,8 +49,13 @@ impl<D: Disk> Store<D> {
         ensures failed_before { has_failed self.old ≡ true → OnOk result (steps.now ≡ [])
             × IfErr result (λ stop. (stop.at ≡ 0) × (stop.refusal ≡ Fault)) × IsUnchanged self.old self.new }
 
-        // Why it stopped: by the store that the steps before led to, and by the one that it left. What comes behind the step at
-        // which it stopped was not begun.
+        // Of the kept jobs a milestone drops its document's, and no other step drops one.
+        ensures jobs { OnOk result (kept_jobs self.new ≡ jobs_after steps.now (kept_jobs self.old)) }
+
+        // What comes behind the step at which it stopped was not begun.
+        ensures begun { IfErr result (λ stop. IsBegun steps.now stop.at stop.refusal self.old self.new) }
+
+        // Why it stopped: by the store that the steps before led to, and by the one that it left.
         ensures refused { IfErr result (λ stop. IsStopped steps.now stop.at stop.refusal self.old self.new) }
         ensures full { IfErr result (λ stop. stop.refusal ≡ JournalFull
             → has_room self.new (batch_at steps.now stop.at) ≡ false) }

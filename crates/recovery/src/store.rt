@@ -64,8 +64,9 @@ impl<D: Disk> Store<D> {
     ghost use Rattle.recovery.specs.Layout.{IsFormatted};
     ghost use Rattle.recovery.specs.Found.{Found, FoundAs};
     ghost use Rattle.revision.specs.Agree.{Agree};
+    ghost use Rattle.recovery.specs.Knows.{Knows};
     ghost use Rattle.revision.specs.State.{fold, all_grow, first_grows};
-    ghost use Rattle.recovery.specs.Open.{FitsSlot, IsOpen, IsUnchanged, Knows, IsCommittedNow, IsWithOrWithout, device_of, ring_of, state_of, has_failed, has_room, kept_jobs, known_cells, known_marks, fits_newest_segment};
+    ghost use Rattle.recovery.specs.Open.{FitsSlot, IsOpen, IsUnchanged, IsCommittedNow, IsWithOrWithout, device_of, ring_of, state_of, has_failed, has_room, kept_jobs, known_cells, known_marks, fits_newest_segment};
 
     /// Opens a formatted device, by the newer or the older cell of each document: syncs it, then reads, and writes nothing.
     /// `NotFormatted` comes just where the superblock's gate is closed or the device has less than 64 bytes, `Damaged` just

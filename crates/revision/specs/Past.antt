@@ -1,11 +1,11 @@
 -- What is held of a document's past: its units at one revision, the floor, and the deltas of the revisions after it, in order.
-use Rattle.std.specs.Prelude.{◌≡◌, ℕ, ◌+◌, ◌-◌, ◌≤◌, ◌<◌, ◌^◌, ◌==◌, if◌then◌else◌, max, List, [], ◌∷◌, ◌++◌, length, take, drop, map, refl}
+use Rattle.std.specs.Prelude.{◌≡◌, ℕ, ◌+◌, ◌-◌, ◌≤◌, ◌<◌, ◌^◌, max, List, [], ◌∷◌, ◌++◌, length, take, drop, map, refl}
 use Rattle.std.specs.Coded.{Coded, code_by, coded×, coded_list, coded_ℕ}
 use Rattle.attributes.specs.Map.{empty}
 use Rattle.delta.specs.Element.{Element}
 use Rattle.delta.specs.ElementCode.{element_code}
 use Rattle.delta.specs.Operation.{Operation, operation_code}
-use Rattle.delta.specs.Gaps.{End, counted, apply}
+use Rattle.delta.specs.Gaps.{counted, apply}
 use Rattle.delta.specs.Normal.{nf}
 use Rattle.document.specs.Outcome.{IsAccepted}
 use Rattle.compose.specs.Inverse.{inverse}
@@ -105,15 +105,6 @@ with_change keep past change =
 -- the units at the newest revision
 abbrev pub newest_units : Past → List Element
 newest_units past = (content_at past (newest past)).units
-
--- The deltas that lead from the empty document to a revision that is held: the first makes, by inserts alone, what stands at the floor, and
--- behind it come those of the revisions after the floor.
-abbrev pub deltas_to : Past → ℕ → List (List Operation)
-deltas_to past revision = nf (End past.content.units) ∷ take (revision - past.floor) (deltas_of past)
-
--- The same where what stands at the newest revision is at hand: to that one it is the one delta that makes it.
-abbrev pub replay_of : Past → ℕ → List (List Operation)
-replay_of past revision = if revision == newest past then nf (End (newest_units past)) ∷ [] else deltas_to past revision
 
 -- several revisions more
 abbrev pub with_changes : ℕ → Past → List Change → Past

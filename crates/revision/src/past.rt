@@ -7,8 +7,9 @@ ghost use Rattle.document.specs.Outcome.{IsAccepted};
 ghost use Rattle.compose.specs.Many.{applied};
 ghost use Rattle.revision.specs.Floors.{raised};
 ghost use Rattle.revision.specs.Late.{late as late_edit, all_inserted, HasCommandRoom};
-ghost use Rattle.revision.specs.Past.{StandInTurn, newest, content_at, deltas_of, deltas_above, deltas_to, undo_of, way_back, way_back_late, with_changes, prepared_units, prepared_revision, without_last, sources_after, sources_at, changes_by};
+ghost use Rattle.revision.specs.Past.{StandInTurn, newest, content_at, deltas_of, deltas_above, undo_of, way_back, way_back_late, with_changes, prepared_units, prepared_revision, without_last, sources_after, sources_at, changes_by};
 ghost use Rattle.revision.specs.Name.{is_source_name};
+ghost use Rattle.revision.specs.Replay.{deltas_to};
 ghost use Rattle.revision.specs.Sources.{with_last};
 
 use crate::late::{late, past_all};

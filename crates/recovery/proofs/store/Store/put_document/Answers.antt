@@ -159,18 +159,18 @@ returns-in-Err-clause-memory g c told = unwritten_same c.args.document c.args.re
 
 pub returns-in-Err-compose_job-clause-memory : goal.returns-in-Err-compose_job-clause-memory
 returns-in-Err-compose_job-clause-memory g c told =
-    unwritten_kept c.args.document c.args.revision c.in-Ok.job c.milestone_job.ensures.same c.in-Ok.ensures.job c.in-Ok.ensures.keeps
+    unwritten_kept c.args.document c.args.revision c.in-Ok.job c.milestone_job.ensures.same c.in-Ok.ensures.job c.in-Ok.ensures.made c.in-Ok.ensures.keeps
 
 pub returns-in-Err-put_milestone-clause-memory : goal.returns-in-Err-put_milestone-clause-memory
 returns-in-Err-put_milestone-clause-memory g c told =
-    unwritten_behind c.args.document c.args.revision c.in-Ok.job c.milestone_job.ensures.same c.in-Ok.ensures.job c.in-Ok.ensures.keeps
+    unwritten_behind c.args.document c.args.revision c.in-Ok.job c.milestone_job.ensures.same c.in-Ok.ensures.job c.in-Ok.ensures.made c.in-Ok.ensures.keeps
     (c.in-Err-put_milestone.ensures.untouched (inr told))
 
 pub returns-in-Err-clause-job : goal.returns-in-Err-clause-job
 returns-in-Err-clause-job g c = inl c.in-Err.ensures.untouched.jobs
 
 pub returns-in-Err-compose_job-clause-job : goal.returns-in-Err-compose_job-clause-job
-returns-in-Err-compose_job-clause-job g c = inr (c.in-Ok.job, c.in-Ok.ensures.job, c.in-Ok.ensures.keeps)
+returns-in-Err-compose_job-clause-job g c = inr (c.in-Ok.job, (c.in-Ok.ensures.job, c.in-Ok.ensures.made), c.in-Ok.ensures.keeps)
 
 pub returns-in-Err-put_milestone-clause-job : goal.returns-in-Err-put_milestone-clause-job
-returns-in-Err-put_milestone-clause-job g c = inr (c.in-Ok.job, c.in-Ok.ensures.job, c.in-Err-put_milestone.ensures.jobs ∙ c.in-Ok.ensures.keeps)
+returns-in-Err-put_milestone-clause-job g c = inr (c.in-Ok.job, (c.in-Ok.ensures.job, c.in-Ok.ensures.made), c.in-Err-put_milestone.ensures.jobs ∙ c.in-Ok.ensures.keeps)

@@ -4,7 +4,8 @@ use Rattle.disk.proofs.CallerLemmas.{leaves_map}
 use Rattle.refusal.specs.declared.Refusal.TheVariants.{NoMemory, Fault}
 use Rattle.recovery.specs.declared.run.StoreStep.{StoreStep}
 use Rattle.recovery.specs.Open.{kept_jobs}
-use Rattle.recovery.specs.Run.{IsTaken, IsWhy, IsLeftBy, jobs_behind}
+use Rattle.recovery.specs.Begun.{IsLeftBy, jobs_behind}
+use Rattle.recovery.specs.Run.{IsTaken, IsWhy}
 use Rattle.recovery.proofs.HandedOut.{on_ok}
 use Rattle.recovery.proofs.Begun.{left_commit, left_milestone, left_retire}
 use Rattle.recovery.proofs.PutAtOnce.{committed_by, put_taken, given_up, retire_why, goes_on_retired, goes_on_needed}

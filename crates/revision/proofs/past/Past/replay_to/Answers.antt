@@ -1,4 +1,4 @@
-use Rattle.std.proofs.Common.{◌-◌, List, take, drop, sym, ap, ap₂, subst, ◌∙◌, ◌∷◌}
+use Rattle.std.proofs.Common.{◌-◌, ◌≤◌, ◌^◌, List, length, take, drop, sym, ap, ap₂, subst, ◌∙◌, ◌∷◌}
 use Rattle.delta.specs.Element.{Element}
 use Rattle.delta.specs.Operation.{Operation}
 use Rattle.delta.specs.Gaps.{End}
@@ -7,7 +7,8 @@ use Rattle.compose.specs.Many.{applied}
 use Rattle.revision.specs.declared.taker.Taker.{Taker}
 use Rattle.revision.specs.Past.{StandInTurn, sources_after, changes_by}
 use Rattle.revision.specs.PastView.{parts_of}
-use Rattle.revision.proofs.Replaying.{replay_sources, floor_held, floor_there, content_there, floor_deltas, floor_stand, floor_short, floor_applied}
+use Rattle.revision.proofs.Replaying.{replay_sources}
+use Rattle.revision.proofs.FromFloor.{floor_held, floor_there, content_there, floor_deltas, floor_stand, floor_short, floor_applied}
 use Rattle.revision.proofs.past.Past.replay_to.Goals as goal
 
 pub document_at-requires-clause-held : goal.document_at-requires-clause-held
@@ -18,7 +19,8 @@ document_at-requires-clause-there c = floor_there (parts_of c.self.inside) c.sel
 
 pub deltas_from_empty-requires-clause-short : goal.deltas_from_empty-requires-clause-short
 deltas_from_empty-requires-clause-short c =
-    rw c.in_ok-document.ensures.document (floor_short (parts_of c.self.inside) c.self.invariant c.args.self.now c.self.view_is c.args.revision c.requires.held c.requires.there)
+    subst (λ (units : List Element). length units ≤ 2 ^ 29) (sym c.in_ok-document.ensures.document)
+    (floor_short (parts_of c.self.inside) c.self.invariant c.args.self.now c.self.view_is c.args.revision c.requires.held c.requires.there)
 
 pub deltas_from_empty-requires-clause-stand : goal.deltas_from_empty-requires-clause-stand
 deltas_from_empty-requires-clause-stand c =
