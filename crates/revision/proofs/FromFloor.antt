@@ -1,6 +1,6 @@
 -- What leads from the empty document to a revision that is held, from what stands at the floor on.
 use Rattle.std.proofs.Common.{◌≡◌, ℕ, ◌+◌, ◌-◌, ◌≤◌, ◌^◌, List, [], length, take, drop, refl, sym, ap, ap₂, subst, ◌∙◌, arith}
-use Rattle.std.proofs.lemmas.List.{take-take, drop-take}
+use Rattle.std.proofs.lemmas.List.{take-take, drop-take, take_all, length-drop}
 use Rattle.delta.specs.Element.{Element}
 use Rattle.delta.specs.Operation.{Operation}
 use Rattle.compose.specs.Many.{applied}
@@ -8,6 +8,10 @@ use Rattle.revision.specs.Past.{Past, Prepared, Parts, AreParts, StandInTurn, ne
 use Rattle.revision.proofs.Kept.{stand-between}
 use Rattle.revision.proofs.Parts.{seen-deltas, above_floor, below_newest, document_is}
 use Rattle.revision.proofs.Replaying.{short_there}
+
+-- a slice from a place on
+pub slice-from : (n : ℕ) (xs : List (List Operation)) → take (length xs - n) (drop n xs) ≡ drop n xs
+slice-from n xs = take_all (length xs - n) (drop n xs) (omega (arith, length-drop n xs))
 
 -- what is kept, from the floor on
 module _ (parts : Parts) (is : AreParts parts) (now : Prepared) (same : seen parts ≡ now) (revision : ℕ) (held : now.past.floor ≤ revision) (there : revision ≤ newest now.past) where
