@@ -23,6 +23,8 @@ pub mod Rooms
 pub mod PutCells
 pub mod Putting
 pub mod PutAtOnce
+pub mod Unwritten
+pub mod Begun
 pub mod KeptFrom
 pub mod Faults
 pub mod Freed

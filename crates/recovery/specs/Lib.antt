@@ -6,9 +6,12 @@ pub mod Marks
 pub mod Marked
 pub mod Jobs
 pub mod Open
+pub mod Knows
+pub mod Unwritten
 pub mod Goes
 pub mod Laws
 pub mod Run
+pub mod Begun
 pub mod Due
 pub mod Formatting
 pub mod steps

@@ -1,5 +1,5 @@
 //! Putting the milestones of documents where they are due.
-ghost use Rattle.std.specs.Prelude.{◌≡◌, ◌≢◌, ◌⊎◌, ◌↔◌, ◌≤◌, true, false, None, slice_get, OnOk, IfOk, IfErr, IfSome, IsErrOf, IsOkUnless};
+ghost use Rattle.std.specs.Prelude.{◌≡◌, ◌≢◌, ◌⊎◌, ◌↔◌, ◌+◌, ◌≤◌, ℕ, true, false, None, Some, length, slice_get, OnOk, IfOk, IfErr, IfSome, IsErrOf, IsOkUnless};
 ghost use Rattle.disk.specs.Calls.{CountsFaultsAs};
 ghost use Rattle.disk.specs.Device.{Rose};
 ghost use Rattle.disk.specs.Crash.{LeavesOnly};
@@ -11,6 +11,7 @@ ghost use Rattle.recovery.specs.Found.{FoundAs};
 ghost use Rattle.recovery.specs.Goes.{Goes};
 ghost use Rattle.recovery.specs.Jobs.{highest, no_job_of, no_job_for, without_job};
 ghost use Rattle.recovery.specs.Open.{IsOpen, IsUnchanged, device_of, state_of, known_cells, kept_jobs, has_failed};
+ghost use Rattle.recovery.specs.Unwritten.{IsUnwritten};
 ghost use Rattle.recovery.specs.steps.Freeing.{IsOverFewer};
 
 use crate::milestone_jobs::highest_of;
@@ -24,8 +25,8 @@ impl<D: Disk> Store<D> {
     /// Puts a milestone of a document, at its revision, where one is due: where the greatest multiple of `every` up to that is above
     /// the revisions of its open cells. Behind it the oldest segment is retired, where nothing needs it any more. True comes where
     /// one was put. False comes where none was due, and where there is no document of this number, and makes no call of the
-    /// device. It is refused for want of memory and a failed device alone. After a `Fault` the store has failed. The documents
-    /// stay.
+    /// device. It is refused for want of memory and a failed device alone. Want of memory leaves the device as it was, and may
+    /// leave the job of the document kept. After a `Fault` the store has failed. The documents stay.
     pub fn put_due(&mut self, alloc: Global, document: u32, every: u64) -> Result<bool, Refusal>
         requires some { 1 ≤ every }
 
@@ -43,6 +44,13 @@ impl<D: Disk> Store<D> {
             → due_for every (slice_get (state_of self.old).documents document)
             (highest (cells_at is_open.cells document)) ≡ None) }
         ensures untouched { IfOk result (λ put. put ≡ false → IsUnchanged self.old self.new) }
+        ensures dropped { IfOk result (λ put. put ≡ true
+            → kept_jobs self.new ≡ without_job document (kept_jobs self.old)) }
+        // Where memory ran out nothing was put or retired, and all is as it was but for the job of the document, which may be kept.
+        ensures memory { IsErrOf result Refusal.NoMemory → (revision : ℕ)
+            × (due_for every (slice_get (state_of self.old).documents document)
+            (highest_known (known_cells self.old) document) ≡ Some revision)
+            × IsUnwritten document revision self.old self.new }
 
         // What each answer leaves.
         ensures state { state_of self.new ≡ state_of self.old }
@@ -60,6 +68,9 @@ impl<D: Disk> Store<D> {
             (device_of self.new) }
         ensures done { OnOk result (IsOpen self.old → IsOpen self.new) }
         ensures kept { IfErr result (λ e. e ≢ Refusal.Fault → IsOpen self.old → IsOpen self.new) }
+
+        // Eight calls of the device at most: six for the milestone, and two for the segment.
+        ensures calls { length (D.past (device_of self.new)) ≤ length (D.past (device_of self.old)) + 8 }
         ensures honest { D.honest (device_of self.new) ↔ D.honest (device_of self.old) }
     {
         if self.failed {
@@ -87,6 +98,7 @@ impl<D: Disk> Store<D> {
         ensures faults { CountsFaultsAs ⟦<D as Disk>⟧ Refusal.Fault result (device_of self.old) (device_of self.new) }
         ensures goes { Goes (λ content. FoundAs content (state_of self.old)) self.old self.new }
         ensures slots { OnOk result ((is_open : IsOpen self.old) → IsOverFewer is_open.cells is_open.table self.new) }
+        ensures calls { length (D.past (device_of self.new)) ≤ length (D.past (device_of self.old)) + 2 }
         ensures honest { D.honest (device_of self.new) ↔ D.honest (device_of self.old) }
     {
         let retired = self.retire();

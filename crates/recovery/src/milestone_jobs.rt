@@ -3,12 +3,14 @@ ghost use Rattle.std.specs.Prelude.{◌≡◌, ◌≢◌, ◌⊎◌, ◌≤◌, 
 ghost use Rattle.refusal.specs.declared.Refusal.{Refusal as Why};
 ghost use Rattle.revision.specs.Past.{sources_at};
 ghost use Rattle.revision.specs.Pending.{record_of};
+ghost use Rattle.revision.specs.Replay.{replay_of};
 ghost use Rattle.revision.specs.State.{are_sources, revision_of};
 ghost use Rattle.history.specs.Cell.{cells_at, cell_of};
 ghost use Rattle.milestone.specs.Job.{cell_of_job};
 ghost use Rattle.recovery.specs.Cells.{highest_known};
 ghost use Rattle.recovery.specs.Jobs.{IsJobTo, KeepsLimits, highest, no_job_of, no_job_for, with_job};
 ghost use Rattle.recovery.specs.Open.{IsOpen, IsUnchanged, IsStillOver, device_of, ring_of, state_of, known_cells, known_marks, has_failed, kept_jobs};
+ghost use Rattle.recovery.specs.Unwritten.{IsMadeOf, IsUnchangedButJobs};
 
 use crate::store::Store;
 use disk::Disk;
@@ -18,9 +20,10 @@ use revision::{DocState, Replay};
 use std::alloc::Global;
 
 impl<D: Disk> Store<D> {
-    /// What a milestone of a document at a revision is made of: the edits up to that revision, with the document's sources there. It
-    /// copies them, and applies none, so that a job can be composed in another thread; the store keeps a copy of it, of each
-    /// document the last one.
+    /// What a milestone of a document at a revision is made of: what the document held at its floor, as one delta, and the edits
+    /// behind that up to the revision, with the document's sources there; to the newest revision it is the one delta that makes
+    /// what stands there. The edits are copied, and none of them is applied, so that a job can be composed in another thread. The
+    /// store keeps a copy of it, of each document the last one.
     ///
     /// `NoDocument` comes where there is none of this number, `Future` where it hasn't reached the revision, and `TooOld` where
     /// the revision is 0, below the floor, or below that of an open cell of the document. Want of memory is told in place of no
@@ -44,15 +47,20 @@ impl<D: Disk> Store<D> {
         ensures refusal_by { IfErr result (λ e. e ≢ Refusal.NoMemory → e ≢ Refusal.Fault
             → no_job_for (slice_get (state_of self.old).documents document)
             (highest_known (known_cells self.old) document) revision ≡ Some e) }
+        ensures refused_by { has_failed self.old ≡ false → (why : Why)
+            → no_job_for (slice_get (state_of self.old).documents document)
+            (highest_known (known_cells self.old) document) revision ≡ Some why → IsErrOf result why }
         ensures works { has_failed self.old ≡ false → ¬ IsErrOf result Refusal.Fault }
         ensures only { IfErr result (λ e. ((e ≡ Refusal.NoDocument) ⊎ ((e ≡ Refusal.Future) ⊎ (e ≡ Refusal.TooOld)))
             ⊎ ((e ≡ Refusal.NoMemory) ⊎ (e ≡ Refusal.Fault))) }
 
         // What it gives.
         ensures job { IfOk result (λ job. IsJobTo (state_of self.old).documents document revision job) }
+        ensures made { IfOk result (λ job. IsMadeOf (state_of self.old).documents document revision job) }
         ensures keeps { IfOk result (λ job. kept_jobs self.new ≡ with_job job (kept_jobs self.old)) }
 
         // Nothing but the kept jobs changes.
+        ensures same { IsUnchangedButJobs self.old self.new }
         ensures untouched { OnErr result (IsUnchanged self.old self.new) }
         ensures device { device_of self.new ≡ device_of self.old }
         ensures ring { ring_of self.new ≡ ring_of self.old }
@@ -74,6 +82,7 @@ impl<D: Disk> Store<D> {
     // The job, or why there is none.
     fn job_to(&self, alloc: Global, document: u32, revision: u64) -> Result<Job, Refusal>
         ensures job { IfOk result (λ job. IsJobTo (state_of self.now).documents document revision job) }
+        ensures made { IfOk result (λ job. IsMadeOf (state_of self.now).documents document revision job) }
         ensures keeps { IfOk result (λ job. KeepsLimits (state_of self.now).limits job) }
         ensures given { OnOk result
             (no_job_for (slice_get (state_of self.now).documents document)
@@ -131,6 +140,7 @@ fn job_of(alloc: Global, document: u32, found: &DocState, revision: u64) -> Resu
     requires sources { are_sources revision (sources_at found.now.past.past revision).entries ≡ true }
     ensures document { IfOk result (λ job. job.document ≡ document) }
     ensures is { IfOk result (λ job. cell_of_job job ≡ cell_of (record_of found.now) revision) }
+    ensures deltas { IfOk result (λ job. job.deltas ≡ replay_of found.now.past.past revision) }
     ensures only { IsOkUnless result Refusal.NoMemory }
 {
     let Replay { deltas, sources } = found.replay_to(alloc, revision)?;

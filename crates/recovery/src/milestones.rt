@@ -9,6 +9,7 @@ ghost use Rattle.recovery.specs.Found.{FoundAs};
 ghost use Rattle.recovery.specs.Jobs.{highest, no_job_for, without_job};
 ghost use Rattle.recovery.specs.Open.{IsOpen, IsUnchanged, IsPutNow, device_of, ring_of, state_of, known_cells, known_marks, has_failed, kept_jobs};
 ghost use Rattle.recovery.specs.Run.{IsPutAt};
+ghost use Rattle.recovery.specs.Unwritten.{IsUnwritten, MayKeepJob};
 
 use crate::store::Store;
 use disk::Disk;
@@ -108,6 +109,8 @@ impl<D: Disk> Store<D> {
         ensures untouched { IfErr result (λ e. e ≢ Refusal.NoMemory → e ≢ Refusal.Fault
             → IsUnchanged self.old self.new) }
         ensures unwritten { IfErr result (λ e. e ≢ Refusal.Fault → device_of self.new ≡ device_of self.old) }
+        ensures memory { IsErrOf result Refusal.NoMemory → IsUnwritten document revision self.old self.new }
+        ensures job { OnErr result (MayKeepJob document revision self.old self.new) }
         ensures dropped { OnOk result (kept_jobs self.new ≡ without_job document (kept_jobs self.old)) }
 
         // What each answer leaves: the segments, what is known of them, and the kept jobs of other documents are as they were.
@@ -128,6 +131,9 @@ impl<D: Disk> Store<D> {
         ensures put { OnOk result ((is_open : IsOpen self.old) → IsPutAt document revision self.old is_open self.new) }
         ensures done { OnOk result (IsOpen self.old → IsOpen self.new) }
         ensures kept { IfErr result (λ e. e ≢ Refusal.Fault → IsOpen self.old → IsOpen self.new) }
+
+        // Six calls of the device at most.
+        ensures calls { length (D.past (device_of self.new)) ≤ length (D.past (device_of self.old)) + 6 }
         ensures honest { D.honest (device_of self.new) ↔ D.honest (device_of self.old) }
     {
         let job = match self.milestone_job(alloc, document, revision) {

@@ -1,10 +1,11 @@
 //! Whole runs of a store.
-ghost use Rattle.std.specs.Prelude.{◌≡◌, ◌≢◌, ◌⊎◌, ◌↔◌, ◌<◌, ◌≤◌, ℕ, List, [], true, false, length, take, All, OnOk, OnErr, IfErr, IsErrOf};
+ghost use Rattle.std.specs.Prelude.{◌≡◌, ◌≢◌, ◌⊎◌, ◌↔◌, ◌+◌, ◌*◌, ◌<◌, ◌≤◌, ℕ, List, [], true, false, length, take, All, OnOk, OnErr, IfErr, IsErrOf};
 ghost use Rattle.disk.specs.Device.{Rose};
 ghost use Rattle.disk.specs.Crash.{LeavesOnly, MayLeaveNow};
 ghost use Rattle.refusal.specs.declared.Refusal.TheVariants.{JournalFull, Stranger, NoMemory, Fault};
 ghost use Rattle.revision.specs.State.{all_grow, fold};
-ghost use Rattle.recovery.specs.Open.{IsOpen, IsUnchanged, IsWithOrWithout, device_of, state_of, has_failed, has_room};
+ghost use Rattle.recovery.specs.Open.{IsOpen, IsUnchanged, IsWithOrWithout, device_of, state_of, has_failed, has_room, kept_jobs};
+ghost use Rattle.recovery.specs.Begun.{IsBegun, IsLeftBy, jobs_behind, jobs_after};
 ghost use Rattle.recovery.specs.Run.{CanTake, IsOfStep, IsTaken, AreTaken, IsWhy, IsStopped, IsAfterSome, IsKeptFrom, state_after, batch_of, batch_at};
 
 use crate::store::Store;
@@ -48,6 +49,12 @@ impl<D: Disk> Store<D> {
         ensures failed_before { has_failed self.old ≡ true → OnOk result (steps.now ≡ [])
             × IfErr result (λ stop. (stop.at ≡ 0) × (stop.refusal ≡ Fault)) × IsUnchanged self.old self.new }
 
+        // Of the kept jobs a milestone drops its document's, and no other step drops one.
+        ensures jobs { OnOk result (kept_jobs self.new ≡ jobs_after steps.now (kept_jobs self.old)) }
+
+        // What comes behind the step at which it stopped was not begun.
+        ensures begun { IfErr result (λ stop. IsBegun steps.now stop.at stop.refusal self.old self.new) }
+
         // Why it stopped: by the store that the steps before led to, and by the one that it left.
         ensures refused { IfErr result (λ stop. IsStopped steps.now stop.at stop.refusal self.old self.new) }
         ensures full { IfErr result (λ stop. stop.refusal ≡ JournalFull
@@ -61,6 +68,9 @@ impl<D: Disk> Store<D> {
         ensures good { OnOk result (D.faults (device_of self.new) ≡ D.faults (device_of self.old)) }
         ensures only { IfErr result (λ stop. IsOfStep stop.refusal) }
 
+        // Eight calls of the device at most for each step.
+        ensures calls { length (D.past (device_of self.new))
+            ≤ length (D.past (device_of self.old)) + 8 * length steps.now }
         ensures works { OnOk result (has_failed self.old ≡ false → has_failed self.new ≡ false) }
         ensures fails { IfErr result (λ stop. has_failed self.old ≡ false
             → (has_failed self.new ≡ true ↔ stop.refusal ≡ Fault)) }
@@ -104,7 +114,11 @@ impl<D: Disk> Store<D> {
         ensures refused { IfErr result (λ e. e ≢ NoMemory → e ≢ Fault → IsWhy step.now e self.old) }
         ensures untouched { IfErr result (λ e. e ≢ NoMemory → e ≢ Fault → IsUnchanged self.old self.new) }
 
+        ensures left { IfErr result (λ e. IsLeftBy step.now e self.old self.new) }
+        ensures calls { length (D.past (device_of self.new)) ≤ length (D.past (device_of self.old)) + 8 }
+
         ensures taken { OnOk result (IsTaken step.now self.old self.new) }
+        ensures jobs { OnOk result (kept_jobs self.new ≡ jobs_behind step.now (kept_jobs self.old)) }
         ensures state { OnOk result (state_of self.new ≡ fold (state_of self.old) (batch_of step.now)) }
         ensures same_state { OnErr result (state_of self.new ≡ state_of self.old) }
         ensures fails { has_failed self.old ≡ false → (has_failed self.new ≡ true ↔ IsErrOf result Fault) }

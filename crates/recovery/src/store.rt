@@ -64,6 +64,7 @@ impl<D: Disk> Store<D> {
     ghost use Rattle.recovery.specs.Layout.{IsFormatted};
     ghost use Rattle.recovery.specs.Found.{Found, FoundAs};
     ghost use Rattle.revision.specs.Agree.{Agree};
+    ghost use Rattle.recovery.specs.Knows.{Knows};
     ghost use Rattle.revision.specs.State.{fold, all_grow, first_grows};
     ghost use Rattle.recovery.specs.Open.{FitsSlot, IsOpen, IsUnchanged, IsCommittedNow, IsWithOrWithout, device_of, ring_of, state_of, has_failed, has_room, kept_jobs, known_cells, known_marks, fits_newest_segment};
 
@@ -76,6 +77,8 @@ impl<D: Disk> Store<D> {
         ensures found { IfOk result (λ store. D.honest (device_of store) → Found (D.seen disk) pick (state_of store)) }
         ensures only_state { IfOk result (λ store. D.honest (device_of store) → (state : StateValue)
             → Found (D.seen disk) pick state → state ≡ state_of store) }
+        // And whoever wrote it, the ring, the cells and the marks that the store goes on with are those of its parts.
+        ensures knows { IfOk result (λ store. D.honest (device_of store) → Knows (D.seen disk) pick store) }
         ensures works { IfOk result (λ store. has_failed store ≡ false) }
         ensures no_jobs { IfOk result (λ store. kept_jobs store ≡ []) }
 

@@ -20,6 +20,7 @@ pub mod Admitting
 pub mod Room
 pub mod Replays
 mod Replaying
+mod FromFloor
 pub mod Kept
 pub mod Told
 pub mod Changing

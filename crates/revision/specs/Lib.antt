@@ -11,6 +11,7 @@ pub mod Agree
 pub mod Acceptance
 pub mod Late
 pub mod Past
+pub mod Replay
 pub mod Pending
 pub mod PastView
 pub mod Parting

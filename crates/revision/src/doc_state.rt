@@ -7,6 +7,7 @@ ghost use Rattle.revision.specs.Late.{late as late_edit, HasCommandRoom};
 ghost use Rattle.compose.specs.Many.{applied};
 ghost use Rattle.revision.specs.Past.{empty_past, StandInTurn, newest, content_at, sources_at, deltas_of, deltas_above, undo_of, with_changes, prepared_units, prepared_revision};
 ghost use Rattle.document.specs.Outcome.{IsAccepted};
+ghost use Rattle.revision.specs.Replay.{replay_of};
 ghost use Rattle.revision.specs.Invariants.{IsLimits};
 ghost use Rattle.revision.specs.Sources.{last_of, with_last};
 ghost use Rattle.revision.specs.State.{revision_of, units_of, sources_of, begins as spec_begins, follows, change_of};
@@ -263,11 +264,13 @@ impl DocState {
         self.past.document_at(alloc, revision)
     }
 
-    /// What leads from the empty document to a revision that is held: deltas in turn, and the sources there. It copies, and applies
-    /// no delta. To the newest revision it is one delta, the document's own. Refused for want of memory alone.
+    /// What leads from the empty document to a revision that is held: what stands at the floor as one delta, and the deltas after it
+    /// in turn, and the sources at the revision. To the newest revision it is one delta, the document's own. It applies no delta
+    /// but what is kept from below the floor. Refused for want of memory alone.
     pub fn replay_to(&self, alloc: Global, revision: u64) -> Result<Replay, Refusal>
         requires held { self.now.past.past.floor ≤ revision }
         requires there { revision ≤ newest self.now.past.past }
+        ensures deltas { IfOk result (λ replay. replay.deltas.items ≡ replay_of self.now.past.past revision) }
         ensures stand { IfOk result (λ replay. StandInTurn [] replay.deltas.items) }
         ensures units { IfOk result (λ replay. applied [] replay.deltas.items
             ≡ (content_at self.now.past.past revision).units) }

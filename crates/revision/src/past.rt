@@ -1,13 +1,15 @@
 //! A document's past, as far back as it is held.
 ghost use Rattle.std.specs.Prelude.{◌≡◌, ◌+◌, ◌≤◌, ◌<◌, ◌^◌, ◌∷◌, ◌++◌, [], true, length, take, drop, IfOk, OnOk, OnErr, IsOkUnless};
 ghost use Rattle.delta.specs.Operation.{base_of, out_of};
-ghost use Rattle.delta.specs.Gaps.{counted, apply};
+ghost use Rattle.delta.specs.Gaps.{End, counted, apply};
+ghost use Rattle.delta.specs.Normal.{nf};
 ghost use Rattle.document.specs.Outcome.{IsAccepted};
 ghost use Rattle.compose.specs.Many.{applied};
 ghost use Rattle.revision.specs.Floors.{raised};
 ghost use Rattle.revision.specs.Late.{late as late_edit, all_inserted, HasCommandRoom};
 ghost use Rattle.revision.specs.Past.{StandInTurn, newest, content_at, deltas_of, deltas_above, undo_of, way_back, way_back_late, with_changes, prepared_units, prepared_revision, without_last, sources_after, sources_at, changes_by};
 ghost use Rattle.revision.specs.Name.{is_source_name};
+ghost use Rattle.revision.specs.Replay.{deltas_to};
 ghost use Rattle.revision.specs.Sources.{with_last};
 
 use crate::late::{late, past_all};
@@ -40,7 +42,7 @@ pub struct Past {
     count: usize,
 }
 
-/// What leads from the empty document to a revision: deltas in turn, of which the first inserts what stood in an older revision,
+/// What leads from the empty document to a revision: deltas in turn, of which the first inserts what stands in an older revision,
 /// and the sources there.
 #[derive(Drop)]
 pub struct Replay {
@@ -122,11 +124,13 @@ impl Past {
         document_after(alloc, &self.document, self.deltas.as_slice(), count)
     }
 
-    /// What leads from the empty document to a revision that is held. It copies the document that is kept, which may be older than the
-    /// floor, and each delta from there on, and applies none. Refused for want of memory alone.
+    /// What leads from the empty document to a revision that is held: what stands at the floor as one delta, and a copy of each delta
+    /// after it. It applies none of those, but what is kept from below the floor, to come to what stands there. Refused for
+    /// want of memory alone.
     pub fn replay_to(&self, alloc: Global, revision: u64) -> Result<Replay, Refusal>
         requires held { self.now.past.floor ≤ revision }
         requires there { revision ≤ newest self.now.past }
+        ensures deltas { IfOk result (λ replay. replay.deltas.items ≡ deltas_to self.now.past revision) }
         ensures stand { IfOk result (λ replay. StandInTurn [] replay.deltas.items) }
         ensures units { IfOk result (λ replay. applied [] replay.deltas.items
             ≡ (content_at self.now.past revision).units) }
@@ -134,10 +138,12 @@ impl Past {
         ensures only { IsOkUnless result Refusal.NoMemory }
     {
         let count = (revision - self.start) as usize;
+        let below = (self.floor - self.start) as usize;
         let takers = &self.takers.as_slice()[..count];
         let taken = &self.deltas.as_slice()[..count];
         let sources = noted_all(alloc, &self.sources, self.start, takers, taken)?;
-        let deltas = deltas_from_empty(alloc, &self.document, taken)?;
+        let document = self.document_at(alloc, self.floor)?;
+        let deltas = deltas_from_empty(alloc, &document, &taken[below..])?;
         Ok(Replay { deltas, sources })
     }
 
@@ -154,6 +160,7 @@ impl Past {
         requires there { revision ≤ newest self.now.past }
         requires document { document.now ≡ (content_at self.now.past revision).units }
         requires sources { sources.now ≡ sources_at self.now.past revision }
+        ensures deltas { IfOk result (λ replay. replay.deltas.items ≡ nf (End document.now) ∷ []) }
         ensures stand { IfOk result (λ replay. StandInTurn [] replay.deltas.items) }
         ensures units { IfOk result (λ replay. applied [] replay.deltas.items
             ≡ (content_at self.now.past revision).units) }
@@ -531,6 +538,7 @@ fn deltas_from_empty(
 ) -> Result<Vec<Delta>, Refusal>
     requires stand { StandInTurn document.now deltas.now }
     requires short { length document.now ≤ 2 ^ 29 }
+    ensures deltas { IfOk result (λ all. all.items ≡ nf (End document.now) ∷ deltas.now) }
     ensures stand { IfOk result (λ all. StandInTurn [] all.items) }
     ensures units { IfOk result (λ all. applied [] all.items ≡ applied document.now deltas.now) }
     ensures only { IsOkUnless result Refusal.NoMemory }

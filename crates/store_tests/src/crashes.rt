@@ -195,9 +195,28 @@ fn device_after(rt: &(impl Abort + AllocGlobal), script: &Script) -> MemDisk {
     store.close()
 }
 
-// Each call of the script of a seed goes wrong, in each way.
+// How many of the moves of a script are of each kind: commits, milestones and retirements.
+fn kinds_of(script: &Script) -> (u8, u8, u8) {
+    let (mut commits, mut milestones, mut retirements) = (0_u8, 0_u8, 0_u8);
+    for next in &script.moves {
+        match next {
+            Move::Commit(_) => commits = commits.saturating_add(1),
+            Move::Milestone(_, _) => milestones = milestones.saturating_add(1),
+            Move::Retire => retirements = retirements.saturating_add(1),
+        }
+    }
+    (commits, milestones, retirements)
+}
+
+// Each call of the script of a seed goes wrong, in each way. The script is one that shows something: of seven milestones of three
+// documents one at least is put over an open cell, and two segments are retired.
 fn goes_wrong_everywhere(rt: &(impl Abort + AllocGlobal), seed: u64, stops: bool) {
     let script = script_of(rt, seed);
+    let (commits, milestones, retirements) = kinds_of(&script);
+    assert!(rt;
+        commits >= 6 && milestones >= 7 && retirements >= 2,
+        "{commits} commits, {milestones} milestones and {retirements} retirements"
+    );
     let device = device_after(rt, &script);
     is_beginning(rt, device.bytes(), &script, script.moves.len());
     for call in calls_before(rt, script_device(rt).bytes())..device.calls().len() as u64 {

@@ -8,6 +8,7 @@ use Rattle.refusal.specs.declared.Refusal.{Refusal}
 use Rattle.recovery.specs.Cells.{highest_known}
 use Rattle.recovery.specs.Jobs.{no_job_of, no_job_for}
 use Rattle.recovery.proofs.HandedOut.{document_there, none≢some, same_some, on_ok, memory_alone, no_reason, sources_here, job_given, job_keeps}
+use Rattle.recovery.proofs.Unwritten.{made_of}
 use Rattle.recovery.proofs.store.Store.job_to.Goals as goal
 
 pub job_of-requires-clause-sources : goal.job_of-requires-clause-sources
@@ -86,3 +87,12 @@ returns-in-Some-why_none-clause-refused g c why is =
     (document_there c.documents.result.now store.state.documents c.args.document found c.documents.ensures.documents there)
     ∙ ap (λ n. no_job_of (record_of found) n c.args.revision) (sym highest) ∙ sym c.why_none.ensures.is ∙ c.in-Some-why_none.is in
     ap (λ (r : Refusal). Err r) (same_some c.in-Some-why_none.refusal why (sym reason ∙ is))
+
+-- what it is made of
+pub returns-clause-made : goal.returns-clause-made
+returns-clause-made g c =
+    let store = c.args.self.now in
+    let found = c.in-Some.found.now in
+    let there : slice_get c.documents.result.now c.args.document ≡ Some found = slice_get_read c.documents.result.now (length c.documents.result.now) c.args.document found refl c.in-Some.ensures.lookup.3.0 c.in-Some.ensures.lookup.1 in
+    made_of store.state.documents c.args.document c.args.revision (record_of found)
+    (document_there c.documents.result.now store.state.documents c.args.document found c.documents.ensures.documents there) c.job_of.result c.job_of.ensures.deltas

@@ -60,3 +60,21 @@ returns-in-Err-clause-open_or g c honest state of =
     ⊎_elim (λ unformatted. absurd (c.in-Err.ensures.not_formatted unformatted honest by.found.holds.laid_out.names.formatted))
     (λ more. ⊎_elim (λ damaged. absurd (c.in-Err.ensures.damaged damaged honest by.there by.found)) (λ others. others) more)
     c.in-Err.ensures.only
+
+-- what is known is what was read
+pub returns-in-Ok-clause-knows : goal.returns-in-Ok-clause-knows
+returns-in-Ok-clause-knows g c honest =
+    let read = c.in-Ok.ensures.read honest in
+    record {
+      cells = read.cells;
+      table = read.table;
+      batches = read.batches;
+      holds = read.holds;
+      fits = read.fits;
+      ring_at = read.place.at;
+      ring_size = read.place.size;
+      cells_are = read.cells_are;
+      cells_fit = read.cells_fit;
+      marked = read.marked;
+      stand = read.stand;
+    }

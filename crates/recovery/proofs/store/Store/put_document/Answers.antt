@@ -8,6 +8,7 @@ use Rattle.recovery.specs.Open.{has_failed, kept_jobs}
 use Rattle.recovery.proofs.Refusals.{ok≢err}
 use Rattle.recovery.proofs.PutAtOnce.{keeps_it, had_not_failed, has_not_failed, still, from_there, put_at, refused_unfailed}
 use Rattle.recovery.proofs.OtherJobs.{others_with, others_without}
+use Rattle.recovery.proofs.Unwritten.{unwritten_same, unwritten_kept, unwritten_behind}
 use Rattle.recovery.proofs.store.Store.put_document.Goals as goal
 
 -- no call of the device came before the put
@@ -151,3 +152,25 @@ returns-clause-dropped g c =
     ∙ ap (λ n. without_job n (kept_jobs c.milestone_job.new.self)) number
     ∙ ap (without_job document) c.in-Ok.ensures.keeps
     ∙ others_with document c.in-Ok.job (kept_jobs c.args.self.now) c.in-Ok.ensures.job.number
+
+-- nothing was put, and the job may be kept
+pub returns-in-Err-clause-memory : goal.returns-in-Err-clause-memory
+returns-in-Err-clause-memory g c told = unwritten_same c.args.document c.args.revision c.in-Err.ensures.untouched
+
+pub returns-in-Err-compose_job-clause-memory : goal.returns-in-Err-compose_job-clause-memory
+returns-in-Err-compose_job-clause-memory g c told =
+    unwritten_kept c.args.document c.args.revision c.in-Ok.job c.milestone_job.ensures.same c.in-Ok.ensures.job c.in-Ok.ensures.made c.in-Ok.ensures.keeps
+
+pub returns-in-Err-put_milestone-clause-memory : goal.returns-in-Err-put_milestone-clause-memory
+returns-in-Err-put_milestone-clause-memory g c told =
+    unwritten_behind c.args.document c.args.revision c.in-Ok.job c.milestone_job.ensures.same c.in-Ok.ensures.job c.in-Ok.ensures.made c.in-Ok.ensures.keeps
+    (c.in-Err-put_milestone.ensures.untouched (inr told))
+
+pub returns-in-Err-clause-job : goal.returns-in-Err-clause-job
+returns-in-Err-clause-job g c = inl c.in-Err.ensures.untouched.jobs
+
+pub returns-in-Err-compose_job-clause-job : goal.returns-in-Err-compose_job-clause-job
+returns-in-Err-compose_job-clause-job g c = inr (c.in-Ok.job, (c.in-Ok.ensures.job, c.in-Ok.ensures.made), c.in-Ok.ensures.keeps)
+
+pub returns-in-Err-put_milestone-clause-job : goal.returns-in-Err-put_milestone-clause-job
+returns-in-Err-put_milestone-clause-job g c = inr (c.in-Ok.job, (c.in-Ok.ensures.job, c.in-Ok.ensures.made), c.in-Err-put_milestone.ensures.jobs ∙ c.in-Ok.ensures.keeps)

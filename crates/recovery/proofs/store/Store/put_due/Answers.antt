@@ -2,7 +2,7 @@ use Rattle.std.proofs.Common.{◌≡◌, ◌∙◌, Some, None, sym, ap, subst, 
 use Rattle.std.specs.Prelude.{Ok, Err, slice_get}
 use Rattle.disk.specs.Device.{Rose}
 use Rattle.refusal.specs.declared.Refusal.{Refusal}
-use Rattle.refusal.specs.declared.Refusal.TheVariants.{Fault}
+use Rattle.refusal.specs.declared.Refusal.TheVariants.{NoMemory, Fault}
 use Rattle.recovery.specs.Cells.{highest_known}
 use Rattle.recovery.specs.Due.{due_for}
 use Rattle.recovery.proofs.Refusals.{refusal_or}
@@ -75,3 +75,19 @@ returns-clause-any_moment g c = (returns-clause-goes g c).any_moment
 
 pub returns-clause-done : goal.returns-clause-done
 returns-clause-done g c = (returns-clause-goes g c).opens (works_now c.retire_covered.new.self c.in_default-retire_covered.field-0 c.in_default-retire_covered.ensures.fails)
+
+-- nothing was put
+pub returns-in-Err-clause-memory : goal.returns-in-Err-clause-memory
+returns-in-Err-clause-memory g c told =
+    let store = c.args.self.now in
+    let due : due_for c.args.every (slice_get store.state.documents c.args.document) (highest_known store.cells.items c.args.document) ≡ Some c.in-Some.revision = search rules in
+    (c.in-Some.revision, due, c.in-Err.ensures.memory (ap (λ (r : Refusal). Err r) (ap (refusal_or NoMemory) told)))
+
+-- behind it the device alone is in the way
+pub returns-in-Err-retire_covered-clause-memory : goal.returns-in-Err-retire_covered-clause-memory
+returns-in-Err-retire_covered-clause-memory g c told =
+    let both : Fault ≡ NoMemory = sym c.in-Err-retire_covered.ensures.only ∙ ap (refusal_or NoMemory) told in
+    absurd cc
+
+pub returns-clause-dropped : goal.returns-clause-dropped
+returns-clause-dropped g c told = c.retire_covered.ensures.jobs ∙ c.in_default-put_document.ensures.dropped

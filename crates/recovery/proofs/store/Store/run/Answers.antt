@@ -8,8 +8,10 @@ use Rattle.std.proofs.lemmas.Bool.{false≢true}
 use Rattle.refusal.specs.declared.Refusal.TheVariants.{Fault}
 use Rattle.std.proofs.lemmas.List.{at_drop_more, take_all, get_or_default}
 use Rattle.recovery.specs.Found.{FoundAs}
-use Rattle.recovery.specs.Open.{IsOpen, device_of, state_of, has_failed}
+use Rattle.recovery.specs.Open.{IsOpen, device_of, state_of, has_failed, kept_jobs}
 use Rattle.recovery.specs.Run.{AreTaken, IsAfterSome, IsKeptFrom, IsWhy, batch_of, state_after}
+use Rattle.recovery.specs.Begun.{IsLeftBy, jobs_behind, jobs_after}
+use Rattle.recovery.proofs.Begun.{jobs_after-more}
 use Rattle.recovery.proofs.PutAtOnce.{taken_more}
 use Rattle.recovery.proofs.KeptFrom.{kept_here, kept_on, kept_more}
 use Rattle.recovery.proofs.Folds.{fold-limits}
@@ -26,6 +28,8 @@ loop-at-init g c = record {
   faults = refl;
   honest = (λ h. h, λ h. h);
   taken = refl;
+  jobs = refl;
+  calls = omega arith;
   is_open = λ o. o;
   failed_before = λ failed. (refl, unchanged c.args.self.now);
   moments = λ u o. begins (history_of g.D.Disk c.args.self.now.device) o.synced (before_all c.args.self.now.state c.args.steps.now _ (found_as _ _ (found_open c.args.self.now o)));
@@ -99,6 +103,9 @@ loop-at-preserved g c =
       unfailed = λ unfailed. c.in_default.ensures.works;
       honest = (λ h. c.loop-at.invariant.honest.0 (c.take_step.ensures.honest.0 h), λ h. c.take_step.ensures.honest.1 (c.loop-at.invariant.honest.1 h));
       taken = taken;
+      jobs = c.in_default.ensures.jobs ∙ ap (jobs_behind step) c.loop-at.invariant.jobs
+          ∙ sym (jobs_after-more steps at step (kept_jobs start) c.loop-at-test.true c.index-steps-at.is);
+      calls = omega (arith, c.loop-at.invariant.calls, c.take_step.ensures.calls);
       is_open = λ is_open. c.in_default.ensures.done (c.loop-at.invariant.is_open is_open);
       failed_before = λ failed.
           let before = (c.loop-at.invariant.failed_before failed).1 in
@@ -141,3 +148,21 @@ returns-in-Err-clause-refused g c =
           (c.in-Err.ensures.refused memory fault);
       left = λ memory fault. c.in-Err.ensures.untouched memory fault;
     }
+
+-- what it began is that step alone
+pub returns-in-Err-clause-begun : goal.returns-in-Err-clause-begun
+returns-in-Err-clause-begun g c =
+    let steps = c.args.steps.now in
+    let at = c.loop-at.at in
+    let step = c.index-steps-at.result in
+    record {
+      last = c.loop-at.self;
+      taken = c.loop-at.invariant.taken;
+      kept = c.loop-at.invariant.jobs;
+      left = subst (λ (s : StoreStep). IsLeftBy s c.in-Err.refusal c.loop-at.self c.take_step.new.self)
+          (c.index-steps-at.is ∙ get_or_default steps at step Retire c.loop-at-test.true) c.in-Err.ensures.left;
+    }
+
+pub returns-clause-jobs : goal.returns-clause-jobs
+returns-clause-jobs g c =
+    c.loop-at.invariant.jobs ∙ ap (λ (l : List StoreStep). jobs_after l (kept_jobs c.args.self.now)) (take_all c.loop-at.at c.args.steps.now (omega arith))

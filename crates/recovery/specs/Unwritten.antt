@@ -1,0 +1,39 @@
+-- What a job is made of, and what a milestone leaves of a store whose job was handed out and that was not put.
+use Rattle.std.specs.Prelude.{◌≡◌, ◌⊎◌, ℕ, Some, List, slice_get}
+use Rattle.disk.specs.declared.device.Disk.{Ghosts}
+use Rattle.revision.specs.Replay.{replay_of}
+use Rattle.revision.specs.State.{DocumentRecord}
+use Rattle.milestone.specs.Job.{Job}
+use Rattle.recovery.specs.declared.store.Store.{Store}
+use Rattle.recovery.specs.Jobs.{IsJobTo, with_job}
+use Rattle.recovery.specs.Open.{known_cells, known_marks, kept_jobs, state_of}
+
+-- A job is made of what the document of this number holds and of nothing else: what stands at its floor as one delta, and behind that each
+-- delta up to the revision; or, to the newest revision, what stands there as one delta.
+pub record IsMadeOf (documents : List DocumentRecord) (document revision : ℕ) (job : Job) : Type 0 where
+  pub found : DocumentRecord
+  pub there : slice_get documents document ≡ Some found
+  pub deltas : job.deltas ≡ replay_of found.past revision
+
+module _ {D : Type 0} {disk : Ghosts D} where
+  -- a call has left all of the store as it was but for the jobs that it keeps
+  pub record IsUnchangedButJobs (old new : Store D disk) : Type 0 where
+    pub device : new.device ≡ old.device
+    pub shape : new.shape ≡ old.shape
+    pub ring : new.ring ≡ old.ring
+    pub cells : known_cells new ≡ known_cells old
+    pub marks : known_marks new ≡ known_marks old
+    pub state : new.state ≡ old.state
+    pub failed : new.failed ≡ old.failed
+
+  -- the kept jobs are those of before, or those with a job to this revision of a document, in place of what was kept of it
+  abbrev pub MayKeepJob : ℕ → ℕ → Store D disk → Store D disk → Type 0
+  MayKeepJob document revision old new =
+      (kept_jobs new ≡ kept_jobs old)
+      ⊎ ((job : Job) × (IsJobTo (state_of old).documents document revision job × IsMadeOf (state_of old).documents document revision job)
+      × (kept_jobs new ≡ with_job job (kept_jobs old)))
+
+  -- nothing of a milestone of a document at a revision was put, though its job may be kept
+  pub record IsUnwritten (document revision : ℕ) (old new : Store D disk) : Type 0 where
+    pub same : IsUnchangedButJobs old new
+    pub jobs : MayKeepJob document revision old new
