@@ -5,13 +5,15 @@ usage: bench/edits.py [COUNT]     (default: 5,000 edits a row)
 
 Each row is a new store: how many letters the document has before, which letters (x has one byte, é two), how many revisions are
 kept, where the letters are typed (at the beginning, in the middle or at the end), and how many revisions back the base of each
-edit lies. The time of a run that takes the document alone is measured first, and taken off.
+edit lies. The time of a run that takes the document alone is measured first, and taken off. The last line compares letters typed
+at the end of 30,000 letters of one byte with letters typed at the beginning.
 
 Run ./demo first, which builds crates/richd/out/richd. The store lies in a temporary folder (TMPDIR); the time depends on how
-long that disk takes to sync.
+long that disk takes to sync. The processor's time is that of the program, whatever else runs on the machine.
 """
 import json
 import os
+import resource
 import subprocess
 import sys
 import tempfile
@@ -58,19 +60,31 @@ def typed(length, letter, number, where, back):
 
 
 def serve(store, messages):
+    """The time by the clock and the processor's, and how many were taken."""
     text = spelled([{"do": "hello", "source": "bench"}] + messages)
+    before = resource.getrusage(resource.RUSAGE_CHILDREN)
     start = time.monotonic()
     served = subprocess.run([richd, "serve", store], input=text, capture_output=True, text=True)
-    return time.monotonic() - start, served.stdout.count('"ok":"taken"')
+    took = time.monotonic() - start
+    after = resource.getrusage(resource.RUSAGE_CHILDREN)
+    return took, after.ru_utime - before.ru_utime + after.ru_stime - before.ru_stime, served.stdout.count('"ok":"taken"')
 
 
 with tempfile.TemporaryDirectory() as folder:
+    costs = {}
     for place, (length, letter, keep, where, back) in enumerate(rows):
         store = os.path.join(folder, str(place))
         words = ["--docs", "1", "--cell", "16777216", "--slots", "2", "--slot", "16777216", "--keep", str(keep)]
         subprocess.run([richd, "format", store] + words, check=True)
-        alone, _ = serve(store, list(create(length, letter)))
-        took, taken = serve(store, [typed(length, letter, n, where, back) for n in range(2, 2 + count)])
-        each = (took - alone) / max(1, taken) * 1e6
-        print(f"{length} letters {letter}, keep {keep}, at the {where}, {back} revisions back: {taken} edits, {each:.0f} us each")
+        alone, alone_cpu, _ = serve(store, list(create(length, letter)))
+        took, took_cpu, taken = serve(store, [typed(length, letter, n, where, back) for n in range(2, 2 + count)])
+        clock = (took - alone) / max(1, taken) * 1e6
+        cpu = (took_cpu - alone_cpu) / max(1, taken) * 1e6
+        costs[length, letter, keep, where, back] = clock, cpu
+        print(
+            f"{length} letters {letter}, keep {keep}, at the {where}, {back} revisions back: "
+            f"{taken} edits, {clock:.0f} us each by the clock, {cpu:.0f} us of the processor's time"
+        )
         os.remove(store)
+    end, beginning = costs[30_000, "x", 4_096, "end", 0], costs[30_000, "x", 4_096, "beginning", 0]
+    print(f"at the end it costs {end[0] / beginning[0]:.2f} times what it costs at the beginning, {end[1] / beginning[1]:.2f} of the processor's time")
