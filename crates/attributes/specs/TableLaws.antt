@@ -1,5 +1,5 @@
 -- What holds of maps and of entries in order, whatever stands at a name: each law is promised by a function of `laws`.
-use Rattle.std.specs.Prelude.{◌≡◌, ℕ, ◌+◌, ◌<◌, Bool, true, cond, not, T, List, ◌∷◌, length, take, get_or, set, Option, Some, None, insert as list_insert, remove as list_remove}
+use Rattle.std.specs.Prelude.{◌≡◌, ℕ, ◌+◌, ◌<◌, Bool, true, cond, not, T, List, length, take, get_or, set, Some, None, insert as list_insert, remove as list_remove}
 use Rattle.std.specs.Ordering.{eq_by_cmp}
 use Rattle.std.specs.declared.cmp.Ordering.TheVariants.{Less, Equal, Greater}
 use Rattle.std.specs.FinMap.Entries.{put, where_key, is_sorted}

@@ -4,6 +4,7 @@ ghost use Rattle.std.specs.Prelude.{◌≡◌, []};
 use crate::made::{SHAPE, new_store, write};
 use disk::MemDisk;
 use published::{Opened, Site, Told};
+use recovery::Store;
 use refusal::Refusal;
 use revision::{Name, State};
 use std::marker::Brand;
@@ -55,6 +56,53 @@ fn reads_back<J: Site, R: Abort + AllocGlobal>(rt: &R, viewer: &mut Viewer<MemDi
     assert!(rt; matches!(viewer.at(rt.alloc(), &y, 1), Err(Refusal::NoDocument)));
 }
 
+// The first batch is shown once it is published.
+fn first_batch<J: Site, R: Abort + AllocGlobal + Wait>(
+    rt: &R,
+    store: &mut Store<MemDisk>,
+    publisher: &mut Publisher<MemDisk, J>,
+    viewer: &mut Viewer<MemDisk, J>,
+) -> Told<MemDisk, J>
+    requires { publisher.old.held ≡ [] }
+    ensures { publisher.new.held ≡ [] }
+{
+    publisher.accept(write(rt, store, 1, 3));
+    assert!(rt; publisher.holds());
+    shows(rt, viewer, 0);
+    let first = published(rt, publisher, 1);
+    shows(rt, viewer, 1);
+    first
+}
+
+// The second batch is given, and then a viewer comes.
+fn late_viewer<J: Site, R: Abort + AllocGlobal>(
+    rt: &R,
+    store: &mut Store<MemDisk>,
+    publisher: &mut Publisher<MemDisk, J>,
+    viewer: &mut Viewer<MemDisk, J>,
+) -> Viewer<MemDisk, J>
+    requires { publisher.old.held ≡ [] }
+{
+    publisher.accept(write(rt, store, 2, 2));
+    shows(rt, viewer, 1);
+    publisher.viewer().expect(rt, "a place")
+}
+
+// One that is told of both batches shows both.
+fn catches_up<J: Site, R: Abort + AllocGlobal>(
+    rt: &R,
+    late: &mut Viewer<MemDisk, J>,
+    first: &Told<MemDisk, J>,
+    second: &Told<MemDisk, J>,
+) {
+    late.learn(second);
+    shows(rt, late, 2);
+    late.learn(first);
+    shows(rt, late, 2);
+    reads_back(rt, late);
+    assert_eq!(rt; late.told().len(), 2);
+}
+
 // Two batches, with a viewer from the start, one that comes later, and one that is told.
 fn two_batches<J: Site, R: Abort + AllocGlobal + Wait>(rt: &R, opened: Opened, state: State)
     requires book { opened ≡ J.book }
@@ -68,22 +116,11 @@ fn two_batches<J: Site, R: Abort + AllocGlobal + Wait>(rt: &R, opened: Opened, s
     let mut viewer = publisher.viewer().expect(rt, "a place");
     shows(rt, &mut viewer, 0);
     assert!(rt; matches!(publisher.publish(rt, rt.alloc()), Ok(None)));
-    publisher.accept(write(rt, &mut store, 1, 3));
-    assert!(rt; publisher.holds());
-    shows(rt, &mut viewer, 0);
-    let first = published(rt, &mut publisher, 1);
-    shows(rt, &mut viewer, 1);
-    publisher.accept(write(rt, &mut store, 2, 2));
-    shows(rt, &mut viewer, 1);
-    let mut late = publisher.viewer().expect(rt, "a place");
+    let first = first_batch(rt, &mut store, &mut publisher, &mut viewer);
+    let mut late = late_viewer(rt, &mut store, &mut publisher, &mut viewer);
     let second = published(rt, &mut publisher, 2);
     assert!(rt; !publisher.holds());
-    late.learn(&second);
-    shows(rt, &mut late, 2);
-    late.learn(&first);
-    shows(rt, &mut late, 2);
-    reads_back(rt, &mut late);
-    assert_eq!(rt; late.told().len(), 2);
+    catches_up(rt, &mut late, &first, &second);
     publisher.end(rt);
     assert!(rt; viewer.read(newest) == Err(Refusal::StoreFailed));
 }

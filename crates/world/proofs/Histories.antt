@@ -5,11 +5,11 @@ use Rattle.std.proofs.lemmas.Bool.{and_parts, and_from, both_ways}
 use Rattle.std.proofs.lemmas.List.Elements.{All-nil, All-cons, All-weaker}
 use Rattle.revision.specs.declared.sources.LastTaken.{LastTaken}
 use Rattle.revision.specs.Command.{Command}
-use Rattle.world.specs.World.{Entry, takens, is_of}
+use Rattle.world.specs.World.{Entry, is_of}
 use Rattle.world.specs.Shown.{Shown}
 use Rattle.world.specs.Law.{IsSent}
 pub use Rattle.world.specs.steps.Placing.{AllPlaced, after}
-use Rattle.world.proofs.Showing.{grown_shown, fold_shown}
+use Rattle.world.proofs.Showing.{grown_shown}
 use Rattle.world.proofs.Numbers.{last_in, Placed, noted, last-grown, same_bytes, bytes_same}
 
 pub placed-more : (documents : List Shown) (entries : List Entry) (entry : Entry) → AllPlaced documents entries → Placed (after documents entries) entry

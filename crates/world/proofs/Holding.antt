@@ -16,7 +16,7 @@ use Rattle.world.specs.Shown.{Shown, all_shown}
 pub use Rattle.world.specs.steps.Holding.{Counts, WasSent, StandsSettled, IsConsistent}
 use Rattle.world.proofs.Showing.{grown_shown, shown-grown}
 use Rattle.world.proofs.Numbers.{last_in, noted, Placed, last-grown}
-use Rattle.world.proofs.Histories.{AllPlaced, after, placed-more, placed-take, sender_same}
+use Rattle.world.proofs.Histories.{after, placed-more, placed-take, sender_same}
 use Rattle.world.proofs.Answered.{takes_placed, repeats_last}
 use Rattle.world.proofs.Standing.{Stands, stands-more, stands-take, after-more}
 use Rattle.world.proofs.Openings.{shown-opened}

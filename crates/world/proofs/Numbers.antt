@@ -9,7 +9,6 @@ use Rattle.attributes.specs.Map.{get}
 use Rattle.attributes.specs.Table.{is_name}
 use Rattle.attributes.proofs.CallerLemmas.{get-insert}
 use Rattle.revision.specs.Command.{Taken}
-use Rattle.revision.specs.declared.sources.LastTaken.{LastTaken}
 use Rattle.revision.specs.Sources.{Sources, last_of, with_last}
 use Rattle.world.specs.World.{Entry, is_of}
 use Rattle.world.specs.Shown.{Shown}

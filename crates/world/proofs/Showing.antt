@@ -2,10 +2,7 @@
 use Rattle.std.proofs.Common.{◌≡◌, ℕ, zero, suc, ◌+◌, List, [], ◌∷◌, ◌++◌, map, Option, Some, None, refl, sym, ap, ◌∙◌}
 use Rattle.std.specs.Prelude.{slice_get, option_map}
 use Rattle.std.proofs.lemmas.Option.{slice_get-map}
-use Rattle.attributes.specs.Map.{empty}
-use Rattle.delta.specs.Gaps.{counted, apply}
 use Rattle.revision.specs.Command.{Taken}
-use Rattle.revision.specs.Sources.{with_last}
 use Rattle.revision.specs.Past.{empty_past, with_change}
 use Rattle.revision.specs.State.{change_of, DocumentRecord, State, record_by_name, record_after, set_document, grown, fold}
 use Rattle.world.specs.Shown.{Shown, shown, all_shown}

@@ -1,6 +1,5 @@
 -- What every event keeps of a world, and all that is promised of it follows from.
 use Rattle.std.specs.Prelude.{◌≡◌, ℕ, ◌≤◌, List, length, take, All}
-use Rattle.revision.specs.declared.sources.LastTaken.{LastTaken}
 use Rattle.revision.specs.Command.{Command}
 use Rattle.world.specs.Board.{Ticket}
 use Rattle.world.specs.World.{Entry, takens, World, last_sent}
