@@ -21,11 +21,11 @@ use Rattle.recovery.specs.declared.run.StoreStep.{StoreStep}
 use Rattle.recovery.specs.Begun.{IsLeftBy, jobs_behind, jobs_after}
 
 module _ {D : Type 0} {disk : Ghosts D} (old new : Store D disk) where
-  pub left_commit : (batch : Vec Taken Global) (commands : List Taken) → commands ≡ batch.items → (refusal : Refusal) → state_of new ≡ state_of old → known_marks new ≡ known_marks old
+  pub left_commit : {A : Type 0} (batch : Vec Taken Global) (commands : List Taken) → commands ≡ batch.items → (refusal : Refusal) → state_of new ≡ state_of old → known_marks new ≡ known_marks old
       → kept_jobs new ≡ kept_jobs old → known_cells new ≡ known_cells old → length (disk.past (device_of new)) ≤ length (disk.past (device_of old)) + 8
       → (has_failed old ≡ false → IsOpen old → LeavesOnly disk (IsWithOrWithout (state_of old) commands) (device_of old) (device_of new))
-      → (IsErrOf {T = Unit {0}} {E = Refusal} (Err refusal) NoMemory → IsSameOrOpened (ring_of old) (ring_of new))
-      → (IsErrOf {T = Unit {0}} {E = Refusal} (Err refusal) NoMemory → length (disk.past (device_of new)) ≤ length (disk.past (device_of old)) + 4) → IsLeftBy (Commit batch) refusal old new
+      → (IsErrOf {T = A} {E = Refusal} (Err refusal) NoMemory → IsSameOrOpened (ring_of old) (ring_of new))
+      → (IsErrOf {T = A} {E = Refusal} (Err refusal) NoMemory → length (disk.past (device_of new)) ≤ length (disk.past (device_of old)) + 4) → IsLeftBy (Commit batch) refusal old new
   left_commit batch commands same refusal state marks jobs cells calls any_moment opened few = record {
     state = state;
     marks = marks;

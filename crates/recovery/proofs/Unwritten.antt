@@ -1,5 +1,5 @@
 -- A milestone that was not put, since memory ran out.
-use Rattle.std.proofs.Common.{◌≡◌, ◌⊎◌, inl, inr, ℕ, List, Some, ◌∙◌}
+use Rattle.std.proofs.Common.{◌≡◌, ◌⊎◌, inl, inr, ℕ, ◌+◌, ◌≤◌, List, Some, length, sym, subst, arith, ◌∙◌}
 use Rattle.std.specs.Prelude.{Result, Ok, Err, IfOk, slice_get}
 use Rattle.disk.specs.declared.device.Disk.{Ghosts}
 use Rattle.refusal.specs.declared.Refusal.{Refusal}
@@ -8,7 +8,7 @@ use Rattle.revision.specs.State.{DocumentRecord}
 use Rattle.milestone.specs.Job.{Job}
 use Rattle.recovery.specs.declared.store.Store.{Store}
 use Rattle.recovery.specs.Jobs.{IsJobTo, with_job}
-use Rattle.recovery.specs.Open.{IsUnchanged, state_of, kept_jobs}
+use Rattle.recovery.specs.Open.{IsUnchanged, device_of, state_of, kept_jobs}
 use Rattle.recovery.specs.Unwritten.{IsMadeOf, IsUnchangedButJobs, IsUnwritten, MayKeepJob}
 
 module _ {D : Type 0} {disk : Ghosts D} where
@@ -47,3 +47,12 @@ pub made_of : (documents : List DocumentRecord) (document revision : ℕ) (found
     → (result : Result Job Refusal) → IfOk result (λ job. job.deltas ≡ replay_of found.past revision) → IfOk result (λ job. IsMadeOf documents document revision job)
 made_of documents document revision found there (Ok job) deltas = record { found = found; there = there; deltas = deltas }
 made_of documents document revision found there (Err refusal) deltas = tt
+
+module _ {D : Type 0} {disk : Ghosts D} (old mid : Store D disk) (device : device_of mid ≡ device_of old) (most : ℕ) where
+  -- no call of the device was made, and then a few
+  pub few_none : length (disk.past (device_of mid)) ≤ length (disk.past (device_of old)) + most
+  few_none = subst (λ (d : D). length (disk.past d) ≤ length (disk.past (device_of old)) + most) (sym device) (omega arith)
+
+  pub few_behind : (new : Store D disk) → length (disk.past (device_of new)) ≤ length (disk.past (device_of mid)) + most
+      → length (disk.past (device_of new)) ≤ length (disk.past (device_of old)) + most
+  few_behind new few = subst (λ (d : D). length (disk.past (device_of new)) ≤ length (disk.past d) + most) device few

@@ -96,3 +96,19 @@ returns-clause-open g c is_open =
 pub returns-clause-stays : goal.returns-clause-stays
 unfolding returns-clause-open
 returns-clause-stays g c is_open = record { goes_on = returns-clause-open g c is_open; same_cells = refl; same_table = refl }
+
+-- the same by the cells that are known in memory
+pub returns-in_err-job-clause-refused_by : goal.returns-in_err-job-clause-refused_by
+returns-in_err-job-clause-refused_by g c unfailed why is =
+    let gives : c.from_residual.result ≡ Err c.in_err-job.field-0.0 = search rules in
+    let one : c.in_err-job.field-0.0 ≡ why = same_error c.job_to.result c.in_err-job.field-0.0 why c.in_err-job.was (c.job_to.ensures.refused why is) in
+    gives ∙ ap (λ (r : Refusal). Err r) one
+
+pub returns-in_err-copy-clause-refused_by : goal.returns-in_err-copy-clause-refused_by
+returns-in_err-copy-clause-refused_by g c unfailed why is = absurd (none≢some (sym c.in_ok-job.ensures.given ∙ is))
+
+pub returns-in_err-keep-clause-refused_by : goal.returns-in_err-keep-clause-refused_by
+returns-in_err-keep-clause-refused_by g c unfailed why is = absurd (none≢some (sym c.in_ok-job.ensures.given ∙ is))
+
+pub returns-clause-refused_by : goal.returns-clause-refused_by
+returns-clause-refused_by g c unfailed why is = absurd (none≢some (sym c.in_ok-job.ensures.given ∙ is))

@@ -8,7 +8,7 @@ use Rattle.recovery.specs.Open.{has_failed, kept_jobs}
 use Rattle.recovery.proofs.Refusals.{ok≢err}
 use Rattle.recovery.proofs.PutAtOnce.{keeps_it, had_not_failed, has_not_failed, still, from_there, put_at, refused_unfailed}
 use Rattle.recovery.proofs.OtherJobs.{others_with, others_without}
-use Rattle.recovery.proofs.Unwritten.{unwritten_same, unwritten_kept, unwritten_behind}
+use Rattle.recovery.proofs.Unwritten.{unwritten_same, unwritten_kept, unwritten_behind, few_none, few_behind}
 use Rattle.recovery.proofs.store.Store.put_document.Goals as goal
 
 -- no call of the device came before the put
@@ -174,3 +174,18 @@ returns-in-Err-compose_job-clause-job g c = inr (c.in-Ok.job, (c.in-Ok.ensures.j
 
 pub returns-in-Err-put_milestone-clause-job : goal.returns-in-Err-put_milestone-clause-job
 returns-in-Err-put_milestone-clause-job g c = inr (c.in-Ok.job, (c.in-Ok.ensures.job, c.in-Ok.ensures.made), c.in-Err-put_milestone.ensures.jobs ∙ c.in-Ok.ensures.keeps)
+
+-- the put alone makes calls of the device
+pub returns-in-Err-clause-calls : goal.returns-in-Err-clause-calls
+returns-in-Err-clause-calls g c = few_none c.args.self.now c.milestone_job.new.self c.milestone_job.ensures.device 6
+
+pub returns-in-Err-compose_job-clause-calls : goal.returns-in-Err-compose_job-clause-calls
+returns-in-Err-compose_job-clause-calls g c = few_none c.args.self.now c.milestone_job.new.self c.milestone_job.ensures.device 6
+
+pub returns-in-Err-put_milestone-clause-calls : goal.returns-in-Err-put_milestone-clause-calls
+returns-in-Err-put_milestone-clause-calls g c =
+    few_behind c.args.self.now c.milestone_job.new.self c.milestone_job.ensures.device 6 c.put_milestone.new.self c.put_milestone.ensures.calls
+
+pub returns-clause-calls : goal.returns-clause-calls
+returns-clause-calls g c =
+    few_behind c.args.self.now c.milestone_job.new.self c.milestone_job.ensures.device 6 c.put_milestone.new.self c.put_milestone.ensures.calls

@@ -1,4 +1,4 @@
-use Rattle.std.proofs.Common.{◌≡◌, ◌∙◌, Some, None, sym, ap, subst, rules}
+use Rattle.std.proofs.Common.{◌≡◌, ◌∙◌, Some, None, sym, ap, subst, rules, arith}
 use Rattle.std.specs.Prelude.{Ok, Err, slice_get}
 use Rattle.disk.specs.Device.{Rose}
 use Rattle.refusal.specs.declared.Refusal.{Refusal}
@@ -91,3 +91,12 @@ returns-in-Err-retire_covered-clause-memory g c told =
 
 pub returns-clause-dropped : goal.returns-clause-dropped
 returns-clause-dropped g c told = c.retire_covered.ensures.jobs ∙ c.in_default-put_document.ensures.dropped
+
+pub returns-in-Err-clause-calls : goal.returns-in-Err-clause-calls
+returns-in-Err-clause-calls g c = omega (arith, c.put_document.ensures.calls)
+
+pub returns-in-Err-retire_covered-clause-calls : goal.returns-in-Err-retire_covered-clause-calls
+returns-in-Err-retire_covered-clause-calls g c = omega (arith, c.put_document.ensures.calls, c.retire_covered.ensures.calls)
+
+pub returns-clause-calls : goal.returns-clause-calls
+returns-clause-calls g c = omega (arith, c.put_document.ensures.calls, c.retire_covered.ensures.calls)

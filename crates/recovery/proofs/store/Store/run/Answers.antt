@@ -166,3 +166,9 @@ returns-in-Err-clause-begun g c =
 pub returns-clause-jobs : goal.returns-clause-jobs
 returns-clause-jobs g c =
     c.loop-at.invariant.jobs ∙ ap (λ (l : List StoreStep). jobs_after l (kept_jobs c.args.self.now)) (take_all c.loop-at.at c.args.steps.now (omega arith))
+
+pub returns-in-Err-clause-calls : goal.returns-in-Err-clause-calls
+returns-in-Err-clause-calls g c = omega (arith, c.loop-at.invariant.calls, c.take_step.ensures.calls, c.loop-at-test.true)
+
+pub returns-clause-calls : goal.returns-clause-calls
+returns-clause-calls g c = omega (arith, c.loop-at.invariant.calls)
