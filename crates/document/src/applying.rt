@@ -49,18 +49,19 @@ pub fn applied(
     let mut made = Vec::new(alloc);
     let mut cursor = Cursor::new(runs);
     for op in ops {
-        step(alloc, &mut cursor, op, &mut made)?;
+        step(alloc, &mut cursor, op, ops, &mut made)?;
     }
     let same = Change::new(alloc);
-    keep(alloc, &mut cursor, behind, &same, &mut made)?;
+    keep(alloc, &mut cursor, behind, &same, ops, &mut made)?;
     Ok(made)
 }
 
-// one operation
+// one operation, of these
 fn step(
     alloc: Global,
     cursor: &mut Cursor<'_>,
     op: &Op,
+    ops: &[Op],
     made: &mut Vec<SharedRun>,
 ) -> Result<(), Refusal>
     requires there { op_base op.now ≤ length cursor.old }
@@ -74,7 +75,7 @@ fn step(
 {
     match op.get() {
         OpRef::Text(text, attrs) => {
-            put_text(alloc, made, text, op.len16(), attrs.copy(alloc)?)?;
+            put_text(alloc, made, text, op.len16(), attrs.copy(alloc)?, 0)?;
         }
         OpRef::Embed(key, value, attrs) => {
             put_embed(
@@ -85,7 +86,7 @@ fn step(
                 attrs.copy(alloc)?,
             )?;
         }
-        OpRef::Retain(len, change) => keep(alloc, cursor, len, change, made)?,
+        OpRef::Retain(len, change) => keep(alloc, cursor, len, change, ops, made)?,
         OpRef::Delete(len) => match skip(cursor, len) {
             Ok(()) => {}
             Err(_) => unreachable!(),

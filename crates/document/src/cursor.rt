@@ -82,6 +82,15 @@ impl<'a> Cursor<'a> {
         Some(run)
     }
 
+    /// How many bytes are left of a text that is begun; 0 where none is.
+    pub fn bytes_begun(&self) -> usize {
+        match self.begun {
+            Some(Piece::Text(text, _, _)) => text.len(),
+            Some(Piece::Embed(_, _, _)) => 0,
+            None => 0,
+        }
+    }
+
     /// The weight of the units from there on, and 2^64 - 1 where that is more.
     pub fn weight(&self) -> u64
         ensures { result ≡ min (weight_of self.now) (2 ^ 64 - 1) }

@@ -158,7 +158,7 @@ impl Document {
             && let Some((text, units, attrs)) = text_behind(delta.ops())
         {
             let attrs = attrs.copy(alloc)?;
-            put_text(alloc, &mut self.runs, text, units, attrs)?;
+            put_text(alloc, &mut self.runs, text, units, attrs, 0)?;
             return Ok(());
         }
         self.runs = applied(alloc, self.runs.as_slice(), delta.ops(), behind)?;

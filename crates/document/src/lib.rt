@@ -36,6 +36,7 @@ mod appending;
 mod applying;
 mod cursor;
 mod document;
+mod joining;
 pub mod laws;
 mod run;
 mod runs;

@@ -141,15 +141,21 @@ impl Model for Run {
 impl Run {
     ghost use Rattle.document.specs.steps.Pieces.{piece_units, IsCounted};
 
-    /// A run of a text with so many code units.
-    pub fn text(alloc: Global, text: &str, units: u64, attrs: Attrs) -> Result<Self, Refusal>
+    /// A run of a text with so many code units, which has room for so many bytes more.
+    pub fn text(
+        alloc: Global,
+        text: &str,
+        units: u64,
+        attrs: Attrs,
+        more: usize,
+    ) -> Result<Self, Refusal>
         requires counted { units ≡ length (units_of text.now) }
         requires some { 0 < units }
         ensures run { IfOk result (λ run. run ≡ letters (units_of text.now) attrs) }
         ensures only { IsOkUnless result Refusal.NoMemory }
     {
         Ok(Run {
-            content: Content::Text(with_room(alloc, text, 0)?),
+            content: Content::Text(with_room(alloc, text, more)?),
             attrs,
             units,
         })

@@ -10,13 +10,15 @@ use attributes::{Attrs, Key, Value};
 use refusal::Refusal;
 use std::alloc::Global;
 
-/// Puts a text with so many code units at the end: into the last run where that is a text of equal attributes.
+/// Puts a text with so many code units at the end: into the last run where that is a text of equal attributes, and else into a run
+/// that has room for so many bytes more.
 pub fn put_text(
     alloc: Global,
     runs: &mut Vec<SharedRun>,
     text: &str,
     units: u64,
     attrs: Attrs,
+    more: usize,
 ) -> Result<(), Refusal>
     requires counted { units ≡ length (units_of text.now) }
     requires bound { length (units_of_runs runs.old.items) + units < 2 ^ 64 }
@@ -33,7 +35,7 @@ pub fn put_text(
     if merge_last(alloc, runs, text, units, &attrs)? {
         return Ok(());
     }
-    let run = Run::text(alloc, text, units, attrs)?;
+    let run = Run::text(alloc, text, units, attrs, more)?;
     runs.push(SharedRun::new(alloc, run)?)?;
     Ok(())
 }

@@ -6,10 +6,12 @@ ghost use Rattle.document.specs.steps.Pieces.{piece_dressed, IsPiece};
 ghost use Rattle.document.specs.steps.Runs.{units_of_runs, IsRun, AreRuns};
 
 use crate::cursor::Cursor;
+use crate::joining::joins;
 use crate::run::Piece;
 use crate::runs::{put_embed, put_run, put_text};
 use crate::shared::SharedRun;
 use attributes::{Attrs, Change, apply};
+use delta::Op;
 use refusal::Refusal;
 use std::alloc::Global;
 use utf16::Cut;
@@ -46,12 +48,14 @@ fn skip_next(cursor: &mut Cursor<'_>, most: u64) -> Result<u64, Cut>
     Ok(piece.units())
 }
 
-/// Steps over so many code units, and puts them out with a change of their attributes.
+/// Steps over so many code units, and puts them out with a change of their attributes. The operations of which that is a part tell
+/// how much room a text is given.
 pub fn keep(
     alloc: Global,
     cursor: &mut Cursor<'_>,
     len: u64,
     change: &Change,
+    ops: &[Op],
     out: &mut Vec<SharedRun>,
 ) -> Result<(), Refusal>
     requires there { len ≤ length cursor.old }
@@ -65,7 +69,7 @@ pub fn keep(
 {
     let mut left = len;
     while left > 0 {
-        left -= keep_next(alloc, cursor, left, change, out)?;
+        left -= keep_next(alloc, cursor, left, change, ops, out)?;
     }
     Ok(())
 }
@@ -77,6 +81,7 @@ fn keep_next(
     cursor: &mut Cursor<'_>,
     most: u64,
     change: &Change,
+    ops: &[Op],
     out: &mut Vec<SharedRun>,
 ) -> Result<u64, Refusal>
     requires some { 0 < most }
@@ -95,7 +100,7 @@ fn keep_next(
         keep_run(alloc, run, change, out)?;
         return Ok(run.units());
     }
-    let len = keep_part(alloc, cursor, most, change, out)?;
+    let len = keep_part(alloc, cursor, most, change, ops, out)?;
     Ok(len)
 }
 
@@ -124,16 +129,18 @@ fn keep_run(
         put_run(alloc, out, run)?;
         return Ok(());
     }
-    put(alloc, out, piece, attrs)?;
+    put(alloc, out, piece, attrs, 0)?;
     Ok(())
 }
 
-// steps over a piece of at most so many code units, puts it out with a change of its attributes, and says how many it has
+// steps over a piece of at most so many code units, puts it out with a change of its attributes, and says how many it has; where
+// what is left of its text comes into the same run again, the run has room for it from the start
 fn keep_part(
     alloc: Global,
     cursor: &mut Cursor<'_>,
     most: u64,
     change: &Change,
+    ops: &[Op],
     out: &mut Vec<SharedRun>,
 ) -> Result<u64, Refusal>
     requires some { 0 < most }
@@ -153,16 +160,23 @@ fn keep_part(
         Err(_) => unreachable!(),
     };
     let attrs = apply(alloc, piece.attrs(), change)?;
-    put(alloc, out, piece, attrs)?;
+    let left = cursor.bytes_begun();
+    let more = if left > 0 && joins(ops, piece.attrs()) {
+        left
+    } else {
+        0
+    };
+    put(alloc, out, piece, attrs, more)?;
     Ok(piece.units())
 }
 
-// puts a piece out with other attributes
+// puts a piece out with other attributes, with room for so many bytes more where it begins a run of text
 fn put(
     alloc: Global,
     out: &mut Vec<SharedRun>,
     piece: Piece<'_>,
     attrs: Attrs,
+    more: usize,
 ) -> Result<(), Refusal>
     requires piece { IsPiece piece }
     requires bound { length (units_of_runs out.old.items) + length (piece_dressed piece attrs) < 2 ^ 64 }
@@ -173,7 +187,7 @@ fn put(
     ensures only { IsOkUnless result Refusal.NoMemory }
 {
     match piece {
-        Piece::Text(text, units, _) => put_text(alloc, out, text, units, attrs),
+        Piece::Text(text, units, _) => put_text(alloc, out, text, units, attrs, more),
         Piece::Embed(key, value, _) => {
             put_embed(alloc, out, key.copy(alloc)?, value.copy(alloc)?, attrs)
         }
