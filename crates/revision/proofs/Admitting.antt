@@ -1,5 +1,5 @@
 -- What the answers to edits and undos stand on: what a source has, and what is taken on a document.
-use Rattle.std.proofs.Common.{◌≡◌, ℕ, ◌+◌, ◌-◌, ◌*◌, ◌^◌, ◌<◌, ◌≤◌, ◌⊎◌, ◌↔◌, ⊎_elim, min, IfOk, inl, inr, Result, Ok, Err, true, false, cond, List, [], ◌∷◌, length, Some, None, refl, sym, ap, subst, ◌∙◌, arith}
+use Rattle.std.proofs.Common.{◌≡◌, ℕ, ◌+◌, ◌-◌, ◌*◌, ◌^◌, ◌<◌, ◌≤◌, ◌⊎◌, ◌↔◌, ⊎_elim, min, IfOk, inl, inr, Result, Ok, Err, Bool, true, false, cond, List, [], ◌∷◌, length, Some, None, refl, sym, ap, subst, ◌∙◌, arith}
 use Rattle.std.specs.Prelude.{◌&&◌, ◌==◌, nat_le, nat_lt, unwrap_or}
 use Rattle.refusal.specs.declared.Refusal.{Refusal}
 use Rattle.refusal.specs.declared.Refusal.TheVariants.{PastEnd, CutsPair, TooHeavy, TooWide, Stranger, NoMemory}
@@ -10,9 +10,9 @@ use Rattle.delta.specs.Places.{IsDefined}
 use Rattle.document.specs.Places.{Cuts}
 use Rattle.document.specs.Weight as document
 use Rattle.revision.specs.Acceptance.{Answer, answer, reply_and_state, TakenAt, take_on, Takes, Repeats, Refuses, change, create_new, next_revision, creation}
-use Rattle.revision.specs.Command.{Command, Taken, width_of}
+use Rattle.revision.specs.Command.{Action, Create, Edit, Undo, Command, Taken, width_of}
 use Rattle.revision.specs.Parting.{parts_pair}
-use Rattle.revision.specs.Planned.{IsAsked, Gives, PlanGrows, IsDecided}
+use Rattle.revision.specs.Planned.{IsAsked, Gives, PlanGrows, IsDecided, rests_on_delta, may_want_memory}
 use Rattle.revision.specs.declared.planning.Reply as replied
 use Rattle.revision.specs.declared.planning.Reply.TheVariants as replies
 use Rattle.revision.specs.declared.planning.Plan as program
@@ -149,6 +149,23 @@ module _ (state : State) (command : Command) (delta : List Operation) (limits : 
       ∙ (ap (λ u. take_on state.limits u sources asked) same_units ∙ ap (λ s. take_on state.limits [] s asked) same_sources) in
       rw (first, room) (sym same ∙ taken)
 
+-- what is answered to a change rests on its delta, where a revision is left
+either_rests : (b : Bool) (one other : Answer) → rests_on_delta one ≡ true → rests_on_delta other ≡ true → rests_on_delta (cond b one other) ≡ true
+either_rests true one other first second = first
+either_rests false one other first second = second
+
+take_on_rests : (limits : Limits) (units : List Element) (sources : Sources) (taken : Taken) → rests_on_delta (take_on limits units sources taken) ≡ true
+take_on_rests limits units sources taken =
+    either_rests (reaches_past taken.delta units) (Refuses PastEnd) _ refl
+    (either_rests (parts_pair taken.delta units) (Refuses CutsPair) _ refl
+    (either_rests (nat_lt limits.weight (weight_after units sources taken)) (Refuses TooHeavy) _ refl
+    (either_rests (nat_lt limits.width (width_of taken)) (Refuses TooWide) (Takes taken) refl refl)))
+
+pub change_rests : (state : State) (number : ℕ) (found : DocumentRecord) (command : Command) (delta : List Operation) → (revision_of found == last_of_all) ≡ false
+    → rests_on_delta (change state number found command delta) ≡ true
+change_rests state number found command delta fresh =
+    rw fresh (take_on_rests state.limits (units_of found) (sources_of found) (next_revision number found command delta))
+
 pub asked_next : (number : ℕ) (found : DocumentRecord) (command : Command) (delta : List Operation) (source : List ℕ) (width : ℕ) → source ≡ command.source
     → width ≡ min (23 + length source + 0 + delta_width delta) (2 ^ 64 - 1) → IsAsked (next_revision number found command delta) source delta width
 asked_next number found command delta source width same wide =
@@ -211,3 +228,16 @@ pub decided_without_memory : (state new : State) (command : Command) (plan : pro
     → IsDecided state command (not_replied refusal) new
 decided_without_memory state new command plan taken refusal is grow only stranger same =
     ⊎_elim (λ strange. absurd (false≢true (sym (stranger strange) ∙ subst (PlanGrows state) is grow))) (λ full. inr (ap not_replied full, same)) only
+
+-- what is taken may want memory still
+taken_may_want : (action : Action) (taken : Taken) → may_want_memory action (Takes taken) ≡ true
+taken_may_want (Create delta) taken = refl
+taken_may_want (Edit base delta) taken = refl
+taken_may_want Undo taken = refl
+
+pub taken_without_memory : (state : State) (command : Command) (plan : program.Plan) (taken : Taken) → plan ≡ plans.Taken taken → Gives (Ok plan) (answer state command)
+    → may_want_memory command.action (answer state command) ≡ true
+taken_without_memory state command plan taken is due = now (subst (λ p. Gives (Ok p) (answer state command)) is due)
+  where
+    now : answer state command ≡ Takes taken → may_want_memory command.action (answer state command) ≡ true
+    now takes = ap (may_want_memory command.action) takes ∙ taken_may_want command.action taken

@@ -1,13 +1,13 @@
 -- What the program answers, against the answer that is due.
-use Rattle.std.specs.Prelude.{◌≡◌, ◌⊎◌, ℕ, ◌-◌, ◌^◌, min, true, Option, Some, None, Result, Ok, Err, List}
+use Rattle.std.specs.Prelude.{◌≡◌, ◌⊎◌, ℕ, ◌-◌, ◌^◌, min, Bool, true, false, Option, Some, None, Result, Ok, Err, List}
 use Rattle.refusal.specs.declared.Refusal.{Refusal}
-use Rattle.refusal.specs.declared.Refusal.TheVariants.{NoMemory}
+use Rattle.refusal.specs.declared.Refusal.TheVariants.{PastEnd, CutsPair, TooHeavy, TooWide, NoMemory}
 use Rattle.delta.specs.Operation.{Operation}
 use Rattle.revision.specs.declared.planning.Plan as program
 use Rattle.revision.specs.declared.planning.Plan.TheVariants as plans
 use Rattle.revision.specs.declared.planning.Reply as replied
 use Rattle.revision.specs.declared.planning.Reply.TheVariants as replies
-use Rattle.revision.specs.Command.{Command, Taken, width_of}
+use Rattle.revision.specs.Command.{Action, Create, Edit, Undo, Command, Taken, width_of}
 use Rattle.revision.specs.Sources.{LastTaken}
 use Rattle.revision.specs.State.{State, grows}
 use Rattle.revision.specs.Acceptance.{Answer, Takes, Repeats, Refuses, by_number, Reply, TakenAt, AgainAt, Refused, decide}
@@ -17,6 +17,29 @@ abbrev pub Gives : Result program.Plan Refusal → Answer → Type 0
 Gives (Ok (plans.Taken taken)) due = due ≡ Takes taken
 Gives (Ok (plans.Again revision)) due = due ≡ Repeats revision
 Gives (Err refusal) due = (refusal ≡ NoMemory) ⊎ (due ≡ Refuses refusal)
+
+-- the command is taken
+abbrev pub takes_command : Answer → Bool
+takes_command (Takes taken) = true
+takes_command (Repeats revision) = false
+takes_command (Refuses refusal) = false
+
+-- the answer rests on the delta that is to be taken, and not on names and numbers alone
+abbrev pub rests_on_delta : Answer → Bool
+rests_on_delta (Takes taken) = true
+rests_on_delta (Repeats revision) = false
+rests_on_delta (Refuses PastEnd) = true
+rests_on_delta (Refuses CutsPair) = true
+rests_on_delta (Refuses TooHeavy) = true
+rests_on_delta (Refuses TooWide) = true
+rests_on_delta (Refuses other) = false
+
+-- Want of memory may be told in place of this answer: of a creation only where it is taken, since its delta is looked at as it
+-- stands; of an edit or an undo only where the answer rests on the delta to be taken, which has to be made first.
+abbrev pub may_want_memory : Action → Answer → Bool
+may_want_memory (Create delta) due = takes_command due
+may_want_memory (Edit base delta) due = rests_on_delta due
+may_want_memory Undo due = rests_on_delta due
 
 -- whether a number is a retry, the source's next one, or refused
 abbrev pub IsTurn : Result (Option ℕ) Refusal → LastTaken → ℕ → Type 0

@@ -1,5 +1,5 @@
 //! What a source asks for.
-ghost use Rattle.std.specs.Prelude.{◌≡◌, ◌<◌, ◌≤◌, ◌^◌, ◌↔◌, true, IsErrOf, IfErr, IfOk};
+ghost use Rattle.std.specs.Prelude.{◌≡◌, ◌<◌, ◌≤◌, ◌^◌, ◌↔◌, true, IsErrOf, IfErr, IfOk, IsOkUnless};
 ghost use Rattle.revision.specs.Name.{is_source_name};
 ghost use Rattle.revision.specs.Command.{Create, Edit, Undo, IsShort, IsShortDelta};
 ghost use Rattle.revision.specs.Actions.{action_of};
@@ -7,6 +7,7 @@ ghost use Rattle.revision.specs.Actions.{action_of};
 use crate::name::Name;
 use delta::Delta;
 use refusal::Refusal;
+use std::alloc::Global;
 use std::marker::Model;
 
 /// The longest base and output of a command's delta: 2^44 UTF-16 code units.
@@ -22,6 +23,23 @@ pub enum Action {
     Edit { base: u64, delta: Delta },
     /// Take the source's last change back.
     Undo,
+}
+
+impl Action {
+    /// An equal action, or `NoMemory`.
+    pub fn copy(&self, alloc: Global) -> Result<Action, Refusal>
+        ensures same { IfOk result (λ copy. action_of copy ≡ action_of self.now) }
+        ensures only { IsOkUnless result Refusal.NoMemory }
+    {
+        match self {
+            Action::Create(delta) => Ok(Action::Create(delta.copy(alloc)?)),
+            Action::Edit { base, delta } => Ok(Action::Edit {
+                base: *base,
+                delta: delta.copy(alloc)?,
+            }),
+            Action::Undo => Ok(Action::Undo),
+        }
+    }
 }
 
 /// A source's command to a document, with the source's number for it, 1 to 2^53 - 1.
@@ -148,6 +166,22 @@ impl Command {
         ensures short { IsShort self.now.action }
     {
         &self.action
+    }
+
+    /// An equal command, or `NoMemory`.
+    pub fn copy(&self, alloc: Global) -> Result<Command, Refusal>
+        ensures same { IfOk result (λ copy. copy ≡ self.now) }
+        ensures only { IsOkUnless result Refusal.NoMemory }
+    {
+        let name = self.name.copy(alloc)?;
+        let source = self.source.copy(alloc)?;
+        let action = self.action.copy(alloc)?;
+        Ok(Command {
+            name,
+            source,
+            number: self.number,
+            action,
+        })
     }
 }
 

@@ -1,12 +1,12 @@
 //! Which commands are taken.
-ghost use Rattle.std.specs.Prelude.{◌≡◌, ◌≢◌, ◌⊎◌, ◌<◌, ◌≤◌, ◌^◌, ◌+◌, true, length, Some, IfOk, OnOk, IfErr};
+ghost use Rattle.std.specs.Prelude.{◌≡◌, ◌≢◌, ◌⊎◌, ◌<◌, ◌≤◌, ◌^◌, ◌+◌, true, length, Some, IfOk, OnOk, IfErr, IsErrOf};
 ghost use Rattle.revision.specs.Acceptance.{answer, by_number, take_on, create_existing, create_new, edit, undo, change, Takes, Refuses};
 ghost use Rattle.revision.specs.Command.{Taken as Change, IsShortDelta};
 ghost use Rattle.revision.specs.Invariants.{IsPast};
 ghost use Rattle.revision.specs.Pending.{record_of};
 ghost use Rattle.revision.specs.Sources.{last_of};
-ghost use Rattle.revision.specs.State.{sources_of, has_place as spec_has_place};
-ghost use Rattle.revision.specs.Planned.{Gives, IsTurn, IsAsked, IsDecided, PlanGrows};
+ghost use Rattle.revision.specs.State.{revision_of, sources_of, last_of_all, has_place as spec_has_place};
+ghost use Rattle.revision.specs.Planned.{Gives, IsTurn, IsAsked, IsDecided, PlanGrows, takes_command, rests_on_delta, may_want_memory};
 
 use crate::command::{Action, Command};
 use crate::doc_state::DocState;
@@ -52,10 +52,14 @@ impl State {
     /// its last one isn't held with the revision before it. Of both: `RevisionsSpent` where the newest revision is 2^53 - 1.
     /// Of all: `PastEnd` where the delta, late past what was taken since its base, speaks of a unit that isn't there,
     /// `CutsPair` where it parts a surrogate pair, `TooHeavy` and `TooWide` where the document's weight or the entry's bytes
-    /// would be above the limit; else it is taken. Want of memory (`NoMemory`) may come in place of any other answer.
-    /// specs/Acceptance.antt states it as `answer`.
+    /// would be above the limit; else it is taken. specs/Acceptance.antt states it as `answer`.
+    ///
+    /// All that is told by names and numbers alone is told before memory is taken. So want of memory (`NoMemory`) comes only in
+    /// place of the last five answers, and for a creation, whose delta is looked at as it stands, only where it would be taken.
     pub fn plan(&self, alloc: Global, command: &Command) -> Result<Plan, Refusal>
         ensures due { Gives result (answer self.now command.now) }
+        ensures memory { IsErrOf result Refusal.NoMemory
+            → may_want_memory command.now.action (answer self.now command.now) ≡ true }
         ensures grows { IfOk result (PlanGrows self.now) }
     {
         // its number is in range
@@ -66,7 +70,9 @@ impl State {
     /// Answers a command, and adds what is taken. The reply and the refusals are those of `plan`; refused, the state is as it
     /// was. specs/Acceptance.antt states it as `decide`.
     pub fn decide(&mut self, alloc: Global, command: &Command) -> Result<Reply, Refusal>
-        ensures { IsDecided self.old command.now result self.new }
+        ensures decided { IsDecided self.old command.now result self.new }
+        ensures memory { IsErrOf result Refusal.NoMemory
+            → may_want_memory command.now.action (answer self.old command.now) ≡ true }
     {
         let taken = match self.plan(alloc, command) {
             Ok(Plan::Taken(taken)) => taken,
@@ -83,7 +89,9 @@ impl State {
 
     // the answer to a command
     fn answer_to(&self, alloc: Global, command: &Command) -> Result<Plan, Refusal>
-        ensures { Gives result (answer self.now command.now) }
+        ensures due { Gives result (answer self.now command.now) }
+        ensures memory { IsErrOf result Refusal.NoMemory
+            → may_want_memory command.now.action (answer self.now command.now) ≡ true }
     {
         // a document that it holds has a past
         let _ = self.limits();
@@ -108,7 +116,8 @@ impl State {
 }
 
 fn plan_existing(found: &DocState, command: &Command) -> Result<Plan, Refusal>
-    ensures { Gives result (create_existing (record_of found.now) command.now) }
+    ensures due { Gives result (create_existing (record_of found.now) command.now) }
+    ensures no_memory { ¬ (IsErrOf result Refusal.NoMemory) }
 {
     let last = found.last(command.source());
     if 0 < last.number && command.number() == last.number {
@@ -119,7 +128,8 @@ fn plan_existing(found: &DocState, command: &Command) -> Result<Plan, Refusal>
 }
 
 fn plan_new(alloc: Global, state: &State, command: &Command, delta: &Delta) -> Result<Plan, Refusal>
-    ensures { Gives result (create_new state.now command.now delta.now) }
+    ensures due { Gives result (create_new state.now command.now delta.now) }
+    ensures memory { IsErrOf result Refusal.NoMemory → takes_command (create_new state.now command.now delta.now) ≡ true }
 {
     let limits = state.limits();
     let count = state.documents().len();
@@ -152,9 +162,12 @@ fn plan_edit(
 ) -> Result<Plan, Refusal>
     requires past { IsPast state.now.limits (record_of found.now).past }
     requires short { IsShortDelta delta.now }
-    ensures { Gives result
+    ensures due { Gives result
         (by_number (last_of command.now.source (sources_of (record_of found.now))) command.now.number
         (edit state.now number (record_of found.now) command.now base delta.now)) }
+    ensures memory { IsErrOf result Refusal.NoMemory → rests_on_delta
+        (by_number (last_of command.now.source (sources_of (record_of found.now))) command.now.number
+        (edit state.now number (record_of found.now) command.now base delta.now)) ≡ true }
 {
     match turn(found.last(command.source()), command.number()) {
         Ok(None) => {}
@@ -170,6 +183,9 @@ fn plan_edit(
     if base < found.floor() {
         return Err(Refusal::TooOld);
     }
+    if found.revision() == LAST {
+        return Err(Refusal::RevisionsSpent);
+    }
     let delta = found.late(alloc, delta, base)?;
     plan_change(alloc, state, number, found, command, delta)
 }
@@ -182,9 +198,12 @@ fn plan_undo(
     command: &Command,
 ) -> Result<Plan, Refusal>
     requires past { IsPast state.now.limits (record_of found.now).past }
-    ensures { Gives result
+    ensures due { Gives result
         (by_number (last_of command.now.source (sources_of (record_of found.now))) command.now.number
         (undo state.now number (record_of found.now) command.now)) }
+    ensures memory { IsErrOf result Refusal.NoMemory → rests_on_delta
+        (by_number (last_of command.now.source (sources_of (record_of found.now))) command.now.number
+        (undo state.now number (record_of found.now) command.now)) ≡ true }
 {
     let last = found.last(command.source());
     match turn(last, command.number()) {
@@ -198,11 +217,14 @@ fn plan_undo(
     if last.revision <= found.floor() {
         return Err(Refusal::TooOld);
     }
+    if found.revision() == LAST {
+        return Err(Refusal::RevisionsSpent);
+    }
     let delta = found.undo(alloc, last.revision)?;
     plan_change(alloc, state, number, found, command, delta)
 }
 
-// the next revision of a document by this delta
+// the next revision of a document by this delta; the newest one isn't the last that there is
 fn plan_change(
     alloc: Global,
     state: &State,
@@ -212,12 +234,12 @@ fn plan_change(
     delta: Delta,
 ) -> Result<Plan, Refusal>
     requires past { IsPast state.now.limits (record_of found.now).past }
-    ensures { Gives result (change state.now number (record_of found.now) command.now delta) }
+    requires unspent { revision_of (record_of found.now) ≢ last_of_all }
+    ensures due { Gives result (change state.now number (record_of found.now) command.now delta) }
+    ensures memory { IsErrOf result Refusal.NoMemory
+        → takes_command (change state.now number (record_of found.now) command.now delta) ≡ true }
 {
     let revision = found.revision();
-    if revision == LAST {
-        return Err(Refusal::RevisionsSpent);
-    }
     let source = command.source();
     let width = edit_width(source, &delta);
     let limits = state.limits();
@@ -237,7 +259,8 @@ fn plan_change(
 
 // Whether a number is a retry, of which the revision comes back, or the source's next one; else it is refused.
 fn turn(last: LastTaken, number: u64) -> Result<Option<u64>, Refusal>
-    ensures { IsTurn result last number }
+    ensures turn { IsTurn result last number }
+    ensures no_memory { IfErr result (λ e. e ≢ Refusal.NoMemory) }
 {
     if 0 < last.number && number == last.number {
         return Ok(Some(last.revision));
@@ -271,6 +294,7 @@ fn admit(
         → take_on limits document.now sources.now asked ≡ Takes asked) }
     ensures err { IfErr result (λ e. (asked : Change) → IsAsked asked source.now delta.now width
         → take_on limits document.now sources.now asked ≡ Refuses e) }
+    ensures no_memory { IfErr result (λ e. e ≢ Refusal.NoMemory) }
     ensures narrow { OnOk result (width < 2 ^ 32) }
 {
     let weight = match document.weigh(delta) {

@@ -120,11 +120,12 @@ pub fn wide(
     assert_eq!(rt; width, wanted);
 }
 
-/// A command is decided with this reply.
+/// A copy of a command is decided with this reply.
 pub fn asked(rt: &(impl Abort + AllocGlobal), state: &mut State, row: &Row) {
     let (source, name, number, what, wanted) = row;
     let command = command(rt, source, name, *number, *what).expect(rt, "a command");
-    let reply = state.decide(rt.alloc(), &command);
+    let copy = command.copy(rt.alloc()).expect(rt, "memory");
+    let reply = state.decide(rt.alloc(), &copy);
     assert_eq!(rt; reply, reply_of(*wanted), "{number} of {source} to {name}");
 }
 

@@ -101,6 +101,13 @@ fn a_record_is_damaged(rt: HostRuntime) {
     );
 }
 
+// The second document may be made before the first.
+#[test]
+fn documents_are_made_in_any_order(rt: HostRuntime) {
+    let bytes = with_bytes_at(&rt, &written(&rt), 1_107, &[1]);
+    is_opened_with(&rt, &bytes, 1_157, &[0], "e 1 y\nd 1 z\n");
+}
+
 // A small device that holds a creation and, behind it, an edit.
 fn edited(rt: &(impl Abort + AllocGlobal)) -> Vec<u8> {
     let mut bytes = with_bytes_at(rt, small_device(rt).bytes(), 1_088, part(rt, &SLOT, 0, 59));

@@ -1,15 +1,17 @@
-use Rattle.std.proofs.Common.{◌≡◌, inr, false, length, ap, sym, ◌∙◌, arith}
+use Rattle.std.proofs.Common.{◌≡◌, inr, true, false, length, ap, sym, ◌∙◌, arith}
 use Rattle.std.specs.Prelude.{nat_lt, nat_le}
 use Rattle.std.proofs.lemmas.Bool.{ltb-true, leb-true, false_from_ne_true}
 use Rattle.std.proofs.lemmas.List.{length-map}
-use Rattle.revision.specs.Acceptance.{Takes, Refuses, creation}
+use Rattle.revision.specs.Acceptance.{Takes, Refuses, creation, create_new}
 use Rattle.revision.specs.State.{Limits}
 use Rattle.revision.specs.Pending.{record_of}
+use Rattle.revision.specs.Planned.{takes_command}
 use Rattle.revision.proofs.Admitting.{new_answers, asked_new, same_new}
 use Rattle.revision.proofs.planning.plan_new.Goals as goal
+use Rattle.revision.proofs.planning.plan_new.Goals.{In_default}
 
-pub returns-in-Err : goal.returns-in-Err
-returns-in-Err c =
+pub returns-in-Err-clause-due : goal.returns-in-Err-clause-due
+returns-in-Err-clause-due c =
     let state = c.args.state.now in
     let asked = creation state c.args.command.now c.args.delta.now in
     let count : length c.documents-count.result.now ≡ length state.documents = sym (length-map c.documents-count.result.now record_of) ∙ ap length c.documents-count.ensures.documents in
@@ -24,8 +26,8 @@ returns-in-Err c =
     (asked_new state c.args.command.now c.args.delta.now c.name.result.now c.source-2.result.now c.creation_width-width.result c.name.ensures c.source-2.ensures.source
     (omega (arith, c.creation_width-width.ensures.width, ap length c.source.ensures.source, ap length c.source-2.ensures.source)))))
 
-pub returns : goal.returns
-returns c =
+pub returns-clause-due : goal.returns-clause-due
+returns-clause-due c =
     let state = c.args.state.now in
     let asked = creation state c.args.command.now c.args.delta.now in
     let count : length c.documents-count.result.now ≡ length state.documents = sym (length-map c.documents-count.result.now record_of) ∙ ap length c.documents-count.ensures.documents in
@@ -43,3 +45,29 @@ returns c =
     (asked_new state c.args.command.now c.args.delta.now c.name.result.now c.source-2.result.now c.creation_width-width.result c.name.ensures c.source-2.ensures.source
     (omega (arith, c.creation_width-width.ensures.width, ap length c.source.ensures.source, ap length c.source-2.ensures.source))))
     ∙ ap Takes same
+
+-- where the delta is admitted, the creation is taken
+is_taken_now : (c : In_default) → takes_command (create_new c.args.state.now c.args.command.now c.args.delta.now) ≡ true
+is_taken_now c =
+    let state = c.args.state.now in
+    let asked = creation state c.args.command.now c.args.delta.now in
+    let count : length c.documents-count.result.now ≡ length state.documents = sym (length-map c.documents-count.result.now record_of) ∙ ap length c.documents-count.ensures.documents in
+    let first : nat_lt 1 c.args.command.now.number ≡ false =
+    false_from_ne_true _ (λ more. absurd (omega (arith, ltb-true 1 c.args.command.now.number more, c.if-number-gt1.false, c.number.ensures.number))) in
+    let room : nat_le state.limits.docs (length state.documents) ≡ false =
+    false_from_ne_true _ (λ full.
+    absurd (omega (arith, leb-true state.limits.docs (length state.documents) full, count, c.if-count-from.false, c.from.ensures, c.docs.ensures.docs, ap (λ (l : Limits). l.docs) c.limits-limits.ensures.limits))) in
+    ap takes_command (new_answers state c.args.command.now c.args.delta.now c.limits-limits.result c.empty-document.result c.new-sources.result c.limits-limits.ensures.limits
+    c.empty-document.ensures c.new-sources.ensures (Takes asked) first room
+    (c.in_default.ensures.ok asked
+    (asked_new state c.args.command.now c.args.delta.now c.name.result.now c.source-2.result.now c.creation_width-width.result c.name.ensures c.source-2.ensures.source
+    (omega (arith, c.creation_width-width.ensures.width, ap length c.source.ensures.source, ap length c.source-2.ensures.source)))))
+
+pub returns-in_err-name-clause-memory : goal.returns-in_err-name-clause-memory
+returns-in_err-name-clause-memory c = λ _. is_taken_now (goal.at.returns-in_err-name-clause-memory c).In_default
+
+pub returns-in_err-source-clause-memory : goal.returns-in_err-source-clause-memory
+returns-in_err-source-clause-memory c = λ _. is_taken_now (goal.at.returns-in_err-source-clause-memory c).In_default
+
+pub returns-in_err-delta-clause-memory : goal.returns-in_err-delta-clause-memory
+returns-in_err-delta-clause-memory c = λ _. is_taken_now (goal.at.returns-in_err-delta-clause-memory c).In_default
