@@ -3,8 +3,8 @@ use Rattle.std.proofs.Common.{◌≡◌, ℕ, zero, suc, ◌<◌, ◌≤◌, ◌
 use Rattle.std.specs.Prelude.{T, slice_get}
 use Rattle.std.proofs.lemmas.Option.{slice_get_cases}
 use Rattle.attributes.specs.Place.{IsFree}
-use Rattle.std.specs.Ordering.{is_lt, ordering_reverse}
-use Rattle.std.specs.Cmp.Lexicographic.{nat_list_cmp_total}
+use Rattle.std.specs.Ordering.{is_lt, ordering_reverse, nat_cmp}
+use Rattle.std.specs.Cmp.Lexicographic.{nat_list_cmp_total, slice_partial_cmp, lists_agrees}
 use Rattle.std.specs.FinMap.Entries.{is_sorted, below_all}
 use Rattle.attributes.specs.Map.{by_bytes}
 use Rattle.attributes.specs.Table.{AllBefore, none_before, one_before}
@@ -26,6 +26,10 @@ read_at items es i e same inside is = subst (λ l. (i < length l) × (e ≡ get_
 
 pub compared : (name text key : List ℕ) (order : Ordering) → order ≡ by_bytes name text → text ≡ key → by_bytes name key ≡ order
 compared name text key order is same = ap (by_bytes name) (sym same) ∙ sym is
+
+-- bytes can always be compared
+pub bytes_compared : (one other : List ℕ) → slice_partial_cmp (λ x y. Some (nat_cmp x y)) one other ≡ Some (by_bytes one other)
+bytes_compared one other = lists_agrees {R = nat_cmp} (λ x y. refl) one other
 
 -- the entry at this place, where there is one, stands after the name
 abbrev pub AboveAt : {X : Type 0} → List ℕ → List (List ℕ × X) → ℕ → Type 0

@@ -1,6 +1,7 @@
 -- What is seen of the parts of a past.
-use Rattle.std.proofs.Common.{◌≡◌, ℕ, zero, suc, ◌+◌, ◌-◌, ◌≤◌, ◌<◌, ◌^◌, max, List, [], ◌∷◌, ◌++◌, length, take, drop, length-append, refl, sym, ap, ap₂, subst, ◌∙◌, arith}
-use Rattle.std.proofs.lemmas.List.{drop-map, take-map, drop-take, drop_all, take_all, take-take, take-append-drop, take-append-le, drop-append-le, length-drop, length-take-le}
+use Rattle.std.proofs.Common.{◌≡◌, ℕ, zero, suc, ◌+◌, ◌-◌, ◌≤◌, ◌<◌, ◌^◌, max, List, [], ◌∷◌, ◌++◌, length, take, drop, get_or, length-append, refl, sym, ap, ap₂, subst, ◌∙◌, arith}
+use Rattle.std.proofs.lemmas.List.{drop-map, take-map, drop-take, drop_all, take_all, take-take, take-append-drop, take-append-le, drop-append-le, length-drop, length-take-le, append_assoc, map-append}
+use Rattle.std.proofs.Math.Seq.{get_or-append_seam}
 use Rattle.delta.specs.Element.{Element}
 use Rattle.delta.specs.Operation.{Operation, base_of, out_of}
 use Rattle.delta.specs.Gaps.{counted, apply}
@@ -245,6 +246,20 @@ module _ (parts : Parts) (is : AreParts parts) where
         held = is.held;
         revision = omega (arith, deltas, there, is.revision);
       }
+
+  -- the delta of the last that is prepared is the last delta
+  pub last_delta : (before : List Change) (last : Change) → (seen parts).next ≡ before ++ last ∷ [] → (delta : List Operation)
+      → delta ≡ get_or parts.deltas (length parts.deltas - 1) delta → delta ≡ last.delta
+  last_delta before last e delta read =
+      let front : List (List Operation) = take parts.count parts.deltas ++ deltas_in before in
+      let next : drop parts.count parts.deltas ≡ deltas_in before ++ last.delta ∷ [] =
+      sym (ap (drop parts.count) (changes-deltas parts.takers parts.deltas is.same)) ∙ drop-map (λ (c : Change). c.delta) parts.count (changes_by parts.takers parts.deltas)
+      ∙ ap deltas_in e ∙ map-append (λ (c : Change). c.delta) before (last ∷ []) in
+      let whole : parts.deltas ≡ front ++ last.delta ∷ [] =
+      sym (take-append-drop parts.count parts.deltas) ∙ ap (λ l. take parts.count parts.deltas ++ l) next
+      ∙ sym (append_assoc (take parts.count parts.deltas) (deltas_in before) (last.delta ∷ [])) in
+      let long : length parts.deltas - 1 ≡ length front = omega (arith, ap length whole, length-append front (last.delta ∷ [])) in
+      read ∙ ap₂ (λ (l : List (List Operation)) (n : ℕ). get_or l n delta) whole long ∙ get_or-append_seam front last.delta [] delta
 
   -- all of it
   pub forget_is : seen (record parts { takers = take parts.count parts.takers; deltas = take parts.count parts.deltas }) ≡ record (seen parts) { next = [] }

@@ -1,15 +1,12 @@
 -- A past from a higher revision on.
-use Rattle.std.proofs.Common.{◌≡◌, ℕ, zero, suc, ◌+◌, ◌-◌, ◌≤◌, ◌<◌, max, List, [], ◌∷◌, length, take, drop, map, get_or, Option, Some, refl, sym, ap, ap₂, subst, ◌∙◌, arith}
+use Rattle.std.proofs.Common.{◌≡◌, ℕ, zero, suc, ◌+◌, ◌-◌, ◌≤◌, max, List, [], ◌∷◌, length, get_or, Option, Some, refl, sym, ap, subst, ◌∙◌, arith}
 use Rattle.std.specs.Prelude.{min, slice_get}
 use Rattle.std.proofs.lemmas.List.{drop-map, length-drop}
 use Rattle.std.proofs.lemmas.Option.{same_Some}
-use Rattle.delta.specs.Element.{Element}
-use Rattle.delta.specs.Operation.{Operation}
-use Rattle.compose.specs.Many.{applied}
-use Rattle.revision.specs.Past.{StandInTurn, Parts, AreParts, Past, Prepared, Change, newest, newest_units, deltas_of, content_at, sources_at, from_floor, whole_past, seen}
+use Rattle.revision.specs.Past.{StandInTurn, Parts, AreParts, Past, Change, newest, newest_units, deltas_of, content_at, sources_at, from_floor, whole_past, seen}
 use Rattle.revision.specs.Pending.{newest_sources}
 use Rattle.revision.specs.Floors.{raised, raised_each}
-use Rattle.revision.specs.Invariants.{IsLimits, KeepsAt, IsPast, NamesDiffer, IsState}
+use Rattle.revision.specs.Invariants.{IsPast, NamesDiffer, IsState}
 use Rattle.revision.specs.State.{Limits, DocumentRecord, State}
 use Rattle.revision.proofs.Floors.{newest-from, from-from, content-from}
 use Rattle.revision.proofs.Parts.{whole-newest}

@@ -102,23 +102,18 @@ impl DocState {
         })
     }
 
-    /// Prepares a change that follows what is prepared so far, as `is_followed` tells. Refused for want of memory alone, and then
-    /// nothing more is prepared. What is read stays as it is.
+    /// Prepares a change that follows what is prepared so far, as `is_followed` tells. Its delta is moved into the past. Refused for
+    /// want of memory alone, and then nothing more is prepared. What is read stays as it is.
     pub(crate) fn prepare_next(
         &mut self,
         alloc: Global,
         limits: Limits,
-        taken: &Taken,
+        taken: Taken,
     ) -> Result<(), Refusal>
         requires limits { IsLimits limits }
-        requires follows { follows limits (with_prepared limits.keep self.old) taken.now ≡ true }
+        requires follows { follows limits (with_prepared limits.keep self.old) taken ≡ true }
         ensures ok { OnOk result (self.new
-            ≡ record self.old {
-              past = record self.old.past {
-                next = self.old.past.next
-                    ++ change_of taken.now ∷ [];
-              };
-            }) }
+            ≡ record self.old { past = record self.old.past { next = self.old.past.next ++ change_of taken ∷ [] } }) }
         ensures only { IsOkUnless result Refusal.NoMemory }
         ensures unchanged { OnErr result (self.new ≡ self.old) }
     {
@@ -380,26 +375,25 @@ fn note(
     alloc: Global,
     past: &mut Past,
     sources: &mut SourceTable,
-    taken: &Taken,
+    taken: Taken,
 ) -> Result<(), Refusal>
-    requires accepted { IsAccepted (prepared_units past.old) (counted taken.now.delta) }
-    requires short { length (apply (prepared_units past.old) (counted taken.now.delta)) ≤ 2 ^ 29 }
+    requires accepted { IsAccepted (prepared_units past.old) (counted taken.delta) }
+    requires short { length (apply (prepared_units past.old) (counted taken.delta)) ≤ 2 ^ 29 }
     requires revision { prepared_revision past.old + 1 < 2 ^ 53 }
-    ensures past { OnOk result (past.new ≡ record past.old { next = past.old.next ++ change_of taken.now ∷ [] }) }
+    ensures past { OnOk result (past.new ≡ record past.old { next = past.old.next ++ change_of taken ∷ [] }) }
     ensures sources { OnOk result (sources.new
         ≡ record sources.old {
-          prepared = with_last taken.now.source taken.now.number taken.now.revision
-              sources.old.prepared;
+          prepared = with_last taken.source taken.number taken.revision sources.old.prepared;
         }) }
     ensures past_unchanged { OnErr result (past.new ≡ past.old) }
     ensures sources_unchanged { OnErr result (sources.new ≡ sources.old) }
     ensures only { IsOkUnless result Refusal.NoMemory }
 {
     past.let_go(alloc);
-    let source = taken.source().copy(alloc)?;
-    let delta = taken.delta().copy(alloc)?;
-    past.prepare(source, taken.number(), delta)?;
-    let noted = sources.prepare(alloc, taken.source(), taken.number(), taken.revision());
+    let revision = taken.revision();
+    let (source, number, delta) = taken.into_change();
+    past.prepare(source.copy(alloc)?, number, delta)?;
+    let noted = sources.prepare(alloc, &source, number, revision);
     if noted.is_err() {
         past.take_back();
     }
@@ -412,18 +406,17 @@ fn note_on(
     past: &mut Past,
     sources: &mut SourceTable,
     next: &mut Document,
-    taken: &Taken,
+    taken: Taken,
 ) -> Result<(), Refusal>
     requires next { next.old ≡ prepared_units past.old }
-    requires accepted { IsAccepted (prepared_units past.old) (counted taken.now.delta) }
-    requires short { length (apply (prepared_units past.old) (counted taken.now.delta)) ≤ 2 ^ 29 }
+    requires accepted { IsAccepted (prepared_units past.old) (counted taken.delta) }
+    requires short { length (apply (prepared_units past.old) (counted taken.delta)) ≤ 2 ^ 29 }
     requires revision { prepared_revision past.old + 1 < 2 ^ 53 }
-    ensures next { OnOk result (next.new ≡ apply next.old (counted taken.now.delta)) }
-    ensures past { OnOk result (past.new ≡ record past.old { next = past.old.next ++ change_of taken.now ∷ [] }) }
+    ensures next { OnOk result (next.new ≡ apply next.old (counted taken.delta)) }
+    ensures past { OnOk result (past.new ≡ record past.old { next = past.old.next ++ change_of taken ∷ [] }) }
     ensures sources { OnOk result (sources.new
         ≡ record sources.old {
-          prepared = with_last taken.now.source taken.now.number taken.now.revision
-              sources.old.prepared;
+          prepared = with_last taken.source taken.number taken.revision sources.old.prepared;
         }) }
     ensures next_unchanged { OnErr result (next.new ≡ next.old) }
     ensures past_unchanged { OnErr result (past.new ≡ past.old) }
@@ -431,10 +424,11 @@ fn note_on(
     ensures only { IsOkUnless result Refusal.NoMemory }
 {
     past.let_go(alloc);
-    let source = taken.source().copy(alloc)?;
-    let delta = taken.delta().copy(alloc)?;
-    past.prepare(source, taken.number(), delta)?;
-    let noted = sources.prepare_with(alloc, taken, next);
+    let revision = taken.revision();
+    let (source, number, delta) = taken.into_change();
+    past.prepare(source.copy(alloc)?, number, delta)?;
+    let last = LastTaken { number, revision };
+    let noted = sources.prepare_with(alloc, &source, last, past.prepared_delta(), next);
     if noted.is_err() {
         past.take_back();
     }

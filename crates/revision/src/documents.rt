@@ -107,6 +107,24 @@ impl Documents {
         Ok(())
     }
 
+    /// Prepares a command that was taken, as `prepare` does; its delta is moved, where it changes a document that is there.
+    pub(crate) fn prepare_given(&mut self, alloc: Global, taken: Taken) -> Result<(), Refusal>
+        ensures ok { OnOk result (self.new ≡ record self.old { after = grown self.old.after taken }) }
+        ensures grow { OnOk result (grows self.old.after taken ≡ true) }
+        ensures stranger { IsErrOf result Refusal.Stranger ↔ (grows self.old.after taken ≡ false) }
+        ensures memory { IsErrOf result Refusal.NoMemory → grows self.old.after taken ≡ true }
+        ensures only { IfErr result (λ e. (e ≡ Refusal.Stranger) ⊎ (e ≡ Refusal.NoMemory)) }
+        ensures unchanged { OnErr result (self.new ≡ self.old) }
+    {
+        if !self.continues(alloc, &taken) {
+            return Err(Refusal::Stranger);
+        }
+        if let Err(refusal) = self.prepare_next_given(alloc, taken) {
+            return Err(refusal);
+        }
+        Ok(())
+    }
+
     // whether a command continues what was prepared; it takes no memory
     fn continues(&self, alloc: Global, taken: &Taken) -> bool
         ensures { result ≡ grows self.now.after taken.now }
@@ -137,12 +155,34 @@ impl Documents {
     {
         match taken.name() {
             Some(name) => self.create(alloc, taken, name),
-            None => {
-                self.touched.push(taken.document())?;
-                change(alloc, &mut self.documents, self.limits, taken)?;
-                Ok(())
-            }
+            None => self.change_next(alloc, taken.copy(alloc)?),
         }
+    }
+
+    // the same of a command that is given away
+    fn prepare_next_given(&mut self, alloc: Global, taken: Taken) -> Result<(), Refusal>
+        requires continues { grows self.old.after taken ≡ true }
+        ensures ok { OnOk result (self.new ≡ record self.old { after = grown self.old.after taken }) }
+        ensures only { IsOkUnless result Refusal.NoMemory }
+        ensures unchanged { OnErr result (self.new ≡ self.old) }
+    {
+        match taken.name() {
+            Some(name) => self.create(alloc, &taken, name),
+            None => self.change_next(alloc, taken),
+        }
+    }
+
+    // prepares an edit or an undo that continues what was prepared
+    fn change_next(&mut self, alloc: Global, taken: Taken) -> Result<(), Refusal>
+        requires name { taken.name ≡ None }
+        requires continues { grows self.old.after taken ≡ true }
+        ensures ok { OnOk result (self.new ≡ record self.old { after = grown self.old.after taken }) }
+        ensures only { IsOkUnless result Refusal.NoMemory }
+        ensures unchanged { OnErr result (self.new ≡ self.old) }
+    {
+        self.touched.push(taken.document())?;
+        change(alloc, &mut self.documents, self.limits, taken)?;
+        Ok(())
     }
 
     // prepares a creation that continues what was prepared
@@ -234,6 +274,25 @@ impl Documents {
         Ok(())
     }
 
+    /// Prepares commands in order, as `prepare_all` does; the deltas of those that change a document that is there are moved.
+    pub(crate) fn prepare_all_given(
+        &mut self,
+        alloc: Global,
+        batch: Vec<Taken>,
+    ) -> Result<(), Refusal>
+        ensures before { self.new.before ≡ self.old.before }
+        ensures ok { OnOk result (self.new.after ≡ fold self.old.after batch.items) }
+        ensures grow { OnOk result (all_grow self.old.after batch.items ≡ true) }
+        ensures stranger { IsErrOf result Refusal.Stranger → all_grow self.old.after batch.items ≡ false }
+        ensures memory { IsErrOf result Refusal.NoMemory → first_grows self.old.after batch.items ≡ true }
+        ensures only { IfErr result (λ e. (e ≡ Refusal.Stranger) ⊎ (e ≡ Refusal.NoMemory)) }
+    {
+        for taken in batch {
+            self.prepare_given(alloc, taken)?;
+        }
+        Ok(())
+    }
+
     /// Accepts what was prepared. It takes no memory, isn't refused, and goes through what was touched alone.
     pub(crate) fn accept(&mut self)
         ensures { self.new ≡ unprepared self.old.after }
@@ -270,13 +329,13 @@ fn change(
     alloc: Global,
     documents: &mut Vec<DocState>,
     limits: Limits,
-    taken: &Taken,
+    taken: Taken,
 ) -> Result<(), Refusal>
     requires limits { IsLimits limits }
     requires continues { continues_by_name limits
-        (slice_get (map (with_prepared limits.keep) documents.old.items) taken.now.document) taken.now None ≡ true }
+        (slice_get (map (with_prepared limits.keep) documents.old.items) taken.document) taken None ≡ true }
     ensures ok { OnOk result (documents.new.items
-        ≡ changed_at (with_next (change_of taken.now)) taken.now.document documents.old.items) }
+        ≡ changed_at (with_next (change_of taken)) taken.document documents.old.items) }
     ensures only { IsOkUnless result Refusal.NoMemory }
     ensures unchanged { OnErr result (documents.new.items ≡ documents.old.items) }
 {
@@ -293,7 +352,7 @@ fn begin(alloc: Global, limits: Limits, taken: &Taken, name: &Name) -> Result<Do
     ensures only { IsOkUnless result Refusal.NoMemory }
 {
     let mut document = DocState::empty(alloc, name.copy(alloc)?);
-    document.prepare_next(alloc, limits, taken)?;
+    document.prepare_next(alloc, limits, taken.copy(alloc)?)?;
     Ok(document)
 }
 

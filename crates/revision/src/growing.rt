@@ -71,4 +71,24 @@ impl State {
         }
         prepared
     }
+
+    /// Adds commands in order, all of them or none, as `absorb_all` does. The commands are given away: the deltas of those that change
+    /// a document that is there are moved, and not copied. Refused, the state is unchanged, and the commands are dropped.
+    #[tactic(auto, using(crate::proofs::Keeping::all_keep))]
+    pub fn absorb_all_given(&mut self, alloc: Global, batch: Vec<Taken>) -> Result<(), Refusal>
+        ensures ok { OnOk result (self.new ≡ fold self.old batch.items) }
+        ensures grow { OnOk result (all_grow self.old batch.items ≡ true) }
+        ensures stranger { IsErrOf result Refusal.Stranger → all_grow self.old batch.items ≡ false }
+        ensures memory { IsErrOf result Refusal.NoMemory → first_grows self.old batch.items ≡ true }
+        ensures only { IfErr result (λ e. (e ≡ Refusal.Stranger) ⊎ (e ≡ Refusal.NoMemory)) }
+        ensures unchanged { OnErr result (self.new ≡ self.old) }
+    {
+        let prepared = self.documents.prepare_all_given(alloc, batch);
+        if prepared.is_ok() {
+            self.documents.accept();
+        } else {
+            self.documents.forget();
+        }
+        prepared
+    }
 }

@@ -1,5 +1,5 @@
 //! A document's past, as far back as it is held.
-ghost use Rattle.std.specs.Prelude.{◌≡◌, ◌+◌, ◌≤◌, ◌<◌, ◌^◌, ◌∷◌, ◌++◌, [], true, length, take, drop, IfOk, OnOk, OnErr, IsOkUnless};
+ghost use Rattle.std.specs.Prelude.{◌≡◌, ◌+◌, ◌≤◌, ◌<◌, ◌^◌, ◌∷◌, ◌++◌, [], true, List, length, take, drop, IfOk, OnOk, OnErr, IsOkUnless};
 ghost use Rattle.delta.specs.Operation.{base_of, out_of};
 ghost use Rattle.delta.specs.Gaps.{End, counted, apply};
 ghost use Rattle.delta.specs.Normal.{nf};
@@ -7,7 +7,7 @@ ghost use Rattle.document.specs.Outcome.{IsAccepted};
 ghost use Rattle.compose.specs.Many.{applied};
 ghost use Rattle.revision.specs.Floors.{raised};
 ghost use Rattle.revision.specs.Late.{late as late_edit, all_inserted, HasCommandRoom};
-ghost use Rattle.revision.specs.Past.{StandInTurn, newest, content_at, deltas_of, deltas_above, undo_of, way_back, way_back_late, with_changes, prepared_units, prepared_revision, without_last, sources_after, sources_at, changes_by};
+ghost use Rattle.revision.specs.Past.{Change, StandInTurn, newest, content_at, deltas_of, deltas_above, undo_of, way_back, way_back_late, with_changes, prepared_units, prepared_revision, without_last, sources_after, sources_at, changes_by};
 ghost use Rattle.revision.specs.Name.{is_source_name};
 ghost use Rattle.revision.specs.Replay.{deltas_to};
 ghost use Rattle.revision.specs.Sources.{with_last};
@@ -230,6 +230,16 @@ impl Past {
         let taker = Taker { source, number };
         push_both(&mut self.takers, &mut self.deltas, taker, delta)?;
         Ok(())
+    }
+
+    /// The delta of the last change that was prepared.
+    pub(crate) fn prepared_delta(&self) -> &Delta
+        requires some { 0 < length self.now.next }
+        ensures { (before : List Change) (last : Change) → self.now.next ≡ before ++ last ∷ []
+            → result.now ≡ last.delta }
+    {
+        let last = self.deltas.len() - 1;
+        &self.deltas[last]
     }
 
     /// Drops the last change that was prepared, where one was.

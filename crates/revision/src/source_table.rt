@@ -10,7 +10,7 @@ ghost use Rattle.attributes.specs.Map.{get};
 use crate::name::Name;
 use crate::past::apply_taken;
 use crate::sources::{LastTaken, Sources};
-use crate::taken::Taken;
+use delta::Delta;
 use document::Document;
 use refusal::Refusal;
 use std::alloc::Global;
@@ -113,20 +113,21 @@ impl SourceTable {
         self.ahead.note(alloc, source, number, revision)
     }
 
-    /// Prepares a command that was taken, and applies its delta to a document: both, or neither. Refused for want of memory alone.
+    /// Prepares a command of a source, whose name has 1 to 32 characters, and applies its delta to a document: both, or neither.
+    /// Refused for want of memory alone.
     pub fn prepare_with(
         &mut self,
         alloc: Global,
-        taken: &Taken,
+        source: &Name,
+        last: LastTaken,
+        delta: &Delta,
         document: &mut Document,
     ) -> Result<(), Refusal>
-        requires accepted { IsAccepted document.old (counted taken.now.delta) }
+        requires named { is_source_name source.now ≡ true }
+        requires accepted { IsAccepted document.old (counted delta.now) }
         ensures ok { OnOk result (self.new
-            ≡ record self.old {
-              prepared = with_last taken.now.source taken.now.number taken.now.revision
-                  self.old.prepared;
-            }) }
-        ensures document { OnOk result (document.new ≡ apply document.old (counted taken.now.delta)) }
+            ≡ record self.old { prepared = with_last source.now last.number last.revision self.old.prepared }) }
+        ensures document { OnOk result (document.new ≡ apply document.old (counted delta.now)) }
         ensures only { IsOkUnless result Refusal.NoMemory }
         ensures unchanged { OnErr result (self.new ≡ self.old) }
         ensures document_unchanged { OnErr result (document.new ≡ document.old) }
@@ -136,14 +137,8 @@ impl SourceTable {
             self.changed.clear();
             self.prepared = true;
         }
-        mark(
-            alloc,
-            &mut self.changed,
-            &self.held,
-            &self.ahead,
-            taken.source(),
-        )?;
-        note_with(alloc, &mut self.ahead, taken, document)
+        mark(alloc, &mut self.changed, &self.held, &self.ahead, source)?;
+        note_with(alloc, &mut self.ahead, source, last, delta, document)
     }
 
     /// Accepts what is prepared. It takes no memory, and isn't refused.
@@ -191,24 +186,25 @@ fn is_same(one: Option<LastTaken>, other: Option<LastTaken>) -> bool
     one == other
 }
 
-// Notes a command that was taken, and applies its delta to a document: both, or neither. Refused for want of memory alone.
+// Notes a command of a source, and applies its delta to a document: both, or neither. Refused for want of memory alone.
 fn note_with(
     alloc: Global,
     sources: &mut Sources,
-    taken: &Taken,
+    source: &Name,
+    last: LastTaken,
+    delta: &Delta,
     document: &mut Document,
 ) -> Result<(), Refusal>
-    requires accepted { IsAccepted document.old (counted taken.now.delta) }
-    ensures sources { OnOk result (sources.new
-        ≡ with_last taken.now.source taken.now.number taken.now.revision sources.old) }
-    ensures document { OnOk result (document.new ≡ apply document.old (counted taken.now.delta)) }
+    requires named { is_source_name source.now ≡ true }
+    requires accepted { IsAccepted document.old (counted delta.now) }
+    ensures sources { OnOk result (sources.new ≡ with_last source.now last.number last.revision sources.old) }
+    ensures document { OnOk result (document.new ≡ apply document.old (counted delta.now)) }
     ensures only { IsOkUnless result Refusal.NoMemory }
     ensures unchanged { OnErr result (sources.new ≡ sources.old) }
     ensures document_unchanged { OnErr result (document.new ≡ document.old) }
 {
-    let (source, delta) = (taken.source(), taken.delta());
     let before = sources.find(source);
-    sources.note(alloc, source, taken.number(), taken.revision())?;
+    sources.note(alloc, source, last.number, last.revision)?;
     match apply_taken(alloc, document, delta) {
         Ok(()) => Ok(()),
         Err(refusal) => {

@@ -183,6 +183,22 @@ impl Taken {
         })
     }
 
+    /// The source, its number and the delta, by value. Nothing is copied.
+    pub(crate) fn into_change(self) -> (Name, u64, Delta)
+        ensures change { result ≡ (self.source, self.number, self.delta) }
+        ensures taken { IsTaken self }
+    {
+        let Taken {
+            document: _,
+            name: _,
+            revision: _,
+            source,
+            number,
+            delta,
+        } = self;
+        (source, number, delta)
+    }
+
     /// Whether two commands are equal in all that they have. It takes no memory.
     pub fn is_same(&self, other: &Taken) -> bool
         ensures { IsTrue result ↔ (self.now ≡ other.now) }

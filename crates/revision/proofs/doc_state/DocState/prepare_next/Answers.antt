@@ -11,26 +11,26 @@ use Rattle.revision.proofs.doc_state.DocState.prepare_next.Goals as goal
 
 pub note_on-requires-clause-accepted : goal.note_on-requires-clause-accepted
 note_on-requires-clause-accepted c =
-    let taken = c.args.taken.now in
+    let taken = c.args.taken in
     subst (λ (d : PendingDocument). IsAccepted (prepared_units d.past) (counted taken.delta)) (sym c.self.view_is)
     (next_accepted c.args.limits c.args.self.now taken c.requires.limits c.requires.follows).0
 
 pub note_on-requires-clause-short : goal.note_on-requires-clause-short
 note_on-requires-clause-short c =
-    let taken = c.args.taken.now in
+    let taken = c.args.taken in
     subst (λ (d : PendingDocument). length (apply (prepared_units d.past) (counted taken.delta)) ≤ 2 ^ 29) (sym c.self.view_is)
     (next_accepted c.args.limits c.args.self.now taken c.requires.limits c.requires.follows).1
 
 pub note_on-requires-clause-revision : goal.note_on-requires-clause-revision
 note_on-requires-clause-revision c =
-    let taken = c.args.taken.now in
+    let taken = c.args.taken in
     let next = next_revision c.args.limits c.args.self.now taken c.requires.limits c.requires.follows in
     let same : prepared_revision c.self.inside.past ≡ prepared_revision c.args.self.now.past = ap (λ (d : PendingDocument). prepared_revision d.past) c.self.view_is in
     omega (arith, next, same, taken_bound taken.name taken.revision taken.number c.delta-delta.ensures.taken.kind)
 
 pub after_taken-requires : goal.after_taken-requires
 after_taken-requires c =
-    let taken = c.args.taken.now in
+    let taken = c.args.taken in
     let inside = c.self.inside in
     let units : prepared_units c.args.self.now.past ≡ inside.document =
     ap (λ (d : PendingDocument). prepared_units d.past) (sym c.self.view_is)
@@ -40,20 +40,20 @@ after_taken-requires c =
 
 pub note-requires-clause-accepted : goal.note-requires-clause-accepted
 note-requires-clause-accepted c =
-    let taken = c.args.taken.now in
+    let taken = c.args.taken in
     subst (λ (d : PendingDocument). IsAccepted (prepared_units d.past) (counted taken.delta)) (sym c.self.view_is)
     (next_accepted c.args.limits c.args.self.now taken c.requires.limits c.requires.follows).0
 
 pub note-requires-clause-short : goal.note-requires-clause-short
 note-requires-clause-short c =
-    let taken = c.args.taken.now in
+    let taken = c.args.taken in
     subst (λ (d : PendingDocument). length (apply (prepared_units d.past) (counted taken.delta)) ≤ 2 ^ 29) (sym c.self.view_is)
     (next_accepted c.args.limits c.args.self.now taken c.requires.limits c.requires.follows).1
 
 pub invariant_of-self : goal.invariant_of-self
 invariant_of-self c =
     let inside = c.self.inside in
-    let taken = c.args.taken.now in
+    let taken = c.args.taken in
     let after = c.note_on.new.next in
     let past : Prepared = record inside.past { next = inside.past.next ++ change_of taken ∷ [] } in
     let there : inside.next ≡ Some c.in-Some.next.now = sym c.in-Some.ensures.value in

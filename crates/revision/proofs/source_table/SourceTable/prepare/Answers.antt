@@ -1,7 +1,4 @@
-use Rattle.std.proofs.Common.{◌≡◌, List, ℕ, ◌∷◌, [], false, subst}
-use Rattle.attributes.specs.Map.{get}
-use Rattle.revision.specs.Sources.{is_among, EqualBut}
-use Rattle.revision.proofs.Noted.{but-once_noted, but-same}
+use Rattle.revision.proofs.Noted.{but-once_noted}
 use Rattle.revision.proofs.source_table.SourceTable.prepare.Goals.{then-not-self+in_ok-align_all, else-not-self}
 use Rattle.revision.proofs.source_table.SourceTable.prepare.Goals as goal
 

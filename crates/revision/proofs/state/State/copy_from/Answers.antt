@@ -1,9 +1,9 @@
-use Rattle.std.proofs.Common.{◌≡◌, ◌∷◌, ◌++◌, ◌≤◌, [], ℕ, List, Some, true, length, take, map, get_or, refl, sym, ap, subst, ◌∙◌, arith}
+use Rattle.std.proofs.Common.{◌≡◌, ◌∷◌, ◌++◌, ◌≤◌, [], ℕ, List, Some, true, length, take, get_or, sym, ap, subst, ◌∙◌, arith}
 use Rattle.std.proofs.lemmas.List.{length-map, take_all}
 use Rattle.std.specs.Prelude.{slice_get, is_none}
 use Rattle.revision.specs.Documents.{PreparedState}
 use Rattle.revision.specs.Floors.{raised, raised_each}
-use Rattle.revision.specs.Invariants.{IsState, NamesDiffer}
+use Rattle.revision.specs.Invariants.{IsState}
 use Rattle.revision.specs.Pending.{PendingDocument, record_of}
 use Rattle.revision.specs.State.{State, DocumentRecord, find}
 use Rattle.revision.proofs.NewNames.{new-to-those-before, record_of-at, one-more}

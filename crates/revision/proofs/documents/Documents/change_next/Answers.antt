@@ -10,25 +10,35 @@ use Rattle.revision.specs.State.{DocumentRecord, change_of, record_by_name, set_
 use Rattle.revision.proofs.ChangedAt.{map-changed_at, length-changed_at, among-last}
 use Rattle.revision.proofs.Untouched.{rest-touch, rest-changed}
 use Rattle.revision.proofs.OneMore.{changed_by, record_of-changed}
-use Rattle.revision.proofs.documents.Documents.prepare_next.Goals as goal
+use Rattle.revision.proofs.documents.Documents.change_next.Goals as goal
 
-pub invariant_of-self-in_err-change-in-None : goal.invariant_of-self-in_err-change-in-None
-invariant_of-self-in_err-change-in-None c =
-    let same = c.in_err-change-in-None.ensures.unchanged in
+pub invariant_of-self : goal.invariant_of-self
+invariant_of-self c = record {
+  limits = c.self.invariant.limits;
+  held = c.self.invariant.held;
+  room = c.self.invariant.room;
+  index = c.self.invariant.index;
+  none_twice = c.self.invariant.none_twice;
+  rest = rw c.in_err-push.ensures.items c.self.invariant.rest;
+}
+
+pub invariant_of-self-in_err-change : goal.invariant_of-self-in_err-change
+invariant_of-self-in_err-change c =
+    let same = c.in_err-change.ensures.unchanged in
     record {
       limits = c.self.invariant.limits;
       held = rw same c.self.invariant.held;
       room = rw same c.self.invariant.room;
       index = λ q. c.self.invariant.index q ∙ ap (λ ds. number_of q 0 (names_of ds)) (sym same);
       none_twice = rw same c.self.invariant.none_twice;
-      rest = rw same (rw c.in_ok-push-in-None.ensures.items (rest-touch c.self.inside.touched.items c.document.result c.self.inside.documents.items c.self.invariant.rest));
+      rest = rw same (rw c.in_ok-push.ensures.items (rest-touch c.self.inside.touched.items c.document.result c.self.inside.documents.items c.self.invariant.rest));
     }
 
-pub invariant_of-self-in-None : goal.invariant_of-self-in-None
-invariant_of-self-in-None c =
-    let f = with_next (change_of c.args.taken.now) in
-    let made = c.in_ok-change-in-None.ensures.ok in
-    let i = c.args.taken.now.document in
+pub invariant_of-self-2 : goal.invariant_of-self-2
+invariant_of-self-2 c =
+    let f = with_next (change_of c.args.taken) in
+    let made = c.in_ok-change.ensures.ok in
+    let i = c.args.taken.document in
     let documents = c.self.inside.documents.items in
     let touched = c.self.inside.touched.items ++ c.document.result ∷ [] in
     let names : names_of c.change.new.documents.items ≡ names_of documents =
@@ -41,19 +51,19 @@ invariant_of-self-in-None c =
       room = omega (arith, long, c.self.invariant.room);
       index = λ q. c.self.invariant.index q ∙ ap (number_of q 0) (sym names);
       none_twice = rw names c.self.invariant.none_twice;
-      rest = rw made (rw c.in_ok-push-in-None.ensures.items
+      rest = rw made (rw c.in_ok-push.ensures.items
           (rest-changed f touched i documents among (rest-touch c.self.inside.touched.items c.document.result documents c.self.invariant.rest)));
     }
 
-pub returns-in_ok-change-in-None-clause-ok : goal.returns-in_ok-change-in-None-clause-ok
-returns-in_ok-change-in-None-clause-ok c =
-    let f = with_next (change_of c.args.taken.now) in
-    let made = c.in_ok-change-in-None.ensures.ok in
-    let i = c.args.taken.now.document in
+pub returns-clause-ok : goal.returns-clause-ok
+returns-clause-ok c =
+    let f = with_next (change_of c.args.taken) in
+    let made = c.in_ok-change.ensures.ok in
+    let i = c.args.taken.document in
     let documents = c.self.inside.documents.items in
     let keep = c.self.inside.limits.keep in
     ap₂ (λ (b a : List DocumentRecord). record { before = record { limits = c.self.inside.limits; documents = b }; after = record { limits = c.self.inside.limits; documents = a } })
     (ap (λ ds. map record_of (take c.self.inside.count ds)) made ∙ record_of-changed f (λ d. refl) c.self.inside.count i documents)
-    (ap (map (with_prepared keep)) made ∙ sym (changed_by keep i documents c.args.taken.now)
-    ∙ ap (λ n. set_document i (record_by_name keep (slice_get (map (with_prepared keep) documents) i) c.args.taken.now n) (map (with_prepared keep) documents)) c.in-None.ensures)
-    ∙ ap (λ (p : PreparedState). record { before = p.before; after = grown p.after c.args.taken.now }) c.self.view_is
+    (ap (map (with_prepared keep)) made ∙ sym (changed_by keep i documents c.args.taken)
+    ∙ ap (λ n. set_document i (record_by_name keep (slice_get (map (with_prepared keep) documents) i) c.args.taken n) (map (with_prepared keep) documents)) (sym c.requires.name))
+    ∙ ap (λ (p : PreparedState). record { before = p.before; after = grown p.after c.args.taken }) c.self.view_is
