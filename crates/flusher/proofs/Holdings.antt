@@ -152,15 +152,3 @@ not_lost refusal (inl (inr (inl needed))) is = cc
 not_lost refusal (inl (inr (inr stranger))) is = cc
 not_lost refusal (inr (inl memory)) is = cc
 not_lost refusal (inr (inr fault)) is = cc
-
--- a publish that is refused so leaves the batch that it was given
-pub lost_still : {A : Type 0} (result : Result A Refusal) (before after : Published) → (IsErrOf result StoreFailed → ¬ (before.held ≡ [])) → OnErr result (after ≡ before) → IsErrOf result StoreFailed
-    → ¬ (after.held ≡ [])
-lost_still (Ok answer) before after lost same told = absurd (no_error answer StoreFailed told)
-lost_still (Err refusal) before after lost same told = λ none. lost told (ap (λ (p : Published). p.held) (sym same) ∙ none)
-
--- and it has no other refusals
-pub publish_only : {A : Type 0} (P : Type 0) (result : Result A Refusal) → IfErr result (λ e. (e ≡ NoMemory) ⊎ (e ≡ StoreFailed)) → IfErr result (λ e. e ≢ NoMemory → e ≢ StoreFailed → P)
-publish_only P (Ok answer) only = tt
-publish_only P (Err refusal) (inl memory) = λ no_memory no_failure. absurd (no_memory memory)
-publish_only P (Err refusal) (inr failed) = λ no_memory no_failure. absurd (no_failure failed)
