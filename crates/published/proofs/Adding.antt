@@ -1,12 +1,11 @@
 -- The exchange that adds a batch keeps the rule.
-use Rattle.std.proofs.Common.{◌≡◌, ℕ, ◌+◌, ◌<◌, ◌==◌, Bool, true, false, MatchBool, List, [], ◌∷◌, ◌++◌, length, refl, ap, sym, ◌∙◌, subst, arith, inl, length-append, None}
+use Rattle.std.proofs.Common.{◌≡◌, ℕ, ◌+◌, ◌<◌, ◌==◌, Bool, true, false, List, [], ◌∷◌, ◌++◌, length, refl, ap, sym, subst, arith, inl, length-append, None}
 use Rattle.std.proofs.lemmas.List.{append-nil}
 use Rattle.std.proofs.lemmas.Bool.Decides.{nat_tests}
 use mathlib.Core.List.{IsPrefix}
 use prog.Atomic.{either}
 use Rattle.logbook.specs.Pages.{Cell, cell, keeps, no_nib, step, Moves, Goes}
 use Rattle.revision.specs.Command.{Taken}
-use Rattle.published.specs.Batches.{IsShorter}
 use Rattle.published.specs.Rules.{IsCounted, Adds}
 use Rattle.published.proofs.Beginnings.{prefix_whole}
 
@@ -49,12 +48,3 @@ pub adds_moves : (v : List (List Taken)) (e : List Taken) (old : ℕ) → length
 adds_moves v e old len cs log kept pre away =
     let P : List Cell → Type 0 = λ c. (0 < length c) × ((cell c 0).1 ≡ true) × Goes IsCounted shown moved 0 (v, (no_nib, None)) (λ n. either (n == old) (old + 1) n) (Adds (step 0 old (old + 1) e) (v, (no_nib, None))) c log in
     subst P (sym kept) (omega arith, refl, adds_goes log v e old len pre (length log == old) refl)
-
--- a log that was found longer than what was seen of it goes on behind that
-pub is_longer : (v after : List (List Taken)) (e : List Taken) (old found : ℕ) → length v ≡ old → IsPrefix v after
-    → MatchBool (found == old) (after ≡ v ++ e ∷ []) (length after ≡ found) → (found == old) ≡ false → IsShorter v after
-is_longer v after e old found len pre adds is =
-    let size : length after ≡ found = rw is at adds in
-    let total : length after ≡ length v + length pre.0 = ap length (sym pre.1) ∙ length-append v pre.0 in
-    let less : length v < length after = grind (is, size, total, len, arith, nat_tests) in
-    (pre, less)
