@@ -1,10 +1,10 @@
 -- What a flusher holds, and how it fits the state of its store.
 use Rattle.std.proofs.Common.{◌≡◌, ◌≢◌, ◌↔◌, ◌⊎◌, inl, inr, ℕ, Bool, true, false, List, [], ◌∷◌, ◌++◌, Option, Some, None, refl, sym, ◌∙◌, ap, subst, append-nil}
-use Rattle.std.specs.Prelude.{Result, Ok, Err, OnOk, OnErr, IfErr, IsErrOf, option_to_list}
+use Rattle.std.specs.Prelude.{Result, Ok, Err, OnOk, IfErr, IsErrOf, option_to_list}
 use Rattle.std.specs.Option.{option_map}
 use Rattle.disk.specs.Crash.{LeavesOnly}
 use Rattle.refusal.specs.declared.Refusal.{Refusal}
-use Rattle.refusal.specs.declared.Refusal.TheVariants.{JournalFull, Stranger, StillNeeded, StoreFailed, NoMemory, Fault}
+use Rattle.refusal.specs.declared.Refusal.TheVariants.{StillNeeded, Fault}
 use Rattle.disk.specs.declared.device.Disk.{Ghosts}
 use Rattle.revision.specs.Command.{Taken}
 use Rattle.revision.specs.State.{State, fold}
@@ -144,23 +144,3 @@ pub kept_published : (start state : State) (before after : Published) → state 
 kept_published start state before after kept is =
     kept ∙ ap (λ (l : List (List Taken)). fold start (commands_of l)) (sym (append-nil (before.told ++ before.held)))
     ∙ ap (λ (p : Published). fold start (commands_of (p.told ++ p.held))) (sym is)
-
--- a commit isn't refused with `StoreFailed`
-pub not_lost : (refusal : Refusal) → ((refusal ≡ JournalFull) ⊎ ((refusal ≡ StillNeeded) ⊎ (refusal ≡ Stranger))) ⊎ ((refusal ≡ NoMemory) ⊎ (refusal ≡ Fault)) → refusal ≡ StoreFailed → ⊥
-not_lost refusal (inl (inl full)) is = cc
-not_lost refusal (inl (inr (inl needed))) is = cc
-not_lost refusal (inl (inr (inr stranger))) is = cc
-not_lost refusal (inr (inl memory)) is = cc
-not_lost refusal (inr (inr fault)) is = cc
-
--- a publish that is refused so leaves the batch that it was given
-pub lost_still : {A : Type 0} (result : Result A Refusal) (before after : Published) → (IsErrOf result StoreFailed → ¬ (before.held ≡ [])) → OnErr result (after ≡ before) → IsErrOf result StoreFailed
-    → ¬ (after.held ≡ [])
-lost_still (Ok answer) before after lost same told = absurd (no_error answer StoreFailed told)
-lost_still (Err refusal) before after lost same told = λ none. lost told (ap (λ (p : Published). p.held) (sym same) ∙ none)
-
--- and it has no other refusals
-pub publish_only : {A : Type 0} (P : Type 0) (result : Result A Refusal) → IfErr result (λ e. (e ≡ NoMemory) ⊎ (e ≡ StoreFailed)) → IfErr result (λ e. e ≢ NoMemory → e ≢ StoreFailed → P)
-publish_only P (Ok answer) only = tt
-publish_only P (Err refusal) (inl memory) = λ no_memory no_failure. absurd (no_memory memory)
-publish_only P (Err refusal) (inr failed) = λ no_memory no_failure. absurd (no_failure failed)

@@ -12,18 +12,20 @@ use crate::gate::{Gate, Moment};
 use crate::written::{Written, to_settle};
 use disk::Disk;
 use hub::Run;
-use published::Site;
+use published::{NotAdded, Site};
 use recovery::Store;
 use refusal::Refusal;
 use std::alloc::Global;
 use std::sync::Wait;
-use view::{Publisher, Viewer};
+use view::{Publisher, Unpublished, Viewer};
 
-/// The store, what publishes its batches to readers, and at most one run that is to be written as a batch.
+/// The store, what publishes its batches to readers, at most one run that is to be written as a batch, and what kept a batch from being
+/// published, if anything did.
 pub struct Flusher<D: Disk, J: Site> {
     pub(crate) store: Store<D>,
     publisher: Publisher<D, J>,
     waiting: Option<Run<D, J>>,
+    barred: Option<NotAdded<J>>,
     begun: Begun<J>,
     ghost kept: { state_of store ≡ fold begun (commands_of (publisher.told ++ publisher.held)) },
     ghost fits: { ForSome waiting (λ run. MayCommit (state_of store) run.commands publisher.held) },
@@ -46,6 +48,7 @@ impl<D: Disk, J: Site> Flusher<D, J> {
             store,
             publisher,
             waiting: None,
+            barred: None,
             begun,
         }
     }
@@ -129,7 +132,7 @@ impl<D: Disk, J: Site> Flusher<D, J> {
     /// and the token that ends with the batch, to be settled by, or `None` where no batch is held. On a refusal the next call goes on where this one
     /// stopped: the same batch is committed, or published, by then. Refused as `commit_held`, with `JournalFull` or `StillNeeded` where
     /// the journal is full and can't be freed, and then as the publish: for want of memory, or with `StoreFailed` where the log of what is
-    /// published can't be made longer. The batch is on the disk then.
+    /// published can't be made longer, and the flusher notes why. The batch is on the disk then.
     pub fn write<R: Wait, G: Gate>(
         &mut self,
         rt: &R,
@@ -180,8 +183,14 @@ impl<D: Disk, J: Site> Flusher<D, J> {
             return Err(refusal);
         }
         gate.pass(Moment::AfterCommit);
-        let published = self.publisher.publish(rt, alloc);
-        to_settle(published)
+        match self.publisher.publish(rt, alloc) {
+            Ok(published) => Ok(to_settle(published)),
+            Err(Unpublished::NoMemory) => Err(Refusal::NoMemory),
+            Err(Unpublished::NotAdded(why)) => {
+                self.barred = Some(why);
+                Err(Refusal::StoreFailed)
+            }
+        }
     }
 
     /// Whether a batch is held that isn't committed yet, or one is committed that isn't published yet.
@@ -214,6 +223,7 @@ impl<D: Disk, J: Site> Flusher<D, J> {
             store,
             publisher,
             waiting,
+            barred: _,
             begun: _,
         } = self;
         publisher.end(rt);

@@ -53,13 +53,12 @@ impl<D, J: Site> Written<D, J> {
 
 // What a publish gave, to be settled.
 pub(crate) fn to_settle<D, J: Site>(
-    published: Result<Option<(Receipt<D>, Told<D, J>)>, Refusal>,
-) -> Result<Option<Written<D, J>>, Refusal>
+    published: Option<(Receipt<D>, Told<D, J>)>,
+) -> Option<Written<D, J>>
     ensures { result ≡ published }
 {
     match published {
-        Ok(Some((receipt, told))) => Ok(Some(Written { receipt, told })),
-        Ok(None) => Ok(None),
-        Err(refusal) => Err(refusal),
+        Some((receipt, told)) => Some(Written { receipt, told }),
+        None => None,
     }
 }

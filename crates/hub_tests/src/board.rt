@@ -77,7 +77,10 @@ fn told_more<J: Site, R: Abort>(
     log: &Log<MemDisk, J>,
     receipt: &Receipt<MemDisk>,
 ) -> Told<MemDisk, J> {
-    told.add(log, receipt).expect(rt, "the log's end")
+    match told.add(log, receipt) {
+        Ok(more) => more,
+        Err(_) => panic!(rt; "it isn't the newest"),
+    }
 }
 
 fn waits<J: Site, R: Abort>(rt: &R, board: &Board<MemDisk, J>, ticket: &Ticket) {

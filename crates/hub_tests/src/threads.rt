@@ -79,7 +79,10 @@ fn written<J: Site, R: Wait>(
             }
         };
         run.committed(&receipt);
-        told = told.add(log, &receipt).ok_or(Refusal::Stranger)?;
+        told = match told.add(log, &receipt) {
+            Ok(more) => more,
+            Err(_) => return Err(Refusal::Stranger),
+        };
         let _settled = hub.settle(rt, &receipt, told.copy())?;
         batches = batches.saturating_add(1);
     }

@@ -1,2 +1,3 @@
 pub mod Batches
+pub mod NotAdded
 pub mod Rules

@@ -1,11 +1,13 @@
 //! The token of what was published.
-ghost use Rattle.std.specs.Prelude.{◌≡◌, ◌⊎◌, ◌∷◌, ◌++◌, [], length, IfSome, MatchBool};
+ghost use Rattle.std.specs.Prelude.{◌≡◌, ◌⊎◌, ◌∷◌, ◌++◌, [], length, IfOk, IfErr, MatchBool};
 ghost use mathlib.Core.List.{IsPrefix};
 ghost use Rattle.recovery.specs.Found.{commands_of};
 ghost use Rattle.published.specs.Batches.{IsShorter};
+ghost use Rattle.published.specs.NotAdded.{IsNotAdded};
 
 use crate::batch::{Add, Batch, Law, Nothing};
 use crate::log::Log;
+use crate::longer::{Longer, NotAdded};
 use crate::mark::Mark;
 use crate::site::Site;
 use logbook::Offer;
@@ -82,15 +84,17 @@ impl<D, J: Site> Told<D, J> {
         *self = self.longer(other);
     }
 
-    /// Publishes a batch that was committed behind the batches of this token, and gives the token that ends with it. `None` where
-    /// something else was published behind them, or the log would count more than 2^62 batches or commands. It takes no memory.
-    pub fn add(&self, log: &Log<D, J>, receipt: &Receipt<D>) -> Option<Told<D, J>>
-        ensures { IfSome result (λ told. told ≡ self.now ++ receipt.now ∷ []) }
+    /// Publishes a batch that was committed behind the batches of this token, and gives the token that ends with it. Refused where
+    /// something else was published behind them, which the answer shows, so never while this token is of the whole log; and where the log
+    /// would count more than 2^62 batches or commands. It takes no memory.
+    pub fn add(&self, log: &Log<D, J>, receipt: &Receipt<D>) -> Result<Told<D, J>, NotAdded<J>>
+        ensures added { IfOk result (λ told. told ≡ self.now ++ receipt.now ∷ []) }
+        ensures refused { IfErr result (λ why. IsNotAdded self.now receipt.now why) }
     {
         let batches = self.mark.batches;
         let more = receipt.batch().len() as u64;
         if batches >= MOST || self.mark.len >= MOST || more >= MOST {
-            return None;
+            return Err(NotAdded::Full);
         }
         let mut seen = self.mark.seen.again();
         let mut offer: Offer<Batch, u64, Law, Nothing> = seen.plain::<Nothing, Receipt<D>, Add>(
@@ -107,9 +111,12 @@ impl<D, J: Site> Told<D, J> {
                 &mut pen,
             );
         if found != batches {
-            return None;
+            return Err(NotAdded::Behind(Longer {
+                seen,
+                of: PhantomData,
+            }));
         }
-        Some(Told {
+        Ok(Told {
             mark: Mark {
                 batches: batches + 1,
                 len: self.mark.len + more,

@@ -272,7 +272,7 @@ module _ {D J : Type 0} {disk : Ghosts D} where
           ))
       by_case (inl (inr (inl memory))) = absurd (no_memory memory)
       by_case (inl (inr (inr fault))) = absurd (no_fault fault)
-      by_case (inr is_lost) = let l = lost is_lost in inr (inr (is_lost, (l.waiting, l.committed)))
+      by_case (inr is_lost) = let l = lost is_lost in inr (inr (is_lost, (l.waiting, l.committed, l.barred)))
 
   -- what was published and isn't settled
   pub turn_unsettled : (old new : Flusher D J disk) (refusal : Refusal) → refusal ≡ Stranger → IsOneMore old new → IsTurnFailed old refusal new

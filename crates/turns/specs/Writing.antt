@@ -13,7 +13,7 @@ use Rattle.recovery.specs.Goes.{Goes}
 use Rattle.flusher.specs.declared.flusher.Flusher.{Flusher}
 use Rattle.flusher.specs.Batches.{IsBeginning}
 use Rattle.flusher.specs.Flushers.{IsUsedUp}
-use Rattle.flusher.specs.Holding.{store_of, told_of, committed_of, waiting_of}
+use Rattle.flusher.specs.Holding.{CannotPublish, store_of, told_of, committed_of, waiting_of}
 
 module _ {D : Type 0} {disk : Ghosts D} where
   -- Milestones were put and segments retired, and nothing else: the state is as it was, and a crash at any moment leaves it.
@@ -53,13 +53,13 @@ module _ {D J : Type 0} {disk : Ghosts D} where
     pub batch : List Taken
     pub told : told_of new ≡ told_of old ++ batch ∷ []
 
-  -- Why a turn fails the board, where the device didn't: its batch finds no room; or doesn't continue the state; or is committed, and the
-  -- log of what is published can't be made longer; or is committed and published, and isn't what the board has to settle next.
+  -- Why a turn fails the board, where the device didn't: its batch finds no room; or doesn't continue the state; or is committed, and can't
+  -- be put into the log of what is published, as the flusher has noted; or is committed and published, and isn't what the board has to settle next.
   abbrev pub IsTurnFailed : Flusher D J disk → Refusal → Flusher D J disk → Type 0
   IsTurnFailed old refusal new =
       (((refusal ≡ JournalFull) ⊎ (refusal ≡ StillNeeded)) × ((batch : List Taken) × (waiting_of new ≡ batch ∷ []) × IsFullFor batch (store_of old)))
       ⊎ (((refusal ≡ Stranger) × ((all_grow (state_of (store_of new)) (commands_of (waiting_of new)) ≡ false) ⊎ IsOneMore old new))
-      ⊎ ((refusal ≡ StoreFailed) × ((waiting_of new ≡ []) × (¬ (committed_of new ≡ [])))))
+      ⊎ ((refusal ≡ StoreFailed) × ((waiting_of new ≡ []) × (¬ (committed_of new ≡ [])) × CannotPublish new)))
 
   -- Some turns were made, and then one that failed the board for this reason.
   pub record IsEndedBy (start : State) (old : Flusher D J disk) (refusal : Refusal) (new : Flusher D J disk) : Type 0 where

@@ -2,3 +2,4 @@ pub mod News
 pub mod Shown
 pub mod Published
 pub mod Stages
+pub mod Unpublished

@@ -37,5 +37,5 @@ mod publisher;
 mod shown;
 mod viewer;
 
-pub use publisher::Publisher;
+pub use publisher::{Publisher, Unpublished};
 pub use viewer::Viewer;

@@ -1,13 +1,14 @@
 //! The writer of the view.
-ghost use Rattle.std.specs.Prelude.{◌≡◌, ◌⊎◌, ◌∷◌, ◌++◌, [], drop, length, nat_lt, IfOk, IfErr, IfSome, IfNone, OnErr, IsErrOf, IsOkUnless};
+ghost use Rattle.std.specs.Prelude.{◌≡◌, ◌∷◌, ◌++◌, [], drop, length, nat_lt, IfOk, IfErr, IfSome, IfNone, OnErr, IsOkUnless};
 ghost use Rattle.view.specs.Published.{Published};
 ghost use Rattle.view.specs.Stages.{AreShown, news_of as to_show};
+ghost use Rattle.view.specs.Unpublished.{IsUnpublished};
 
 use crate::shown::{InLog, News, Sees, Shown};
 use crate::viewer::Viewer;
 use core::mem::replace_with;
 use left_right::writer::Writer;
-use published::{Log, Opened, Site, Told};
+use published::{Log, NotAdded, Opened, Site, Told};
 use recovery::Receipt;
 use refusal::Refusal;
 use revision::{State, Taken};
@@ -30,6 +31,15 @@ pub enum Stage<D, J: Site> {
     Logged(Receipt<D>, Told<D, J>),
     /// The writer of the view has it, and doesn't show it yet.
     Queued(Receipt<D>, Told<D, J>),
+}
+
+/// Why a batch isn't published.
+#[derive(Drop)]
+pub enum Unpublished<J: Site> {
+    /// Memory was wanted. The next call goes on with the same batch.
+    NoMemory,
+    /// The batch can't be put into the run's log.
+    NotAdded(NotAdded<J>),
 }
 
 /// What publishes committed batches to viewers: it alone puts them into the run's log. Contracts see it as the batches that are
@@ -132,21 +142,20 @@ impl<D, J: Site> Publisher<D, J> {
 
     /// Publishes the batch that was given, and gives its receipt with the token that ends with it; `None` where none was given.
     ///
-    /// Refused with `NoMemory`, and the next call goes on then, with the same batch, which comes into the log once. Refused with
-    /// `StoreFailed` where the log was made longer by somebody else, who can't be, or counts 2^62 batches or commands; never where no
+    /// Refused for want of memory, and the next call goes on then, with the same batch, which comes into the log once. Refused besides
+    /// where the log was made longer by somebody else, which the answer shows, or counts 2^62 batches or commands; never where no
     /// batch was given. Refused, nothing is published, and the batch stays given.
     pub fn publish<R: Wait>(
         &mut self,
         rt: &R,
         alloc: Global,
-    ) -> Result<Option<(Receipt<D>, Told<D, J>)>, Refusal>
+    ) -> Result<Option<(Receipt<D>, Told<D, J>)>, Unpublished<J>>
         ensures batch { IfOk result (λ published. IfSome published (λ p. self.old.held ≡ p.0 ∷ [])) }
         ensures told { IfOk result (λ published. IfSome published (λ p. p.1 ≡ self.old.told ++ p.0 ∷ [])) }
         ensures shown { IfOk result (λ published. IfSome published (λ p. self.new ≡ record { told = p.1; held = [] })) }
         ensures none { IfOk result (λ published. IfNone published ((self.old.held ≡ []) × (self.new ≡ self.old))) }
         ensures unchanged { OnErr result (self.new ≡ self.old) }
-        ensures lost { IsErrOf result Refusal.StoreFailed → ¬ (self.old.held ≡ []) }
-        ensures only { IfErr result (λ e. (e ≡ Refusal.NoMemory) ⊎ (e ≡ Refusal.StoreFailed)) }
+        ensures refused { IfErr result (λ why. IsUnpublished self.old why) }
     {
         replace_with(self, (rt, alloc), published::<D, J, R>)
     }
@@ -169,15 +178,14 @@ fn published<D, J: Site, R: Wait>(
     with: (&R, Global),
 ) -> (
     Publisher<D, J>,
-    Result<Option<(Receipt<D>, Told<D, J>)>, Refusal>,
+    Result<Option<(Receipt<D>, Told<D, J>)>, Unpublished<J>>,
 )
     ensures batch { IfOk result.1 (λ published. IfSome published (λ p. publisher.held ≡ p.0 ∷ [])) }
     ensures told { IfOk result.1 (λ published. IfSome published (λ p. p.1 ≡ publisher.told ++ p.0 ∷ [])) }
     ensures shown { IfOk result.1 (λ published. IfSome published (λ p. result.0 ≡ record { told = p.1; held = [] })) }
     ensures none { IfOk result.1 (λ published. IfNone published ((publisher.held ≡ []) × (result.0 ≡ publisher))) }
     ensures unchanged { OnErr result.1 (result.0 ≡ publisher) }
-    ensures lost { IsErrOf result.1 Refusal.StoreFailed → ¬ (publisher.held ≡ []) }
-    ensures only { IfErr result.1 (λ e. (e ≡ Refusal.NoMemory) ⊎ (e ≡ Refusal.StoreFailed)) }
+    ensures refused { IfErr result.1 (λ why. IsUnpublished publisher why) }
 {
     let (rt, alloc) = with;
     let Publisher {
@@ -197,15 +205,15 @@ fn published<D, J: Site, R: Wait>(
             (idle, Ok(None))
         }
         Stage::Held(receipt) => match told.add(&log, &receipt) {
-            Some(next) => queued(rt, alloc, writer, log, told, receipt, next),
-            None => {
+            Ok(next) => queued(rt, alloc, writer, log, told, receipt, next),
+            Err(why) => {
                 let held = Publisher {
                     writer,
                     log,
                     told,
                     stage: Stage::Held(receipt),
                 };
-                (held, Err(Refusal::StoreFailed))
+                (held, Err(Unpublished::NotAdded(why)))
             }
         },
         Stage::Logged(receipt, next) => queued(rt, alloc, writer, log, told, receipt, next),
@@ -224,7 +232,7 @@ fn queued<D, J: Site, R: Wait>(
     next: Told<D, J>,
 ) -> (
     Publisher<D, J>,
-    Result<Option<(Receipt<D>, Told<D, J>)>, Refusal>,
+    Result<Option<(Receipt<D>, Told<D, J>)>, Unpublished<J>>,
 )
     requires shown { AreShown J.book J.start told writer.desk.shown.value }
     requires waiting { drop writer.behind writer.log.items ≡ [] }
@@ -233,7 +241,7 @@ fn queued<D, J: Site, R: Wait>(
         × (result.0 ≡ record { told = next; held = [] }))) }
     ensures some { IfOk result.1 (λ published. IfNone published ⊥) }
     ensures unchanged { OnErr result.1 (result.0 ≡ record { told = told; held = receipt ∷ [] }) }
-    ensures only { IfErr result.1 (λ e. e ≡ Refusal.NoMemory) }
+    ensures only { IfErr result.1 (λ why. why ≡ Unpublished.NoMemory) }
 {
     let appended = match news_of(alloc, &receipt, &next) {
         Ok(news) => writer.append(news).is_ok(),
@@ -246,7 +254,7 @@ fn queued<D, J: Site, R: Wait>(
             told,
             stage: Stage::Logged(receipt, next),
         };
-        return (logged, Err(Refusal::NoMemory));
+        return (logged, Err(Unpublished::NoMemory));
     }
     shown(rt, writer, log, told, receipt, next)
 }
@@ -261,7 +269,7 @@ fn shown<D, J: Site, R: Wait>(
     next: Told<D, J>,
 ) -> (
     Publisher<D, J>,
-    Result<Option<(Receipt<D>, Told<D, J>)>, Refusal>,
+    Result<Option<(Receipt<D>, Told<D, J>)>, Unpublished<J>>,
 )
     requires shown { AreShown J.book J.start told writer.desk.shown.value }
     requires waiting { drop writer.behind writer.log.items ≡ to_show J.book receipt next ∷ [] }
@@ -270,7 +278,7 @@ fn shown<D, J: Site, R: Wait>(
         × (result.0 ≡ record { told = next; held = [] }))) }
     ensures some { IfOk result.1 (λ published. IfNone published ⊥) }
     ensures unchanged { OnErr result.1 (result.0 ≡ record { told = told; held = receipt ∷ [] }) }
-    ensures only { IfErr result.1 (λ e. e ≡ Refusal.NoMemory) }
+    ensures only { IfErr result.1 (λ why. why ≡ Unpublished.NoMemory) }
 {
     let (writer, published) = writer.publish_as::<Sees<J>, R>(rt);
     match published {
@@ -291,7 +299,7 @@ fn shown<D, J: Site, R: Wait>(
                 told,
                 stage: Stage::Queued(receipt, next),
             };
-            (queued, Err(Refusal::NoMemory))
+            (queued, Err(Unpublished::NoMemory))
         }
     }
 }

@@ -1,16 +1,19 @@
 //! The callers that the crates' first pages show.
-ghost use Rattle.std.specs.Prelude.{◌≡◌, [], ◌∷◌, IfSome, IfOk};
+ghost use Rattle.std.specs.Prelude.{◌≡◌, [], ◌∷◌, IfOk};
 ghost use mathlib.Core.List.{IsPrefix};
 
-use published::{Opened, Site, Told};
+use published::{NotAdded, Opened, Site, Told};
 use recovery::Receipt;
 use refusal::Refusal;
 use view::Viewer;
 
 /// Publishes the first batch of a run.
-pub fn publish_first<D, J: Site>(opened: Opened, receipt: &Receipt<D>) -> Option<Told<D, J>>
+pub fn publish_first<D, J: Site>(
+    opened: Opened,
+    receipt: &Receipt<D>,
+) -> Result<Told<D, J>, NotAdded<J>>
     requires { opened ≡ J.book }
-    ensures { IfSome result (λ told. told ≡ receipt.now ∷ []) }
+    ensures { IfOk result (λ told. told ≡ receipt.now ∷ []) }
 {
     let (log, told) = opened.named::<D, J>();
     told.add(&log, receipt)

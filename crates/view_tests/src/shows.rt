@@ -3,8 +3,8 @@ ghost use Rattle.std.specs.Prelude.{◌≡◌, []};
 
 use crate::made::{SHAPE, new_store, write};
 use disk::MemDisk;
-use published::{Opened, Site, Told};
-use recovery::Store;
+use published::{Log, NotAdded, Opened, Site, Told};
+use recovery::{Receipt, Store};
 use refusal::Refusal;
 use revision::{Name, State};
 use std::marker::Brand;
@@ -39,7 +39,7 @@ fn published<J: Site, R: Abort + AllocGlobal + Wait>(
             told
         }
         Ok(None) => panic!(rt; "nothing was given"),
-        Err(refusal) => panic!(rt; "{refusal}"),
+        Err(_) => panic!(rt; "it isn't published"),
     }
 }
 
@@ -131,18 +131,30 @@ fn a_viewer_shows_what_is_published(rt: HostRuntime) {
     two_batches::<Brand, _>(&rt, Opened::new(), state);
 }
 
+// puts a batch behind those of the newest token
+fn added<J: Site, R: Abort>(
+    rt: &R,
+    told: &Told<MemDisk, J>,
+    log: &Log<MemDisk, J>,
+    receipt: &Receipt<MemDisk>,
+) -> Told<MemDisk, J> {
+    match told.add(log, receipt) {
+        Ok(more) => more,
+        Err(_) => panic!(rt; "it isn't the newest"),
+    }
+}
+
 // Of two tokens the longer is kept, and only the end of the log is added to.
 fn tokens<J: Site, R: Abort + AllocGlobal>(rt: &R, opened: Opened)
     requires { opened ≡ J.book }
 {
     let mut store = new_store(rt);
     let (log, start) = opened.named::<MemDisk, J>();
-    let one = start
-        .add(&log, &write(rt, &mut store, 1, 3))
-        .expect(rt, "the end");
+    let first = write(rt, &mut store, 1, 3);
+    let one = added(rt, &start, &log, &first);
     let next = write(rt, &mut store, 2, 2);
-    assert!(rt; start.add(&log, &next).is_none());
-    let two = one.add(&log, &next).expect(rt, "the end");
+    assert!(rt; matches!(start.add(&log, &next), Err(NotAdded::Behind(_))));
+    let two = added(rt, &one, &log, &next);
     assert!(rt; start.begins(&two) && one.begins(&two) && two.begins(&two) && !two.begins(&one));
     assert_eq!(rt; two.longer(&one).len(), 2);
     assert_eq!(rt; one.longer(&two).len(), 2);

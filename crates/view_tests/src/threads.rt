@@ -29,7 +29,7 @@ fn publish_one<J: Site, R: Abort + AllocGlobal + Wait>(
     match publisher.publish(rt, rt.alloc()) {
         Ok(Some((_receipt, told))) => assert_eq!(rt; told.len(), number),
         Ok(None) => panic!(rt; "nothing was given"),
-        Err(refusal) => panic!(rt; "{refusal}"),
+        Err(_) => panic!(rt; "it isn't published"),
     }
 }
 
