@@ -128,6 +128,9 @@ impl<D: Disk> Store<D> {
         ensures put { OnOk result ((is_open : IsOpen self.old) → IsPutAt document revision self.old is_open self.new) }
         ensures done { OnOk result (IsOpen self.old → IsOpen self.new) }
         ensures kept { IfErr result (λ e. e ≢ Refusal.Fault → IsOpen self.old → IsOpen self.new) }
+
+        // Six calls of the device at most.
+        ensures calls { length (D.past (device_of self.new)) ≤ length (D.past (device_of self.old)) + 6 }
         ensures honest { D.honest (device_of self.new) ↔ D.honest (device_of self.old) }
     {
         let job = match self.milestone_job(alloc, document, revision) {
