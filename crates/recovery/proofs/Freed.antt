@@ -1,21 +1,21 @@
 -- A commit behind a segment that was freed for it, and a milestone that was due.
-use Rattle.std.proofs.Common.{◌≡◌, ◌≢◌, ◌⊎◌, ⊎_elim, inl, inr, ℕ, Option, Some, List, sym, ◌∙◌, ap, subst}
-use Rattle.std.specs.Prelude.{Result, Ok, Err, IfErr, IsErrOf, slice_get}
+use Rattle.std.proofs.Common.{◌≡◌, ◌≢◌, ◌⊎◌, ⊎_elim, inl, inr, ℕ, ◌+◌, ◌≤◌, Option, Some, List, length, sym, ◌∙◌, ap, subst, arith}
+use Rattle.std.specs.Prelude.{Result, Ok, Err, OnOk, OnErr, IfErr, IsErrOf, slice_get}
 use Rattle.disk.specs.declared.device.Disk.{Ghosts}
 use Rattle.refusal.specs.declared.Refusal.{Refusal}
 use Rattle.refusal.specs.declared.Refusal.TheVariants.{JournalFull, StillNeeded, Stranger, NoDocument, Future, TooOld, NoMemory, Fault}
 use Rattle.history.specs.Cell.{Pair}
 use Rattle.segments.specs.Slot.{Segment}
 use Rattle.segments.specs.Table.{IsRetired}
+use Rattle.recovery.specs.declared.marks.Mark.{Mark}
 use Rattle.recovery.specs.declared.store.Store.{Store}
 use Rattle.recovery.specs.Cells.{highest_known}
 use Rattle.recovery.specs.Due.{due_for, IsPutDue}
 use Rattle.recovery.specs.Marked.{MayRetire}
-use Rattle.recovery.specs.Open.{IsOpen, IsUnchanged, IsFreedNow, state_of}
+use Rattle.recovery.specs.Open.{IsOpen, state_of}
 use Rattle.recovery.specs.Run.{IsPutAt}
 use Rattle.recovery.specs.steps.Freeing.{IsOverFewer}
 use Rattle.recovery.proofs.Refusals.{ok≢err, refusal_or}
-use Rattle.recovery.proofs.Going.{open_unchanged, unchanged_table}
 use Rattle.recovery.proofs.Retirement.{known_highest}
 
 -- a commit doesn't tell that a segment is needed, nor does freeing tell that there is no room
@@ -32,10 +32,30 @@ pub no_needed : {A : Type 0} (result : Result A Refusal) → IfErr result (λ e.
 no_needed (Ok answer) only told = ok≢err answer StillNeeded told
 no_needed {A} (Err refusal) only told = one_needed refusal only (ap (refusal_or {T = A} StillNeeded) told)
 
+-- nor does a retirement take memory
+one_memory : (refusal : Refusal) → (refusal ≡ StillNeeded) ⊎ (refusal ≡ Fault) → refusal ≡ NoMemory → ⊥
+one_memory refusal (inl is) memory = let same : StillNeeded ≡ NoMemory = sym is ∙ memory in cc
+one_memory refusal (inr is) memory = let same : Fault ≡ NoMemory = sym is ∙ memory in cc
+
+pub no_memory : {A : Type 0} (result : Result A Refusal) → IfErr result (λ e. (e ≡ StillNeeded) ⊎ (e ≡ Fault)) → IsErrOf result NoMemory → ⊥
+no_memory (Ok answer) only told = ok≢err answer NoMemory told
+no_memory {A} (Err refusal) only told = one_memory refusal only (ap (refusal_or {T = A} NoMemory) told)
+
 pub not_full : (refusal : Refusal) → (refusal ≡ StillNeeded) ⊎ ((refusal ≡ NoMemory) ⊎ (refusal ≡ Fault)) → refusal ≡ JournalFull → ⊥
 not_full refusal (inl is) full = let same : StillNeeded ≡ JournalFull = sym is ∙ full in cc
 not_full refusal (inr (inl is)) full = let same : NoMemory ≡ JournalFull = sym is ∙ full in cc
 not_full refusal (inr (inr is)) full = let same : Fault ≡ JournalFull = sym is ∙ full in cc
+
+pub no_stranger_freed : (refusal : Refusal) → (refusal ≡ StillNeeded) ⊎ ((refusal ≡ NoMemory) ⊎ (refusal ≡ Fault)) → refusal ≡ Stranger → ⊥
+no_stranger_freed refusal (inl is) stranger = let same : StillNeeded ≡ Stranger = sym is ∙ stranger in cc
+no_stranger_freed refusal (inr (inl is)) stranger = let same : NoMemory ≡ Stranger = sym is ∙ stranger in cc
+no_stranger_freed refusal (inr (inr is)) stranger = let same : Fault ≡ Stranger = sym is ∙ stranger in cc
+
+-- the marks behind a commit, whatever it answered
+pub marks_grow : {A : Type 0} (result : Result A Refusal) (before after : List Mark) (count : ℕ) → OnOk result (length after ≤ length before + count)
+    → OnErr result (after ≡ before) → length after ≤ length before + count
+marks_grow (Ok answer) before after count more same = more
+marks_grow (Err refusal) before after count more same = omega (arith, ap (λ (l : List Mark). length l) same)
 
 pub widened : {A : Type 0} (result : Result A Refusal) → IfErr result (λ e. OfCommit e)
     → IfErr result (λ e. ((e ≡ JournalFull) ⊎ ((e ≡ StillNeeded) ⊎ (e ≡ Stranger))) ⊎ ((e ≡ NoMemory) ⊎ (e ≡ Fault)))
@@ -56,12 +76,6 @@ only_memory refusal (inl (inr (inr is))) none =
 only_memory refusal (inr is) none = is
 
 module _ {D : Type 0} {disk : Ghosts D} where
-  pub freed_still : (mid new : Store D disk) (table : List (Option Segment)) → IsUnchanged mid new → IsFreedNow table mid → IsFreedNow table new
-  freed_still mid new table same freed = record {
-    goes_on = open_unchanged same freed.goes_on;
-    retired = subst (λ (t : List (Option Segment)). IsRetired table t) (sym (unchanged_table same freed.goes_on)) freed.retired;
-  }
-
   pub due_put : (old mid new : Store D disk) (every document revision : ℕ) (is_open : IsOpen old)
       → due_for every (slice_get (state_of old).documents document) (highest_known old.cells.items document) ≡ Some revision
       → (put : IsPutAt document revision old is_open mid) → ((mid_open : IsOpen mid) → IsOverFewer mid_open.cells mid_open.table new) → IsPutDue every document old is_open new

@@ -7,6 +7,7 @@ use Rattle.disk.specs.Crash.{LeavesOnly, MayLeaveNow, history_of}
 use Rattle.disk.proofs.CallerLemmas.{begins, leaves_map, goes_on_run, synced_leaves}
 use Rattle.refusal.specs.declared.Refusal.{Refusal}
 use Rattle.refusal.specs.declared.Refusal.TheVariants.{Fault}
+use Rattle.revision.specs.Command.{Taken}
 use Rattle.revision.specs.State.{State}
 use Rattle.history.specs.Running.{Runs}
 use Rattle.milestone.specs.declared.cells.Cells.{Cells}
@@ -21,7 +22,7 @@ use Rattle.recovery.specs.Cells.{AreCellsOf, FitEach}
 use Rattle.recovery.specs.Marked.{AreMarked}
 use Rattle.recovery.specs.Jobs.{CanAllBePut}
 use Rattle.recovery.specs.Found.{FoundAs, HoldsParts, limits_of, commands_of}
-use Rattle.recovery.specs.Open.{IsOpen, IsUnchanged, device_of, state_of, has_failed}
+use Rattle.recovery.specs.Open.{IsOpen, IsUnchanged, IsCommitGivenUp, device_of, state_of, has_failed}
 use Rattle.recovery.specs.Goes.{Goes}
 use Rattle.recovery.proofs.Runs.{found_as, found_open}
 
@@ -69,6 +70,11 @@ module _ {D : Type 0} {disk : Ghosts D} where
   pub unchanged_table : {old new : Store D disk} (same : IsUnchanged old new) (is_open : IsOpen old) → (open_unchanged same is_open).table ≡ is_open.table
   unfolding open_unchanged
   unchanged_table same is_open = refl
+
+  -- a commit that left the store as it was
+  pub nothing_given_up : (old new : Store D disk) (commands : List Taken) (is_open : IsOpen old) → IsUnchanged old new → IsCommitGivenUp commands old is_open new
+  nothing_given_up old new commands is_open same =
+      record { goes_on = open_unchanged same is_open; same_cells = unchanged_cells same is_open; slots = inl (unchanged_table same is_open) }
 
   -- a crash now leaves what an open store holds
   pub found_now : (store : Store D disk) → IsOpen store → (content : List ℕ) → MayLeaveNow disk (device_of store) content → FoundAs content (state_of store)

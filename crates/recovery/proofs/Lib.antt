@@ -19,6 +19,8 @@ pub mod Retirement
 pub mod Reaching
 pub mod Raising
 pub mod SparedJobs
+pub mod Newest
+pub mod Covering
 pub mod Rooms
 pub mod PutCells
 pub mod Putting

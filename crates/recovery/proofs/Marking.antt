@@ -1,13 +1,14 @@
 -- What a mark that is set or raised makes of all.
-use Rattle.std.proofs.Common.{◌≡◌, ◌≢◌, ◌⊎◌, inl, inr, ℕ, zero, suc, ◌<◌, ◌≤◌, max, true, false, List, [], ◌∷◌, ◌++◌, length, set, get_or, refl, sym, ◌∙◌, ap, arith, length-append}
+use Rattle.std.proofs.Common.{◌≡◌, ◌≢◌, ◌⊎◌, inl, inr, ℕ, zero, suc, ◌<◌, ◌≤◌, max, true, false, List, [], ◌∷◌, ◌++◌, length, set, get_or, not, refl, sym, ◌∙◌, ap, arith, length-append}
 use Rattle.std.specs.Prelude.{◌==◌}
 use Rattle.std.proofs.lemmas.List.{length-set}
+use Rattle.std.proofs.lemmas.List.Filters.{length-filter_both}
 use Rattle.std.proofs.lemmas.Bool.{cases_eq}
 use Rattle.std.proofs.lemmas.Bool.Decides.{nat_tests}
 use Rattle.revision.specs.Command.{Taken}
 use Rattle.history.specs.Entries.{greatest}
 use Rattle.recovery.specs.declared.marks.Mark.{Mark}
-use Rattle.recovery.specs.Marks.{revision_for, greatest_marked, Raised, IsNoted}
+use Rattle.recovery.specs.Marks.{is_of, without_segment, revision_for, greatest_marked, Raised, IsNoted}
 
 -- a mark more
 pub marked_push : (segment document : ℕ) (marks : List Mark) (mark : Mark) → greatest_marked segment document (marks ++ mark ∷ []) ≡ max (revision_for segment document mark) (greatest_marked segment document marks)
@@ -24,13 +25,13 @@ marked_set segment document more (first ∷ others) (suc place) old mark inside 
     omega (arith, marked_set segment document more others place old mark (omega (arith, inside)) is raised)
 
 -- what a mark says of its own document, and of others
-own : (segment document revision : ℕ) → revision_for segment document (record { segment = segment; document = document; revision = revision }) ≡ revision
+pub own : (segment document revision : ℕ) → revision_for segment document (record { segment = segment; document = document; revision = revision }) ≡ revision
 own segment document revision =
     let first : (segment == segment) ≡ true = grind (arith, nat_tests) in
     let second : (document == document) ≡ true = grind (arith, nat_tests) in
     rw (first, second) refl
 
-other_document : (segment document : ℕ) (mark : Mark) → document ≢ mark.document → revision_for segment document mark ≡ 0
+pub other_document : (segment document : ℕ) (mark : Mark) → document ≢ mark.document → revision_for segment document mark ≡ 0
 other_document segment document mark other =
     let second : (mark.document == document) ≡ false = grind (arith, nat_tests) in
     elim (cases_eq mark.segment segment) [
@@ -38,7 +39,7 @@ other_document segment document mark other =
       | inr apart ↦ let first : (mark.segment == segment) ≡ false = grind (arith, nat_tests) in rw first refl
     ]
 
-other_segment : (segment document : ℕ) (mark : Mark) → segment ≢ mark.segment → revision_for segment document mark ≡ 0
+pub other_segment : (segment document : ℕ) (mark : Mark) → segment ≢ mark.segment → revision_for segment document mark ≡ 0
 other_segment segment document mark other = let first : (mark.segment == segment) ≡ false = grind (arith, nat_tests) in rw first refl
 
 -- a mark is set where there is none
@@ -136,3 +137,8 @@ pub read_again : (marks : List Mark) (place : ℕ) (other : Mark) → place < le
 read_again [] place other inside = absurd (omega (arith, inside))
 read_again (first ∷ others) zero other inside = refl
 read_again (first ∷ others) (suc place) other inside = read_again others place other (omega (arith, inside))
+
+-- no more marks are left where those of a segment are forgotten
+pub fewer_marks : (segment : ℕ) (marks : List Mark) → length (without_segment segment marks) ≤ length marks
+fewer_marks segment marks =
+    omega (arith, length-filter_both (λ (mark : Mark). not (is_of segment mark)) (λ (mark : Mark). not (not (is_of segment mark))) (λ mark. refl) marks)

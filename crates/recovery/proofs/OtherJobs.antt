@@ -64,6 +64,16 @@ own_among document other jobs apart =
     implies : (job : Job) → (job.document == document) ≡ true → not (job.document == other) ≡ true
     implies job is = let away : (job.document == other) ≡ false = grind (arith, nat_tests) in rw away refl
 
+-- no job of a document is left where its jobs are dropped
+pub none_own : (document : ℕ) (jobs : List Job) → jobs_for document (without_job document jobs) ≡ []
+none_own document [] = refl
+none_own document (first ∷ others) = by_test (first.document == document) refl (none_own document others)
+  where
+    by_test : (b : Bool) → (first.document == document) ≡ b → jobs_for document (without_job document others) ≡ []
+        → jobs_for document (without_job document (first ∷ others)) ≡ []
+    by_test true is none = rw is none
+    by_test false is none = rw is (rw is none)
+
 -- where the jobs stay of all documents but one, those of each other document do
 pub own_stay : (document other : ℕ) (old new : List Job) → document ≢ other → without_job other new ≡ without_job other old → jobs_for document new ≡ jobs_for document old
 own_stay document other old new apart same =

@@ -108,7 +108,7 @@ cells_within commands (Some first, None) both = both.0.reached
 cells_within commands (Some first, Some second) both = omega (arith, both.0.reached, both.1.reached)
 
 module _ {D : Type 0} {disk : Ghosts D} (store : Store D disk) (is_open : IsOpen store) where
-  document_reached : (document : ℕ) → length (of_document document is_open.order) ≡ reached_in store.state document
+  pub document_reached : (document : ℕ) → length (of_document document is_open.order) ≡ reached_in store.state document
   document_reached document = shown_reached (of_document document is_open.order) (slice_get store.state.documents document) (is_open.runs.shows document)
 
   -- no open cell of a document is above its revision

@@ -10,9 +10,7 @@ use Rattle.segments.specs.Ring.{known_numbers}
 use Rattle.recovery.specs.Cells.{lowest_known}
 use Rattle.recovery.specs.Jobs.{jobs_for, without_job}
 use Rattle.recovery.specs.Open.{IsSpared, KeepsJobs, ring_of, known_cells, known_marks, kept_jobs}
-use Rattle.recovery.specs.steps.Freeing.{NoneLower}
 use Rattle.recovery.proofs.Marked.{one_oldest}
-use Rattle.recovery.proofs.Marking.{marked_member}
 use Rattle.recovery.proofs.OtherJobs.{own_stay}
 
 module _ {D : Type 0} {disk : Ghosts D} where
@@ -31,18 +29,18 @@ module _ {D : Type 0} {disk : Ghosts D} where
 
   -- one mark more was looked at
   pub spared_more : (start store new : Store D disk) (segment place : ℕ) (mark : Mark) → place < length (known_marks start) → get_or (known_marks start) place mark ≡ mark
-      → NoneLower start store
+      → (mark.segment ≡ segment → IsSpared segment mark.document start → mark.revision ≤ lowest_known (known_cells store) mark.document)
       → ((mark.segment ≢ segment) ⊎ (mark.revision ≤ lowest_known (known_cells store) mark.document) → kept_jobs new ≡ kept_jobs store)
       → without_job mark.document (kept_jobs new) ≡ without_job mark.document (kept_jobs store)
       → KeepsJobs segment start store → KeepsJobs segment start new
-  spared_more start store new segment place mark inside is none_lower same others keeps document spared =
+  spared_more start store new segment place mark inside is still same others keeps document spared =
       now ∙ keeps document spared
     where
       unmoved : mark.document ≡ document → kept_jobs new ≡ kept_jobs store
       unmoved own = elim (cases_eq mark.segment segment) [
         | inl one ↦
             let here : IsSpared segment mark.document start = subst (λ n. IsSpared segment n start) (sym own) spared in
-            same (inr (omega (arith, marked_member segment (known_marks start) place mark inside is one, here, none_lower mark.document)))
+            same (inr (still one here))
         | inr away ↦ same (inl away)
       ]
 

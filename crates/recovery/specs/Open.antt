@@ -1,10 +1,10 @@
 -- A store that is open, and what a crash within a commit leaves of it.
-use Rattle.std.specs.Prelude.{◌≡◌, ◌⊎◌, ◌+◌, ◌≤◌, ℕ, Bool, Option, List, [], length}
+use Rattle.std.specs.Prelude.{◌≡◌, ◌⊎◌, ◌+◌, ◌≤◌, ℕ, zero, suc, nat_lt, if◌then◌else◌, Bool, Option, Some, List, [], length, slice_get}
 use Rattle.disk.specs.declared.device.Disk.{Ghosts}
 use Rattle.revision.specs.Command.{Taken}
 use Rattle.journal.specs.BatchSpelling.{batch as spelled, batch_width}
-use Rattle.revision.specs.State.{State, fold}
-use Rattle.history.specs.Cell.{Pair, cells_at, freed, with_pair}
+use Rattle.revision.specs.State.{State, DocumentRecord, revision_of, fold}
+use Rattle.history.specs.Cell.{Cell, Pair, cell_of, cells_at, freed, with_pair}
 use Rattle.history.specs.Running.{Runs}
 use Rattle.milestone.specs.Job.{Job, cell_of_job}
 use Rattle.milestone.specs.Cells.{with_cell}
@@ -12,7 +12,8 @@ use Rattle.milestone.specs.declared.cells.Cells.{Cells}
 use Rattle.segments.specs.Slot.{Segment}
 use Rattle.segments.specs.Table.{IsAppended, IsRetired}
 use Rattle.segments.specs.declared.ring.Ring.{Ring}
-use Rattle.segments.specs.Ring.{Fits, IsReady, at_of, size_of, fits_newest}
+use Rattle.segments.specs.Numbers.{IsOldest}
+use Rattle.segments.specs.Ring.{Fits, IsReady, known_numbers, at_of, size_of, fits_newest}
 use Rattle.segments.specs.Room.{has_room_for}
 use Rattle.recovery.specs.declared.store.Store.{Store}
 use Rattle.recovery.specs.Shape.{slots_place}
@@ -31,6 +32,29 @@ IsWithOrWithout state batch content = FoundAs content state ⊎ FoundAs content 
 -- the closed gate behind it, 15 bytes more than its own. An entry alone has 19 bytes less than a slot at most, and fits.
 abbrev pub FitsSlot : State → List Taken → Type 0
 FitsSlot state batch = batch_width batch ≤ state.limits.width + 4
+
+-- How many of the first documents, by their numbers, need a milestone before a segment is retired: some open cell of theirs is below their
+-- marks there, or none is open.
+abbrev pub needing : ℕ → List Mark → List Cells → ℕ → ℕ
+needing segment marks known zero = 0
+needing segment marks known (suc count) =
+    (if nat_lt (lowest_known known count) (greatest_marked segment count marks) then 1 else 0) + needing segment marks known count
+
+-- a document at its newest revision
+abbrev pub newest_cell : DocumentRecord → Cell
+newest_cell found = cell_of found (revision_of found)
+
+-- Both cells of a document are open, and hold it at its newest revision, as the state shows it.
+pub record AreBothNewest (state : State) (document : ℕ) (pair : Pair) : Type 0 where
+  pub found : DocumentRecord
+  pub there : slice_get state.documents document ≡ Some found
+  pub both : pair ≡ (Some (newest_cell found), Some (newest_cell found))
+
+-- One of the two cells of a document was put at its newest revision, over the older one where both were open.
+pub record IsOnePut (state : State) (document : ℕ) (before after : Pair) : Type 0 where
+  pub found : DocumentRecord
+  pub there : slice_get state.documents document ≡ Some found
+  pub put : after ≡ with_cell (newest_cell found) (freed before)
 
 module _ {D : Type 0} {disk : Ghosts D} where
   -- the device under a store
@@ -111,26 +135,57 @@ module _ {D : Type 0} {disk : Ghosts D} where
     pub appended : IsAppended ready (spelled commands) goes_on.table
     pub jobs : kept_jobs new ≡ kept_jobs old
 
+  -- After a commit for which memory ran out: the store goes on over the same cells, and over the same slots, or with the next one opened
+  -- for the batch.
+  pub record IsCommitGivenUp (commands : List Taken) (old : Store D disk) (is_open : IsOpen old) (new : Store D disk) : Type 0 where
+    pub goes_on : IsOpen new
+    pub same_cells : goes_on.cells ≡ is_open.cells
+    pub slots : (goes_on.table ≡ is_open.table) ⊎ IsReady (ring_of old) (length (spelled commands)) is_open.table goes_on.table
+
   -- After a retirement: the store goes on over the same cells, and the slot of the oldest segment is closed.
   pub record IsRetiredNow (cells : List Pair) (table : List (Option Segment)) (store : Store D disk) : Type 0 where
     pub goes_on : IsOpen store
     pub same_cells : goes_on.cells ≡ cells
     pub retired : IsRetired table goes_on.table
 
-  -- After room was made in the journal: the store goes on, and the slot of the oldest segment is closed.
-  pub record IsFreedNow (table : List (Option Segment)) (store : Store D disk) : Type 0 where
-    pub goes_on : IsOpen store
-    pub retired : IsRetired table goes_on.table
+  -- a document needs no milestone before a segment is retired: none of its open cells is below its entries there
+  abbrev pub IsSpared : ℕ → ℕ → Store D disk → Type 0
+  IsSpared segment document store = greatest_marked segment document (known_marks store) ≤ lowest_known (known_cells store) document
+
+  -- After room was made in the journal: the store goes on, and the slot of the oldest segment is closed. The cells of each document that
+  -- needed no milestone for it are as they were. Both cells of each other document hold it at its newest revision, and no job of it is kept.
+  pub record IsFreedNow (old : Store D disk) (is_open : IsOpen old) (new : Store D disk) : Type 0 where
+    pub goes_on : IsOpen new
+    pub retired : IsRetired is_open.table goes_on.table
+    pub spared : (document : ℕ) → IsSpared retired.segment.number document old → cells_at goes_on.cells document ≡ cells_at is_open.cells document
+    pub raised : (document : ℕ) → ¬ IsSpared retired.segment.number document old → AreBothNewest (state_of old) document (cells_at goes_on.cells document)
+    pub dropped : (document : ℕ) → ¬ IsSpared retired.segment.number document old → jobs_for document (kept_jobs new) ≡ []
+
+  -- Room was being made when it was given up: the store goes on over the same slots. The cells of each document that needs no milestone
+  -- for the oldest segment are as they were. Of each other document no cell was put, or one at its newest revision, or both.
+  pub record IsHalfFreed (old : Store D disk) (is_open : IsOpen old) (new : Store D disk) : Type 0 where
+    pub goes_on : IsOpen new
+    pub same_table : goes_on.table ≡ is_open.table
+    pub slot : ℕ
+    pub segment : ℕ
+    pub oldest : IsOldest (known_numbers (ring_of old)) slot segment
+    pub spared : (document : ℕ) → IsSpared segment document old → cells_at goes_on.cells document ≡ cells_at is_open.cells document
+    pub raised : (document : ℕ) → ¬ IsSpared segment document old
+        → (cells_at goes_on.cells document ≡ cells_at is_open.cells document)
+        ⊎ (IsOnePut (state_of old) document (cells_at is_open.cells document) (cells_at goes_on.cells document)
+        ⊎ AreBothNewest (state_of old) document (cells_at goes_on.cells document))
 
   -- After a commit for which room was made: the oldest segment was freed first, and the batch committed behind that.
   pub record IsCommittedBehind (commands : List Taken) (old : Store D disk) (is_open : IsOpen old) (new : Store D disk) : Type 0 where
     pub mid : Store D disk
-    pub freed : IsFreedNow is_open.table mid
+    pub freed : IsFreedNow old is_open mid
     pub committed : IsCommittedNow commands mid freed.goes_on new
 
-  -- a document needs no milestone before a segment is retired: none of its open cells is below its entries there
-  abbrev pub IsSpared : ℕ → ℕ → Store D disk → Type 0
-  IsSpared segment document store = greatest_marked segment document (known_marks store) ≤ lowest_known (known_cells store) document
+  -- Memory ran out in a commit for which room was made: the oldest segment was freed, and the commit given up behind that.
+  pub record IsGivenUpBehind (commands : List Taken) (old : Store D disk) (is_open : IsOpen old) (new : Store D disk) : Type 0 where
+    pub mid : Store D disk
+    pub freed : IsFreedNow old is_open mid
+    pub given_up : IsCommitGivenUp commands mid freed.goes_on new
 
   -- The kept jobs stay of each document that needs no milestone before a segment is retired.
   abbrev pub KeepsJobs : ℕ → Store D disk → Store D disk → Type 0

@@ -1,18 +1,19 @@
 //! Making room in a journal that is full.
-ghost use Rattle.std.specs.Prelude.{◌≡◌, ◌≢◌, ◌⊎◌, ◌↔◌, ◌<◌, ◌≤◌, ◌+◌, ◌-◌, ◌^◌, ℕ, true, false, length, get_or, OnOk, OnErr, IfOk, IfErr, IsErrOf};
+ghost use Rattle.std.specs.Prelude.{◌≡◌, ◌≢◌, ◌⊎◌, ◌↔◌, ◌<◌, ◌≤◌, ◌+◌, ◌-◌, ◌*◌, ◌^◌, ℕ, true, false, length, get_or, OnOk, OnErr, IfOk, IfErr, IsErrOf};
 ghost use Rattle.disk.specs.Calls.{CountsFaultsAs};
 ghost use Rattle.disk.specs.Device.{Rose};
 ghost use Rattle.disk.specs.Crash.{LeavesOnly};
 ghost use Rattle.revision.specs.State.{fold, all_grow, first_grows};
 ghost use Rattle.segments.specs.Numbers.{IsOldest, newest_number, open_count};
-ghost use Rattle.segments.specs.Ring.{known_numbers};
+ghost use Rattle.segments.specs.Ring.{IsSameOrOpened, known_numbers};
 ghost use Rattle.recovery.specs.Found.{FoundAs};
-ghost use Rattle.recovery.specs.Cells.{lowest_known};
+ghost use Rattle.history.specs.Cell.{cells_at};
 ghost use Rattle.recovery.specs.Goes.{Goes};
 ghost use Rattle.recovery.specs.Jobs.{without_job};
 ghost use Rattle.recovery.specs.Marks.{without_segment};
-ghost use Rattle.recovery.specs.Open.{FitsSlot, IsOpen, IsUnchanged, IsCommittedNow, IsCommittedBehind, IsFreedNow, IsWithOrWithout, KeepsJobs, device_of, ring_of, state_of, known_cells, known_marks, kept_jobs, has_failed, has_room};
-ghost use Rattle.recovery.specs.steps.Freeing.{reached_in, MayReach, KeepsSegments, IsRaised, IsMarkCovered, IsNeededByNone};
+ghost use Rattle.recovery.specs.Open.{FitsSlot, IsOpen, IsUnchanged, IsCommittedNow, IsCommittedBehind, IsGivenUpBehind, IsFreedNow, IsHalfFreed, AreBothNewest, IsWithOrWithout, KeepsJobs, needing, device_of, ring_of, state_of, known_cells, known_marks, kept_jobs, has_failed, has_room, fits_newest_segment};
+ghost use Rattle.recovery.specs.Run.{IsPutAt};
+ghost use Rattle.recovery.specs.steps.Freeing.{reached_in, MayReach, KeepsSegments, IsMarkSpared, IsMarkAbove, IsPutOf, IsOnePutOrNone, AreCovered};
 
 use crate::marks::Mark;
 use crate::receipt::Receipt;
@@ -47,20 +48,37 @@ impl<D: Disk> Store<D> {
         ensures marks { OnOk result ((slot segment : ℕ) → IsOldest (known_numbers (ring_of self.old)) slot segment
             → known_marks self.new ≡ without_segment segment (known_marks self.old)) }
         ensures same_marks { OnErr result (known_marks self.new ≡ known_marks self.old) }
+        ensures no_more_marks { length (known_marks self.new) ≤ length (known_marks self.old) }
+        ensures ring { OnErr result (ring_of self.new ≡ ring_of self.old) }
+        ensures untouched { IsErrOf result Refusal.StillNeeded → IsOpen self.old → IsUnchanged self.old self.new }
         ensures fails { has_failed self.old ≡ false → (has_failed self.new ≡ true ↔ IsErrOf result Refusal.Fault) }
         ensures works { OnOk result (has_failed self.new ≡ false) }
         ensures good { OnOk result (D.faults (device_of self.new) ≡ D.faults (device_of self.old)) }
         ensures no_fault { IfErr result (λ e. e ≢ Refusal.Fault
             → D.faults (device_of self.new) ≡ D.faults (device_of self.old)) }
 
-        // A crash at any moment leaves the state; once it is Ok, the slot of the oldest segment is closed.
+        // A crash at any moment leaves the state; once it is Ok, the slot of the oldest segment is closed. The cells of the documents that
+        // it spares are as they were, and both cells of each other document hold it at its newest revision. Where memory ran out, some
+        // of those milestones may be put.
         ensures goes { Goes (λ content. FoundAs content (state_of self.old)) self.old self.new }
         ensures any_moment { has_failed self.old ≡ false → IsOpen self.old
             → LeavesOnly ⟦<D as Disk>⟧ (λ content. FoundAs content (state_of self.old)) (device_of self.old)
             (device_of self.new) }
-        ensures freed { OnOk result ((is_open : IsOpen self.old) → IsFreedNow is_open.table self.new) }
+        ensures freed { OnOk result ((is_open : IsOpen self.old) → IsFreedNow self.old is_open self.new) }
+        ensures half { IsErrOf result Refusal.NoMemory → (is_open : IsOpen self.old)
+            → IsHalfFreed self.old is_open self.new }
         ensures done { OnOk result (IsOpen self.old → IsOpen self.new) }
         ensures kept { IfErr result (λ e. e ≢ Refusal.Fault → IsOpen self.old → IsOpen self.new) }
+
+        // Twelve calls of the device at most for each document that needs a milestone, and two for the retirement. In no store does it make
+        // more than twelve for each mark, and two.
+        ensures calls { IsOpen self.old → (slot segment : ℕ)
+            → IsOldest (known_numbers (ring_of self.old)) slot segment
+            → length (D.past (device_of self.new)) ≤ length (D.past (device_of self.old))
+            + (12 * needing segment (known_marks self.old) (known_cells self.old) (length (state_of self.old).documents)
+            + 2) }
+        ensures calls_by_marks { length (D.past (device_of self.new))
+            ≤ length (D.past (device_of self.old)) + (12 * length (known_marks self.old) + 2) }
         ensures honest { D.honest (device_of self.new) ↔ D.honest (device_of self.old) }
     {
         if self.failed {
@@ -92,7 +110,7 @@ impl<D: Disk> Store<D> {
         ensures full { IsErrOf result Refusal.JournalFull → (has_room self.old batch.now ≡ false)
             × (has_room self.new batch.now ≡ false) }
         ensures full_still { IsErrOf result Refusal.JournalFull → (is_open : IsOpen self.old)
-            → IsFreedNow is_open.table self.new }
+            → IsFreedNow self.old is_open self.new }
         ensures needed { IsErrOf result Refusal.StillNeeded → has_room self.old batch.now ≡ false }
         ensures few { has_failed self.old ≡ false → has_room self.old batch.now ≡ false
             → open_count (known_numbers (ring_of self.old)) < 2
@@ -118,6 +136,12 @@ impl<D: Disk> Store<D> {
         ensures state { OnOk result (state_of self.new ≡ fold (state_of self.old) batch.now) }
         ensures same_state { OnErr result (state_of self.new ≡ state_of self.old) }
         ensures jobs { has_room self.old batch.now ≡ true → kept_jobs self.new ≡ kept_jobs self.old }
+        ensures cells { has_room self.old batch.now ≡ true → known_cells self.new ≡ known_cells self.old }
+        // One mark more at most for each command, and none more where it is refused.
+        ensures marks { length (known_marks self.new) ≤ length (known_marks self.old) + length batch.now }
+        ensures no_more_marks { OnErr result (length (known_marks self.new) ≤ length (known_marks self.old)) }
+        ensures same_marks { OnErr result (has_room self.old batch.now ≡ true
+            → known_marks self.new ≡ known_marks self.old) }
         ensures other_jobs { IsOpen self.old → (slot segment : ℕ)
             → IsOldest (known_numbers (ring_of self.old)) slot segment → KeepsJobs segment self.old self.new }
         ensures fails { has_failed self.old ≡ false → (has_failed self.new ≡ true ↔ IsErrOf result Refusal.Fault) }
@@ -144,9 +168,40 @@ impl<D: Disk> Store<D> {
         ensures done { OnOk result (IsOpen self.old → IsOpen self.new) }
         ensures kept { IfErr result (λ e. e ≢ Refusal.Fault → IsOpen self.old → IsOpen self.new) }
 
-        // Where it has room, it makes eight calls of the device at most.
+        // Where there was room, a refusal leaves what it leaves of `commit`: all as it was, or, where memory ran out, a slot opened.
+        ensures untouched { has_room self.old batch.now ≡ true → IsErrOf result Refusal.Stranger
+            → IsUnchanged self.old self.new }
+        ensures given_up { has_room self.old batch.now ≡ true → IsErrOf result Refusal.NoMemory
+            → IsSameOrOpened (ring_of self.old) (ring_of self.new) }
+        ensures given_up_where_it_fits { fits_newest_segment self.old batch.now ≡ true
+            → IsErrOf result Refusal.NoMemory → IsUnchanged self.old self.new }
+        // Where there was none, `StillNeeded` leaves all as it was, `Stranger` comes behind a segment that was freed, and `NoMemory` too,
+        // or while it was being freed.
+        ensures needed_untouched { IsErrOf result Refusal.StillNeeded → IsOpen self.old
+            → IsUnchanged self.old self.new }
+        ensures needed_segments { IsErrOf result Refusal.StillNeeded → (ring_of self.new ≡ ring_of self.old)
+            × (known_marks self.new ≡ known_marks self.old) }
+        ensures stranger_behind { IsErrOf result Refusal.Stranger → has_room self.old batch.now ≡ false
+            → (is_open : IsOpen self.old) → IsFreedNow self.old is_open self.new }
+        ensures memory_behind { IsErrOf result Refusal.NoMemory → has_room self.old batch.now ≡ false
+            → (is_open : IsOpen self.old) → (IsHalfFreed self.old is_open self.new)
+            ⊎ (IsGivenUpBehind batch.now self.old is_open self.new) }
+
+        // Where it has room, it makes eight calls of the device at most, and four where the batch fits the newest segment, or where memory
+        // ran out. Where it has none, those of `free_oldest` come first.
         ensures calls { has_room self.old batch.now ≡ true
             → length (D.past (device_of self.new)) ≤ length (D.past (device_of self.old)) + 8 }
+        ensures calls_where_it_fits { fits_newest_segment self.old batch.now ≡ true
+            → length (D.past (device_of self.new)) ≤ length (D.past (device_of self.old)) + 4 }
+        ensures calls_given_up { has_room self.old batch.now ≡ true → IsErrOf result Refusal.NoMemory
+            → length (D.past (device_of self.new)) ≤ length (D.past (device_of self.old)) + 4 }
+        ensures calls_behind { IsOpen self.old → (slot segment : ℕ)
+            → IsOldest (known_numbers (ring_of self.old)) slot segment
+            → length (D.past (device_of self.new)) ≤ length (D.past (device_of self.old))
+            + (12 * needing segment (known_marks self.old) (known_cells self.old) (length (state_of self.old).documents)
+            + 10) }
+        ensures calls_by_marks { length (D.past (device_of self.new))
+            ≤ length (D.past (device_of self.old)) + (12 * length (known_marks self.old) + 10) }
         ensures honest { D.honest (device_of self.new) ↔ D.honest (device_of self.old) }
     {
         if self.has_room(batch) {
@@ -166,7 +221,15 @@ impl<D: Disk> Store<D> {
 
         ensures only { IfErr result (λ e. (e ≡ Refusal.StillNeeded) ⊎ ((e ≡ Refusal.NoMemory) ⊎ (e ≡ Refusal.Fault))) }
         ensures needed { IsErrOf result Refusal.StillNeeded → ¬ IsOpen self.old }
-        ensures covered { OnOk result ((is_open : IsOpen self.old) → IsNeededByNone segment is_open.table self.new) }
+        ensures covered { OnOk result ((is_open : IsOpen self.old)
+            → AreCovered segment (known_marks self.old) self.old is_open self.new) }
+        ensures half { IfErr result (λ e. e ≢ Refusal.Fault → (is_open : IsOpen self.old)
+            → IsHalfFreed self.old is_open self.new) }
+        ensures calls { IsOpen self.old
+            → length (D.past (device_of self.new)) ≤ length (D.past (device_of self.old))
+            + 12 * needing segment (known_marks self.old) (known_cells self.old) (length (state_of self.old).documents) }
+        ensures calls_by_marks { length (D.past (device_of self.new))
+            ≤ length (D.past (device_of self.old)) + 12 * length (known_marks self.old) }
         ensures keeps { KeepsSegments self.old self.new }
         ensures jobs { IsOpen self.old → KeepsJobs segment self.old self.new }
         ensures fails { has_failed self.new ≡ true ↔ IsErrOf result Refusal.Fault }
@@ -191,11 +254,18 @@ impl<D: Disk> Store<D> {
         ensures only { IfErr result (λ e. (e ≡ Refusal.StillNeeded) ⊎ ((e ≡ Refusal.NoMemory) ⊎ (e ≡ Refusal.Fault))) }
         ensures needed { IsErrOf result Refusal.StillNeeded → IsOpen self.old
             → ¬ MayReach segment mark (state_of self.old) }
-        ensures covered { OnOk result ((is_open : IsOpen self.old) → MayReach segment mark (state_of self.old)
-            → IsMarkCovered segment mark is_open.table self.old self.new) }
+        ensures spared { IsMarkSpared segment mark self.old → self.new ≡ self.old }
+        ensures above { OnErr result (IsMarkAbove segment mark self.old) }
+        ensures covered { OnOk result (IsMarkAbove segment mark self.old → (is_open : IsOpen self.old)
+            → IsPutOf mark.document (AreBothNewest (state_of self.old) mark.document) self.old is_open self.new) }
+        ensures half { IfErr result (λ e. e ≢ Refusal.Fault → (is_open : IsOpen self.old)
+            → IsPutOf mark.document
+            (IsOnePutOrNone (state_of self.old) mark.document (cells_at is_open.cells mark.document)) self.old is_open
+            self.new) }
+        ensures dropped { OnOk result (IsMarkAbove segment mark self.old
+            → kept_jobs self.new ≡ without_job mark.document (kept_jobs self.old)) }
+        ensures calls { length (D.past (device_of self.new)) ≤ length (D.past (device_of self.old)) + 12 }
         ensures keeps { KeepsSegments self.old self.new }
-        ensures jobs { (mark.segment ≢ segment) ⊎ (mark.revision ≤ lowest_known (known_cells self.old) mark.document)
-            → kept_jobs self.new ≡ kept_jobs self.old }
         ensures others { without_job mark.document (kept_jobs self.new)
             ≡ without_job mark.document (kept_jobs self.old) }
         ensures fails { has_failed self.new ≡ true ↔ IsErrOf result Refusal.Fault }
@@ -223,8 +293,11 @@ impl<D: Disk> Store<D> {
         ensures only { IfErr result (λ e. (e ≡ Refusal.StillNeeded) ⊎ ((e ≡ Refusal.NoMemory) ⊎ (e ≡ Refusal.Fault))) }
         ensures needed { IsErrOf result Refusal.StillNeeded → IsOpen self.old
             → reached_in (state_of self.old) document < revision }
-        ensures raised { OnOk result ((is_open : IsOpen self.old) → revision ≤ reached_in (state_of self.old) document
-            → IsRaised document revision is_open.table self.old self.new) }
+        ensures put { OnOk result ((is_open : IsOpen self.old)
+            → IsPutAt document (reached_in (state_of self.old) document) self.old is_open self.new) }
+        ensures dropped { OnOk result (kept_jobs self.new ≡ without_job document (kept_jobs self.old)) }
+        ensures unwritten { IfErr result (λ e. e ≢ Refusal.Fault → device_of self.new ≡ device_of self.old) }
+        ensures calls { length (D.past (device_of self.new)) ≤ length (D.past (device_of self.old)) + 6 }
         ensures keeps { KeepsSegments self.old self.new }
         ensures others { without_job document (kept_jobs self.new) ≡ without_job document (kept_jobs self.old) }
         ensures fails { has_failed self.new ≡ true ↔ IsErrOf result Refusal.Fault }

@@ -9,7 +9,7 @@ ghost use Rattle.recovery.specs.Found.{FoundAs};
 ghost use Rattle.recovery.specs.Marks.{greatest_marked, without_segment};
 ghost use Rattle.recovery.specs.Marked.{MayRetire};
 ghost use Rattle.recovery.specs.Cells.{FitEach, lowest_known};
-ghost use Rattle.recovery.specs.Open.{IsOpen, IsUnchanged, IsRetiredNow, device_of, ring_of, state_of, has_failed, kept_jobs, known_marks};
+ghost use Rattle.recovery.specs.Open.{IsOpen, IsUnchanged, IsRetiredNow, device_of, ring_of, state_of, has_failed, kept_jobs, known_cells, known_marks};
 
 use crate::marks::Mark;
 use crate::store::Store;
@@ -29,6 +29,8 @@ impl<D: Disk> Store<D> {
         ensures needed { IsErrOf result Refusal.StillNeeded → (is_open : IsOpen self.old)
             → ¬ MayRetire is_open.table is_open.cells }
         ensures not_needed { OnOk result ((is_open : IsOpen self.old) → MayRetire is_open.table is_open.cells) }
+        ensures exact { has_failed self.old ≡ false → (is_open : IsOpen self.old)
+            → (IsErrOf result Refusal.StillNeeded ↔ (¬ MayRetire is_open.table is_open.cells)) }
         ensures fault { IsErrOf result Refusal.Fault → has_failed self.old ≡ false
             → Rose (D.faults (device_of self.old)) (D.faults (device_of self.new)) }
         ensures only { IfErr result (λ e. (e ≡ Refusal.StillNeeded) ⊎ (e ≡ Refusal.Fault)) }
@@ -37,8 +39,11 @@ impl<D: Disk> Store<D> {
         ensures marks { OnOk result ((slot segment : ℕ) → IsOldest (known_numbers (ring_of self.old)) slot segment
             → known_marks self.new ≡ without_segment segment (known_marks self.old)) }
         ensures same_marks { OnErr result (known_marks self.new ≡ known_marks self.old) }
+        ensures no_more_marks { length (known_marks self.new) ≤ length (known_marks self.old) }
+        ensures ring { OnErr result (ring_of self.new ≡ ring_of self.old) }
         ensures state { state_of self.new ≡ state_of self.old }
         ensures jobs { kept_jobs self.new ≡ kept_jobs self.old }
+        ensures cells { known_cells self.new ≡ known_cells self.old }
         ensures untouched { IsErrOf result Refusal.StillNeeded → IsUnchanged self.old self.new }
         ensures fails { has_failed self.old ≡ false → (has_failed self.new ≡ true ↔ IsErrOf result Refusal.Fault) }
         ensures good { OnOk result (D.faults (device_of self.new) ≡ D.faults (device_of self.old)) }

@@ -66,7 +66,7 @@ impl<D: Disk> Store<D> {
     ghost use Rattle.revision.specs.Agree.{Agree};
     ghost use Rattle.recovery.specs.Knows.{Knows};
     ghost use Rattle.revision.specs.State.{fold, all_grow, first_grows};
-    ghost use Rattle.recovery.specs.Open.{FitsSlot, IsOpen, IsUnchanged, IsCommittedNow, IsWithOrWithout, device_of, ring_of, state_of, has_failed, has_room, kept_jobs, known_cells, known_marks, fits_newest_segment};
+    ghost use Rattle.recovery.specs.Open.{FitsSlot, IsOpen, IsUnchanged, IsCommittedNow, IsCommitGivenUp, IsWithOrWithout, device_of, ring_of, state_of, has_failed, has_room, kept_jobs, known_cells, known_marks, fits_newest_segment};
 
     /// Opens a formatted device, by the newer or the older cell of each document: syncs it, then reads, and writes nothing.
     /// `NotFormatted` comes just where the superblock's gate is closed or the device has less than 64 bytes, `Damaged` just
@@ -235,6 +235,8 @@ impl<D: Disk> Store<D> {
 
         // Where memory ran out a slot may have been opened for it, in four calls at most, and only where it doesn't fit the newest segment.
         ensures given_up { IsErrOf result Refusal.NoMemory → IsSameOrOpened (ring_of self.old) (ring_of self.new) }
+        ensures given_up_now { IsErrOf result Refusal.NoMemory → (is_open : IsOpen self.old)
+            → IsCommitGivenUp batch.now self.old is_open self.new }
         ensures calls_given_up { IsErrOf result Refusal.NoMemory
             → length (D.past (device_of self.new)) ≤ length (D.past (device_of self.old)) + 4 }
         ensures given_up_where_it_fits { IsErrOf result Refusal.NoMemory

@@ -1,16 +1,17 @@
 -- Making room in a full journal: the steps on the way to where nothing needs the oldest segment.
-use Rattle.std.specs.Prelude.{◌≡◌, ◌≢◌, ◌⊎◌, ℕ, ◌≤◌, Option, Some, None, List, slice_get}
+use Rattle.std.specs.Prelude.{◌≡◌, ◌≢◌, ◌⊎◌, ℕ, ◌≤◌, ◌<◌, Option, Some, None, List, [], slice_get}
 use Rattle.disk.specs.declared.device.Disk.{Ghosts}
 use Rattle.revision.specs.State.{State, DocumentRecord, revision_of}
-use Rattle.history.specs.Cell.{Pair}
+use Rattle.history.specs.Cell.{Pair, cells_at}
 use Rattle.segments.specs.Slot.{Segment}
 use Rattle.segments.specs.Table.{IsRetired}
 use Rattle.recovery.specs.declared.marks.Mark.{Mark}
 use Rattle.recovery.specs.declared.store.Store.{Store}
-use Rattle.recovery.specs.Cells.{lowest_known, highest_known}
+use Rattle.recovery.specs.Cells.{lowest_known}
+use Rattle.recovery.specs.Jobs.{jobs_for}
 use Rattle.recovery.specs.Marked.{MayRetire}
 use Rattle.recovery.specs.Marks.{greatest_marked}
-use Rattle.recovery.specs.Open.{IsOpen, state_of, ring_of, known_cells, known_marks}
+use Rattle.recovery.specs.Open.{IsOpen, IsOnePut, AreBothNewest, state_of, ring_of, known_cells, known_marks, kept_jobs}
 
 -- the newest revision of a document, 0 where it isn't there
 abbrev pub reached : Option DocumentRecord → ℕ
@@ -24,6 +25,10 @@ reached_in state document = reached (slice_get state.documents document)
 abbrev pub MayReach : ℕ → Mark → State → Type 0
 MayReach segment mark state = mark.segment ≡ segment → mark.revision ≤ reached_in state mark.document
 
+-- no cell of a document was put, or one at its newest revision
+abbrev pub IsOnePutOrNone : State → ℕ → Pair → Pair → Type 0
+IsOnePutOrNone state document before after = (after ≡ before) ⊎ IsOnePut state document before after
+
 module _ {D : Type 0} {disk : Ghosts D} where
   -- the documents stay, and so do the segments and what is known of them
   pub record KeepsSegments (old new : Store D disk) : Type 0 where
@@ -31,36 +36,35 @@ module _ {D : Type 0} {disk : Ghosts D} where
     pub ring : ring_of new ≡ ring_of old
     pub marks : known_marks new ≡ known_marks old
 
-  -- the store is open over these slots
-  pub record IsOverSlots (table : List (Option Segment)) (store : Store D disk) : Type 0 where
-    pub goes_on : IsOpen store
-    pub same_table : goes_on.table ≡ table
-
   -- the store is open over the same cells, and over the slots without the oldest segment, or over all of them, where it is needed
   pub record IsOverFewer (cells : List Pair) (table : List (Option Segment)) (store : Store D disk) : Type 0 where
     pub goes_on : IsOpen store
     pub same_cells : goes_on.cells ≡ cells
     pub slots : ((goes_on.table ≡ table) × (¬ MayRetire table cells)) ⊎ IsRetired table goes_on.table
 
-  -- no document's lowest open cell is lower than it was
-  abbrev pub NoneLower : Store D disk → Store D disk → Type 0
-  NoneLower old new = (number : ℕ) → lowest_known (known_cells old) number ≤ lowest_known (known_cells new) number
+  -- a mark is of another segment, or no open cell of its document is below it
+  abbrev pub IsMarkSpared : ℕ → Mark → Store D disk → Type 0
+  IsMarkSpared segment mark store = (mark.segment ≢ segment) ⊎ (mark.revision ≤ lowest_known (known_cells store) mark.document)
 
-  -- One of the two cells of a document has been raised: the higher one has this revision now, and so has the lower one where the
-  -- higher one had it before.
-  pub record IsRaised (document revision : ℕ) (table : List (Option Segment)) (old new : Store D disk) : Type 0 where
-    pub over : IsOverSlots table new
-    pub none_lower : NoneLower old new
-    pub higher : revision ≤ highest_known (known_cells new) document
-    pub lower : revision ≤ highest_known (known_cells old) document → revision ≤ lowest_known (known_cells new) document
+  -- it is of the segment, and above an open cell of its document, or none is open
+  abbrev pub IsMarkAbove : ℕ → Mark → Store D disk → Type 0
+  IsMarkAbove segment mark store = (mark.segment ≡ segment) × (lowest_known (known_cells store) mark.document < mark.revision)
 
-  -- no open cell of a mark's document is below it any more, if the mark is one of the segment
-  pub record IsMarkCovered (segment : ℕ) (mark : Mark) (table : List (Option Segment)) (old new : Store D disk) : Type 0 where
-    pub over : IsOverSlots table new
-    pub none_lower : NoneLower old new
-    pub covers : (mark.segment ≢ segment) ⊎ (mark.revision ≤ lowest_known (known_cells new) mark.document)
+  -- The store goes on over the same slots, and P says what has become of the cells of one document. Those of the others are as they were.
+  pub record IsPutOf (document : ℕ) (P : Pair → Type 0) (old : Store D disk) (is_open : IsOpen old) (new : Store D disk) : Type 0 where
+    pub goes_on : IsOpen new
+    pub same_table : goes_on.table ≡ is_open.table
+    pub others : (number : ℕ) → number ≢ document → cells_at goes_on.cells number ≡ cells_at is_open.cells number
+    pub own : P (cells_at goes_on.cells document)
 
-  -- no document needs a segment any more
-  pub record IsNeededByNone (segment : ℕ) (table : List (Option Segment)) (store : Store D disk) : Type 0 where
-    pub over : IsOverSlots table store
-    pub covered : (document : ℕ) → greatest_marked segment document (known_marks store) ≤ lowest_known (known_cells store) document
+  -- The documents of these marks of a segment are covered: the store goes on over the same slots. Where no mark is above the open cells of a
+  -- document these are as they were, and else both hold it at its newest revision, and no job of it is kept.
+  pub record AreCovered (segment : ℕ) (marks : List Mark) (old : Store D disk) (is_open : IsOpen old) (new : Store D disk) : Type 0 where
+    pub goes_on : IsOpen new
+    pub same_table : goes_on.table ≡ is_open.table
+    pub spared : (document : ℕ) → greatest_marked segment document marks ≤ lowest_known (known_cells old) document
+        → cells_at goes_on.cells document ≡ cells_at is_open.cells document
+    pub raised : (document : ℕ) → lowest_known (known_cells old) document < greatest_marked segment document marks
+        → AreBothNewest (state_of old) document (cells_at goes_on.cells document)
+    pub dropped : (document : ℕ) → lowest_known (known_cells old) document < greatest_marked segment document marks
+        → jobs_for document (kept_jobs new) ≡ []

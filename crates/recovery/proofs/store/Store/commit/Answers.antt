@@ -5,7 +5,7 @@ use Rattle.history.specs.Running.{Runs}
 use Rattle.recovery.specs.Found.{commands_of, limits_of}
 use Rattle.recovery.specs.steps.Appending.{IsDone}
 use Rattle.refusal.specs.declared.Refusal.{Refusal}
-use Rattle.refusal.specs.declared.Refusal.TheVariants.{JournalFull, Stranger, NoMemory}
+use Rattle.refusal.specs.declared.Refusal.TheVariants.{JournalFull, Stranger, NoMemory, Fault}
 use Rattle.disk.specs.Crash.{history_of}
 use Rattle.disk.proofs.CallerLemmas.{begins, leaves_map}
 use Rattle.recovery.proofs.Commits.{found_before, opened_for, with_or_without, parts_after, parts_left, runs_with, limits_with}
@@ -16,6 +16,7 @@ use Rattle.recovery.specs.Marked.{AreMarked}
 use Rattle.recovery.proofs.Upkeep.{cells_later, marked_with, marked_left}
 use Rattle.recovery.proofs.Folds.{fold-limits, first_of_all}
 use Rattle.recovery.specs.Open.{kept_jobs}
+use Rattle.recovery.proofs.Going.{nothing_given_up}
 use Rattle.recovery.proofs.KeptJobs.{kept_later}
 use Rattle.recovery.proofs.Refusals.{refusal_or, ok≢err, no_stranger}
 use Rattle.recovery.proofs.store.Store.commit.Goals as goal
@@ -171,3 +172,20 @@ returns-in-Err-append_batch-clause-untouched g c told =
     ⊎_elim
     (λ full. let both : true ≡ false = sym (sym c.has_room.ensures.room ∙ fits) ∙ c.in-Err-append_batch.ensures.full (ap (λ (r : Refusal). Err r) (ap (refusal_or Stranger) full)) in absurd cc)
     (λ stranger. absurd (no_stranger c.in-Err-append_batch.refusal c.in-Err-append_batch.ensures.only stranger)) told
+
+-- what is left where memory ran out
+pub returns-in-Err-clause-given_up_now : goal.returns-in-Err-clause-given_up_now
+returns-in-Err-clause-given_up_now g c told is_open = nothing_given_up c.args.self.now _ c.args.batch.now is_open (search rules)
+
+pub returns-in_default-clause-given_up_now : goal.returns-in_default-clause-given_up_now
+returns-in_default-clause-given_up_now g c told is_open = nothing_given_up c.args.self.now _ c.args.batch.now is_open (search rules)
+
+pub returns-in-Err-append_batch-clause-given_up_now : goal.returns-in-Err-append_batch-clause-given_up_now
+unfolding returns-in-Err-append_batch-clause-kept
+returns-in-Err-append_batch-clause-given_up_now g c told is_open =
+    let kept = c.in-Err-append_batch.ensures.given_up (ap (λ (r : Refusal). Err r) (ap (refusal_or JournalFull) told)) is_open.table is_open.fits in
+    record {
+      goes_on = returns-in-Err-append_batch-clause-kept g c (λ fault. let same : NoMemory ≡ Fault = sym (ap (refusal_or JournalFull) told) ∙ fault in cc) is_open;
+      same_cells = refl;
+      slots = kept.is_left;
+    }

@@ -1,11 +1,11 @@
-use Rattle.std.proofs.Common.{◌≡◌, ◌≢◌, ◌∙◌, ⊎_elim, inl, true, false, sym, ap, subst, rules}
+use Rattle.std.proofs.Common.{◌≡◌, ◌≢◌, ◌∙◌, ⊎_elim, inl, inr, true, false, List, length, sym, ap, subst, rules, arith}
 use Rattle.std.specs.Prelude.{Err, IfErr}
 use Rattle.std.proofs.lemmas.Bool.{false≢true}
-use Rattle.std.proofs.lemmas.Result.{on_ok_weaker}
+use Rattle.std.proofs.lemmas.Result.{on_ok_weaker, on_err_weaker}
 use Rattle.disk.specs.Device.{Rose}
 use Rattle.disk.proofs.CallerLemmas.{leaves_map}
 use Rattle.refusal.specs.declared.Refusal.{Refusal}
-use Rattle.refusal.specs.declared.Refusal.TheVariants.{JournalFull, StillNeeded, Fault}
+use Rattle.refusal.specs.declared.Refusal.TheVariants.{JournalFull, StillNeeded, Stranger, NoMemory, Fault}
 use Rattle.revision.specs.State.{State, all_grow}
 use Rattle.journal.specs.BatchSpelling.{batch_width}
 use Rattle.segments.specs.declared.ring.Ring.{Ring}
@@ -16,8 +16,11 @@ use Rattle.recovery.specs.Open.{IsWithOrWithout, has_room}
 use Rattle.recovery.proofs.Refusals.{refusal_or}
 use Rattle.recovery.proofs.Going.{goes_call, goes_map, goes_on}
 use Rattle.recovery.proofs.Faults.{done_by, kept_by}
-use Rattle.recovery.proofs.Freed.{no_needed, not_full, widened, freed_still}
-use Rattle.recovery.proofs.Rooms.{freed_up, few_up}
+use Rattle.recovery.specs.declared.marks.Mark.{Mark}
+use Rattle.recovery.specs.Marks.{marks_of}
+use Rattle.recovery.proofs.Covering.{freed_still}
+use Rattle.recovery.proofs.Freed.{no_needed, no_stranger_freed, marks_grow, not_full, widened}
+use Rattle.recovery.proofs.Rooms.{freed_up, few_up, room_where_it_fits}
 use Rattle.recovery.proofs.SparedJobs.{spared_same, spared_then}
 use Rattle.recovery.proofs.store.Store.commit_freeing.Goals as goal
 
@@ -37,7 +40,98 @@ returns-then-has_room-clause-committed_behind g c =
     let room : has_room c.args.self.now c.args.batch.now ≡ true = search rules in
     on_ok_weaker c.commit.result (λ committed none. absurd (false≢true (sym none ∙ room))) c.commit.ensures.committed
 
+pub returns-then-has_room-clause-marks : goal.returns-then-has_room-clause-marks
+returns-then-has_room-clause-marks g c =
+    marks_grow c.commit.result (marks_of c.args.self.now.marks) (marks_of c.commit.new.self.marks) (length c.args.batch.now) c.commit.ensures.marks c.commit.ensures.same_marks
+
+pub returns-then-has_room-clause-no_more_marks : goal.returns-then-has_room-clause-no_more_marks
+returns-then-has_room-clause-no_more_marks g c = on_err_weaker c.commit.result (λ same. omega (arith, ap (λ (l : List Mark). length l) same)) c.commit.ensures.same_marks
+
+pub returns-then-has_room-clause-same_marks : goal.returns-then-has_room-clause-same_marks
+returns-then-has_room-clause-same_marks g c = on_err_weaker c.commit.result (λ same room. same) c.commit.ensures.same_marks
+
+pub returns-then-has_room-clause-untouched : goal.returns-then-has_room-clause-untouched
+returns-then-has_room-clause-untouched g c room told = c.commit.ensures.untouched (inr told)
+
+pub returns-then-has_room-clause-given_up_where_it_fits : goal.returns-then-has_room-clause-given_up_where_it_fits
+returns-then-has_room-clause-given_up_where_it_fits g c fits told = c.commit.ensures.given_up_where_it_fits told fits
+
+pub returns-then-has_room-clause-needed_untouched : goal.returns-then-has_room-clause-needed_untouched
+returns-then-has_room-clause-needed_untouched g c told = absurd (no_needed c.commit.result c.commit.ensures.only told)
+
+pub returns-then-has_room-clause-stranger_behind : goal.returns-then-has_room-clause-stranger_behind
+returns-then-has_room-clause-stranger_behind g c told none =
+    let room : has_room c.args.self.now c.args.batch.now ≡ true = search rules in
+    absurd (false≢true (sym none ∙ room))
+
+pub returns-then-has_room-clause-memory_behind : goal.returns-then-has_room-clause-memory_behind
+returns-then-has_room-clause-memory_behind g c told none =
+    let room : has_room c.args.self.now c.args.batch.now ≡ true = search rules in
+    absurd (false≢true (sym none ∙ room))
+
+pub returns-then-has_room-clause-calls_behind : goal.returns-then-has_room-clause-calls_behind
+returns-then-has_room-clause-calls_behind g c is_open slot segment oldest = omega (arith, c.commit.ensures.calls)
+
+pub returns-then-has_room-clause-calls_by_marks : goal.returns-then-has_room-clause-calls_by_marks
+returns-then-has_room-clause-calls_by_marks g c = omega (arith, c.commit.ensures.calls)
+
+pub returns-then-has_room-clause-needed_segments : goal.returns-then-has_room-clause-needed_segments
+returns-then-has_room-clause-needed_segments g c told = absurd (no_needed c.commit.result c.commit.ensures.only told)
+
 -- no segment could be freed
+pub returns-in-Err-clause-marks : goal.returns-in-Err-clause-marks
+returns-in-Err-clause-marks g c = omega (arith, c.free_oldest.ensures.no_more_marks)
+
+pub returns-in-Err-clause-cells : goal.returns-in-Err-clause-cells
+returns-in-Err-clause-cells g c room =
+    let none : has_room c.args.self.now c.args.batch.now ≡ false = search rules in
+    absurd (false≢true (sym none ∙ room))
+
+pub returns-in-Err-clause-untouched : goal.returns-in-Err-clause-untouched
+returns-in-Err-clause-untouched g c room told =
+    let none : has_room c.args.self.now c.args.batch.now ≡ false = search rules in
+    absurd (false≢true (sym none ∙ room))
+
+pub returns-in-Err-clause-given_up : goal.returns-in-Err-clause-given_up
+returns-in-Err-clause-given_up g c room told =
+    let none : has_room c.args.self.now c.args.batch.now ≡ false = search rules in
+    absurd (false≢true (sym none ∙ room))
+
+pub returns-in-Err-clause-given_up_where_it_fits : goal.returns-in-Err-clause-given_up_where_it_fits
+returns-in-Err-clause-given_up_where_it_fits g c fits told =
+    let none : has_room c.args.self.now c.args.batch.now ≡ false = search rules in
+    absurd (false≢true (sym none ∙ room_where_it_fits c.args.self.now c.args.batch.now fits))
+
+pub returns-in-Err-clause-calls_where_it_fits : goal.returns-in-Err-clause-calls_where_it_fits
+returns-in-Err-clause-calls_where_it_fits g c fits =
+    let none : has_room c.args.self.now c.args.batch.now ≡ false = search rules in
+    absurd (false≢true (sym none ∙ room_where_it_fits c.args.self.now c.args.batch.now fits))
+
+pub returns-in-Err-clause-calls_given_up : goal.returns-in-Err-clause-calls_given_up
+returns-in-Err-clause-calls_given_up g c room told =
+    let none : has_room c.args.self.now c.args.batch.now ≡ false = search rules in
+    absurd (false≢true (sym none ∙ room))
+
+pub returns-in-Err-clause-needed_untouched : goal.returns-in-Err-clause-needed_untouched
+returns-in-Err-clause-needed_untouched g c told =
+    c.in-Err.ensures.untouched (ap (λ (r : Refusal). Err r) (ap (refusal_or StillNeeded) told))
+
+pub returns-in-Err-clause-needed_segments : goal.returns-in-Err-clause-needed_segments
+returns-in-Err-clause-needed_segments g c told = (c.in-Err.ensures.ring, c.in-Err.ensures.same_marks)
+
+pub returns-in-Err-clause-calls_by_marks : goal.returns-in-Err-clause-calls_by_marks
+returns-in-Err-clause-calls_by_marks g c = omega (arith, c.free_oldest.ensures.calls_by_marks)
+
+pub returns-in-Err-clause-stranger_behind : goal.returns-in-Err-clause-stranger_behind
+returns-in-Err-clause-stranger_behind g c told = absurd (no_stranger_freed c.in-Err.refusal c.in-Err.ensures.only (ap (refusal_or Stranger) told))
+
+pub returns-in-Err-clause-memory_behind : goal.returns-in-Err-clause-memory_behind
+returns-in-Err-clause-memory_behind g c told none is_open =
+    inl (c.in-Err.ensures.half (ap (λ (r : Refusal). Err r) (ap (refusal_or NoMemory) told)) is_open)
+
+pub returns-in-Err-clause-calls_behind : goal.returns-in-Err-clause-calls_behind
+returns-in-Err-clause-calls_behind g c is_open slot segment oldest = omega (arith, c.free_oldest.ensures.calls is_open slot segment oldest)
+
 pub returns-in-Err-clause-full_still : goal.returns-in-Err-clause-full_still
 returns-in-Err-clause-full_still g c told is_open = absurd (not_full c.in-Err.refusal c.in-Err.ensures.only (ap (refusal_or JournalFull) told))
 
@@ -65,7 +159,7 @@ returns-clause-full g c told =
 
 pub returns-clause-full_still : goal.returns-clause-full_still
 returns-clause-full_still g c told is_open =
-    freed_still c.free_oldest.new.self c.commit-2.new.self is_open.table (c.commit-2.ensures.untouched (inl told)) (c.in_default.ensures.freed is_open)
+    freed_still c.args.self.now c.free_oldest.new.self c.commit-2.new.self is_open (c.commit-2.ensures.untouched (inl told)) (c.in_default.ensures.freed is_open)
 
 pub returns-clause-needed_by_few : goal.returns-clause-needed_by_few
 returns-clause-needed_by_few g c told = absurd (no_needed c.commit-2.result c.commit-2.ensures.only told)
@@ -132,3 +226,74 @@ returns-clause-done g c = done_by c.args.self.now c.commit-2.new.self c.commit-2
 
 pub returns-clause-kept : goal.returns-clause-kept
 returns-clause-kept g c = kept_by c.args.self.now c.commit-2.new.self c.commit-2.result (c.commit-2.ensures.fails c.in_default.ensures.works) (returns-clause-goes g c)
+
+-- what is known of the entries grows by no more than the batch
+pub returns-clause-marks : goal.returns-clause-marks
+returns-clause-marks g c =
+    omega (
+      arith,
+      marks_grow c.commit-2.result (marks_of c.free_oldest.new.self.marks) (marks_of c.commit-2.new.self.marks) (length c.args.batch.now) c.commit-2.ensures.marks c.commit-2.ensures.same_marks,
+      c.free_oldest.ensures.no_more_marks,
+    )
+
+pub returns-clause-no_more_marks : goal.returns-clause-no_more_marks
+returns-clause-no_more_marks g c =
+    on_err_weaker c.commit-2.result (λ same. omega (arith, ap (λ (l : List Mark). length l) same, c.free_oldest.ensures.no_more_marks)) c.commit-2.ensures.same_marks
+
+-- none of this is said where there was no room
+pub returns-clause-same_marks : goal.returns-clause-same_marks
+returns-clause-same_marks g c =
+    let none : has_room c.args.self.now c.args.batch.now ≡ false = search rules in
+    on_err_weaker c.commit-2.result (λ same room. absurd (false≢true (sym none ∙ room))) c.commit-2.ensures.same_marks
+
+pub returns-clause-cells : goal.returns-clause-cells
+returns-clause-cells g c room =
+    let none : has_room c.args.self.now c.args.batch.now ≡ false = search rules in
+    absurd (false≢true (sym none ∙ room))
+
+pub returns-clause-untouched : goal.returns-clause-untouched
+returns-clause-untouched g c room told =
+    let none : has_room c.args.self.now c.args.batch.now ≡ false = search rules in
+    absurd (false≢true (sym none ∙ room))
+
+pub returns-clause-given_up : goal.returns-clause-given_up
+returns-clause-given_up g c room told =
+    let none : has_room c.args.self.now c.args.batch.now ≡ false = search rules in
+    absurd (false≢true (sym none ∙ room))
+
+pub returns-clause-given_up_where_it_fits : goal.returns-clause-given_up_where_it_fits
+returns-clause-given_up_where_it_fits g c fits told =
+    let none : has_room c.args.self.now c.args.batch.now ≡ false = search rules in
+    absurd (false≢true (sym none ∙ room_where_it_fits c.args.self.now c.args.batch.now fits))
+
+pub returns-clause-calls_where_it_fits : goal.returns-clause-calls_where_it_fits
+returns-clause-calls_where_it_fits g c fits =
+    let none : has_room c.args.self.now c.args.batch.now ≡ false = search rules in
+    absurd (false≢true (sym none ∙ room_where_it_fits c.args.self.now c.args.batch.now fits))
+
+pub returns-clause-calls_given_up : goal.returns-clause-calls_given_up
+returns-clause-calls_given_up g c room told =
+    let none : has_room c.args.self.now c.args.batch.now ≡ false = search rules in
+    absurd (false≢true (sym none ∙ room))
+
+-- what is left behind a segment that was freed
+pub returns-clause-needed_untouched : goal.returns-clause-needed_untouched
+returns-clause-needed_untouched g c told = absurd (no_needed c.commit-2.result c.commit-2.ensures.only told)
+
+pub returns-clause-stranger_behind : goal.returns-clause-stranger_behind
+returns-clause-stranger_behind g c told none is_open =
+    freed_still c.args.self.now c.free_oldest.new.self c.commit-2.new.self is_open (c.commit-2.ensures.untouched (inr told)) (c.in_default.ensures.freed is_open)
+
+pub returns-clause-memory_behind : goal.returns-clause-memory_behind
+returns-clause-memory_behind g c told none is_open =
+    let freed = c.in_default.ensures.freed is_open in
+    inr (record { mid = c.free_oldest.new.self; freed = freed; given_up = c.commit-2.ensures.given_up_now told freed.goes_on })
+
+pub returns-clause-calls_behind : goal.returns-clause-calls_behind
+returns-clause-calls_behind g c is_open slot segment oldest = omega (arith, c.free_oldest.ensures.calls is_open slot segment oldest, c.commit-2.ensures.calls)
+
+pub returns-clause-needed_segments : goal.returns-clause-needed_segments
+returns-clause-needed_segments g c told = absurd (no_needed c.commit-2.result c.commit-2.ensures.only told)
+
+pub returns-clause-calls_by_marks : goal.returns-clause-calls_by_marks
+returns-clause-calls_by_marks g c = omega (arith, c.free_oldest.ensures.calls_by_marks, c.commit-2.ensures.calls)

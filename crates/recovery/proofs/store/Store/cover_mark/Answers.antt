@@ -1,22 +1,84 @@
-use Rattle.std.proofs.Common.{◌≡◌, ◌≢◌, ◌∙◌, ⊎_elim, List, ap, arith, rules}
+use Rattle.std.proofs.Common.{◌≡◌, ◌≢◌, ◌∙◌, ⊎_elim, List, refl, ap, arith, rules}
+use Rattle.std.proofs.lemmas.Result.{on_ok_weaker}
+use Rattle.milestone.specs.Job.{Job}
 use Rattle.milestone.specs.declared.cells.Cells.{Cells}
+use Rattle.recovery.specs.Jobs.{without_job}
+use Rattle.recovery.proofs.OtherJobs.{others_without}
 use Rattle.recovery.specs.Cells.{lowest_known}
-use Rattle.recovery.specs.Open.{IsOpen}
-use Rattle.recovery.specs.steps.Freeing.{reached_in}
+use Rattle.recovery.specs.Open.{IsOpen, kept_jobs}
+use Rattle.recovery.specs.steps.Freeing.{reached_in, IsMarkAbove}
 use Rattle.revision.specs.State.{State}
 use Rattle.recovery.proofs.Going.{goes_nowhere, goes_same}
-use Rattle.recovery.proofs.Faults.{counts_on, works_now}
-use Rattle.recovery.proofs.Raising.{covered_elsewhere, covered_already, covered_by}
+use Rattle.recovery.proofs.Faults.{counts_on, works_now, works_still}
+use Rattle.recovery.proofs.Newest.{on_err, none_put, half_behind, covered_behind}
 use Rattle.recovery.proofs.store.Store.cover_mark.Goals as goal
 
+-- another segment's mark
 pub returns-then-mark-segment-clause-covered : goal.returns-then-mark-segment-clause-covered
-returns-then-mark-segment-clause-covered g c is_open reach =
+returns-then-mark-segment-clause-covered g c above =
     let other : c.args.mark.segment ≢ c.args.segment = search rules in
-    covered_elsewhere c.args.self.now is_open c.args.segment c.args.mark other
+    absurd (other above.0)
+
+pub returns-then-mark-segment-clause-dropped : goal.returns-then-mark-segment-clause-dropped
+returns-then-mark-segment-clause-dropped g c above =
+    let other : c.args.mark.segment ≢ c.args.segment = search rules in
+    absurd (other above.0)
 
 pub returns-then-mark-segment-clause-goes : goal.returns-then-mark-segment-clause-goes
 returns-then-mark-segment-clause-goes g c = goes_nowhere c.args.self.now
 
+-- a mark that no open cell is below
+pub returns-then-mark-lowest_of-clause-covered : goal.returns-then-mark-lowest_of-clause-covered
+returns-then-mark-lowest_of-clause-covered g c above =
+    let lowest : c.lowest_of.result ≡ lowest_known c.args.self.now.cells.items c.args.mark.document =
+    c.lowest_of.ensures ∙ ap (λ (l : List Cells). lowest_known l c.args.mark.document) c.deref.ensures.value in
+    absurd (omega (arith, c.if-mark-lowest_of.true, lowest, above.1))
+
+pub returns-then-mark-lowest_of-clause-dropped : goal.returns-then-mark-lowest_of-clause-dropped
+returns-then-mark-lowest_of-clause-dropped g c above =
+    let lowest : c.lowest_of.result ≡ lowest_known c.args.self.now.cells.items c.args.mark.document =
+    c.lowest_of.ensures ∙ ap (λ (l : List Cells). lowest_known l c.args.mark.document) c.deref.ensures.value in
+    absurd (omega (arith, c.if-mark-lowest_of.true, lowest, above.1))
+
+pub returns-then-mark-lowest_of-clause-goes : goal.returns-then-mark-lowest_of-clause-goes
+returns-then-mark-lowest_of-clause-goes g c = goes_nowhere c.args.self.now
+
+-- two milestones are put for a mark of the segment that is above the cells
+pub returns-in-Err-clause-above : goal.returns-in-Err-clause-above
+returns-in-Err-clause-above g c =
+    let here : c.args.mark.segment ≡ c.args.segment = search rules in
+    let lowest : c.lowest_of.result ≡ lowest_known c.args.self.now.cells.items c.args.mark.document =
+    c.lowest_of.ensures ∙ ap (λ (l : List Cells). lowest_known l c.args.mark.document) c.deref.ensures.value in
+    (here, omega (arith, lowest, c.if-mark-lowest_of.false))
+
+pub returns-clause-above : goal.returns-clause-above
+returns-clause-above g c =
+    let here : c.args.mark.segment ≡ c.args.segment = search rules in
+    let lowest : c.lowest_of.result ≡ lowest_known c.args.self.now.cells.items c.args.mark.document =
+    c.lowest_of.ensures ∙ ap (λ (l : List Cells). lowest_known l c.args.mark.document) c.deref.ensures.value in
+    on_err c.raise-2.result (here, omega (arith, lowest, c.if-mark-lowest_of.false))
+
+pub returns-in-Err-clause-spared : goal.returns-in-Err-clause-spared
+returns-in-Err-clause-spared g c out =
+    let here : c.args.mark.segment ≡ c.args.segment = search rules in
+    let lowest : c.lowest_of.result ≡ lowest_known c.args.self.now.cells.items c.args.mark.document =
+    c.lowest_of.ensures ∙ ap (λ (l : List Cells). lowest_known l c.args.mark.document) c.deref.ensures.value in
+    ⊎_elim (λ away. absurd (away here)) (λ low. absurd (omega (arith, low, lowest, c.if-mark-lowest_of.false))) out
+
+pub returns-clause-spared : goal.returns-clause-spared
+returns-clause-spared g c out =
+    let here : c.args.mark.segment ≡ c.args.segment = search rules in
+    let lowest : c.lowest_of.result ≡ lowest_known c.args.self.now.cells.items c.args.mark.document =
+    c.lowest_of.ensures ∙ ap (λ (l : List Cells). lowest_known l c.args.mark.document) c.deref.ensures.value in
+    ⊎_elim (λ away. absurd (away here)) (λ low. absurd (omega (arith, low, lowest, c.if-mark-lowest_of.false))) out
+
+-- the first one was refused
+pub returns-in-Err-clause-half : goal.returns-in-Err-clause-half
+returns-in-Err-clause-half g c other is_open =
+    none_put c.args.self.now c.raise.new.self is_open c.args.mark.document
+    (c.raise.ensures.goes.opens (works_still {A = Unit {0}} c.raise.new.self c.in-Err.refusal c.in-Err.ensures.fails other) is_open) (c.in-Err.ensures.unwritten other)
+
+-- the second one was put, or refused
 pub returns-clause-needed : goal.returns-clause-needed
 returns-clause-needed g c told is_open reach =
     let here : c.args.mark.segment ≡ c.args.segment = search rules in
@@ -26,38 +88,30 @@ returns-clause-needed g c told is_open reach =
 
 pub returns-clause-covered : goal.returns-clause-covered
 returns-clause-covered g c =
-    let here : c.args.mark.segment ≡ c.args.segment = search rules in
-    covered_by c.args.self.now c.raise.new.self c.raise-2.new.self c.args.segment c.args.mark c.raise-2.result here c.raise.ensures.keeps.state c.in_default.ensures.raised c.raise-2.ensures.raised
+    covered_behind c.args.self.now c.raise.new.self c.raise-2.new.self (IsMarkAbove c.args.segment c.args.mark c.args.self.now) c.args.mark.document c.raise-2.result c.raise.ensures.keeps.state
+    c.in_default.ensures.put c.raise-2.ensures.put
+
+pub returns-clause-dropped : goal.returns-clause-dropped
+returns-clause-dropped g c =
+    on_ok_weaker c.raise-2.result
+    (λ dropped above.
+    dropped
+    ∙ (ap (λ (l : List Job). without_job c.args.mark.document l) c.in_default.ensures.dropped ∙ others_without c.args.mark.document c.args.mark.document (kept_jobs c.args.self.now) refl))
+    c.raise-2.ensures.dropped
+
+pub returns-clause-half : goal.returns-clause-half
+returns-clause-half g c =
+    half_behind c.args.self.now c.raise.new.self c.raise-2.new.self c.args.mark.document c.raise-2.result c.in_default.ensures.put c.raise-2.ensures.unwritten c.raise-2.ensures.fails
+    c.raise-2.ensures.goes
+
+pub returns-clause-calls : goal.returns-clause-calls
+returns-clause-calls g c = omega (arith, c.raise.ensures.calls, c.raise-2.ensures.calls)
 
 pub returns-clause-faults : goal.returns-clause-faults
 returns-clause-faults g c = counts_on c.in_default.ensures.faults.good c.raise-2.ensures.faults
 
 pub returns-clause-goes : goal.returns-clause-goes
 returns-clause-goes g c = goes_same c.raise.ensures.keeps.state c.raise.ensures.goes c.raise-2.ensures.goes
-
-pub returns-then-mark-lowest_of-clause-covered : goal.returns-then-mark-lowest_of-clause-covered
-returns-then-mark-lowest_of-clause-covered g c is_open reach =
-    let store = c.args.self.now in
-    let lowest : c.lowest_of.result ≡ lowest_known store.cells.items c.args.mark.document = c.lowest_of.ensures ∙ ap (λ (l : List Cells). lowest_known l c.args.mark.document) c.deref.ensures.value in
-    covered_already store is_open c.args.segment c.args.mark (omega (arith, c.if-mark-lowest_of.true, lowest))
-
-pub returns-then-mark-lowest_of-clause-goes : goal.returns-then-mark-lowest_of-clause-goes
-returns-then-mark-lowest_of-clause-goes g c = goes_nowhere c.args.self.now
-
--- two milestones are put for a mark of the segment that is above the cells
-pub returns-in-Err-clause-jobs : goal.returns-in-Err-clause-jobs
-returns-in-Err-clause-jobs g c out =
-    let here : c.args.mark.segment ≡ c.args.segment = search rules in
-    let lowest : c.lowest_of.result ≡ lowest_known c.args.self.now.cells.items c.args.mark.document =
-    c.lowest_of.ensures ∙ ap (λ (l : List Cells). lowest_known l c.args.mark.document) c.deref.ensures.value in
-    ⊎_elim (λ away. absurd (away here)) (λ low. absurd (omega (arith, low, lowest, c.if-mark-lowest_of.false))) out
-
-pub returns-clause-jobs : goal.returns-clause-jobs
-returns-clause-jobs g c out =
-    let here : c.args.mark.segment ≡ c.args.segment = search rules in
-    let lowest : c.lowest_of.result ≡ lowest_known c.args.self.now.cells.items c.args.mark.document =
-    c.lowest_of.ensures ∙ ap (λ (l : List Cells). lowest_known l c.args.mark.document) c.deref.ensures.value in
-    ⊎_elim (λ away. absurd (away here)) (λ low. absurd (omega (arith, low, lowest, c.if-mark-lowest_of.false))) out
 
 pub returns-clause-others : goal.returns-clause-others
 returns-clause-others g c = c.raise-2.ensures.others ∙ c.raise.ensures.others

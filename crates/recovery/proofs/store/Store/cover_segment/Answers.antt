@@ -1,13 +1,13 @@
-use Rattle.std.proofs.Common.{◌≡◌, ◌≤◌, ◌<◌, ◌∙◌, List, length, take, get_or, refl, sym, ap, subst, arith}
+use Rattle.std.proofs.Common.{◌≡◌, ◌≤◌, ◌<◌, ◌+◌, ◌∙◌, List, length, take, get_or, refl, sym, ap, subst, arith}
 use Rattle.std.proofs.lemmas.List.{take_all}
 use Rattle.recovery.specs.declared.marks.Mark.{Mark}
-use Rattle.recovery.specs.Cells.{lowest_known}
-use Rattle.recovery.specs.Marks.{greatest_marked, marks_of}
-use Rattle.recovery.specs.Open.{IsOpen, state_of}
-use Rattle.recovery.specs.steps.Freeing.{MayReach}
+use Rattle.recovery.specs.Marks.{marks_of}
+use Rattle.recovery.specs.Open.{IsOpen, device_of, kept_jobs, state_of}
+use Rattle.recovery.specs.steps.Freeing.{MayReach, AreCovered}
 use Rattle.recovery.proofs.Going.{goes_nowhere, goes_same}
 use Rattle.recovery.proofs.Faults.{counts_on, works_now}
-use Rattle.recovery.proofs.Raising.{keeps_on, still_over, may_reach, covered_more}
+use Rattle.recovery.proofs.Raising.{keeps_on, may_reach}
+use Rattle.recovery.proofs.Covering.{none_covered, covered_more, spared_still, half_freed, calls_more, calls_all}
 use Rattle.recovery.proofs.SparedJobs.{spared_same, spared_more}
 use Rattle.recovery.proofs.store.Store.cover_segment.Goals as goal
 
@@ -18,10 +18,10 @@ loop-place-init g c = record {
   faults = refl;
   honest = (λ honest. honest, λ honest. honest);
   goes = goes_nowhere c.args.self.now;
-  over = λ is_open. still_over c.args.self.now is_open;
-  none_lower = λ is_open number. omega arith;
+  covered = none_covered c.args.segment c.args.self.now;
+  calls = λ is_open. omega arith;
+  calls_by_marks = omega arith;
   jobs = λ is_open. spared_same c.args.segment c.args.self.now c.args.self.now refl;
-  covered = λ is_open document. omega arith;
 }
 
 -- the mark at the place
@@ -38,26 +38,25 @@ loop-place-preserved g c =
     let before = c.loop-place.invariant in
     let inside : place < length (marks_of start.marks) = omega (arith, c.loop-place-test.true, c.mark_count-place-end.ensures) in
     let is : get_or (marks_of start.marks) place mark ≡ mark = subst (λ (l : List Mark). get_or l place mark ≡ mark) before.keeps.marks c.mark_at-mark.ensures in
-    let reach : IsOpen start → MayReach c.args.segment mark (state_of store) =
-    λ is_open. subst (MayReach c.args.segment mark) (sym before.keeps.state) (may_reach start is_open c.requires.oldest.0 c.args.segment c.requires.oldest.1 place mark inside is) in
+    let reach : IsOpen start → MayReach c.args.segment mark (state_of start) =
+    λ is_open. may_reach start is_open c.requires.oldest.0 c.args.segment c.requires.oldest.1 place mark inside is in
     record {
       working = works_now new c.in_default.field-0 c.in_default.ensures.fails;
       keeps = keeps_on before.keeps c.cover_mark.ensures.keeps;
       faults = c.in_default.ensures.faults.good ∙ before.faults;
       honest = (λ honest. before.honest.0 (c.cover_mark.ensures.honest.0 honest), λ honest. c.cover_mark.ensures.honest.1 (before.honest.1 honest));
       goes = goes_same before.keeps.state before.goes c.cover_mark.ensures.goes;
-      over = λ is_open.
-          let over = before.over is_open in
-          let now = c.in_default.ensures.covered over.goes_on (reach is_open) in
-          record { goes_on = now.over.goes_on; same_table = now.over.same_table ∙ over.same_table };
-      none_lower = λ is_open number.
-          let now = c.in_default.ensures.covered (before.over is_open).goes_on (reach is_open) in
-          omega (arith, before.none_lower is_open number, now.none_lower number);
-      jobs = λ is_open.
-          spared_more start store new c.args.segment place mark inside is (before.none_lower is_open) c.cover_mark.ensures.jobs c.cover_mark.ensures.others (before.jobs is_open);
       covered = λ is_open.
-          let now = c.in_default.ensures.covered (before.over is_open).goes_on (reach is_open) in
-          covered_more store new c.args.segment place (marks_of start.marks) mark inside is now.none_lower now.covers (before.covered is_open);
+          covered_more c.args.segment place mark start store is_open inside is (before.covered is_open) new before.keeps.state (reach is_open) c.cover_mark.ensures.spared
+          (λ above. c.in_default.ensures.covered above (before.covered is_open).goes_on) c.in_default.ensures.dropped;
+      calls = λ is_open.
+          calls_more c.args.segment place mark start store is_open inside is (before.covered is_open) (length (state_of start).documents)
+          (length (g.D.Disk.past (device_of start))) (length (g.D.Disk.past (device_of store))) (length (g.D.Disk.past (device_of new))) refl (reach is_open)
+          (before.calls is_open) c.cover_mark.ensures.calls (λ spared. ap (λ s. length (g.D.Disk.past (device_of s))) (c.cover_mark.ensures.spared spared));
+      calls_by_marks = omega (arith, before.calls_by_marks, c.cover_mark.ensures.calls);
+      jobs = λ is_open.
+          spared_more start store new c.args.segment place mark inside is (spared_still c.args.segment place mark start store is_open inside is (before.covered is_open))
+          (λ spared. ap (λ s. kept_jobs s) (c.cover_mark.ensures.spared spared)) c.cover_mark.ensures.others (before.jobs is_open);
     }
 
 pub returns-in-Err-clause-needed : goal.returns-in-Err-clause-needed
@@ -68,19 +67,48 @@ returns-in-Err-clause-needed g c told is_open =
     let before = c.loop-place.invariant in
     let inside : place < length (marks_of start.marks) = omega (arith, c.loop-place-test.true, c.mark_count-place-end.ensures) in
     let is : get_or (marks_of start.marks) place mark ≡ mark = subst (λ (l : List Mark). get_or l place mark ≡ mark) before.keeps.marks c.mark_at-mark.ensures in
-    c.in-Err.ensures.needed told (before.over is_open).goes_on
+    c.in-Err.ensures.needed told (before.covered is_open).goes_on
     (subst (MayReach c.args.segment mark) (sym before.keeps.state) (may_reach start is_open c.requires.oldest.0 c.args.segment c.requires.oldest.1 place mark inside is))
 
-pub returns-in-Err-clause-jobs : goal.returns-in-Err-clause-jobs
-returns-in-Err-clause-jobs g c is_open =
+pub returns-in-Err-clause-half : goal.returns-in-Err-clause-half
+returns-in-Err-clause-half g c other is_open =
     let start = c.args.self.now in
     let mark = c.mark_at-mark.result in
     let place = c.loop-place.place in
     let before = c.loop-place.invariant in
     let inside : place < length (marks_of start.marks) = omega (arith, c.loop-place-test.true, c.mark_count-place-end.ensures) in
     let is : get_or (marks_of start.marks) place mark ≡ mark = subst (λ (l : List Mark). get_or l place mark ≡ mark) before.keeps.marks c.mark_at-mark.ensures in
-    spared_more start c.loop-place.self c.cover_mark.new.self c.args.segment place mark inside is (before.none_lower is_open) c.cover_mark.ensures.jobs c.cover_mark.ensures.others
-    (before.jobs is_open)
+    half_freed c.args.segment place mark start c.loop-place.self is_open inside is (before.covered is_open) c.cover_mark.new.self c.requires.oldest.0 c.requires.oldest.1 before.keeps.state
+    (may_reach start is_open c.requires.oldest.0 c.args.segment c.requires.oldest.1 place mark inside is) c.in-Err.ensures.above
+    (c.in-Err.ensures.half other (before.covered is_open).goes_on)
+
+pub returns-in-Err-clause-calls : goal.returns-in-Err-clause-calls
+returns-in-Err-clause-calls g c is_open =
+    let start = c.args.self.now in
+    let store = c.loop-place.self in
+    let new = c.cover_mark.new.self in
+    let mark = c.mark_at-mark.result in
+    let place = c.loop-place.place in
+    let before = c.loop-place.invariant in
+    let inside : place < length (marks_of start.marks) = omega (arith, c.loop-place-test.true, c.mark_count-place-end.ensures) in
+    let is : get_or (marks_of start.marks) place mark ≡ mark = subst (λ (l : List Mark). get_or l place mark ≡ mark) before.keeps.marks c.mark_at-mark.ensures in
+    let more = calls_more c.args.segment place mark start store is_open inside is (before.covered is_open) (length (state_of start).documents)
+    (length (g.D.Disk.past (device_of start))) (length (g.D.Disk.past (device_of store))) (length (g.D.Disk.past (device_of new))) refl
+    (may_reach start is_open c.requires.oldest.0 c.args.segment c.requires.oldest.1 place mark inside is)
+    (before.calls is_open) c.cover_mark.ensures.calls (λ spared. ap (λ s. length (g.D.Disk.past (device_of s))) (c.cover_mark.ensures.spared spared)) in
+    omega (arith, more, calls_all c.args.segment (place + 1) (length (state_of start).documents) (marks_of start.marks) start.cells.items)
+
+pub returns-in-Err-clause-jobs : goal.returns-in-Err-clause-jobs
+returns-in-Err-clause-jobs g c is_open =
+    let start = c.args.self.now in
+    let store = c.loop-place.self in
+    let mark = c.mark_at-mark.result in
+    let place = c.loop-place.place in
+    let before = c.loop-place.invariant in
+    let inside : place < length (marks_of start.marks) = omega (arith, c.loop-place-test.true, c.mark_count-place-end.ensures) in
+    let is : get_or (marks_of start.marks) place mark ≡ mark = subst (λ (l : List Mark). get_or l place mark ≡ mark) before.keeps.marks c.mark_at-mark.ensures in
+    spared_more start store c.cover_mark.new.self c.args.segment place mark inside is (spared_still c.args.segment place mark start store is_open inside is (before.covered is_open))
+    (λ spared. ap (λ s. kept_jobs s) (c.cover_mark.ensures.spared spared)) c.cover_mark.ensures.others (before.jobs is_open)
 
 pub returns-in-Err-clause-faults : goal.returns-in-Err-clause-faults
 returns-in-Err-clause-faults g c = counts_on c.loop-place.invariant.faults c.in-Err.ensures.faults
@@ -91,11 +119,18 @@ returns-in-Err-clause-goes g c = goes_same c.loop-place.invariant.keeps.state c.
 pub returns-clause-covered : goal.returns-clause-covered
 returns-clause-covered g c is_open =
     let start = c.args.self.now in
-    let store = c.loop-place.self in
-    let done = c.loop-place.invariant in
     let all : take c.loop-place.place (marks_of start.marks) ≡ marks_of start.marks = take_all c.loop-place.place (marks_of start.marks) (omega (arith, c.mark_count-place-end.ensures)) in
-    record {
-      over = done.over is_open;
-      covered = λ document.
-          subst (λ (l : List Mark). greatest_marked c.args.segment document l ≤ lowest_known store.cells.items document) (all ∙ sym done.keeps.marks) (done.covered is_open document);
-    }
+    subst (λ (l : List Mark). AreCovered c.args.segment l start is_open c.loop-place.self) all (c.loop-place.invariant.covered is_open)
+
+pub returns-clause-calls : goal.returns-clause-calls
+returns-clause-calls g c is_open =
+    let start = c.args.self.now in
+    omega (arith, c.loop-place.invariant.calls is_open, calls_all c.args.segment c.loop-place.place (length (state_of start).documents) (marks_of start.marks) start.cells.items)
+
+-- twelve calls for each mark, in any store
+pub returns-in-Err-clause-calls_by_marks : goal.returns-in-Err-clause-calls_by_marks
+returns-in-Err-clause-calls_by_marks g c =
+    omega (arith, c.loop-place.invariant.calls_by_marks, c.cover_mark.ensures.calls, c.loop-place-test.true, c.mark_count-place-end.ensures)
+
+pub returns-clause-calls_by_marks : goal.returns-clause-calls_by_marks
+returns-clause-calls_by_marks g c = omega (arith, c.loop-place.invariant.calls_by_marks, c.mark_count-place-end.ensures)

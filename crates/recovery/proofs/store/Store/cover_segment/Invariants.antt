@@ -1,10 +1,8 @@
-use Rattle.std.proofs.Common.{◌≡◌, ◌≤◌, ◌↔◌, ℕ, false, take}
-use Rattle.recovery.specs.Cells.{lowest_known}
+use Rattle.std.proofs.Common.{◌≡◌, ◌≤◌, ◌+◌, ◌*◌, ◌↔◌, false, length, take}
 use Rattle.recovery.specs.Found.{FoundAs}
 use Rattle.recovery.specs.Goes.{Goes}
-use Rattle.recovery.specs.Marks.{greatest_marked}
-use Rattle.recovery.specs.Open.{IsOpen, KeepsJobs, device_of, state_of, has_failed, known_cells, known_marks}
-use Rattle.recovery.specs.steps.Freeing.{KeepsSegments, IsOverSlots, NoneLower}
+use Rattle.recovery.specs.Open.{IsOpen, KeepsJobs, needing, device_of, state_of, has_failed, known_cells, known_marks}
+use Rattle.recovery.specs.steps.Freeing.{KeepsSegments, AreCovered}
 use Rattle.recovery.proofs.store.Store.cover_segment.Given as goal
 
 abbrev pub invariant-loop-place : goal.invariant-loop-place
@@ -14,8 +12,10 @@ invariant-loop-place g l = record {
   faults : g.D.Disk.faults (device_of l.self) ≡ g.D.Disk.faults (device_of l.fn.self);
   honest : g.D.Disk.honest (device_of l.self) ↔ g.D.Disk.honest (device_of l.fn.self);
   goes : Goes (λ content. FoundAs content (state_of l.fn.self)) l.fn.self l.self;
-  over : (is_open : IsOpen l.fn.self) → IsOverSlots is_open.table l.self;
-  none_lower : IsOpen l.fn.self → NoneLower l.fn.self l.self;
+  covered : (is_open : IsOpen l.fn.self) → AreCovered l.segment (take l.place (known_marks l.fn.self)) l.fn.self is_open l.self;
+  calls : IsOpen l.fn.self
+      → length (g.D.Disk.past (device_of l.self)) ≤ length (g.D.Disk.past (device_of l.fn.self))
+      + 12 * needing l.segment (take l.place (known_marks l.fn.self)) (known_cells l.fn.self) (length (state_of l.fn.self).documents);
+  calls_by_marks : length (g.D.Disk.past (device_of l.self)) ≤ length (g.D.Disk.past (device_of l.fn.self)) + 12 * l.place;
   jobs : IsOpen l.fn.self → KeepsJobs l.segment l.fn.self l.self;
-  covered : IsOpen l.fn.self → (document : ℕ) → greatest_marked l.segment document (take l.place (known_marks l.fn.self)) ≤ lowest_known (known_cells l.self) document;
 }

@@ -1,11 +1,20 @@
-use Rattle.std.proofs.Common.{◌≤◌, ◌∙◌, refl, subst, rules}
+use Rattle.std.proofs.Common.{◌≡◌, ◌≤◌, ◌∙◌, List, length, refl, sym, ap, subst, rules, arith}
+use Rattle.std.specs.Prelude.{Err}
 use Rattle.std.proofs.lemmas.Result.{on_err_weaker}
 use Rattle.disk.specs.Device.{Rose}
+use Rattle.refusal.specs.declared.Refusal.{Refusal}
+use Rattle.refusal.specs.declared.Refusal.TheVariants.{StillNeeded, NoMemory, Fault}
 use Rattle.segments.specs.Numbers.{open_count}
 use Rattle.segments.specs.Ring.{known_numbers}
+use Rattle.recovery.specs.declared.marks.Mark.{Mark}
+use Rattle.recovery.specs.Open.{needing, known_cells, known_marks}
 use Rattle.recovery.proofs.Going.{goes_nowhere, goes_same}
 use Rattle.recovery.proofs.Faults.{retire_goes, works_now, works_still, works_by, done_by, kept_by}
-use Rattle.recovery.proofs.Raising.{may_go, freed_by, marks_gone}
+use Rattle.recovery.proofs.Covering.{may_go, freed_by}
+use Rattle.recovery.proofs.Freed.{no_memory}
+use Rattle.recovery.proofs.Marked.{one_oldest}
+use Rattle.recovery.proofs.Raising.{marks_gone}
+use Rattle.recovery.proofs.Refusals.{refusal_or}
 use Rattle.recovery.proofs.SparedJobs.{spared_same, spared_then, spared_oldest}
 use Rattle.recovery.proofs.store.Store.free_oldest.Goals as goal
 
@@ -37,7 +46,25 @@ returns-clause-needed g c told is_open =
     let none = c.in_default-cover_segment.ensures.covered is_open in
     let two : 2 ≤ open_count (known_numbers store.ring) = search rules in
     let oldest = c.in-Some.ensures.oldest in
-    absurd (c.retire.ensures.needed told none.over.goes_on (may_go store mid is_open.table oldest.0 c.in-Some.oldest c.cover_segment.ensures.keeps oldest.1 two none))
+    absurd (c.retire.ensures.needed told none.goes_on (may_go store mid is_open oldest.0 c.in-Some.oldest c.cover_segment.ensures.keeps oldest.1 two none))
+
+-- so it isn't told once milestones were put
+pub returns-in-Err-clause-untouched : goal.returns-in-Err-clause-untouched
+returns-in-Err-clause-untouched g c told is_open = absurd (c.in-Err.ensures.needed (ap (λ (r : Refusal). Err r) (ap (refusal_or StillNeeded) told)) is_open)
+
+pub returns-clause-untouched : goal.returns-clause-untouched
+unfolding returns-clause-needed
+returns-clause-untouched g c told is_open =
+    let two : 2 ≤ open_count (known_numbers c.args.self.now.ring) = search rules in
+    absurd (omega (arith, two, returns-clause-needed g c told is_open))
+
+-- memory runs out before the retirement alone
+pub returns-in-Err-clause-half : goal.returns-in-Err-clause-half
+returns-in-Err-clause-half g c told =
+    c.in-Err.ensures.half (λ fault. let same : NoMemory ≡ Fault = sym (ap (refusal_or NoMemory) told) ∙ fault in cc)
+
+pub returns-clause-half : goal.returns-clause-half
+returns-clause-half g c told = absurd (no_memory c.retire.result c.retire.ensures.only told)
 
 pub returns-clause-jobs : goal.returns-clause-jobs
 returns-clause-jobs g c is_open slot segment oldest =
@@ -53,6 +80,36 @@ returns-clause-marks g c =
 
 pub returns-clause-same_marks : goal.returns-clause-same_marks
 returns-clause-same_marks g c = on_err_weaker c.retire.result (λ same. same ∙ c.cover_segment.ensures.keeps.marks) c.retire.ensures.same_marks
+
+pub returns-clause-no_more_marks : goal.returns-clause-no_more_marks
+returns-clause-no_more_marks g c = omega (arith, c.retire.ensures.no_more_marks, ap (λ (l : List Mark). length l) c.cover_segment.ensures.keeps.marks)
+
+pub returns-clause-ring : goal.returns-clause-ring
+returns-clause-ring g c = on_err_weaker c.retire.result (λ same. same ∙ c.cover_segment.ensures.keeps.ring) c.retire.ensures.ring
+
+pub returns-in-Err-clause-calls_by_marks : goal.returns-in-Err-clause-calls_by_marks
+returns-in-Err-clause-calls_by_marks g c = omega (arith, c.cover_segment.ensures.calls_by_marks)
+
+pub returns-clause-calls_by_marks : goal.returns-clause-calls_by_marks
+returns-clause-calls_by_marks g c = omega (arith, c.cover_segment.ensures.calls_by_marks, c.retire.ensures.calls)
+
+-- the calls
+pub returns-in_default-clause-calls : goal.returns-in_default-clause-calls
+returns-in_default-clause-calls g c is_open slot segment oldest = omega arith
+
+pub returns-in-Err-clause-calls : goal.returns-in-Err-clause-calls
+returns-in-Err-clause-calls g c is_open slot segment oldest =
+    let store = c.args.self.now in
+    let found = c.in-Some.ensures.oldest in
+    let same = one_oldest (known_numbers store.ring) found.0 slot c.in-Some.oldest segment found.1 oldest in
+    omega (arith, c.cover_segment.ensures.calls is_open, ap (λ n. needing n (known_marks store) (known_cells store) (length store.state.documents)) same)
+
+pub returns-clause-calls : goal.returns-clause-calls
+returns-clause-calls g c is_open slot segment oldest =
+    let store = c.args.self.now in
+    let found = c.in-Some.ensures.oldest in
+    let same = one_oldest (known_numbers store.ring) found.0 slot c.in-Some.oldest segment found.1 oldest in
+    omega (arith, c.cover_segment.ensures.calls is_open, c.retire.ensures.calls, ap (λ n. needing n (known_marks store) (known_cells store) (length store.state.documents)) same)
 
 pub returns-clause-fault : goal.returns-clause-fault
 returns-clause-fault g c told works =
@@ -79,7 +136,8 @@ returns-clause-any_moment g c = (returns-clause-goes g c).any_moment
 
 pub returns-clause-freed : goal.returns-clause-freed
 returns-clause-freed g c =
-    freed_by c.args.self.now c.cover_segment.new.self c.retire.new.self c.in-Some.oldest c.retire.result c.in_default-cover_segment.ensures.covered c.retire.ensures.done
+    let oldest = c.in-Some.ensures.oldest in
+    freed_by c.args.self.now c.cover_segment.new.self c.retire.new.self oldest.0 c.in-Some.oldest c.retire.result oldest.1 c.in_default-cover_segment.ensures.covered c.retire.ensures.jobs c.retire.ensures.done
 
 pub returns-clause-done : goal.returns-clause-done
 returns-clause-done g c =

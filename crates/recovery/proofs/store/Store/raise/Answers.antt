@@ -1,15 +1,16 @@
-use Rattle.std.proofs.Common.{◌≡◌, ◌≤◌, ◌∙◌, None, sym, ap, arith, rules}
+use Rattle.std.proofs.Common.{◌≡◌, ◌≤◌, ◌∙◌, ⊎_elim, None, sym, ap, subst, arith, rules}
 use Rattle.std.specs.Prelude.{Err, slice_get}
 use Rattle.refusal.specs.declared.Refusal.{Refusal}
 use Rattle.refusal.specs.declared.Refusal.TheVariants.{StillNeeded, Fault}
 use Rattle.recovery.specs.Cells.{highest_known}
 use Rattle.recovery.specs.Jobs.{no_job_for}
+use Rattle.recovery.specs.Run.{IsPutAt}
 use Rattle.recovery.proofs.Refusals.{refusal_or}
 use Rattle.recovery.proofs.Going.{goes_nowhere, goes_call}
 use Rattle.recovery.proofs.Faults.{counted_as}
 use Rattle.recovery.proofs.HandedOut.{none≢some}
 use Rattle.recovery.proofs.Reaching.{cells_reached}
-use Rattle.recovery.proofs.Raising.{none_against, raised_by}
+use Rattle.recovery.proofs.Raising.{none_against}
 use Rattle.recovery.proofs.store.Store.raise.Goals as goal
 
 pub returns-then-newest-revision-clause-goes : goal.returns-then-newest-revision-clause-goes
@@ -40,10 +41,11 @@ pub returns-in-Err-clause-goes : goal.returns-in-Err-clause-goes
 returns-in-Err-clause-goes g c =
     goes_call (Err c.in-Err.refusal) c.in-Err.ensures.failed_before c.in-Err.ensures.fails c.put_document.ensures.any_moment tt c.in-Err.ensures.kept
 
+-- a refusal but for the device's leaves the device as it was
+pub returns-in-Err-clause-unwritten : goal.returns-in-Err-clause-unwritten
+returns-in-Err-clause-unwritten g c other = ⊎_elim (λ away. c.in-Err.ensures.unwritten away) (λ fault. absurd (other fault)) c.or_needed.ensures.only
+
 -- the milestone is put
-pub returns-clause-raised : goal.returns-clause-raised
-returns-clause-raised g c is_open reach =
-    let store = c.args.self.now in
-    let enough : c.args.revision ≤ c.newest_of-newest.result = search rules in
-    raised_by store c.put_document.new.self is_open c.args.document c.newest_of-newest.result c.args.revision enough
-    (omega (arith, cells_reached store is_open c.args.document, c.newest_of-newest.ensures)) (c.in_default.ensures.put is_open)
+pub returns-clause-put : goal.returns-clause-put
+returns-clause-put g c is_open =
+    subst (λ n. IsPutAt c.args.document n c.args.self.now is_open c.put_document.new.self) c.newest_of-newest.ensures (c.in_default.ensures.put is_open)

@@ -1,6 +1,9 @@
-use Rattle.std.proofs.Common.{◌≤◌, ◌<◌, ◌∙◌, ℕ, List, filter, not, ap, subst, sym, rules, refl}
+use Rattle.std.proofs.Common.{◌≤◌, ◌<◌, ◌∙◌, ℕ, List, length, filter, not, ap, subst, sym, rules, refl, arith}
+use Rattle.std.specs.Prelude.{Err}
 use Rattle.disk.specs.Crash.{history_of}
 use Rattle.disk.proofs.CallerLemmas.{begins, leaves_map}
+use Rattle.refusal.specs.declared.Refusal.{Refusal}
+use Rattle.refusal.specs.declared.Refusal.TheVariants.{StillNeeded, Fault}
 use Rattle.segments.specs.Numbers.{open_count}
 use Rattle.segments.specs.Ring.{known_numbers}
 use Rattle.recovery.specs.declared.marks.Mark.{Mark}
@@ -9,7 +12,9 @@ use Rattle.recovery.specs.Marks.{marks_of, is_of, greatest_marked, without_segme
 use Rattle.recovery.specs.Marked.{AreMarked}
 use Rattle.recovery.proofs.Commits.{found_before, held_now}
 use Rattle.recovery.proofs.Marked.{one_oldest, marked_retired}
-use Rattle.recovery.proofs.Retirement.{parted, above_cells, same_number, may_retire, runs_on, parts_on, left_retiring}
+use Rattle.recovery.proofs.Marking.{fewer_marks}
+use Rattle.recovery.proofs.Refusals.{refusal_or, ok≢err}
+use Rattle.recovery.proofs.Retirement.{parted, too_few, above_cells, same_number, may_retire, runs_on, parts_on, left_retiring}
 use Rattle.recovery.proofs.Upkeep.{cells_later}
 use Rattle.recovery.proofs.store.Store.retire.Goals as goal
 
@@ -93,3 +98,32 @@ returns-in-Ok-clause-marks g c slot segment oldest =
     let store = c.args.self.now in
     let found = c.in-Some.ensures.oldest in
     c.forget.ensures ∙ ap (λ n. without_segment n (marks_of store.marks)) (one_oldest (known_numbers store.ring) found.0 slot c.in-Some.oldest segment found.1 oldest)
+
+-- fewer than two slots are open
+pub returns-in_default-clause-exact : goal.returns-in_default-clause-exact
+returns-in_default-clause-exact g c works is_open =
+    let few : open_count (known_numbers c.args.self.now.ring) < 2 = search rules in
+    (λ told. too_few c.args.self.now is_open few, λ needed. refl)
+
+-- a mark is above the cells
+pub returns-then-not-are_covered-clause-exact : goal.returns-then-not-are_covered-clause-exact
+unfolding returns-then-not-are_covered-clause-needed
+returns-then-not-are_covered-clause-exact g c works is_open = (λ told. returns-then-not-are_covered-clause-needed g c told is_open, λ needed. refl)
+
+-- none is, and two are open: the segment is retired, or the device fails
+pub returns-in-Ok-clause-exact : goal.returns-in-Ok-clause-exact
+returns-in-Ok-clause-exact g c works is_open = (λ told. absurd (ok≢err _ StillNeeded told), λ needed. absurd (needed (returns-in-Ok-clause-not_needed g c is_open)))
+
+pub returns-in-Err-clause-exact : goal.returns-in-Err-clause-exact
+returns-in-Err-clause-exact g c works is_open =
+    let store = c.args.self.now in
+    let oldest = c.in-Some.ensures.oldest in
+    let low : (document : ℕ) → greatest_marked c.in-Some.oldest document (marks_of store.marks) ≤ lowest_known store.cells.items document = search rules in
+    let two : 2 ≤ open_count (known_numbers store.ring) = search rules in (
+      λ told needed. absurd (omega (arith, two, c.retire_oldest.ensures.needed.0 (ap (λ (r : Refusal). Err r) (ap (refusal_or Fault) told)))),
+      λ needed. absurd (needed (may_retire store is_open oldest.0 c.in-Some.oldest oldest.1 low two)),
+    )
+
+pub returns-in-Ok-clause-no_more_marks : goal.returns-in-Ok-clause-no_more_marks
+returns-in-Ok-clause-no_more_marks g c =
+    omega (arith, ap (λ (l : List Mark). length l) c.forget.ensures, fewer_marks c.in-Some.oldest (marks_of c.args.self.now.marks))
