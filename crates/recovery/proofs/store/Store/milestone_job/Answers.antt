@@ -11,7 +11,7 @@ use Rattle.recovery.specs.Cells.{highest_known}
 use Rattle.recovery.specs.Jobs.{highest, no_job_for, no_job_of, jobs_of, CanAllBePut, KeepsLimits, with_job}
 use Rattle.recovery.proofs.Retirement.{known_highest}
 use Rattle.recovery.proofs.KeptJobs.{handed_out, kept_with}
-use Rattle.recovery.proofs.HandedOut.{held_here, none≢some, err_of, same_error, keep_after}
+use Rattle.recovery.proofs.HandedOut.{held_here, none≢some, err_of, same_error, keep_after, memory_alone}
 use Rattle.recovery.proofs.store.Store.milestone_job.Goals as goal
 
 pub returns-in_err-job-clause-refused : goal.returns-in_err-job-clause-refused
@@ -112,3 +112,10 @@ returns-in_err-keep-clause-refused_by g c unfailed why is = absurd (none≢some 
 
 pub returns-clause-refused_by : goal.returns-clause-refused_by
 returns-clause-refused_by g c unfailed why is = absurd (none≢some (sym c.in_ok-job.ensures.given ∙ is))
+
+-- memory alone is in the way once there is a job
+pub returns-in_err-copy-clause-refusal : goal.returns-in_err-copy-clause-refusal
+returns-in_err-copy-clause-refusal g c = memory_alone _ _ (search rules)
+
+pub returns-in_err-keep-clause-refusal : goal.returns-in_err-keep-clause-refusal
+returns-in_err-keep-clause-refusal g c = memory_alone _ _ (search rules)
