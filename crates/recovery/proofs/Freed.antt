@@ -1,6 +1,7 @@
 -- A commit behind a segment that was freed for it, and a milestone that was due.
-use Rattle.std.proofs.Common.{◌≡◌, ◌≢◌, ◌⊎◌, ⊎_elim, inl, inr, ℕ, ◌+◌, ◌≤◌, Option, Some, List, length, sym, ◌∙◌, ap, subst, arith}
+use Rattle.std.proofs.Common.{◌≡◌, ◌≢◌, ◌↔◌, ◌⊎◌, ⊎_elim, inl, inr, true, false, Bool, refl, ℕ, ◌+◌, ◌≤◌, Option, Some, List, length, sym, ◌∙◌, ap, subst, arith}
 use Rattle.std.specs.Prelude.{Result, Ok, Err, OnOk, OnErr, IfErr, IsErrOf, slice_get}
+use Rattle.std.proofs.lemmas.Bool.{false≢true}
 use Rattle.disk.specs.declared.device.Disk.{Ghosts}
 use Rattle.refusal.specs.declared.Refusal.{Refusal}
 use Rattle.refusal.specs.declared.Refusal.TheVariants.{JournalFull, StillNeeded, Stranger, NoDocument, Future, TooOld, NoMemory, Fault}
@@ -15,6 +16,7 @@ use Rattle.recovery.specs.Marked.{MayRetire}
 use Rattle.recovery.specs.Open.{IsOpen, state_of}
 use Rattle.recovery.specs.Run.{IsPutAt}
 use Rattle.recovery.specs.steps.Freeing.{IsOverFewer}
+use Rattle.recovery.proofs.HandedOut.{same_error}
 use Rattle.recovery.proofs.Refusals.{ok≢err, refusal_or}
 use Rattle.recovery.proofs.Retirement.{known_highest}
 
@@ -45,6 +47,12 @@ pub not_full : (refusal : Refusal) → (refusal ≡ StillNeeded) ⊎ ((refusal �
 not_full refusal (inl is) full = let same : StillNeeded ≡ JournalFull = sym is ∙ full in cc
 not_full refusal (inr (inl is)) full = let same : NoMemory ≡ JournalFull = sym is ∙ full in cc
 not_full refusal (inr (inr is)) full = let same : Fault ≡ JournalFull = sym is ∙ full in cc
+
+-- nor is a journal with room told to be full
+pub no_full : {A X : Type 0} (result : Result A Refusal) (failed room : Bool) → (failed ≡ true → IsErrOf result Fault × X)
+    → (failed ≡ false → (IsErrOf result JournalFull ↔ (room ≡ false))) → room ≡ true → IsErrOf result JournalFull → ⊥
+no_full result true room before full is told = let same : JournalFull ≡ Fault = same_error result JournalFull Fault told (before refl).0 in cc
+no_full result false room before full is told = false≢true (sym ((full refl).0 told) ∙ is)
 
 pub no_stranger_freed : (refusal : Refusal) → (refusal ≡ StillNeeded) ⊎ ((refusal ≡ NoMemory) ⊎ (refusal ≡ Fault)) → refusal ≡ Stranger → ⊥
 no_stranger_freed refusal (inl is) stranger = let same : StillNeeded ≡ Stranger = sym is ∙ stranger in cc

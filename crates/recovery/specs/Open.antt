@@ -140,7 +140,7 @@ module _ {D : Type 0} {disk : Ghosts D} where
   pub record IsCommitGivenUp (commands : List Taken) (old : Store D disk) (is_open : IsOpen old) (new : Store D disk) : Type 0 where
     pub goes_on : IsOpen new
     pub same_cells : goes_on.cells ≡ is_open.cells
-    pub slots : (goes_on.table ≡ is_open.table) ⊎ IsReady (ring_of old) (length (spelled commands)) is_open.table goes_on.table
+    pub slots : (goes_on.table ≡ is_open.table) ⊎ IsReady (ring_of old) (batch_width commands) is_open.table goes_on.table
 
   -- After a retirement: the store goes on over the same cells, and the slot of the oldest segment is closed.
   pub record IsRetiredNow (cells : List Pair) (table : List (Option Segment)) (store : Store D disk) : Type 0 where

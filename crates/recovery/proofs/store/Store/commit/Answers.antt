@@ -5,7 +5,7 @@ use Rattle.history.specs.Running.{Runs}
 use Rattle.recovery.specs.Found.{commands_of, limits_of}
 use Rattle.recovery.specs.steps.Appending.{IsDone}
 use Rattle.refusal.specs.declared.Refusal.{Refusal}
-use Rattle.refusal.specs.declared.Refusal.TheVariants.{JournalFull, Stranger, NoMemory, Fault}
+use Rattle.refusal.specs.declared.Refusal.TheVariants.{JournalFull, Stranger, NoMemory}
 use Rattle.disk.specs.Crash.{history_of}
 use Rattle.disk.proofs.CallerLemmas.{begins, leaves_map}
 use Rattle.recovery.proofs.Commits.{found_before, opened_for, with_or_without, parts_after, parts_left, runs_with, limits_with}
@@ -98,33 +98,42 @@ invariant_of-self-in-Ok-append_batch-clause-slot g c =
     c.append_batch.ensures.places.size ∙ store.slot ∙ ap (λ n. n + 19) (sym width)
 
 -- it was given up before its first write
-pub returns-in-Err-append_batch-clause-kept : goal.returns-in-Err-append_batch-clause-kept
-returns-in-Err-append_batch-clause-kept g c not_fault is_open =
+pub returns-in-Err-append_batch-clause-given_up_now : goal.returns-in-Err-append_batch-clause-given_up_now
+returns-in-Err-append_batch-clause-given_up_now g c told is_open =
     let store = c.args.self.now in
     let state : c.forget-in-Err-append_batch.result ≡ store.state = c.forget-in-Err-append_batch.ensures ∙ c.in-Ok.ensures.before ∙ c.replace.ensures.value in
     let places = c.append_batch.ensures.places in
+    let memory : c.in-Err-append_batch.refusal ≡ NoMemory = ap (refusal_or JournalFull) told in
+    let kept = c.in-Err-append_batch.ensures.given_up (ap (λ (r : Refusal). Err r) memory) is_open.table is_open.fits in
+    record {
+      goes_on = record {
+        synced = c.in-Err-append_batch.ensures.still_synced (ap (λ (r : Refusal). Err r) memory) is_open.synced;
+        cells = is_open.cells;
+        table = kept.left;
+        batches = is_open.batches;
+        order = is_open.order;
+        holds = parts_left store is_open _ c.append_batch.new.ring _ places kept;
+        fits = kept.fits.fits;
+        ring_at = places.at ∙ is_open.ring_at;
+        ring_size = places.size ∙ is_open.ring_size;
+        cells_are = is_open.cells_are;
+        cells_fit = cells_later store is_open _ kept.fits.outside;
+        marked = subst (AreMarked kept.left) (sym c.make_receipt.ensures.same) (marked_left store is_open _ kept.left kept.is_left);
+        limits = subst (λ (s : State). s.limits ≡ limits_of store.shape) (sym state) is_open.limits;
+        runs = subst (Runs is_open.order is_open.cells (commands_of is_open.batches)) (sym state) is_open.runs;
+        kept = is_open.kept;
+      };
+      same_cells = refl;
+      slots = kept.is_left;
+    }
+
+pub returns-in-Err-append_batch-clause-kept : goal.returns-in-Err-append_batch-clause-kept
+returns-in-Err-append_batch-clause-kept g c not_fault is_open =
     let fits : c.has_room.result ≡ true = search rules in
     let memory : c.in-Err-append_batch.refusal ≡ NoMemory =
     ⊎_elim (λ full. let both : true ≡ false = sym (sym c.has_room.ensures.room ∙ fits) ∙ c.in-Err-append_batch.ensures.full (ap (λ (r : Refusal). Err r) full) in absurd cc)
     (λ others. ⊎_elim (λ is. is) (λ fault. absurd (not_fault fault)) others) c.in-Err-append_batch.ensures.only in
-    let kept = c.in-Err-append_batch.ensures.given_up (ap (λ (r : Refusal). Err r) memory) is_open.table is_open.fits in
-    record {
-      synced = c.in-Err-append_batch.ensures.still_synced (ap (λ (r : Refusal). Err r) memory) is_open.synced;
-      cells = is_open.cells;
-      table = kept.left;
-      batches = is_open.batches;
-      order = is_open.order;
-      holds = parts_left store is_open _ c.append_batch.new.ring _ places kept;
-      fits = kept.fits.fits;
-      ring_at = places.at ∙ is_open.ring_at;
-      ring_size = places.size ∙ is_open.ring_size;
-      cells_are = is_open.cells_are;
-      cells_fit = cells_later store is_open _ kept.fits.outside;
-      marked = subst (AreMarked kept.left) (sym c.make_receipt.ensures.same) (marked_left store is_open _ kept.left kept.is_left);
-      limits = subst (λ (s : State). s.limits ≡ limits_of store.shape) (sym state) is_open.limits;
-      runs = subst (Runs is_open.order is_open.cells (commands_of is_open.batches)) (sym state) is_open.runs;
-      kept = is_open.kept;
-    }
+    (returns-in-Err-append_batch-clause-given_up_now g c (ap (λ (r : Refusal). Err r) memory) is_open).goes_on
 
 pub returns-in-Err-clause-unwritten : goal.returns-in-Err-clause-unwritten
 returns-in-Err-clause-unwritten g c memory is_open =
@@ -179,13 +188,3 @@ returns-in-Err-clause-given_up_now g c told is_open = nothing_given_up c.args.se
 
 pub returns-in_default-clause-given_up_now : goal.returns-in_default-clause-given_up_now
 returns-in_default-clause-given_up_now g c told is_open = nothing_given_up c.args.self.now _ c.args.batch.now is_open (search rules)
-
-pub returns-in-Err-append_batch-clause-given_up_now : goal.returns-in-Err-append_batch-clause-given_up_now
-unfolding returns-in-Err-append_batch-clause-kept
-returns-in-Err-append_batch-clause-given_up_now g c told is_open =
-    let kept = c.in-Err-append_batch.ensures.given_up (ap (λ (r : Refusal). Err r) (ap (refusal_or JournalFull) told)) is_open.table is_open.fits in
-    record {
-      goes_on = returns-in-Err-append_batch-clause-kept g c (λ fault. let same : NoMemory ≡ Fault = sym (ap (refusal_or JournalFull) told) ∙ fault in cc) is_open;
-      same_cells = refl;
-      slots = kept.is_left;
-    }

@@ -12,14 +12,14 @@ use Rattle.segments.specs.declared.ring.Ring.{Ring}
 use Rattle.segments.specs.Room.{has_room_for}
 use Rattle.recovery.specs.Found.{FoundAs}
 use Rattle.recovery.specs.Goes.{Goes}
-use Rattle.recovery.specs.Open.{IsWithOrWithout, has_room}
-use Rattle.recovery.proofs.Refusals.{refusal_or}
+use Rattle.recovery.specs.Open.{IsWithOrWithout, has_failed, has_room}
+use Rattle.recovery.proofs.Refusals.{refusal_or, ok≢err}
 use Rattle.recovery.proofs.Going.{goes_call, goes_map, goes_on}
 use Rattle.recovery.proofs.Faults.{done_by, kept_by}
 use Rattle.recovery.specs.declared.marks.Mark.{Mark}
 use Rattle.recovery.specs.Marks.{marks_of}
 use Rattle.recovery.proofs.Covering.{freed_still}
-use Rattle.recovery.proofs.Freed.{no_needed, no_stranger_freed, marks_grow, not_full, widened}
+use Rattle.recovery.proofs.Freed.{no_needed, no_full, no_stranger_freed, marks_grow, not_full, widened}
 use Rattle.recovery.proofs.Rooms.{freed_up, few_up, room_where_it_fits}
 use Rattle.recovery.proofs.SparedJobs.{spared_same, spared_then}
 use Rattle.recovery.proofs.store.Store.commit_freeing.Goals as goal
@@ -39,6 +39,12 @@ pub returns-then-has_room-clause-committed_behind : goal.returns-then-has_room-c
 returns-then-has_room-clause-committed_behind g c =
     let room : has_room c.args.self.now c.args.batch.now ≡ true = search rules in
     on_ok_weaker c.commit.result (λ committed none. absurd (false≢true (sym none ∙ room))) c.commit.ensures.committed
+
+pub returns-then-has_room-clause-full_still : goal.returns-then-has_room-clause-full_still
+returns-then-has_room-clause-full_still g c told =
+    let store = c.args.self.now in
+    let room : has_room store c.args.batch.now ≡ true = search rules in
+    absurd (no_full c.commit.result (has_failed store) (has_room store c.args.batch.now) c.commit.ensures.failed_before c.commit.ensures.full room told)
 
 pub returns-then-has_room-clause-marks : goal.returns-then-has_room-clause-marks
 returns-then-has_room-clause-marks g c =
@@ -149,6 +155,13 @@ pub returns-in-Err-clause-any_moment : goal.returns-in-Err-clause-any_moment
 returns-in-Err-clause-any_moment g c works is_open = leaves_map (λ content found. inl found) (c.free_oldest.ensures.any_moment works is_open)
 
 -- it was freed, and the batch is committed
+pub returns-clause-failed_before : goal.returns-clause-failed_before
+returns-clause-failed_before g c failed = absurd (ok≢err c.in_default.field-0 Fault (c.in_default.ensures.failed_before failed).0)
+
+pub returns-clause-honest : goal.returns-clause-honest
+returns-clause-honest g c =
+    (λ honest. c.free_oldest.ensures.honest.0 (c.commit-2.ensures.honest.0 honest), λ honest. c.commit-2.ensures.honest.1 (c.free_oldest.ensures.honest.1 honest))
+
 pub returns-clause-full : goal.returns-clause-full
 returns-clause-full g c told =
     let none : has_room c.args.self.now c.args.batch.now ≡ false = search rules in

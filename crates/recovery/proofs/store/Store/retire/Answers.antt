@@ -1,9 +1,7 @@
 use Rattle.std.proofs.Common.{◌≤◌, ◌<◌, ◌∙◌, ℕ, List, length, filter, not, ap, subst, sym, rules, refl, arith}
-use Rattle.std.specs.Prelude.{Err}
 use Rattle.disk.specs.Crash.{history_of}
 use Rattle.disk.proofs.CallerLemmas.{begins, leaves_map}
-use Rattle.refusal.specs.declared.Refusal.{Refusal}
-use Rattle.refusal.specs.declared.Refusal.TheVariants.{StillNeeded, Fault}
+use Rattle.refusal.specs.declared.Refusal.TheVariants.{StillNeeded}
 use Rattle.segments.specs.Numbers.{open_count}
 use Rattle.segments.specs.Ring.{known_numbers}
 use Rattle.recovery.specs.declared.marks.Mark.{Mark}
@@ -13,7 +11,7 @@ use Rattle.recovery.specs.Marked.{AreMarked}
 use Rattle.recovery.proofs.Commits.{found_before, held_now}
 use Rattle.recovery.proofs.Marked.{one_oldest, marked_retired}
 use Rattle.recovery.proofs.Marking.{fewer_marks}
-use Rattle.recovery.proofs.Refusals.{refusal_or, ok≢err}
+use Rattle.recovery.proofs.Refusals.{ok≢err}
 use Rattle.recovery.proofs.Retirement.{parted, too_few, above_cells, same_number, may_retire, runs_on, parts_on, left_retiring}
 use Rattle.recovery.proofs.Upkeep.{cells_later}
 use Rattle.recovery.proofs.store.Store.retire.Goals as goal
@@ -120,7 +118,7 @@ returns-in-Err-clause-exact g c works is_open =
     let oldest = c.in-Some.ensures.oldest in
     let low : (document : ℕ) → greatest_marked c.in-Some.oldest document (marks_of store.marks) ≤ lowest_known store.cells.items document = search rules in
     let two : 2 ≤ open_count (known_numbers store.ring) = search rules in (
-      λ told needed. absurd (omega (arith, two, c.retire_oldest.ensures.needed.0 (ap (λ (r : Refusal). Err r) (ap (refusal_or Fault) told)))),
+      λ told needed. absurd (omega (arith, two, c.in-Err.ensures.needed.0 told)),
       λ needed. absurd (needed (may_retire store is_open oldest.0 c.in-Some.oldest oldest.1 low two)),
     )
 
