@@ -1,6 +1,6 @@
 -- What has become of the cells of each document while the oldest segment is freed, and how many calls that takes.
-use Rattle.std.proofs.Common.{◌≡◌, ◌≢◌, ◌⊎◌, inl, inr, ℕ, zero, suc, ◌+◌, ◌*◌, ◌≤◌, ◌<◌, max, true, false, Option, Some, None, List, [], ◌∷◌, ◌++◌, length, take, get_or, refl, sym, ◌∙◌, ap, subst, arith}
-use Rattle.std.specs.Prelude.{Result, Ok, Err, OnOk, IfErr, IsErrOf, ◌==◌, nat_lt, cond, slice_get}
+use Rattle.std.proofs.Common.{◌≡◌, ◌≢◌, ◌⊎◌, inl, inr, ℕ, zero, suc, ◌+◌, ◌*◌, ◌≤◌, ◌<◌, max, true, false, Option, List, [], ◌∷◌, ◌++◌, length, take, get_or, refl, sym, ◌∙◌, ap, subst, arith}
+use Rattle.std.specs.Prelude.{Result, Ok, Err, OnOk, nat_lt, cond}
 use Rattle.std.proofs.lemmas.Bool.{cases_eq}
 use Rattle.std.proofs.lemmas.Bool.Decides.{nat_tests}
 use Rattle.std.proofs.lemmas.List.{take_more}
@@ -21,7 +21,7 @@ use Rattle.recovery.specs.Cells.{lowest_known}
 use Rattle.recovery.specs.Marks.{marks_of, revision_for, greatest_marked}
 use Rattle.recovery.specs.Jobs.{jobs_for, without_job}
 use Rattle.recovery.specs.Marked.{MayRetire}
-use Rattle.recovery.specs.Open.{IsOpen, IsUnchanged, IsRetiredNow, IsFreedNow, IsHalfFreed, IsSpared, IsOnePut, AreBothNewest, needing, device_of, ring_of, state_of, known_cells, known_marks, kept_jobs}
+use Rattle.recovery.specs.Open.{IsOpen, IsUnchanged, IsRetiredNow, IsFreedNow, IsHalfFreed, IsSpared, IsOnePut, AreBothNewest, needing, ring_of, state_of, known_cells, known_marks, kept_jobs}
 use Rattle.recovery.specs.steps.Freeing.{reached, reached_in, MayReach, KeepsSegments, IsMarkSpared, IsMarkAbove, IsPutOf, IsOnePutOrNone, AreCovered}
 use Rattle.recovery.proofs.Going.{open_unchanged, unchanged_cells, unchanged_table}
 use Rattle.recovery.proofs.Marked.{one_oldest}

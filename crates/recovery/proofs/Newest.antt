@@ -1,15 +1,13 @@
 -- Two milestones of a document at its newest revision: both its cells hold it then.
 use Rattle.std.proofs.Common.{◌≡◌, ◌≢◌, ◌↔◌, inl, inr, ℕ, ◌≤◌, ◌<◌, true, false, Bool, Option, Some, None, List, length, take, refl, sym, ◌∙◌, ap, subst, arith}
 use Rattle.std.specs.Prelude.{Result, Ok, Err, OnOk, OnErr, IfErr, IsErrOf, nat_lt, cond, slice_get}
-use Rattle.std.proofs.lemmas.Bool.{cases_eq}
 use Rattle.std.proofs.lemmas.Bool.Decides.{nat_tests}
 use Rattle.std.proofs.lemmas.Option.{slice_get_within}
 use Rattle.disk.specs.declared.device.Disk.{Ghosts}
 use Rattle.refusal.specs.declared.Refusal.{Refusal}
 use Rattle.refusal.specs.declared.Refusal.TheVariants.{Fault}
 use Rattle.revision.specs.Command.{Taken}
-use Rattle.revision.specs.Past.{Past, Content, from_floor}
-use Rattle.revision.specs.Sources.{Sources}
+use Rattle.revision.specs.Past.{Past, from_floor}
 use Rattle.revision.specs.State.{State, DocumentRecord, revision_of}
 use Rattle.history.specs.Entries.{of_document}
 use Rattle.history.specs.Cell.{Cell, Pair, cell_of, cells_at, lowest, freed, with_pair, record_of_cell, OfOpen}
@@ -18,14 +16,12 @@ use Rattle.history.specs.Running.{IsCellOf}
 use Rattle.history.proofs.CallerLemmas.{held_is_cell}
 use Rattle.milestone.specs.Cells.{with_cell}
 use Rattle.milestone.specs.Job.{cell_of_job}
-use Rattle.segments.specs.Slot.{Segment}
 use Rattle.recovery.specs.declared.shape.Shape.{Shape}
 use Rattle.recovery.specs.declared.store.Store.{Store}
 use Rattle.recovery.specs.Found.{HoldsParts}
-use Rattle.recovery.specs.Cells.{lowest_known, highest_known}
 use Rattle.recovery.specs.Jobs.{highest}
 use Rattle.recovery.specs.Goes.{Goes}
-use Rattle.recovery.specs.Open.{IsOpen, IsOnePut, AreBothNewest, newest_cell, device_of, state_of, has_failed}
+use Rattle.recovery.specs.Open.{IsOpen, AreBothNewest, newest_cell, device_of, state_of, has_failed}
 use Rattle.recovery.specs.Run.{IsPutAt}
 use Rattle.recovery.specs.steps.Freeing.{reached, reached_in, IsPutOf, IsOnePutOrNone}
 use Rattle.recovery.proofs.FoundOnce.{cells_same, slots_same}
