@@ -1,6 +1,9 @@
 //! A store over a listener.
-ghost use Rattle.std.specs.Prelude.{◌≡◌};
-ghost use Rattle.recovery.specs.Open.{state_of};
+ghost use Rattle.std.specs.Prelude.{◌≡◌, ◌≢◌, ◌↔◌, [], true, false, OnOk, IfErr, IsErrOf, IsOkUnless};
+ghost use Rattle.recovery.specs.Open.{state_of, has_failed};
+ghost use Rattle.flusher.specs.Holding.{store_of, committed_of, waiting_of};
+ghost use Rattle.turns.specs.Writing.{Writes};
+ghost use Rattle.listening.specs.Served.{IsStarted, WasServed, WasShown};
 
 use disk::Disk;
 use flusher::{Flusher, OpenGate, StartFault, start};
@@ -37,7 +40,14 @@ pub fn serve_on<
     store: Store<D>,
     listener: &N,
     every: u32,
-) -> (Store<D>, Result<(), Refusal>) {
+) -> (Store<D>, Result<(), Refusal>)
+    // The store holds the batches that were written, in one order, whoever sent them. A crash at any moment leaves some first ones of
+    // them, and one after the return no fewer commands than readers were shown; after an `Ok` that is all.
+    ensures served { WasServed store result.0 }
+    ensures shown { OnOk result.1 (WasShown store result.0) }
+    // It fails only with the device.
+    ensures fails { has_failed store ≡ false → (has_failed result.0 ≡ true ↔ IsErrOf result.1 Refusal.Fault) }
+{
     let opened = Opened::new();
     let blank = Blank::new(PARTS);
     serve_run::<Brand, R, N, D>(rt, alloc, store, opened, blank, listener, every)
@@ -63,6 +73,9 @@ fn serve_run<
     requires parts { blank.parts ≡ J.parts }
     requires seats { blank.parts ≡ 65 }
     requires start { state_of store ≡ J.start }
+    ensures served { WasServed store result.0 }
+    ensures shown { OnOk result.1 (WasShown store result.0) }
+    ensures fails { has_failed store ≡ false → (has_failed result.0 ≡ true ↔ IsErrOf result.1 Refusal.Fault) }
 {
     match start::<D, J>(alloc, store, opened, blank, SEATS) {
         Ok((flusher, board)) => serve_board(rt, alloc, flusher, board, listener, every),
@@ -70,6 +83,8 @@ fn serve_run<
     }
 }
 
+// Serves by a flusher that was just started and its board.
+#[tactic(auto, using(crate::proofs::Served::none_served))]
 fn serve_board<
     J: Site + Sync + Send,
     R: Threads + Wait + Sync,
@@ -82,21 +97,82 @@ fn serve_board<
     board: Board<D, J>,
     listener: &N,
     every: u32,
-) -> (Store<D>, Result<(), Refusal>) {
-    let mut flusher = flusher;
+) -> (Store<D>, Result<(), Refusal>)
+    requires started { IsStarted flusher }
+    ensures served { WasServed (store_of flusher) result.0 }
+    ensures shown { OnOk result.1 (WasShown (store_of flusher) result.0) }
+    ensures fails { has_failed (store_of flusher) ≡ false
+        → (has_failed result.0 ≡ true ↔ IsErrOf result.1 Refusal.Fault) }
+{
     let mut board = board;
-    let served = match seats_of(alloc, &mut board) {
-        Ok(seats) => {
-            let hub = Hub::new(board);
-            serve_hub(rt, alloc, &mut flusher, &hub, seats, listener, every)
-        }
-        Err(refusal) => Err(refusal),
-    };
+    match seats_of(alloc, &mut board) {
+        Ok(seats) => serve_seats(rt, alloc, flusher, board, seats, listener, every),
+        Err(refusal) => (flusher.end(rt), Err(refusal)),
+    }
+}
+
+// Serves by a board of which all seats are given.
+#[tactic(auto, using(crate::proofs::Served::none_served))]
+fn serve_seats<
+    J: Site + Sync + Send,
+    R: Threads + Wait + Sync,
+    N: OpenListener<Stream = TcpStream> + Sync,
+    D: Disk + Send + Drop,
+>(
+    rt: &R,
+    alloc: Global,
+    flusher: Flusher<D, J>,
+    board: Board<D, J>,
+    seats: Vec<Seat<J>>,
+    listener: &N,
+    every: u32,
+) -> (Store<D>, Result<(), Refusal>)
+    requires started { IsStarted flusher }
+    ensures served { WasServed (store_of flusher) result.0 }
+    ensures shown { OnOk result.1 (WasShown (store_of flusher) result.0) }
+    ensures fails { has_failed (store_of flusher) ≡ false
+        → (has_failed result.0 ≡ true ↔ IsErrOf result.1 Refusal.Fault) }
+{
+    let hub = Hub::new(board);
+    match desks_at(rt, alloc, &flusher, &hub, seats) {
+        Ok(desks) => serve_at(rt, alloc, flusher, &hub, desks, listener, every),
+        Err(refusal) => (flusher.end(rt), Err(refusal)),
+    }
+}
+
+// Serves by desks at a hub, and gives the store back.
+#[tactic(auto, using(crate::proofs::Served::was_served, crate::proofs::Served::was_shown))]
+fn serve_at<
+    J: Site + Sync + Send,
+    R: Threads + Wait + Sync,
+    N: OpenListener<Stream = TcpStream> + Sync,
+    D: Disk + Send + Drop,
+>(
+    rt: &R,
+    alloc: Global,
+    flusher: Flusher<D, J>,
+    hub: &Hub<D, J>,
+    desks: Vec<HubDesk<'_, D, J, R>>,
+    listener: &N,
+    every: u32,
+) -> (Store<D>, Result<(), Refusal>)
+    requires started { IsStarted flusher }
+    ensures served { WasServed (store_of flusher) result.0 }
+    ensures shown { OnOk result.1 (WasShown (store_of flusher) result.0) }
+    ensures fails { has_failed (store_of flusher) ≡ false
+        → (has_failed result.0 ≡ true ↔ IsErrOf result.1 Refusal.Fault) }
+{
+    let mut flusher = flusher;
+    flusher.kept();
+    let served = serve_hub(rt, alloc, &mut flusher, hub, desks, listener, every);
+    flusher.kept();
     (flusher.end(rt), served)
 }
 
 // All seats of the board.
-fn seats_of<J: Site, D>(alloc: Global, board: &mut Board<D, J>) -> Result<Vec<Seat<J>>, Refusal> {
+fn seats_of<J: Site, D>(alloc: Global, board: &mut Board<D, J>) -> Result<Vec<Seat<J>>, Refusal>
+    ensures only { IfErr result (λ e. e ≢ Refusal.Fault) }
+{
     let mut seats = Vec::new(alloc);
     for _ in 0..SEATS {
         seats.push(board.seat()?)?;
@@ -115,27 +191,41 @@ fn serve_hub<
     alloc: Global,
     flusher: &mut Flusher<D, J>,
     hub: &Hub<D, J>,
-    seats: Vec<Seat<J>>,
+    desks: Vec<HubDesk<'_, D, J, R>>,
     listener: &N,
     every: u32,
-) -> Result<(), Refusal> {
-    let desks = desks_at(rt, alloc, flusher, hub, seats)?;
-    let (served, flushed) = thread::join(
+) -> Result<(), Refusal>
+    ensures writes { Writes J.start flusher.old flusher.new }
+    ensures nothing { OnOk result ((committed_of flusher.new ≡ []) × (waiting_of flusher.new ≡ [])) }
+    ensures fails { has_failed (store_of flusher.old) ≡ false
+        → (has_failed (store_of flusher.new) ≡ true ↔ IsErrOf result Refusal.Fault) }
+{
+    let mut desks = Some(desks);
+    let (served, flushed) = thread::join_mut(
         rt,
-        || serve_all(rt, alloc, hub, desks, listener),
-        || write_all(rt, alloc, flusher, hub, every),
+        &mut || match desks.take() {
+            Some(desks) => serve_all(rt, alloc, hub, desks, listener),
+            None => Ok(()),
+        },
+        &mut || write_all(rt, alloc, flusher, hub, every),
     );
     flushed?;
     served
 }
 
+// Makes turns until the hub is ended.
 fn write_all<J: Site, R: Wait, D: Disk>(
     rt: &R,
     alloc: Global,
     flusher: &mut Flusher<D, J>,
     hub: &Hub<D, J>,
     every: u32,
-) -> Result<(), Refusal> {
+) -> Result<(), Refusal>
+    ensures writes { Writes J.start flusher.old flusher.new }
+    ensures nothing { OnOk result ((committed_of flusher.new ≡ []) × (waiting_of flusher.new ≡ [])) }
+    ensures fails { has_failed (store_of flusher.old) ≡ false
+        → (has_failed (store_of flusher.new) ≡ true ↔ IsErrOf result Refusal.Fault) }
+{
     match flush_all(rt, alloc, flusher, hub, every, &mut OpenGate) {
         Ok(_idle) => Ok(()),
         Err(failed) => Err(failed.refusal()),
@@ -153,7 +243,9 @@ fn serve_all<
     hub: &Hub<D, J>,
     desks: Vec<HubDesk<'_, D, J, R>>,
     listener: &N,
-) -> Result<(), Refusal> {
+) -> Result<(), Refusal>
+    ensures only { IsOkUnless result Refusal.NoMemory }
+{
     let served = serve_desks(rt, alloc, desks, listener);
     hub.end(rt);
     Ok(served?)
@@ -166,7 +258,9 @@ fn desks_at<'a, J: Site, R: Wait, D: Disk + Drop>(
     flusher: &Flusher<D, J>,
     hub: &'a Hub<D, J>,
     seats: Vec<Seat<J>>,
-) -> Result<Vec<HubDesk<'a, D, J, R>>, Refusal> {
+) -> Result<Vec<HubDesk<'a, D, J, R>>, Refusal>
+    ensures only { IsOkUnless result Refusal.NoMemory }
+{
     let mut desks = Vec::new(alloc);
     for seat in seats {
         let Some(viewer) = flusher.viewer() else {
