@@ -2,8 +2,9 @@
 //!
 //! `serve_on` puts together what the crates below have: a flusher and a board from `start`, a hub of that board, a desk at it for each
 //! seat, `serve_desks` of `sockets`, and `flush_all` of `turns`. When the listener fails each session ends, then the hub is ended, the
-//! flusher writes what is left, and the store is given back. What is promised of a command's answer stands on the desk, the hub, the
-//! flusher and the store; of threads and sockets nothing can be said but that this is safe.
+//! flusher writes what is left, and the store is given back. `specs/Served.antt` says what that leaves of the store, at any moment of
+//! it: the batches that were written, in one order, or some first ones of them. What is promised of a command's answer stands on the
+//! desk, the hub and the flusher; of sockets nothing can be said.
 //!
 //! A caller, which `listening_tests` proves safe:
 //!
