@@ -135,9 +135,28 @@ fn serve_seats<
 {
     let hub = Hub::new(board);
     match desks_at(rt, alloc, &flusher, &hub, seats) {
-        Ok(desks) => serve_at(rt, alloc, flusher, &hub, desks, listener, every),
+        Ok(desks) => {
+            let shared = Shared {
+                rt,
+                alloc,
+                hub: &hub,
+                listener,
+                every,
+            };
+            serve_at(&shared, flusher, desks)
+        }
         Err(refusal) => (flusher.end(rt), Err(refusal)),
     }
+}
+
+// What the thread that writes and the one that takes connections share.
+#[derive(Drop)]
+struct Shared<'a, D, J: Site, R, N> {
+    rt: &'a R,
+    alloc: Global,
+    hub: &'a Hub<D, J>,
+    listener: &'a N,
+    every: u32,
 }
 
 // Serves by desks at a hub, and gives the store back.
@@ -148,13 +167,9 @@ fn serve_at<
     N: OpenListener<Stream = TcpStream> + Sync,
     D: Disk + Send + Drop,
 >(
-    rt: &R,
-    alloc: Global,
+    shared: &Shared<'_, D, J, R, N>,
     flusher: Flusher<D, J>,
-    hub: &Hub<D, J>,
     desks: Vec<HubDesk<'_, D, J, R>>,
-    listener: &N,
-    every: u32,
 ) -> (Store<D>, Result<(), Refusal>)
     requires started { IsStarted flusher }
     ensures served { WasServed (store_of flusher) result.0 }
@@ -164,9 +179,9 @@ fn serve_at<
 {
     let mut flusher = flusher;
     flusher.kept();
-    let served = serve_hub(rt, alloc, &mut flusher, hub, desks, listener, every);
+    let served = serve_hub(shared, desks, &mut flusher);
     flusher.kept();
-    (flusher.end(rt), served)
+    (flusher.end(shared.rt), served)
 }
 
 // All seats of the board.
@@ -187,13 +202,9 @@ fn serve_hub<
     N: OpenListener<Stream = TcpStream> + Sync,
     D: Disk + Send + Drop,
 >(
-    rt: &R,
-    alloc: Global,
-    flusher: &mut Flusher<D, J>,
-    hub: &Hub<D, J>,
+    shared: &Shared<'_, D, J, R, N>,
     desks: Vec<HubDesk<'_, D, J, R>>,
-    listener: &N,
-    every: u32,
+    flusher: &mut Flusher<D, J>,
 ) -> Result<(), Refusal>
     ensures writes { Writes J.start flusher.old flusher.new }
     ensures nothing { OnOk result ((committed_of flusher.new ≡ []) × (waiting_of flusher.new ≡ [])) }
@@ -202,52 +213,51 @@ fn serve_hub<
 {
     let mut desks = Some(desks);
     let (served, flushed) = thread::join_mut(
-        rt,
+        shared.rt,
         &mut || match desks.take() {
-            Some(desks) => serve_all(rt, alloc, hub, desks, listener),
+            Some(desks) => serve_all(shared, desks),
             None => Ok(()),
         },
-        &mut || write_all(rt, alloc, flusher, hub, every),
+        &mut || write_all(shared, flusher),
     );
     flushed?;
     served
 }
 
 // Makes turns until the hub is ended.
-fn write_all<J: Site, R: Wait, D: Disk>(
-    rt: &R,
-    alloc: Global,
+fn write_all<J: Site, R: Wait, N, D: Disk>(
+    shared: &Shared<'_, D, J, R, N>,
     flusher: &mut Flusher<D, J>,
-    hub: &Hub<D, J>,
-    every: u32,
 ) -> Result<(), Refusal>
     ensures writes { Writes J.start flusher.old flusher.new }
     ensures nothing { OnOk result ((committed_of flusher.new ≡ []) × (waiting_of flusher.new ≡ [])) }
     ensures fails { has_failed (store_of flusher.old) ≡ false
         → (has_failed (store_of flusher.new) ≡ true ↔ IsErrOf result Refusal.Fault) }
 {
-    match flush_all(rt, alloc, flusher, hub, every, &mut OpenGate) {
+    match flush_all(
+        shared.rt,
+        shared.alloc,
+        flusher,
+        shared.hub,
+        shared.every,
+        &mut OpenGate,
+    ) {
         Ok(_idle) => Ok(()),
         Err(failed) => Err(failed.refusal()),
     }
 }
 
+// Takes connections until the listener fails, and ends the hub once each session has ended.
 fn serve_all<
     J: Site + Sync + Send,
     R: Threads + Wait + Sync,
     N: OpenListener<Stream = TcpStream> + Sync,
     D: Send + Drop,
->(
-    rt: &R,
-    alloc: Global,
-    hub: &Hub<D, J>,
-    desks: Vec<HubDesk<'_, D, J, R>>,
-    listener: &N,
-) -> Result<(), Refusal>
+>(shared: &Shared<'_, D, J, R, N>, desks: Vec<HubDesk<'_, D, J, R>>) -> Result<(), Refusal>
     ensures only { IsOkUnless result Refusal.NoMemory }
 {
-    let served = serve_desks(rt, alloc, desks, listener);
-    hub.end(rt);
+    let served = serve_desks(shared.rt, shared.alloc, desks, shared.listener);
+    shared.hub.end(shared.rt);
     Ok(served?)
 }
 
