@@ -54,6 +54,7 @@ pub fn serve_on<
 }
 
 // Serves the run that its ledger, its log and its store's state name.
+#[tactic(auto, using(crate::proofs::Served::none_served))]
 fn serve_run<
     J: Site + Sync + Send,
     R: Threads + Wait + Sync,
