@@ -243,56 +243,6 @@ const STRANGERS: [Said; 8] = [
     ),
 ];
 
-/// Makes a store of two slots and cells of 4,096 bytes that keeps two revisions, of so many sources.
-fn format_wide<
-    R: Files<File = File>
-        + AllocGlobal
-        + Net<Listener = TcpListener, Stream = TcpStream>
-        + Threads
-        + Wait
-        + Sync
-        + Abort,
->(rt: &R, path: &str, sources: &str) -> Result<(), Fail> {
-    let words = [
-        "richd",
-        "format",
-        path,
-        "--slots",
-        "2",
-        "--slot",
-        "4096",
-        "--docs",
-        "2",
-        "--cell",
-        "4096",
-        "--sources",
-        sources,
-        "--keep",
-        "2",
-    ];
-    runs(rt, &words, &mut io::empty(), (0, "", ""))
-}
-
-/// The store prints this, and goes.
-fn prints<
-    R: Files<File = File>
-        + AllocGlobal
-        + Net<Listener = TcpListener, Stream = TcpStream>
-        + Threads
-        + Wait
-        + Sync
-        + Abort,
->(rt: &R, path: &str, dump: &str) -> Result<(), Fail> {
-    runs(
-        rt,
-        &["richd", "dump", path],
-        &mut io::empty(),
-        (0, dump, ""),
-    )?;
-    fs::remove_file(rt, path)?;
-    Ok(())
-}
-
 /// Says it in a run of its own over the store.
 fn say<
     R: Files<File = File>
@@ -315,61 +265,8 @@ fn say<
     )
 }
 
-/// Says these lines in one run over the store, where there are any.
-fn say_all<
-    R: Files<File = File>
-        + AllocGlobal
-        + Net<Listener = TcpListener, Stream = TcpStream>
-        + Threads
-        + Wait
-        + Sync
-        + Abort,
->(rt: &R, path: &str, source: &str, lines: &str, replies: &str) -> Result<(), Fail> {
-    if lines.is_empty() {
-        return Ok(());
-    }
-    let hello = r#"{"do":"hello","source":""#;
-    let input = format!(in rt.alloc(); "{hello}{source}\"}}\n{lines}")?;
-    let wanted = format!(in rt.alloc(); "{GREETED}{replies}")?;
-    runs(
-        rt,
-        &["richd", "serve", path],
-        &mut input.as_bytes(),
-        (0, wanted.as_str(), ""),
-    )
-}
-
-/// Says all of it, with a restart only where another source speaks.
-fn say_on<
-    R: Files<File = File>
-        + AllocGlobal
-        + Net<Listener = TcpListener, Stream = TcpStream>
-        + Threads
-        + Wait
-        + Sync
-        + Abort,
->(rt: &R, path: &str, rows: &[Said]) -> Result<(), Fail> {
-    let mut speaker = "";
-    let mut lines = String::new(rt.alloc());
-    let mut replies = String::new(rt.alloc());
-    for said in rows {
-        let (source, line, reply) = *said;
-        if source != speaker {
-            say_all(rt, path, speaker, lines.as_str(), replies.as_str())?;
-            speaker = source;
-            lines.clear();
-            replies.clear();
-        }
-        lines.push_str(line)?;
-        lines.push('\n')?;
-        replies.push_str(reply)?;
-        replies.push('\n')?;
-    }
-    say_all(rt, path, speaker, lines.as_str(), replies.as_str())
-}
-
 /// A new store that keeps two revisions, of so many sources, is said all of it, each in a run of its own, and then prints
-/// this; and so does one that is said it with fewer restarts.
+/// this.
 fn talk<
     R: Files<File = File>
         + AllocGlobal
@@ -379,14 +276,35 @@ fn talk<
         + Sync
         + Abort,
 >(rt: &R, path: &str, sources: &str, rows: &[Said], dump: &str) -> Result<(), Fail> {
-    format_wide(rt, path, sources)?;
+    let words = [
+        "richd",
+        "format",
+        path,
+        "--slots",
+        "2",
+        "--slot",
+        "4096",
+        "--docs",
+        "2",
+        "--cell",
+        "4096",
+        "--sources",
+        sources,
+        "--keep",
+        "2",
+    ];
+    runs(rt, &words, &mut io::empty(), (0, "", ""))?;
     for said in rows {
         say(rt, path, said)?;
     }
-    prints(rt, path, dump)?;
-    format_wide(rt, path, sources)?;
-    say_on(rt, path, rows)?;
-    prints(rt, path, dump)
+    runs(
+        rt,
+        &["richd", "dump", path],
+        &mut io::empty(),
+        (0, dump, ""),
+    )?;
+    fs::remove_file(rt, path)?;
+    Ok(())
 }
 
 #[test]
