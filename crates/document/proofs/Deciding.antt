@@ -33,9 +33,13 @@ runs_parted rs items d seen ops runs view same normal cut =
     subst (λ t. t) (sym (same_parts rs items d seen ops runs view same)) (parts_of_cut d ops normal cut)
 
 -- how many units there are of what a delta makes
+pub units_after : (d : List Element) (ops : List Operation) (behind out : ℕ) → length d ≡ base_of ops + behind → out ≡ out_of ops
+    → length (apply d (counted ops)) ≡ behind + out
+units_after d ops behind out parts out_is = omega (arith, length-apply_counted d ops (omega (arith, parts)), parts, out_is)
+
 pub made_length : (rs items : List (List Element)) (d made : List Element) (seen ops : List Operation) (behind out : ℕ) → rs ≡ items → units_of_runs items ≡ d → seen ≡ ops
     → made ≡ apply (units_of_runs rs) (counted seen) → length d ≡ base_of ops + behind → out ≡ out_of ops → behind + out ≡ length made
 made_length rs items d made seen ops behind out runs view same made_of parts out_is =
     let all : made ≡ apply d (counted ops) =
     made_of ∙ (ap (λ e. apply e (counted seen)) (ap units_of_runs runs ∙ view) ∙ ap (λ l. apply d (counted l)) same) in
-    omega (arith, ap length all, length-apply_counted d ops (omega (arith, parts)), parts, out_is)
+    sym (ap length all ∙ units_after d ops behind out parts out_is)

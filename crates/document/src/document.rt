@@ -16,10 +16,10 @@ ghost use Rattle.document.specs.Outcome.{IsAccepted, IsTooLong, IsRefused};
 
 use crate::appending::text_behind;
 use crate::applying::{applied, parts_pair};
+use crate::reweighing::weighed;
 use crate::run::Piece;
 use crate::runs::put_text;
 use crate::shared::SharedRun;
-use crate::reweighing::weighed;
 use crate::weights::{runs_weight, text_weight};
 use attributes::Attrs;
 use delta::{Builder, Delta, MAX_LEN, Op};

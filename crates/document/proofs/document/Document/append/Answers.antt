@@ -1,9 +1,8 @@
-use Rattle.std.proofs.Common.{arith, ap}
-use Rattle.delta.specs.Element.{letters}
+use Rattle.std.proofs.Common.{◌≡◌, ◌+◌, length, length-append, arith, ap, ◌∙◌}
 use Rattle.utf16.specs.Units.{units_of}
+use Rattle.delta.specs.Element.{letters}
 use Rattle.document.specs.Weight.{weight_of}
 use Rattle.document.specs.steps.Runs.{units_of_runs}
-use Rattle.std.proofs.Common.{length, length-append}
 use Rattle.document.proofs.Joined.{IsWellFormed-runs}
 use Rattle.document.proofs.Letters.{length-letters}
 use Rattle.document.proofs.Weighing.{weight_of-append}
@@ -14,13 +13,22 @@ invariant_of-self-2 c =
     let old = units_of_runs c.self.inside.runs.items in
     let us = units_of c.args.text.now in
     let put = letters us c.in_ok-attrs.attrs in
-    let longer = length-append old put in
-    let units = omega (arith, ap length c.in_ok-put_text.ensures.ok, longer, length-letters us c.in_ok-attrs.attrs, c.requires.counted, c.self.invariant.2) in
-    (
-      omega (arith, units, c.self.invariant.2, ap length c.self.view_is, c.requires.bound),
+    let attrs = c.in_ok-attrs.ensures.same in
+    let longer : length (units_of_runs c.put_text.new.runs.items) ≡ length old + length us =
+    ap length c.in_ok-put_text.ensures.ok ∙ (length-append old put ∙ ap (λ n. length old + n) (length-letters us c.in_ok-attrs.attrs)) in
+    let weighs : weight_of put ≡ weight_of (letters us c.args.attrs.now) = ap (λ a. weight_of (letters us a)) attrs in (
+      omega (arith, longer, c.requires.counted, ap length c.self.view_is, c.requires.bound),
       c.put_text.ensures.kept,
-      units,
-      ?,
+      omega (arith, longer, c.requires.counted, c.self.invariant.2),
+      omega (
+        arith,
+        c.saturating_add-self-inside.ensures,
+        c.self.invariant.3,
+        c.text_weight-more.ensures,
+        weighs,
+        ap weight_of c.in_ok-put_text.ensures.ok,
+        weight_of-append old put,
+      ),
     )
 
 pub returns-clause-well_formed : goal.returns-clause-well_formed
