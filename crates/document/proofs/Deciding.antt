@@ -1,10 +1,10 @@
 -- What the checks of a delta on runs decide of the document.
-use Rattle.std.proofs.Common.{◌≡◌, ◌≤◌, List, length, sym, ap, subst, ◌∙◌, arith}
+use Rattle.std.proofs.Common.{◌≡◌, ℕ, ◌+◌, ◌≤◌, List, length, sym, ap, subst, ◌∙◌, arith}
 use Rattle.delta.specs.Element.{Element}
-use Rattle.delta.specs.Operation.{Operation, base_of}
-use Rattle.delta.specs.Gaps.{counted}
+use Rattle.delta.specs.Operation.{Operation, base_of, out_of}
+use Rattle.delta.specs.Gaps.{counted, apply}
 use Rattle.delta.specs.Normal.{IsNormal}
-use Rattle.delta.proofs.CallerLemmas.{units_below-counted}
+use Rattle.delta.proofs.CallerLemmas.{units_below-counted, length-apply_counted}
 use Rattle.document.specs.steps.Passes.{StopsInPair}
 use Rattle.delta.specs.Places.{IsDefined}
 use Rattle.document.specs.Places.{Cuts}
@@ -31,3 +31,15 @@ pub runs_parted : (rs items : List (List Element)) (d : List Element) (seen ops 
     → Cuts d (counted ops) → StopsInPair (units_of_runs rs) seen
 runs_parted rs items d seen ops runs view same normal cut =
     subst (λ t. t) (sym (same_parts rs items d seen ops runs view same)) (parts_of_cut d ops normal cut)
+
+-- how many units there are of what a delta makes
+pub units_after : (d : List Element) (ops : List Operation) (behind out : ℕ) → length d ≡ base_of ops + behind → out ≡ out_of ops
+    → length (apply d (counted ops)) ≡ behind + out
+units_after d ops behind out parts out_is = omega (arith, length-apply_counted d ops (omega (arith, parts)), parts, out_is)
+
+pub made_length : (rs items : List (List Element)) (d made : List Element) (seen ops : List Operation) (behind out : ℕ) → rs ≡ items → units_of_runs items ≡ d → seen ≡ ops
+    → made ≡ apply (units_of_runs rs) (counted seen) → length d ≡ base_of ops + behind → out ≡ out_of ops → behind + out ≡ length made
+made_length rs items d made seen ops behind out runs view same made_of parts out_is =
+    let all : made ≡ apply d (counted ops) =
+    made_of ∙ (ap (λ e. apply e (counted seen)) (ap units_of_runs runs ∙ view) ∙ ap (λ l. apply d (counted l)) same) in
+    sym (ap length all ∙ units_after d ops behind out parts out_is)

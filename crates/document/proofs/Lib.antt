@@ -15,3 +15,4 @@ pub mod Making
 pub mod Behind
 pub mod Changing
 pub mod Measured
+pub mod Exchanged

@@ -47,6 +47,16 @@ impl<'a> Cursor<'a> {
         }
     }
 
+    /// The same place once more, from where another walk goes on.
+    pub fn again(&self) -> Self
+        ensures { result ≡ self.now }
+    {
+        Cursor {
+            begun: self.begun,
+            rest: self.rest,
+        }
+    }
+
     /// The next piece, of at most so many code units, and steps over it; refused where that would part a pair.
     pub fn next(&mut self, most: u64) -> Result<Piece<'a>, Cut>
         requires some { 0 < most }

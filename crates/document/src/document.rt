@@ -1,10 +1,13 @@
 //! Documents.
-ghost use Rattle.std.specs.Prelude.{◌≡◌, ◌⊎◌, ◌+◌, ◌≤◌, ◌<◌, ◌^◌, ◌↔◌, ◌-◌, min, [], ◌∷◌, length, IfOk, IfErr, OnOk, OnErr, IsOkUnless};
+ghost use Rattle.std.specs.Prelude.{◌≡◌, ◌⊎◌, ◌+◌, ◌≤◌, ◌<◌, ◌^◌, ◌↔◌, ◌-◌, min, [], ◌∷◌, ◌++◌, length, IfOk, IfErr, OnOk, OnErr, IsOkUnless};
 ghost use Rattle.document.specs.Pairs.{IsWellFormed};
 ghost use Rattle.delta.specs.Gaps.{counted, apply, End};
 ghost use Rattle.delta.specs.Normal.{nf};
 ghost use Rattle.document.specs.Weight.{weight_of};
 ghost use Rattle.document.specs.steps.Pieces.{piece_units};
+ghost use Rattle.document.specs.steps.Runs.{units_of_runs, AreRuns};
+ghost use Rattle.utf16.specs.Units.{units_of};
+ghost use Rattle.delta.specs.Element.{letters};
 ghost use Rattle.delta.specs.Operation.{base_of, out_of, op_base, op_out};
 ghost use Rattle.delta.specs.Places.{IsDefined};
 ghost use Rattle.document.specs.Places.{Cuts};
@@ -13,27 +16,32 @@ ghost use Rattle.document.specs.Outcome.{IsAccepted, IsTooLong, IsRefused};
 
 use crate::appending::text_behind;
 use crate::applying::{applied, parts_pair};
+use crate::reweighing::weighed;
 use crate::run::Piece;
 use crate::runs::put_text;
 use crate::shared::SharedRun;
-use crate::weights::{runs_weight, weighed};
+use crate::weights::{runs_weight, text_weight};
+use attributes::Attrs;
 use delta::{Builder, Delta, MAX_LEN, Op};
 use refusal::Refusal;
 use std::alloc::Global;
 use std::marker::Model;
 
 /// A document of rich text, seen as its list of units: UTF-16 code units and embeds, each with attributes. It has at
-/// most 2^48 units.
+/// most 2^48 units. Its length and its weight stand beside its runs.
 #[derive(Drop)]
 pub struct Document {
     runs: Vec<SharedRun>,
+    units: u64,
+    weight: u64,
 }
 
 impl Model for Document {
-    ghost use Rattle.std.specs.Prelude.{◌≤◌, ◌^◌, List, length};
+    ghost use Rattle.std.specs.Prelude.{◌≡◌, ◌≤◌, ◌-◌, ◌^◌, min, List, length};
     ghost use Rattle.std.specs.Coded.{coded_list};
     ghost use Rattle.delta.specs.Element.{Element};
     ghost use Rattle.delta.specs.ElementCode.{element_code};
+    ghost use Rattle.document.specs.Weight.{weight_of};
     ghost use Rattle.document.specs.steps.Runs.{units_of_runs, AreRuns};
 
     ghost Value = { List Element };
@@ -42,7 +50,9 @@ impl Model for Document {
 
     ghost view = { λ d. units_of_runs d.runs.items };
 
-    ghost invariant = { λ d. (length (units_of_runs d.runs.items) ≤ 2 ^ 48) × AreRuns d.runs.items };
+    ghost invariant = { λ d. (length (units_of_runs d.runs.items) ≤ 2 ^ 48) × AreRuns d.runs.items
+        × (d.units ≡ length (units_of_runs d.runs.items))
+        × (d.weight ≡ min (weight_of (units_of_runs d.runs.items)) (2 ^ 64 - 1)) };
 }
 
 impl Document {
@@ -52,6 +62,8 @@ impl Document {
     {
         Document {
             runs: Vec::new(alloc),
+            units: 0,
+            weight: 0,
         }
     }
 
@@ -71,31 +83,27 @@ impl Document {
         }
     }
 
-    /// How many code units it has; an embed counts as one. Linear in the runs; it takes no memory.
+    /// How many code units it has; an embed counts as one. In constant time.
     pub fn len16(&self) -> u64
         ensures len { result ≡ length self.now }
         ensures bounded { length self.now ≤ 2 ^ 48 }
         ensures well_formed { IsWellFormed self.now }
     {
-        let mut units = 0;
-        for run in &self.runs {
-            units += run.units();
-        }
-        units
+        self.units
     }
 
     /// Its weight: 12 for each unit; for each attribute of each unit, and for each embed's value, 12, the bytes of its
-    /// name and the bytes of a text value. 2^64 - 1 where it is more. Linear in the runs and their attributes; it takes
-    /// no memory.
+    /// name and the bytes of a text value. 2^64 - 1 where it is more. In constant time.
     pub fn weight(&self) -> u64
         ensures { result ≡ min (weight_of self.now) (2 ^ 64 - 1) }
     {
-        runs_weight(self.runs.as_slice())
+        self.weight
     }
 
     /// What its weight would be after a delta: 2^64 - 1 where it would be more. Refused as PastEnd where the delta reaches past
-    /// the end, else as CutsPair where it parts a surrogate pair. It makes no document: linear in the runs, their attributes
-    /// and the operations, and it takes no memory.
+    /// the end, else as CutsPair where it parts a surrogate pair. It makes no document and takes no memory. It goes over the runs up
+    /// to the last that the delta meets, by their lengths, and looks only at those that it deletes from, changes or cuts; only a
+    /// document that weighs 2^64 - 1 or more is weighed as a whole.
     pub fn weigh(&self, delta: &Delta) -> Result<u64, Refusal>
         ensures ok { IfOk result (λ weight. weight
             ≡ min (weight_of (apply self.now (counted delta.now))) (2 ^ 64 - 1)) }
@@ -105,7 +113,7 @@ impl Document {
         ensures only { IfErr result (λ e. (e ≡ Refusal.PastEnd) ⊎ (e ≡ Refusal.CutsPair)) }
     {
         self.fits(delta)?;
-        Ok(weighed(self.runs.as_slice(), delta.ops()))
+        Ok(weighed(self.runs.as_slice(), self.weight, delta.ops()))
     }
 
     /// An equal document, which shares its runs with this one: no text or attribute is copied. Linear in the runs. Refused as
@@ -114,8 +122,12 @@ impl Document {
         ensures same { IfOk result (λ document. document ≡ self.now) }
         ensures only { IsOkUnless result Refusal.NoMemory }
     {
-        let runs = applied(alloc, self.runs.as_slice(), &[], self.len16())?;
-        Ok(Document { runs })
+        let runs = applied(alloc, self.runs.as_slice(), &[], self.units)?;
+        Ok(Document {
+            runs,
+            units: self.units,
+            weight: self.weight,
+        })
     }
 
     /// The delta that makes it of the empty document, by inserts alone.
@@ -157,11 +169,11 @@ impl Document {
         if behind == 0
             && let Some((text, units, attrs)) = text_behind(delta.ops())
         {
-            let attrs = attrs.copy(alloc)?;
-            put_text(alloc, &mut self.runs, text, units, attrs, 0)?;
+            self.append(alloc, text, units, attrs)?;
             return Ok(());
         }
-        self.runs = applied(alloc, self.runs.as_slice(), delta.ops(), behind)?;
+        let runs = applied(alloc, self.runs.as_slice(), delta.ops(), behind)?;
+        *self = Document::of_runs(runs, behind + delta.out_len());
         Ok(())
     }
 
@@ -180,9 +192,48 @@ impl Document {
             Err(refusal) => return Err(refusal),
         };
         match applied(alloc, self.runs.as_slice(), delta.ops(), behind) {
-            Ok(runs) => Ok(Document { runs }),
+            Ok(runs) => Ok(Document::of_runs(runs, behind + delta.out_len())),
             Err(no_memory) => Err(no_memory),
         }
+    }
+
+    // the document of runs of so many code units
+    fn of_runs(runs: Vec<SharedRun>, units: u64) -> Self
+        requires runs { AreRuns runs.items }
+        requires counted { units ≡ length (units_of_runs runs.items) }
+        requires bound { units ≤ 2 ^ 48 }
+        ensures units { result ≡ units_of_runs runs.items }
+        ensures well_formed { IsWellFormed result }
+    {
+        let weight = runs_weight(runs.as_slice());
+        Document {
+            runs,
+            units,
+            weight,
+        }
+    }
+
+    // puts a text behind the document
+    fn append(
+        &mut self,
+        alloc: Global,
+        text: &str,
+        units: u64,
+        attrs: &Attrs,
+    ) -> Result<(), Refusal>
+        requires counted { units ≡ length (units_of text.now) }
+        requires bound { length self.old + units ≤ 2 ^ 48 }
+        ensures ok { OnOk result (self.new ≡ self.old ++ letters (units_of text.now) attrs.now) }
+        ensures well_formed { OnOk result (IsWellFormed self.new) }
+        ensures err { OnErr result (self.new ≡ self.old) }
+        ensures only { IsOkUnless result Refusal.NoMemory }
+    {
+        let more = text_weight(text, units, attrs);
+        let attrs = attrs.copy(alloc)?;
+        put_text(alloc, &mut self.runs, text, units, attrs, 0)?;
+        self.units += units;
+        self.weight = self.weight.saturating_add(more);
+        Ok(())
     }
 
     // how many code units a delta leaves behind it as they are, where it may be applied

@@ -38,6 +38,7 @@ mod cursor;
 mod document;
 mod joining;
 pub mod laws;
+mod reweighing;
 mod run;
 mod runs;
 mod shared;

@@ -1,6 +1,8 @@
-//! The weight of what a delta makes of runs, without making it. A weight of more than 2^64 - 1 counts as that.
+//! The weight of parts of runs, and of what an operation makes of them, without making it. A weight of more than 2^64 - 1 counts
+//! as that.
 ghost use Rattle.std.specs.Prelude.{◌≡◌, ◌-◌, ◌<◌, ◌≤◌, ◌^◌, ◌+◌, ◌∷◌, [], min, length, sum_by};
 ghost use Rattle.attributes.specs.Attributes.{changed};
+ghost use Rattle.attributes.specs.Map.{empty};
 ghost use Rattle.utf16.specs.Units.{units_of};
 ghost use Rattle.delta.specs.Element.{letters};
 ghost use Rattle.delta.specs.Gaps.{counted, apply};
@@ -18,21 +20,6 @@ use crate::walk::skip;
 use attributes::{Attrs, Change, Key, Value};
 use delta::{Op, OpRef};
 
-/// The weight of the runs after the operations.
-pub fn weighed(runs: &[SharedRun], ops: &[Op]) -> u64
-    requires runs { AreRuns runs.now }
-    requires there { base_of ops.now ≤ length (units_of_runs runs.now) }
-    requires whole { ¬ (StopsInPair (units_of_runs runs.now) ops.now) }
-    ensures { result ≡ min (weight_of (apply (units_of_runs runs.now) (counted ops.now))) (2 ^ 64 - 1) }
-{
-    let mut cursor = Cursor::new(runs);
-    let mut weight: u64 = 0;
-    for op in ops {
-        weight = weight.saturating_add(made_weight(&mut cursor, op));
-    }
-    weight.saturating_add(cursor.weight())
-}
-
 /// The weight of runs.
 pub fn runs_weight(runs: &[SharedRun]) -> u64
     ensures { result ≡ min (weight_of (units_of_runs runs.now)) (2 ^ 64 - 1) }
@@ -44,8 +31,8 @@ pub fn runs_weight(runs: &[SharedRun]) -> u64
     weight
 }
 
-// the weight of what one operation makes
-fn made_weight(cursor: &mut Cursor<'_>, op: &Op) -> u64
+/// The weight of what one operation makes.
+pub fn made_weight(cursor: &mut Cursor<'_>, op: &Op) -> u64
     requires there { op_base op.now ≤ length cursor.old }
     requires whole { ¬ (IsWithinPair cursor.old (op_base op.now)) }
     ensures { IsWeighed cursor.old cursor.new (op.now ∷ []) result }
@@ -61,8 +48,8 @@ fn made_weight(cursor: &mut Cursor<'_>, op: &Op) -> u64
     }
 }
 
-// the weight of a text with attributes
-fn text_weight(text: &str, units: u64, attrs: &Attrs) -> u64
+/// The weight of a text with attributes.
+pub fn text_weight(text: &str, units: u64, attrs: &Attrs) -> u64
     requires { units ≡ length (units_of text.now) }
     ensures { result ≡ min (weight_of (letters (units_of text.now) attrs.now)) (2 ^ 64 - 1) }
 {
@@ -70,6 +57,42 @@ fn text_weight(text: &str, units: u64, attrs: &Attrs) -> u64
         return 0;
     }
     Piece::Text(text, units, attrs).weight()
+}
+
+/// The weight of so many code units as they are, and steps over them.
+pub fn passed_weight(cursor: &mut Cursor<'_>, len: u64) -> u64
+    requires there { len ≤ length cursor.old }
+    requires whole { ¬ (IsWithinPair cursor.old len) }
+    ensures { IsRetainedWeighed cursor.old cursor.new len empty result }
+{
+    let mut weight: u64 = 0;
+    let mut left = len;
+    while left > 0 {
+        let (units, more) = passed_next_weight(cursor, left);
+        weight = weight.saturating_add(more);
+        left -= units;
+    }
+    weight
+}
+
+// steps over the next run, or a piece of one, of at most so many code units: how many it has, and its weight
+fn passed_next_weight(cursor: &mut Cursor<'_>, most: u64) -> (u64, u64)
+    requires some { 0 < most }
+    requires there { most ≤ length cursor.old }
+    requires whole { ¬ (IsWithinPair cursor.old most) }
+    ensures passed { IsRetainedWeighed cursor.old cursor.new result.0 empty result.1 }
+    ensures some { 0 < result.0 }
+    ensures most { result.0 ≤ most }
+{
+    // no run that is passed as a whole is looked into
+    if let Some(run) = cursor.next_run(most) {
+        return (run.units(), run.weight());
+    }
+    let piece = match cursor.next(most) {
+        Ok(piece) => piece,
+        Err(_) => unreachable!(),
+    };
+    (piece.units(), piece.weight())
 }
 
 // the weight of so many code units with a change of their attributes, and steps over them
@@ -98,16 +121,10 @@ fn kept_next_weight(cursor: &mut Cursor<'_>, most: u64, change: &Change) -> (u64
     ensures some { 0 < result.0 }
     ensures most { result.0 ≤ most }
 {
-    if !change.is_empty() {
-        let (units, weight) = kept_piece_weight(cursor, most, change);
-        return (units, weight);
+    if change.is_empty() {
+        return passed_next_weight(cursor, most);
     }
-    // no run that stays whole is looked into
-    if let Some(run) = cursor.next_run(most) {
-        return (run.units(), run.weight());
-    }
-    let (units, weight) = kept_piece_weight(cursor, most, change);
-    (units, weight)
+    kept_piece_weight(cursor, most, change)
 }
 
 // the same of a piece

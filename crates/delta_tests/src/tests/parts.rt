@@ -8,7 +8,7 @@ use refusal::Refusal;
 use std::alloc::Global;
 use std::test::Fail;
 
-fn delta_of(alloc: Global, ops: &str) -> Result<Delta, Refusal> {
+pub(super) fn delta_of(alloc: Global, ops: &str) -> Result<Delta, Refusal> {
     let value = read_json(alloc, ops.as_bytes())?;
     match value.as_array() {
         Some(operations) => read_ops(alloc, operations.as_slice()),

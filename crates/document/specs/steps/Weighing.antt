@@ -1,5 +1,5 @@
 -- What the weight of a document after a delta is made of: the attributes after a change, and the operations one by one.
-use Rattle.std.specs.Prelude.{◌≡◌, ℕ, ◌-◌, ◌^◌, min, List, ◌++◌, length, Option, Some, None, if◌then◌else◌}
+use Rattle.std.specs.Prelude.{◌≡◌, ℕ, ◌+◌, ◌-◌, ◌^◌, min, List, ◌++◌, length, Option, Some, None, if◌then◌else◌}
 use Rattle.attributes.specs.Map.{contains}
 use Rattle.attributes.specs.Attributes.{Changes}
 use Rattle.attributes.specs.Scalar.{Scalar}
@@ -40,3 +40,15 @@ pub record IsWeighed (old new : List Element) (ops : List Operation) (weight : �
   pub parts : old ≡ taken ++ new
   pub count : length taken ≡ base_of ops
   pub weighs : weight ≡ min (weight_of (apply taken (counted ops))) (2 ^ 64 - 1)
+
+-- the units that operations stand on were stepped over: they weigh what stays and what goes, and what the operations make of
+-- them weighs what stays and what comes
+pub record IsExchanged (old new : List Element) (ops : List Operation) (goes comes : ℕ) : Type 0 where
+  pub taken : List Element
+  pub parts : old ≡ taken ++ new
+  pub count : length taken ≡ base_of ops
+  pub stays : ℕ
+  pub more : ℕ
+  pub before : weight_of taken ≡ stays + goes
+  pub after : weight_of (apply taken (counted ops)) ≡ stays + more
+  pub comes_to : comes ≡ min more (2 ^ 64 - 1)

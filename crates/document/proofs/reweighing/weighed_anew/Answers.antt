@@ -5,7 +5,7 @@ use Rattle.document.specs.steps.Runs.{units_of_runs}
 use Rattle.document.specs.steps.Weighing.{IsWeighed}
 use Rattle.document.proofs.Measured.{weighed_more, weighed_whole, length_ahead}
 use Rattle.document.proofs.Progress.{drop-here, take-here, lengths-split, parts_before}
-use Rattle.document.proofs.weights.weighed.Goals as goal
+use Rattle.document.proofs.reweighing.weighed_anew.Goals as goal
 
 pub made_weight-requires-clause-there : goal.made_weight-requires-clause-there
 made_weight-requires-clause-there c =
