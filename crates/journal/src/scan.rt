@@ -1,5 +1,5 @@
 //! Reading back the records of an area.
-ghost use Rattle.std.specs.Prelude.{◌≡◌, ◌+◌, ◌^◌, ◌<◌, ◌≤◌, ℕ, List, length, take, drop, IfOk, IfErr};
+ghost use Rattle.std.specs.Prelude.{◌≡◌, ◌+◌, ◌^◌, ◌<◌, ◌≤◌, ℕ, List, [], ◌∷◌, ◌++◌, length, take, drop, OnOk, IfOk, IfErr};
 ghost use Rattle.disk.specs.Calls.{HasOnlyRead, CountsFaultsAs};
 ghost use Rattle.journal.specs.Area.{HoldsBodies, Stands};
 ghost use Rattle.journal.specs.Scan.{items_of};
@@ -102,6 +102,15 @@ fn front_of(bytes: &[u8], left: u64) -> Result<Front<'_>, ScanError>
     }
 }
 
+// Keeps a body behind the others.
+fn push_body(alloc: Global, bodies: &mut Vec<Vec<u8>>, body: &[u8]) -> Result<(), ScanError>
+    ensures pushed { OnOk result (items_of bodies.new.items ≡ items_of bodies.old.items ++ body.now ∷ []) }
+    ensures only { IfErr result (λ e. e ≡ ScanError.NoMemory) }
+{
+    bodies.push(Vec::from_slice(alloc, body)?)?;
+    Ok(())
+}
+
 /// What was found in an area: the bodies of its open records in order.
 #[derive(Drop)]
 pub struct Scan {
@@ -136,7 +145,7 @@ impl Area {
             match front_of(pending.bytes(), size - next)? {
                 Front::Record(body) => {
                     let len = 5 + body.len();
-                    bodies.push(Vec::from_slice(alloc, body)?)?;
+                    push_body(alloc, &mut bodies, body)?;
                     pending.pass(len);
                     next += len as u64;
                 }
