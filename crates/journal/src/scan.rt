@@ -14,7 +14,7 @@ use refusal::Refusal;
 use std::alloc::{AllocError, AllocFailed, Global};
 use thiserror::Error;
 
-// How many bytes are read at once.
+// How many bytes of an area are read at once.
 const PIECE: u64 = 1 << 16;
 
 /// Why an area could not be read back.
@@ -121,8 +121,11 @@ pub struct Scan {
 }
 
 impl Area {
-    /// Reads the `size` bytes from `at` on: the bodies of the open records in order, and the place of the next gate.
-    /// `Damaged` comes just where the bytes hold no list of records. The device stays as it is.
+    /// Reads an area of `size` bytes from `at` on: the bodies of the open records in order, and the place of the next
+    /// gate. `Damaged` comes just where the bytes hold no list of records. The device stays as it is.
+    ///
+    /// Each byte is read once at most, in pieces of at most 65,536 bytes, up to the one with the first closed gate.
+    /// Beside the bodies no more is held at a time than a piece and what was read before it of one record.
     pub fn scan<D: Disk>(alloc: Global, disk: &mut D, at: u64, size: u64) -> Result<Scan, ScanError>
         requires at { at < 2 ^ 62 }
         requires some { 0 < size }
