@@ -7,7 +7,7 @@ use Rattle.std.proofs.Math.Seq.{take-add}
 use Rattle.journal.specs.Area.{open_gate, entry, entries, IsBody, HoldsBodies}
 use Rattle.journal.specs.steps.Scanning.{BeginsClosed, IsNoFront}
 use Rattle.journal.proofs.Areas.{entries-push, length-frame}
-use Rattle.journal.proofs.Records.{holds_some, holds_behind, not_damaged, not_short}
+use Rattle.journal.proofs.Records.{holds_behind, not_damaged, not_short}
 
 -- an open record whose length is 0 or passes the end of the area
 pub wrong_length : (bytes : List ℕ) (left n : ℕ) → 5 ≤ length bytes → get_or bytes 0 0 ≡ open_gate
@@ -22,13 +22,10 @@ wrong_length bytes left n long is_open read bad more total bodies =
     ⊎_elim (λ zero. inl zero) (λ past. inr (omega (arith, past, total, length-drop 5 all, length-append bytes more))) bad in
     not_damaged all (at 0 (omega arith) ∙ is_open) n read_of_all wrong bodies
 
--- the area ends before a gate, or within the length of an open record
-pub ends_early : (bytes : List ℕ) (left : ℕ) → length bytes < 5 → length bytes ≡ left
-    → (length bytes ≡ 0) ⊎ ((0 < length bytes) × (get_or bytes 0 0 ≡ open_gate)) → IsNoFront bytes left
-ends_early bytes left short all_read front more total bodies holds =
-    let long : length (bytes ++ more) ≡ length bytes = omega (arith, total, all_read, length-append bytes more) in
-    ⊎_elim (λ zero. omega (arith, zero, long, holds_some bodies (bytes ++ more) holds))
-    (λ open_there. not_short (bytes ++ more) (get_or_append_left bytes more 0 0 open_there.0 ∙ open_there.1) (omega (arith, short, long)) bodies holds) front
+-- an open gate behind which no length fits
+pub ends_early : (bytes : List ℕ) (left : ℕ) → 0 < length bytes → get_or bytes 0 0 ≡ open_gate → left < 5 → IsNoFront bytes left
+ends_early bytes left some is_open short more total bodies holds =
+    not_short (bytes ++ more) (get_or_append_left bytes more 0 0 some ∙ is_open) (omega (arith, short, total, length-append bytes more)) bodies holds
 
 -- Bytes from an area's first one on were read up to some place: records of these bodies, and then these bytes, which are pending.
 module _ (bytes : List ℕ) (bodies : List (List ℕ)) (pending : List ℕ) (next : ℕ) (split : take (next + length pending) bytes ≡ entries bodies ++ pending) where

@@ -81,11 +81,13 @@ enum Front<'a> {
 
 // What stands at the front of these bytes. They are the next ones of an area that has `left` bytes from there on.
 fn front_of(bytes: &[u8], left: u64) -> Result<Front<'_>, ScanError>
-    requires { length bytes.now ≤ left }
+    requires some { 0 < left }
+    requires within { length bytes.now ≤ left }
     ensures front { IfOk result (IsFront bytes.now left) }
     ensures damaged { IfErr result (λ e. (e ≡ ScanError.Damaged) × IsNoFront bytes.now left) }
 {
     match bytes {
+        [] => Ok(Front::Short),
         [gate, ..] if *gate != OPEN => Ok(Front::Closed),
         [_, a, b, c, d, rest @ ..] => {
             let len = u32::from_le_bytes([*a, *b, *c, *d]);
@@ -97,9 +99,22 @@ fn front_of(bytes: &[u8], left: u64) -> Result<Front<'_>, ScanError>
                 None => Ok(Front::Short),
             }
         }
-        _ if bytes.len() as u64 == left => Err(ScanError::Damaged),
-        _ => Ok(Front::Short),
+        [_, ..] => {
+            if left < 5 {
+                return Err(ScanError::Damaged);
+            }
+            Ok(Front::Short)
+        }
     }
+}
+
+// How many bytes the next piece has, where so many of the area are left.
+fn piece_of(left: u64) -> u64
+    ensures within { result ≤ left }
+    ensures short { result ≤ 65536 }
+    ensures some { 0 < left → 0 < result }
+{
+    left.min(PIECE)
 }
 
 // Keeps a body behind the others.
@@ -158,7 +173,7 @@ impl Area {
                 }
                 Front::Short => {
                     let read = next + pending.bytes().len() as u64;
-                    pending.read_on(disk, at + read, PIECE.min(size - read))?;
+                    pending.read_on(disk, at + read, piece_of(size - read))?;
                 }
             }
         }

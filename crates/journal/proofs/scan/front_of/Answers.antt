@@ -1,7 +1,7 @@
 use Rattle.std.proofs.Common.{inl, inr, refl, arith}
 use Rattle.journal.proofs.Scanning.{wrong_length, ends_early}
 use Rattle.journal.proofs.scan.front_of.Goals as goal
-use Rattle.journal.proofs.scan.front_of.Goals.{then-len-eq0-via-then-len-eq0, then-len-eq0-via-else-len-eq0+then-left-from, in_default-via-then-bytes-lt1, in_default-via-in-len1-up+else-gate+then-bytes-lt5}
+use Rattle.journal.proofs.scan.front_of.Goals.{then-len-eq0-via-then-len-eq0, then-len-eq0-via-else-len-eq0+then-left-from}
 
 pub returns-then-len-eq0-clause-damaged : goal.returns-then-len-eq0-clause-damaged
 returns-then-len-eq0-clause-damaged c = (
@@ -13,9 +13,5 @@ returns-then-len-eq0-clause-damaged c = (
       ]),
     )
 
-pub returns-in_default-clause-damaged : goal.returns-in_default-clause-damaged
-returns-in_default-clause-damaged c = elim c.in_default.branch [
-      | in_default-via-then-bytes-lt1 w ↦ (refl, ends_early c.args.bytes.now c.args.left (omega arith) c.if-bytes-left.true (inl (omega arith)))
-      | in_default-via-in-len1-up+else-gate+then-bytes-lt5 w ↦
-      (refl, ends_early c.args.bytes.now c.args.left (omega arith) c.if-bytes-left.true (inr (w.in-len1-up.len_at_least, w.if-gate.false)))
-    ]
+pub returns-then-left-lt5-clause-damaged : goal.returns-then-left-lt5-clause-damaged
+returns-then-left-lt5-clause-damaged c = (refl, ends_early c.args.bytes.now c.args.left (omega arith) (omega arith) (omega arith))

@@ -37,7 +37,7 @@ loop-bodies-preserved-in-Record g c =
     let body : List ℕ = c.in-Record.body.now in
     let front : IsFront c.bytes.result.now (c.args.size - at.next) (Record c.in-Record.body) = search rules in
     let split : at.pending ≡ entry body ++ drop (5 + length body) at.pending =
-    subst (λ (l : List ℕ). l ≡ entry body ++ drop (5 + length body) l) c.bytes.ensures front.1.0 in
+    subst (λ (l : List ℕ). l ≡ entry body ++ drop (5 + length body) l) c.bytes.ensures front.1 in
     let passed : c.pass.new.self ≡ drop (5 + length body) at.pending = c.pass.ensures in
     let items : items_of c.push_body.new.bodies.items ≡ items_of at.bodies.items ++ body ∷ [] = c.in_ok-push_body-in-Record.ensures.pushed in
     record {
@@ -45,6 +45,7 @@ loop-bodies-preserved-in-Record g c =
       next = rw (items, entries-push (items_of at.bodies.items) body)
           (omega (arith, at.invariant.next, length-append (entries (items_of at.bodies.items)) (entry body), length-frame body));
       each = rw items (AllByRecursion-push IsBody (items_of at.bodies.items) body at.invariant.each front.0);
+      room = omega (arith, front.2);
       within = rw passed (omega (arith, at.invariant.within, length-drop (5 + length body) at.pending, ap length split, length-append (entry body) (drop (5 + length body) at.pending), length-frame body));
       stays = at.invariant.stays;
       honest = at.invariant.honest;
@@ -54,7 +55,7 @@ loop-bodies-preserved-in-Record g c =
 pub read_on-requires-clause-within : goal.read_on-requires-clause-within
 read_on-requires-clause-within g c =
     let same : g.D.Disk.seen c.loop-bodies.disk ≡ g.D.Disk.seen c.args.disk.now = ap (λ (h : History). h.now.seen) c.loop-bodies.invariant.stays in
-    omega (arith, ap length same)
+    omega (arith, ap length same, ap length c.bytes-in-Short.ensures, c.requires.within, c.loop-bodies.invariant.within, c.piece_of.ensures.within)
 
 pub loop-bodies-preserved : goal.loop-bodies-preserved
 loop-bodies-preserved g c =
@@ -65,16 +66,17 @@ loop-bodies-preserved g c =
     ap (λ (l : List ℕ). c.args.at + (at.next + length l)) c.bytes-in-Short.ensures in
     record {
       split = λ honest.
-          let read : c.read_on.new.self ≡ at.pending ++ take c.min.result (drop (at.next + length at.pending) (drop c.args.at seen)) =
+          let read : c.read_on.new.self ≡ at.pending ++ take c.piece_of.result (drop (at.next + length at.pending) (drop c.args.at seen)) =
           c.in_ok-read_on-in-Short.ensures.bytes honest
-          ∙ ap (λ (l : List ℕ). at.pending ++ take c.min.result (drop (c.args.at + (at.next + length c.bytes-in-Short.result.now)) l)) same
-          ∙ ap (λ k. at.pending ++ take c.min.result (drop k seen)) place
-          ∙ ap (λ (l : List ℕ). at.pending ++ take c.min.result l) (sym (drop-drop (at.next + length at.pending) c.args.at seen)) in
-          scanning.read_on (drop c.args.at seen) (items_of at.bodies.items) at.pending at.next (at.invariant.split (c.read_on.ensures.only_read.honest honest)) c.min.result
+          ∙ ap (λ (l : List ℕ). at.pending ++ take c.piece_of.result (drop (c.args.at + (at.next + length c.bytes-in-Short.result.now)) l)) same
+          ∙ ap (λ k. at.pending ++ take c.piece_of.result (drop k seen)) place
+          ∙ ap (λ (l : List ℕ). at.pending ++ take c.piece_of.result l) (sym (drop-drop (at.next + length at.pending) c.args.at seen)) in
+          scanning.read_on (drop c.args.at seen) (items_of at.bodies.items) at.pending at.next (at.invariant.split (c.read_on.ensures.only_read.honest honest)) c.piece_of.result
           c.read_on.new.self c.in_ok-read_on-in-Short.ensures.length read;
       next = at.invariant.next;
       each = at.invariant.each;
-      within = omega (arith, at.invariant.within, c.in_ok-read_on-in-Short.ensures.length, ap length c.bytes-in-Short.ensures);
+      room = at.invariant.room;
+      within = omega (arith, at.invariant.within, c.in_ok-read_on-in-Short.ensures.length, c.piece_of.ensures.within, ap length c.bytes-in-Short.ensures);
       stays = c.read_on.ensures.only_read.history ∙ at.invariant.stays;
       honest = λ honest. at.invariant.honest (c.read_on.ensures.only_read.honest honest);
       good = c.in_ok-read_on-in-Short.ensures.faults.good ∙ at.invariant.good;

@@ -1,4 +1,4 @@
-use Rattle.std.proofs.Common.{◌≡◌, ◌+◌, ◌-◌, ◌≤◌, ◌++◌, length, take, drop}
+use Rattle.std.proofs.Common.{◌≡◌, ◌+◌, ◌-◌, ◌≤◌, ◌<◌, ◌++◌, length, take, drop}
 use Rattle.std.specs.List.{AllByRecursion}
 use Rattle.disk.specs.Crash.{history_of}
 use Rattle.journal.specs.Area.{IsBody, entries}
@@ -11,6 +11,7 @@ invariant-loop-bodies g l = record {
   split : g.D.Disk.honest l.disk → take (l.next + length l.pending) (drop l.at (g.D.Disk.seen l.fn.disk)) ≡ entries (items_of l.bodies.items) ++ l.pending;
   next : l.next ≡ length (entries (items_of l.bodies.items));
   each : AllByRecursion IsBody (items_of l.bodies.items);
+  room : l.next < l.size;
   within : l.next + length l.pending ≤ l.size;
   stays : history_of g.D.Disk l.disk ≡ history_of g.D.Disk l.fn.disk;
   honest : g.D.Disk.honest l.disk → g.D.Disk.honest l.fn.disk;
