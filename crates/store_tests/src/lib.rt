@@ -32,8 +32,6 @@ mod opening;
 #[cfg(test)]
 mod picks;
 #[cfg(test)]
-mod pieces;
-#[cfg(test)]
 mod plans;
 #[cfg(test)]
 mod retiring;
