@@ -1,5 +1,5 @@
 //! Bytes that were read and are not parted into records yet.
-ghost use Rattle.std.specs.Prelude.{◌≡◌, ◌+◌, ◌^◌, ◌<◌, ◌≤◌, [], ◌++◌, length, take, drop, OnOk, OnErr, IfErr, ◌≢◌};
+ghost use Rattle.std.specs.Prelude.{◌≡◌, ◌≢◌, ◌+◌, ◌^◌, ◌<◌, ◌≤◌, [], ◌++◌, length, take, drop, OnOk, IfErr};
 ghost use Rattle.disk.specs.Calls.{HasOnlyRead, CountsFaultsAs};
 
 use crate::scan::ScanError;

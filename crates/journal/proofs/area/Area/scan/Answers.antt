@@ -4,7 +4,7 @@ use Rattle.std.proofs.lemmas.Result.{err_from_is_err_and}
 use Rattle.disk.specs.Device.{History}
 use Rattle.journal.specs.Area.{Place, Stands, IsBody, entry, entries}
 use Rattle.journal.specs.Scan.{items_of}
-use Rattle.journal.specs.declared.scan.Front.TheVariants.{Record, Closed, Short}
+use Rattle.journal.specs.declared.scan.Front.TheVariants.{Record}
 use Rattle.journal.specs.steps.Scanning.{IsFront, IsNoFront, BeginsClosed}
 use Rattle.journal.proofs.Areas.{AllByRecursion-push, entries-push, length-frame}
 use Rattle.journal.proofs.Scanning as scanning
