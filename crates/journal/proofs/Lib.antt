@@ -2,6 +2,7 @@ pub mod CallerLemmas
 pub mod Gated
 pub mod Areas
 pub mod Records
+pub mod Scanning
 pub mod Widths
 pub mod DeltaWidths
 pub mod BatchWidths

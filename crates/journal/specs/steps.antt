@@ -2,3 +2,4 @@
 pub mod Reading
 pub mod DeltaReading
 pub mod BatchReading
+pub mod Scanning

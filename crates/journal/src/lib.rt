@@ -41,6 +41,7 @@ mod area;
 mod batch;
 mod gate;
 pub mod laws;
+mod pending;
 mod scan;
 
 pub use area::{AppendError, Area};

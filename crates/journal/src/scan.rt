@@ -1,16 +1,21 @@
 //! Reading back the records of an area.
-ghost use Rattle.std.specs.Prelude.{◌≡◌, ◌≢◌, ◌+◌, ◌^◌, ◌<◌, ◌≤◌, ℕ, List, [], ◌++◌, length, take, drop, Some, None, Ok, IfOk, IfErr, IfSome};
+ghost use Rattle.std.specs.Prelude.{◌≡◌, ◌+◌, ◌^◌, ◌<◌, ◌≤◌, ℕ, List, [], ◌∷◌, ◌++◌, length, take, drop, OnOk, IfOk, IfErr};
 ghost use Rattle.disk.specs.Calls.{HasOnlyRead, CountsFaultsAs};
-ghost use Rattle.journal.specs.Area.{IsBody, HoldsBodies, Stands, entry, entries};
-ghost use Rattle.journal.specs.Scan.{items_of, BeginsClosed};
+ghost use Rattle.journal.specs.Area.{HoldsBodies, Stands};
+ghost use Rattle.journal.specs.Scan.{items_of};
+ghost use Rattle.journal.specs.steps.Scanning.{IsFront, IsNoFront};
 ghost use Rattle.journal.specs.declared.scan.ScanError.TheVariants.{NoMemory, Fault};
 
 use crate::area::Area;
 use crate::gate::OPEN;
+use crate::pending::Pending;
 use disk::Disk;
 use refusal::Refusal;
 use std::alloc::{AllocError, AllocFailed, Global};
 use thiserror::Error;
+
+// How many bytes of an area are read at once.
+const PIECE: u64 = 1 << 16;
 
 /// Why an area could not be read back.
 #[derive(Clone, Copy, Debug, PartialEq, Eq, Error)]
@@ -64,42 +69,61 @@ impl From<ScanError> for Refusal {
     }
 }
 
-// The first record's body and what stands behind it, or None where a closed gate comes first.
-fn next_record(bytes: &[u8]) -> Result<Option<(&[u8], &[u8])>, ScanError>
-    ensures found { IfOk result (λ o. IfSome o (λ r. IsBody r.0.now × (bytes.now ≡ entry r.0.now ++ r.1.now))) }
-    ensures end { result ≡ Ok None → BeginsClosed bytes.now }
-    ensures damaged { IfErr result (λ e. (e ≡ ScanError.Damaged)
-        × ((bodies : List (List ℕ)) → ¬ HoldsBodies bodies bytes.now)) }
+/// What stands at the front of what was read of an area.
+enum Front<'a> {
+    /// An open record with this body.
+    Record(&'a [u8]),
+    /// A closed gate.
+    Closed,
+    /// Less than a whole record: more bytes have to be read.
+    Short,
+}
+
+// What stands at the front of these bytes. They are the next ones of an area that has `left` bytes from there on.
+fn front_of(bytes: &[u8], left: u64) -> Result<Front<'_>, ScanError>
+    requires some { 0 < left }
+    requires within { length bytes.now ≤ left }
+    ensures front { IfOk result (IsFront bytes.now left) }
+    ensures damaged { IfErr result (λ e. (e ≡ ScanError.Damaged) × IsNoFront bytes.now left) }
 {
     match bytes {
-        [] => Err(ScanError::Damaged),
-        [gate, ..] if *gate != OPEN => Ok(None),
+        [] => Ok(Front::Short),
+        [gate, ..] if *gate != OPEN => Ok(Front::Closed),
         [_, a, b, c, d, rest @ ..] => {
-            let len = u32::from_le_bytes([*a, *b, *c, *d]) as usize;
-            if len == 0 || rest.len() <= len {
+            let len = u32::from_le_bytes([*a, *b, *c, *d]);
+            if len == 0 || left < 6 + u64::from(len) {
                 return Err(ScanError::Damaged);
             }
-            Ok(Some(rest.split_at(len)))
+            match rest.get(..len as usize) {
+                Some(body) => Ok(Front::Record(body)),
+                None => Ok(Front::Short),
+            }
         }
-        [_, ..] => Err(ScanError::Damaged),
+        [_, ..] => {
+            if left < 5 {
+                return Err(ScanError::Damaged);
+            }
+            Ok(Front::Short)
+        }
     }
 }
 
-// The bodies of the open records, and where the next record's gate stands.
-fn records_of(alloc: Global, bytes: &[u8]) -> Result<(Vec<Vec<u8>>, u64), ScanError>
-    ensures found { IfOk result (λ r. HoldsBodies (items_of r.0.items) bytes.now) }
-    ensures next { IfOk result (λ r. (r.1 ≡ length (entries (items_of r.0.items))) × (r.1 < length bytes.now)) }
-    ensures damaged { IfErr result (λ e. e ≡ ScanError.Damaged → (bodies : List (List ℕ))
-        → ¬ HoldsBodies bodies bytes.now) }
-    ensures no_fault { IfErr result (λ e. e ≢ ScanError.Fault) }
+// How many bytes the next piece has, where so many of the area are left.
+fn piece_of(left: u64) -> u64
+    ensures within { result ≤ left }
+    ensures short { result ≤ 65536 }
+    ensures some { 0 < left → 0 < result }
 {
-    let mut bodies = Vec::new(alloc);
-    let mut rest = bytes;
-    while let Some((body, behind)) = next_record(rest)? {
-        bodies.push(Vec::from_slice(alloc, body)?)?;
-        rest = behind;
-    }
-    Ok((bodies, (bytes.len() - rest.len()) as u64))
+    left.min(PIECE)
+}
+
+// Keeps a body behind the others.
+fn push_body(alloc: Global, bodies: &mut Vec<Vec<u8>>, body: &[u8]) -> Result<(), ScanError>
+    ensures pushed { OnOk result (items_of bodies.new.items ≡ items_of bodies.old.items ++ body.now ∷ []) }
+    ensures only { IfErr result (λ e. e ≡ ScanError.NoMemory) }
+{
+    bodies.push(Vec::from_slice(alloc, body)?)?;
+    Ok(())
 }
 
 /// What was found in an area: the bodies of its open records in order.
@@ -112,8 +136,11 @@ pub struct Scan {
 }
 
 impl Area {
-    /// Reads the `size` bytes from `at` on: the bodies of the open records in order, and the place of the next gate.
-    /// `Damaged` comes just where the bytes hold no list of records. The device stays as it is.
+    /// Reads an area of `size` bytes from `at` on: the bodies of the open records in order, and the place of the next
+    /// gate. `Damaged` comes just where the bytes hold no list of records. The device stays as it is.
+    ///
+    /// Each byte is read once at most, in pieces of at most 65,536 bytes, up to the one with the first closed gate.
+    /// Beside the bodies no more is held at a time than a piece and what was read before it of one record.
     pub fn scan<D: Disk>(alloc: Global, disk: &mut D, at: u64, size: u64) -> Result<Scan, ScanError>
         requires at { at < 2 ^ 62 }
         requires some { 0 < size }
@@ -129,30 +156,26 @@ impl Area {
         ensures only_read { HasOnlyRead ⟦<D as Disk>⟧ disk.old disk.new }
         ensures faults { CountsFaultsAs ⟦<D as Disk>⟧ ScanError.Fault result disk.old disk.new }
     {
-        let bytes = read_range(alloc, disk, at, size)?;
-        let (bodies, next) = records_of(alloc, &bytes)?;
-        Ok(Scan {
-            area: Area::at_record(at, size, next),
-            bodies,
-        })
+        let mut pending = Pending::new(alloc);
+        let mut bodies = Vec::new(alloc);
+        let mut next = 0;
+        loop {
+            match front_of(pending.bytes(), size - next)? {
+                Front::Record(body) => {
+                    let len = 5 + body.len();
+                    push_body(alloc, &mut bodies, body)?;
+                    pending.pass(len);
+                    next += len as u64;
+                }
+                Front::Closed => {
+                    let area = Area::at_record(at, size, next);
+                    return Ok(Scan { area, bodies });
+                }
+                Front::Short => {
+                    let read = next + pending.bytes().len() as u64;
+                    pending.read_on(disk, at + read, piece_of(size - read))?;
+                }
+            }
+        }
     }
-}
-
-// The bytes of a range of the device.
-fn read_range<D: Disk>(
-    alloc: Global,
-    disk: &mut D,
-    at: u64,
-    size: u64,
-) -> Result<Vec<u8>, ScanError>
-    requires { at + size ≤ length (D.seen disk.old) }
-    ensures bytes { IfOk result (λ v. D.honest disk.new → v.items ≡ take size (drop at (D.seen disk.old))) }
-    ensures length { IfOk result (λ v. length v.items ≡ size) }
-    ensures not_damaged { IfErr result (λ e. e ≢ ScanError.Damaged) }
-    ensures only_read { HasOnlyRead ⟦<D as Disk>⟧ disk.old disk.new }
-    ensures faults { CountsFaultsAs ⟦<D as Disk>⟧ ScanError.Fault result disk.old disk.new }
-{
-    let mut bytes = vec![in alloc; 0u8; size as usize]?;
-    disk.read(at, &mut bytes)?;
-    Ok(bytes)
 }

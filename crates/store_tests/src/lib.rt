@@ -32,6 +32,8 @@ mod opening;
 #[cfg(test)]
 mod picks;
 #[cfg(test)]
+mod pieces;
+#[cfg(test)]
 mod plans;
 #[cfg(test)]
 mod retiring;
