@@ -27,12 +27,12 @@ none_sent s [] text is tell = (refl, refl, tell)
 none_sent s (one ∷ others) text is tell = absurd cc
 
 -- the line goes on
-sent_on : (old mid new : Session) (bytes : List ℕ) (byte : ℕ) (commands : List Command) → IsSentAhead old bytes commands mid
-    → Replies mid (byte ∷ []) [] new [] → IsSentAhead old (bytes ++ byte ∷ []) commands new
-sent_on old mid new bytes byte commands sent more answered text is tell =
-    let joined = replies-joined bytes (byte ∷ []) old mid new (exchanges_of answered) [] text [] (sent answered text is tell) more in
-    subst (λ (l : List Exchange). Replies old (bytes ++ byte ∷ []) l new text) (append-nil (exchanges_of answered))
-    (subst (λ (l : List ℕ). Replies old (bytes ++ byte ∷ []) (exchanges_of answered ++ []) new l) (append-nil text) joined)
+sent_on : (old mid new : Session) (bytes more : List ℕ) (commands : List Command) → IsSentAhead old bytes commands mid
+    → Replies mid more [] new [] → IsSentAhead old (bytes ++ more) commands new
+sent_on old mid new bytes more commands sent goes answered text is tell =
+    let joined = replies-joined bytes more old mid new (exchanges_of answered) [] text [] (sent answered text is tell) goes in
+    subst (λ (l : List Exchange). Replies old (bytes ++ more) l new text) (append-nil (exchanges_of answered))
+    (subst (λ (l : List ℕ). Replies old (bytes ++ more) (exchanges_of answered ++ []) new l) (append-nil text) joined)
 
 -- equal lists have equal heads and equal tails
 cons_same : {X : Type 0} (x y : X) (xs ys : List X) → x ∷ xs ≡ y ∷ ys → (x ≡ y) × (xs ≡ ys)
@@ -182,14 +182,14 @@ module _ {D : Type 0} (does : D → Exchange → D → Type 0) where
   module _ (first old : Session) (piece : List ℕ) (commands : List Command) (begun desk : D) (clean out : Option (List ℕ))
       (ahead : Ahead does first piece commands old begun desk clean out) where
     -- the line goes on
-    pub ahead_on : (new : Session) (byte : ℕ) → Replies old (byte ∷ []) [] new [] → Ahead does first (piece ++ byte ∷ []) commands new begun desk clean out
-    ahead_on new byte more = record {
+    pub ahead_on : (new : Session) (more : List ℕ) → Replies old more [] new [] → Ahead does first (piece ++ more) commands new begun desk clean out
+    ahead_on new more goes = record {
       front = ahead.front;
-      back = ahead.back ++ byte ∷ [];
-      whole = ap (λ (l : List ℕ). l ++ byte ∷ []) ahead.whole ∙ append_assoc ahead.front ahead.back (byte ∷ []);
+      back = ahead.back ++ more;
+      whole = ap (λ (l : List ℕ). l ++ more) ahead.whole ∙ append_assoc ahead.front ahead.back more;
       mid = ahead.mid;
       fed = ahead.fed;
-      sent = sent_on ahead.mid old new ahead.back byte commands ahead.sent more;
+      sent = sent_on ahead.mid old new ahead.back more commands ahead.sent goes;
     }
 
     -- a command is sent ahead
