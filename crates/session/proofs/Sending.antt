@@ -11,14 +11,14 @@ use Rattle.session.specs.declared.line.Event.TheVariants.{Complete}
 use Rattle.session.specs.declared.request.Request.TheVariants.{Ask}
 use Rattle.session.specs.declared.sent.Sent.{Sent}
 use Rattle.session.specs.Exchange.{Exchange, Answered, AreAnswered}
-use Rattle.session.specs.Line.{Partial, with_byte}
+use Rattle.session.specs.Line.{Partial, with_byte, TakesText}
 use Rattle.session.specs.Output.{AppendsFront}
 use Rattle.session.specs.Request.{request_of}
 use Rattle.session.specs.Session.{Session}
 use Rattle.session.specs.Replies.{answer_line, IsLine, Asked, TakesByte, LineEnds, IsAtOnce, Replies, Asks, Feeds, Stops}
 use Rattle.session.specs.Ahead.{command_of, commands_of, exchange_of, exchanges_of, AreReplies, IsSentAhead, Settles, Ahead}
 use Rattle.session.proofs.Feeding.{replies-joined, asks-joined, feeds-joined, feeds-nothing}
-use Rattle.session.proofs.Replying.{due_ok, some_line, pair, one_byte}
+use Rattle.session.proofs.Replying.{due_ok, some_line, pair, one_byte, goes_on_through}
 use Rattle.session.proofs.Writes.{appends-both, front-behind, front-longer}
 
 -- nothing was sent ahead
@@ -191,6 +191,11 @@ module _ {D : Type 0} (does : D → Exchange → D → Type 0) where
       fed = ahead.fed;
       sent = sent_on ahead.mid old new ahead.back more commands ahead.sent goes;
     }
+
+    -- so it does through text that is taken at once
+    pub ahead_through : (new : Session) (rest left : List ℕ) (taken : TakesText old.line rest new.line left) → new ≡ record old { line = new.line }
+        → Ahead does first (piece ++ taken.text) commands new begun desk clean out
+    ahead_through new rest left taken others = ahead_on new taken.text (goes_on_through taken.text new.line old new taken.goes_on others)
 
     -- a command is sent ahead
     pub ahead_more : (read new : Session) (byte : ℕ) (command : Command) → with_byte old.line byte ≡ (Complete, read.line) → read ≡ record old { line = read.line }
