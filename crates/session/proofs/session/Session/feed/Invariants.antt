@@ -10,9 +10,9 @@ invariant-loop-byte g l =
     record {
       works : l.self.ended ≡ false;
       fits : Fits (g.D.Desk.reached l.desk) l.shelf;
-      ahead : (front : List ℕ) × (l.piece ≡ front ++ l.rest.now)
+      ahead : (front : List ℕ) × (l.piece ≡ front ++ l.rest)
           × Ahead g.D.Desk.does l.fn.self front (commands_of l.sent.items) l.self l.fn.desk l.desk (contents l.fn.out) (contents l.out);
     }
 
 abbrev pub decreases-loop-byte : goal.decreases-loop-byte
-decreases-loop-byte g l = length l.rest.now
+decreases-loop-byte g l = length l.rest
