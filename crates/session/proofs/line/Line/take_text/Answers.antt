@@ -1,5 +1,4 @@
-use Rattle.std.proofs.Common.{◌≡◌, ◌++◌, List, ℕ, Some, None, take, sym, ap, subst, ◌∙◌, rules}
-use Rattle.session.specs.Line.{Partial, TakesText}
+use Rattle.std.proofs.Common.{◌≡◌, ◌++◌, Some, None, take, rules}
 use Rattle.session.proofs.Lines.{text_dropped, text_within}
 use Rattle.session.proofs.line.Line.take_text.Goals as goal
 
