@@ -98,6 +98,6 @@ module _ (piece : List ℕ) (count : ℕ) (within : count ≤ length piece) (inn
       whole = sym (take-append-drop taken piece);
       inner = text_of piece taken inner_taken;
       goes_on = goes_on_within (take taken piece) bytes (text_of piece taken inner_taken)
-          (omega (arith, room, length-take-le taken piece (omega (arith, below_count)) ));
+          (omega (arith, room, length-take-le taken piece (omega (arith, below_count))));
       stops = stops_at (Some (bytes ++ take taken piece)) piece taken stop;
     }
