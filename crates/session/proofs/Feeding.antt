@@ -1,5 +1,5 @@
 -- Pieces of the input, one behind another.
-use Rattle.std.proofs.Common.{◌≡◌, ◌++◌, ℕ, List, [], ◌∷◌, Option, refl, sym, ap, subst, ◌∙◌, append_assoc}
+use Rattle.std.proofs.Common.{◌≡◌, ◌++◌, ℕ, List, [], ◌∷◌, Option, refl, sym, ap, subst, ◌∙◌, append_assoc, append-nil}
 use Rattle.session.specs.Session.{Session}
 use Rattle.session.specs.Exchange.{Exchange}
 use Rattle.session.specs.Replies.{Replies, Asks, Feeds, Stops}
@@ -23,6 +23,18 @@ replies-joined (byte ∷ bytes) back old mid new a b t u (next, first, others, f
   ap (λ (l : List Exchange). l ++ b) asked ∙ append_assoc first others b,
   ap (λ (l : List ℕ). l ++ u) text ∙ append_assoc f g u,
 )
+
+-- a piece of which a front, a text and one byte were taken
+pub piece_parted : (piece front rest text left behind : List ℕ) (byte : ℕ) → piece ≡ front ++ rest → rest ≡ text ++ left → left ≡ byte ∷ behind
+    → piece ≡ ((front ++ text) ++ byte ∷ []) ++ behind
+piece_parted piece front rest text left behind byte whole next is =
+    whole ∙ ap (λ (l : List ℕ). front ++ l) (next ∙ ap (λ (l : List ℕ). text ++ l) is) ∙ sym (append_assoc front text (byte ∷ behind))
+    ∙ sym (append_assoc (front ++ text) (byte ∷ []) behind)
+
+-- and one that was taken whole
+pub piece_taken : (piece front rest text left : List ℕ) → piece ≡ front ++ rest → rest ≡ text ++ left → left ≡ [] → front ++ text ≡ piece
+piece_taken piece front rest text left whole next none =
+    sym (whole ∙ ap (λ (l : List ℕ). front ++ l) (next ∙ ap (λ (l : List ℕ). text ++ l) none ∙ append-nil text))
 
 module _ {D : Type 0} (does : D → Exchange → D → Type 0) where
   pub asks-joined : (a b : List Exchange) (old mid new : D) → Asks does old a mid → Asks does mid b new → Asks does old (a ++ b) new

@@ -1,3 +1,4 @@
+mod Lines
 mod Whole
 mod Worked
 pub mod Plain

@@ -11,14 +11,14 @@ use Rattle.session.specs.declared.line.Event.TheVariants.{Complete}
 use Rattle.session.specs.declared.request.Request.TheVariants.{Ask}
 use Rattle.session.specs.declared.sent.Sent.{Sent}
 use Rattle.session.specs.Exchange.{Exchange, Answered, AreAnswered}
-use Rattle.session.specs.Line.{Partial, with_byte}
+use Rattle.session.specs.Line.{Partial, with_byte, TakesText}
 use Rattle.session.specs.Output.{AppendsFront}
 use Rattle.session.specs.Request.{request_of}
 use Rattle.session.specs.Session.{Session}
 use Rattle.session.specs.Replies.{answer_line, IsLine, Asked, TakesByte, LineEnds, IsAtOnce, Replies, Asks, Feeds, Stops}
 use Rattle.session.specs.Ahead.{command_of, commands_of, exchange_of, exchanges_of, AreReplies, IsSentAhead, Settles, Ahead}
 use Rattle.session.proofs.Feeding.{replies-joined, asks-joined, feeds-joined, feeds-nothing}
-use Rattle.session.proofs.Replying.{due_ok, some_line, pair, one_byte}
+use Rattle.session.proofs.Replying.{due_ok, some_line, pair, one_byte, goes_on_through}
 use Rattle.session.proofs.Writes.{appends-both, front-behind, front-longer}
 
 -- nothing was sent ahead
@@ -27,12 +27,12 @@ none_sent s [] text is tell = (refl, refl, tell)
 none_sent s (one ∷ others) text is tell = absurd cc
 
 -- the line goes on
-sent_on : (old mid new : Session) (bytes : List ℕ) (byte : ℕ) (commands : List Command) → IsSentAhead old bytes commands mid
-    → Replies mid (byte ∷ []) [] new [] → IsSentAhead old (bytes ++ byte ∷ []) commands new
-sent_on old mid new bytes byte commands sent more answered text is tell =
-    let joined = replies-joined bytes (byte ∷ []) old mid new (exchanges_of answered) [] text [] (sent answered text is tell) more in
-    subst (λ (l : List Exchange). Replies old (bytes ++ byte ∷ []) l new text) (append-nil (exchanges_of answered))
-    (subst (λ (l : List ℕ). Replies old (bytes ++ byte ∷ []) (exchanges_of answered ++ []) new l) (append-nil text) joined)
+sent_on : (old mid new : Session) (bytes more : List ℕ) (commands : List Command) → IsSentAhead old bytes commands mid
+    → Replies mid more [] new [] → IsSentAhead old (bytes ++ more) commands new
+sent_on old mid new bytes more commands sent goes answered text is tell =
+    let joined = replies-joined bytes more old mid new (exchanges_of answered) [] text [] (sent answered text is tell) goes in
+    subst (λ (l : List Exchange). Replies old (bytes ++ more) l new text) (append-nil (exchanges_of answered))
+    (subst (λ (l : List ℕ). Replies old (bytes ++ more) (exchanges_of answered ++ []) new l) (append-nil text) joined)
 
 -- equal lists have equal heads and equal tails
 cons_same : {X : Type 0} (x y : X) (xs ys : List X) → x ∷ xs ≡ y ∷ ys → (x ≡ y) × (xs ≡ ys)
@@ -182,15 +182,20 @@ module _ {D : Type 0} (does : D → Exchange → D → Type 0) where
   module _ (first old : Session) (piece : List ℕ) (commands : List Command) (begun desk : D) (clean out : Option (List ℕ))
       (ahead : Ahead does first piece commands old begun desk clean out) where
     -- the line goes on
-    pub ahead_on : (new : Session) (byte : ℕ) → Replies old (byte ∷ []) [] new [] → Ahead does first (piece ++ byte ∷ []) commands new begun desk clean out
-    ahead_on new byte more = record {
+    pub ahead_on : (new : Session) (more : List ℕ) → Replies old more [] new [] → Ahead does first (piece ++ more) commands new begun desk clean out
+    ahead_on new more goes = record {
       front = ahead.front;
-      back = ahead.back ++ byte ∷ [];
-      whole = ap (λ (l : List ℕ). l ++ byte ∷ []) ahead.whole ∙ append_assoc ahead.front ahead.back (byte ∷ []);
+      back = ahead.back ++ more;
+      whole = ap (λ (l : List ℕ). l ++ more) ahead.whole ∙ append_assoc ahead.front ahead.back more;
       mid = ahead.mid;
       fed = ahead.fed;
-      sent = sent_on ahead.mid old new ahead.back byte commands ahead.sent more;
+      sent = sent_on ahead.mid old new ahead.back more commands ahead.sent goes;
     }
+
+    -- so it does through text that is taken at once
+    pub ahead_through : (new : Session) (rest left : List ℕ) (taken : TakesText old.line rest new.line left) → new ≡ record old { line = new.line }
+        → Ahead does first (piece ++ taken.text) commands new begun desk clean out
+    ahead_through new rest left taken others = ahead_on new taken.text (goes_on_through taken.text new.line old new taken.goes_on others)
 
     -- a command is sent ahead
     pub ahead_more : (read new : Session) (byte : ℕ) (command : Command) → with_byte old.line byte ≡ (Complete, read.line) → read ≡ record old { line = read.line }

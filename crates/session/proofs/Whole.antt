@@ -1,6 +1,6 @@
 -- Whole lines.
 use Rattle.std.specs.Prelude.{◌==◌}
-use Rattle.std.proofs.Common.{Bool, true, false, length, ◌≡◌, ◌≢◌, ◌≤◌, ◌<◌, ◌+◌, ◌++◌, ℕ, List, [], ◌∷◌, Some, None, refl, sym, ap, subst, ◌∙◌, append_assoc, append-nil, length-append, arith}
+use Rattle.std.proofs.Common.{Bool, true, false, length, ◌≡◌, ◌≤◌, ◌<◌, ◌+◌, ◌++◌, ℕ, List, [], ◌∷◌, Some, None, refl, sym, ap, subst, ◌∙◌, append_assoc, append-nil, length-append, arith}
 use Rattle.std.proofs.lemmas.Bool.Decides.{nat_tests}
 use Rattle.refusal.specs.declared.Refusal.TheVariants.{LineTooLong}
 use Rattle.session.specs.declared.line.Event.{Event}
@@ -10,22 +10,7 @@ use Rattle.session.specs.Session.{Session}
 use Rattle.session.specs.Exchange.{Exchange}
 use Rattle.session.specs.Reply.{refusal_line}
 use Rattle.session.specs.Replies.{IsLine, IsReplied, TakesByte, LineContinues, LineOverflows, LineEnds, Replies}
-
--- what a byte makes of a line
-more_of : (front : List ℕ) (byte : ℕ) → byte ≢ 10 → length front < 65536 → with_byte (Some front) byte ≡ (More, Some (front ++ byte ∷ []))
-more_of front byte inner short =
-    let not_end : (byte == 10) ≡ false = grind (arith, nat_tests) in
-    let not_full : (length front == 65536) ≡ false = grind (arith, nat_tests) in
-    rw (not_end, not_full) refl
-
-full_of : (front : List ℕ) (byte : ℕ) → byte ≢ 10 → length front ≡ 65536 → with_byte (Some front) byte ≡ (TooLong, None)
-full_of front byte inner full =
-    let not_end : (byte == 10) ≡ false = grind (arith, nat_tests) in
-    let is_full : (length front == 65536) ≡ true = grind (arith, nat_tests) in
-    rw (not_end, is_full) refl
-
-dropped_of : (byte : ℕ) → byte ≢ 10 → with_byte None byte ≡ (More, None)
-dropped_of byte inner = let not_end : (byte == 10) ≡ false = grind (arith, nat_tests) in rw not_end refl
+use Rattle.session.proofs.Lines.{more_of, full_of, dropped_of}
 
 event_of : Event × Partial → Event
 event_of p = p.0

@@ -1,5 +1,5 @@
 -- Lines: the input is cut at each byte 10.
-use Rattle.std.specs.Prelude.{◌≢◌, ℕ, ◌==◌, ◌++◌, if◌then◌else◌, List, [], ◌∷◌, length, Option, Some, None}
+use Rattle.std.specs.Prelude.{◌≡◌, ◌≢◌, ◌⊎◌, ℕ, ◌==◌, ◌++◌, if◌then◌else◌, List, [], ◌∷◌, length, Option, Some, None}
 use Rattle.session.specs.declared.line.Event.{Event}
 use Rattle.session.specs.declared.line.Event.TheVariants.{More, TooLong, Complete}
 
@@ -20,3 +20,21 @@ with_byte (Some bytes) byte = if byte == 10 then (Complete, Some bytes) else wit
 abbrev pub HasNoEnd : List ℕ → Type 0
 HasNoEnd [] = Unit {0}
 HasNoEnd (byte ∷ bytes) = (byte ≢ 10) × HasNoEnd bytes
+
+-- the line goes on through all of these bytes
+abbrev pub GoesOn : Partial → List ℕ → Partial → Type 0
+GoesOn old [] new = new ≡ old
+GoesOn old (byte ∷ bytes) new = (next : Partial) × (with_byte old byte ≡ (More, next)) × GoesOn next bytes new
+
+-- at the front of these bytes the line ends, or has no room for more, or there are none
+abbrev pub StopsAt : Partial → List ℕ → Type 0
+StopsAt line [] = Unit {0}
+StopsAt line (byte ∷ bytes) = (byte ≡ 10) ⊎ (with_byte line byte ≡ (TooLong, None))
+
+-- The text in front of a piece is taken into the line, one byte after another: all of it up to a line end, or as much as there is room for.
+pub record TakesText (old : Partial) (piece : List ℕ) (new : Partial) (rest : List ℕ) : Type 0 where
+  pub text : List ℕ
+  pub whole : piece ≡ text ++ rest
+  pub inner : HasNoEnd text
+  pub goes_on : GoesOn old text new
+  pub stops : StopsAt new rest

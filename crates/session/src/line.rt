@@ -1,6 +1,6 @@
 //! The line that is being read.
-ghost use Rattle.std.specs.Prelude.{◌≡◌, IfOk, IfSome, Some, []};
-ghost use Rattle.session.specs.Line.{with_byte};
+ghost use Rattle.std.specs.Prelude.{◌≡◌, ◌≢◌, ◌≤◌, ◌<◌, ℕ, IfOk, IfSome, Some, [], length, slice_index};
+ghost use Rattle.session.specs.Line.{with_byte, TakesText};
 
 use bytes::BytesMut;
 use std::alloc::{AllocError, Global};
@@ -67,6 +67,20 @@ impl Line {
         Event::More
     }
 
+    /// Takes the text in front of a piece at once: up to a line end, or as much as there is room for. It gives what is left of the
+    /// piece, and needs no memory.
+    pub fn take_text<'a>(&mut self, piece: &'a [u8]) -> &'a [u8]
+        ensures { TakesText self.old piece.now self.new result.now }
+    {
+        let length = text_length(piece);
+        if self.is_dropped {
+            return piece.split_at(length).1;
+        }
+        let (text, rest) = piece.split_at(length.min(MAX_LINE - self.bytes.len()));
+        self.bytes.extend_from_slice(text).unwrap();
+        rest
+    }
+
     fn end(&mut self) -> Event
         ensures { (result, self.new) ≡ with_byte self.old 10 }
     {
@@ -90,5 +104,17 @@ impl Line {
     {
         self.bytes.clear();
         self.is_dropped = false;
+    }
+}
+
+// How many bytes stand in front of the first line end.
+fn text_length(piece: &[u8]) -> usize
+    ensures within { result ≤ length piece.now }
+    ensures inner { (i : ℕ) → i < result → slice_index piece.now i ≢ 10 }
+    ensures end { result < length piece.now → slice_index piece.now result ≡ 10 }
+{
+    match piece.iter().position(|byte| *byte == b'\n') {
+        Some(end) => end,
+        None => piece.len(),
     }
 }

@@ -6,7 +6,7 @@ ghost use Rattle.refusal.specs.declared.Refusal as refusal;
 ghost use Rattle.session.specs.declared.reply.Reply as reply;
 ghost use Rattle.revision.specs.Name.{is_source_name};
 ghost use Rattle.optext.specs.Answer.{IsAnswer};
-ghost use Rattle.session.specs.Line.{with_byte};
+ghost use Rattle.session.specs.Line.{with_byte, TakesText};
 ghost use Rattle.session.specs.Request.{request_of, GreetsSource};
 ghost use Rattle.revision.specs.State as state;
 ghost use Rattle.session.specs.Reply.{greeting as spec_greeting, subscribed_line, unsubscribed_reply as spec_unsubscribed, line_of, refusal_line};
@@ -123,9 +123,11 @@ impl Session {
         if self.ended {
             return Err(SessionEnded);
         }
+        let mut rest = piece;
         let mut sent = Vec::new(alloc);
-        for byte in piece {
+        while let Some((byte, behind)) = self.take_text(rest).split_first() {
             self.take(alloc, *byte, out, desk, shelf, &mut sent)?;
+            rest = behind;
         }
         self.settle(alloc, out, desk, &mut sent)?;
         Ok(())
@@ -185,6 +187,14 @@ impl Session {
         }
         self.subscriptions.go_on(news.last.as_slice());
         Ok(())
+    }
+
+    // Takes the text in front of what is left of a piece, and gives what is left behind it.
+    fn take_text<'a>(&mut self, rest: &'a [u8]) -> &'a [u8]
+        ensures text { TakesText self.old.line rest.now self.new.line result.now }
+        ensures others { self.new ≡ record self.old { line = self.new.line } }
+    {
+        self.line.take_text(rest)
     }
 
     // Takes the next byte of the input. A command is sent ahead, and every other reply waits for what was sent ahead of it.

@@ -1,5 +1,4 @@
-use Rattle.std.proofs.Common.{◌≡◌, ◌<◌, ◌++◌, ◌+◌, List, ℕ, [], ◌∷◌, length, take, drop, get_or, sym, ap, subst, ◌∙◌, append-nil, rules}
-use Rattle.std.proofs.lemmas.List.{take_more, take_all, take-append-drop}
+use Rattle.std.proofs.Common.{◌≡◌, ◌++◌, List, ℕ, [], ◌∷◌, refl, sym, subst, ◌∙◌, append-nil, rules}
 use Rattle.std.specs.Io.KnownBytes.{Appends}
 use Rattle.session.specs.declared.sent.Sent.{Sent}
 use Rattle.session.specs.Output.{AppendsFront}
@@ -7,8 +6,8 @@ use Rattle.session.specs.Replies.{Feeds, Stops}
 use Rattle.session.specs.Ahead.{commands_of, Ahead}
 use Rattle.session.proofs.Later.{fits_later}
 use Rattle.session.proofs.Writes.{on_err}
-use Rattle.session.proofs.Feeding.{stops-longer}
-use Rattle.session.proofs.Sending.{ahead_of_nothing, settles_map, settled, stops_settling}
+use Rattle.session.proofs.Feeding.{stops-longer, piece_parted, piece_taken}
+use Rattle.session.proofs.Sending.{ahead_of_nothing, ahead_through, settles_map, settled, stops_settling}
 use Rattle.session.proofs.session.Session.feed.Goals as goal
 
 pub loop-byte-init : goal.loop-byte-init
@@ -17,37 +16,44 @@ loop-byte-init g c =
     record {
       works = search rules;
       fits = c.requires.fits;
-      ahead = subst (λ (l : List Sent). Ahead g.D.Desk.does c.args.self.now [] (commands_of l) c.args.self.now c.args.desk.now c.args.desk.now out out) (sym c.new-sent.ensures.items)
-          (ahead_of_nothing g.D.Desk.does c.args.self.now c.args.desk.now out);
+      ahead = (
+        [],
+        refl,
+        subst (λ (l : List Sent). Ahead g.D.Desk.does c.args.self.now [] (commands_of l) c.args.self.now c.args.desk.now c.args.desk.now out out) (sym c.new-sent.ensures.items)
+            (ahead_of_nothing g.D.Desk.does c.args.self.now c.args.desk.now out),
+      );
     }
 
 pub loop-byte-preserved : goal.loop-byte-preserved
 loop-byte-preserved g c =
     let contents = g.O.Output.contents in
     let so_far = c.loop-byte.invariant in
-    let piece = c.args.piece.now in
-    let index = c.loop-byte.byte-index in
-    let within : index < length piece = search rules in
+    let front = so_far.ahead.0 in
+    let taken = c.take_text.ensures.text in
+    let on = ahead_through g.D.Desk.does c.args.self.now c.loop-byte.self front _ c.args.desk.now c.loop-byte.desk (contents c.args.out.now) (contents c.loop-byte.out) so_far.ahead.2
+    c.take_text.new.self _ _ taken c.take_text.ensures.others in
     record {
       works = c.in_ok-take.ensures.ok;
       fits = c.take.ensures.fits;
-      ahead = subst (λ (l : List ℕ). Ahead g.D.Desk.does c.args.self.now l (commands_of c.take.new.sent.items) c.take.new.self c.args.desk.now c.take.new.desk (contents c.args.out.now) (contents c.take.new.out))
-          (sym (take_more piece index 0 within))
-          (c.in_ok-take.ensures.taken c.args.self.now (take index piece) c.args.desk.now (contents c.args.out.now) so_far.ahead);
+      ahead = (
+        (front ++ taken.text) ++ _ ∷ [],
+        piece_parted c.args.piece.now front _ taken.text _ _ _ so_far.ahead.1 taken.whole c.in-Some.ensures.cases.0,
+        c.in_ok-take.ensures.taken c.args.self.now (front ++ taken.text) c.args.desk.now (contents c.args.out.now) on,
+      );
     }
 
 pub returns-in_err-take-clause-stopped : goal.returns-in_err-take-clause-stopped
 returns-in_err-take-clause-stopped g c =
     let contents = g.O.Output.contents in
     let so_far = c.loop-byte.invariant in
-    let piece = c.args.piece.now in
-    let index = c.loop-byte.byte-index in
-    let within : index < length piece = search rules in
-    let front = take index piece ++ get_or piece index 0 ∷ [] in
-    let whole : piece ≡ front ++ drop (index + 1) piece = sym (take-append-drop (index + 1) piece) ∙ ap (λ (l : List ℕ). l ++ drop (index + 1) piece) (take_more piece index 0 within) in
+    let front = so_far.ahead.0 in
+    let taken = c.take_text.ensures.text in
+    let on = ahead_through g.D.Desk.does c.args.self.now c.loop-byte.self front _ c.args.desk.now c.loop-byte.desk (contents c.args.out.now) (contents c.loop-byte.out) so_far.ahead.2
+    c.take_text.new.self _ _ taken c.take_text.ensures.others in
     on_err c.from_residual.result (λ works.
-    stops-longer g.D.Desk.does front (drop (index + 1) piece) piece _ _ _ _ _ _ whole
-    (c.in_err-take.ensures.stopped c.args.self.now (take index piece) c.args.desk.now (contents c.args.out.now) so_far.ahead))
+    stops-longer g.D.Desk.does ((front ++ taken.text) ++ _ ∷ []) _ c.args.piece.now _ _ _ _ _ _
+    (piece_parted c.args.piece.now front _ taken.text _ _ _ so_far.ahead.1 taken.whole c.in-Some.ensures.cases.0)
+    (c.in_err-take.ensures.stopped c.args.self.now (front ++ taken.text) c.args.desk.now (contents c.args.out.now) on))
 
 pub returns-in_err-settle-clause-fits : goal.returns-in_err-settle-clause-fits
 returns-in_err-settle-clause-fits g c =
@@ -61,12 +67,15 @@ pub returns-in_err-settle-clause-stopped : goal.returns-in_err-settle-clause-sto
 returns-in_err-settle-clause-stopped g c =
     let contents = g.O.Output.contents in
     let so_far = c.loop-byte.invariant in
-    let piece = c.args.piece.now in
-    let index = c.loop-byte.byte-index in
-    let whole : take index piece ++ [] ≡ piece = append-nil (take index piece) ∙ take_all index piece (search rules) in
+    let front = so_far.ahead.0 in
+    let taken = c.take_text.ensures.text in
+    let on = ahead_through g.D.Desk.does c.args.self.now c.loop-byte.self front _ c.args.desk.now c.loop-byte.desk (contents c.args.out.now) (contents c.loop-byte.out) so_far.ahead.2
+    c.take_text.new.self _ _ taken c.take_text.ensures.others in
+    let whole : (front ++ taken.text) ++ [] ≡ c.args.piece.now = append-nil (front ++ taken.text)
+    ∙ piece_taken c.args.piece.now front _ taken.text _ so_far.ahead.1 taken.whole (search rules) in
     on_err c.from_residual-in_err-settle.result (λ works.
     subst (λ (l : List ℕ). Stops g.D.Desk.does c.args.self.now l c.settle.new.self c.args.desk.now c.settle.new.desk (contents c.args.out.now) (contents c.settle.new.out)) whole
-    (stops_settling g.D.Desk.does c.args.self.now c.loop-byte.self (take index piece) _ c.args.desk.now c.loop-byte.desk (contents c.args.out.now) (contents c.loop-byte.out) so_far.ahead
+    (stops_settling g.D.Desk.does c.args.self.now c.take_text.new.self (front ++ taken.text) _ c.args.desk.now c.loop-byte.desk (contents c.args.out.now) (contents c.loop-byte.out) on
     c.settle.new.self c.settle.new.desk (contents c.settle.new.out) []
     (settles_map g.D.Desk.does _ _ _ _ (AppendsFront (contents c.loop-byte.out) (contents c.settle.new.out)) (λ t h. h.1) c.in_err-settle.ensures.settled) c.in_err-settle.ensures.err))
 
@@ -74,12 +83,14 @@ pub returns-clause-fed : goal.returns-clause-fed
 returns-clause-fed g c =
     let contents = g.O.Output.contents in
     let so_far = c.loop-byte.invariant in
-    let piece = c.args.piece.now in
-    let index = c.loop-byte.byte-index in
-    let fed = settled g.D.Desk.does c.args.self.now c.loop-byte.self (take index piece) _ c.args.desk.now c.loop-byte.desk (contents c.args.out.now) (contents c.loop-byte.out) so_far.ahead
+    let front = so_far.ahead.0 in
+    let taken = c.take_text.ensures.text in
+    let on = ahead_through g.D.Desk.does c.args.self.now c.loop-byte.self front _ c.args.desk.now c.loop-byte.desk (contents c.args.out.now) (contents c.loop-byte.out) so_far.ahead.2
+    c.take_text.new.self _ _ taken c.take_text.ensures.others in
+    let fed = settled g.D.Desk.does c.args.self.now c.take_text.new.self (front ++ taken.text) _ c.args.desk.now c.loop-byte.desk (contents c.args.out.now) (contents c.loop-byte.out) on
     c.settle.new.desk (contents c.settle.new.out)
     (settles_map g.D.Desk.does _ _ _ _ (Appends (contents c.loop-byte.out) (contents c.settle.new.out)) (λ t h. h.0) c.in_ok-settle.ensures.settled) in
     subst (λ (l : List ℕ). Feeds g.D.Desk.does c.args.self.now l c.settle.new.self c.args.desk.now c.settle.new.desk (contents c.args.out.now) (contents c.settle.new.out))
-    (take_all index piece (search rules))
-    (subst (λ s. Feeds g.D.Desk.does c.args.self.now (take index piece) s c.args.desk.now c.settle.new.desk (contents c.args.out.now) (contents c.settle.new.out))
+    (piece_taken c.args.piece.now front _ taken.text _ so_far.ahead.1 taken.whole (search rules))
+    (subst (λ s. Feeds g.D.Desk.does c.args.self.now (front ++ taken.text) s c.args.desk.now c.settle.new.desk (contents c.args.out.now) (contents c.settle.new.out))
     (sym c.in_ok-settle.ensures.ok) fed)

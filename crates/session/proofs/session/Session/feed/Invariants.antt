@@ -1,4 +1,4 @@
-use Rattle.std.proofs.Common.{◌≡◌, false, take}
+use Rattle.std.proofs.Common.{◌≡◌, ◌++◌, false, length, List, ℕ}
 use Rattle.session.specs.Ahead.{commands_of, Ahead}
 use Rattle.session.specs.Shelf.{Fits}
 use Rattle.session.proofs.session.Session.feed.Given as goal
@@ -10,5 +10,9 @@ invariant-loop-byte g l =
     record {
       works : l.self.ended ≡ false;
       fits : Fits (g.D.Desk.reached l.desk) l.shelf;
-      ahead : Ahead g.D.Desk.does l.fn.self (take l.byte-index l.piece) (commands_of l.sent.items) l.self l.fn.desk l.desk (contents l.fn.out) (contents l.out);
+      ahead : (front : List ℕ) × (l.piece ≡ front ++ l.rest)
+          × Ahead g.D.Desk.does l.fn.self front (commands_of l.sent.items) l.self l.fn.desk l.desk (contents l.fn.out) (contents l.out);
     }
+
+abbrev pub decreases-loop-byte : goal.decreases-loop-byte
+decreases-loop-byte g l = length l.rest

@@ -38,7 +38,7 @@ respond-reply-requires-clause-fits g c =
 
 pub returns-in-More-clause-taken : goal.returns-in-More-clause-taken
 returns-in-More-clause-taken g c first piece begun clean ahead =
-    ahead_on g.D.Desk.does first c.args.self.now piece _ begun c.args.desk.now clean (g.O.Output.contents c.args.out.now) ahead c.event_of.new.self c.args.byte
+    ahead_on g.D.Desk.does first c.args.self.now piece _ begun c.args.desk.now clean (g.O.Output.contents c.args.out.now) ahead c.event_of.new.self (c.args.byte ∷ [])
     (goes_on c.args.self.now c.event_of.new.self c.args.byte (sym c.in-More.ensures.event) c.in-More.ensures.others)
 
 pub returns-in_ok-send-in-TooLong-clause-taken : goal.returns-in_ok-send-in-TooLong-clause-taken
