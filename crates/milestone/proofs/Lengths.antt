@@ -9,7 +9,8 @@ use Rattle.delta.specs.Normal.{nf}
 use Rattle.delta.proofs.CallerLemmas.{apply-nf, base_of-nf, length-apply_counted, units_below-counted}
 use Rattle.document.specs.Weight as document
 use Rattle.compose.specs.Many.{applied, lengths_of}
-use Rattle.revision.specs.Past.{Past, Change, StandInTurn, StayShort, newest, newest_units, content_at, deltas_of}
+use Rattle.revision.specs.Past.{Past, Change, StandInTurn, StayShort, newest, newest_units, content_at, sources_at, deltas_of}
+use Rattle.revision.specs.Sources.{count_of}
 use Rattle.revision.specs.Replay.{deltas_to, replay_of}
 use Rattle.revision.specs.State.{Limits, weight_of}
 use Rattle.revision.specs.Invariants.{IsLimits, IsPast}
@@ -76,7 +77,7 @@ module _ (limits : Limits) (past : Past) (ranges : IsLimits limits) (keeps : IsP
   -- a document is short at each revision that is held
   short_at : (revision : ℕ) → past.floor ≤ revision → revision ≤ newest past → length (content_at past revision).units ≤ 2 ^ 29
   short_at revision held there =
-      light_is_short (content_at past revision).units _ (omega (arith, (keeps.each revision held there).weight, ranges.weight))
+      light_is_short (content_at past revision).units (count_of (sources_at past revision)) (omega (arith, (keeps.each revision held there).weight, ranges.weight))
 
   short_after : (count : ℕ) → count ≤ length (deltas_of past) → length (applied past.content.units (take count (deltas_of past))) ≤ 2 ^ 29
   short_after count within =
