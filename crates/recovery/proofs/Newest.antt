@@ -240,4 +240,4 @@ module _ {D : Type 0} {disk : Ghosts D} where
   half_behind old mid new document (Ok answer) first state dropped device job fails goes = tt
   half_behind {A} old mid new document (Err refusal) first state dropped device job fails goes = λ other is_open.
       one_put_then old mid new is_open document (first is_open) (goes.opens (works_still {A = A} new refusal fails other) (first is_open).put.goes_on) (device other)
-          state dropped job
+      state dropped job
