@@ -307,12 +307,12 @@ module _ {D : Type 0} {disk : Ghosts D} where
       where
         needs : ¬ IsSpared segment mark.document start
         needs low =
-            absurd (omega (
+            omega (
               arith,
               low,
               marked_member segment (known_marks start) place mark inside is above.0,
               above_before reach above,
-            ))
+            )
 
         left : (document : ℕ) → document ≢ mark.document → first document ≤ low_at document
             → (cells_at put.goes_on.cells document ≡ cells_at is_open.cells document) × (jobs_for document (kept_jobs new) ≡ jobs_for document (kept_jobs start))

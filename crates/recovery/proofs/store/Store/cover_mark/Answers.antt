@@ -5,7 +5,7 @@ use Rattle.milestone.specs.declared.cells.Cells.{Cells}
 use Rattle.recovery.specs.Jobs.{without_job}
 use Rattle.recovery.proofs.OtherJobs.{others_without, fewer_without}
 use Rattle.recovery.specs.Cells.{lowest_known}
-use Rattle.recovery.specs.Open.{IsOpen, kept_jobs}
+use Rattle.recovery.specs.Open.{IsOpen, kept_jobs, state_of}
 use Rattle.recovery.specs.steps.Freeing.{reached_in, IsMarkAbove}
 use Rattle.revision.specs.State.{State}
 use Rattle.recovery.proofs.Going.{goes_nowhere, goes_same}
@@ -108,7 +108,7 @@ returns-clause-half g c =
 
 -- the job of the one that was refused is one more at most
 pub returns-in-Err-clause-one_job : goal.returns-in-Err-clause-one_job
-returns-in-Err-clause-one_job g c = may_keep_one c.args.mark.document _ c.args.self.now c.raise.new.self c.in-Err.ensures.job
+returns-in-Err-clause-one_job g c = may_keep_one c.args.mark.document (reached_in (state_of c.args.self.now) c.args.mark.document) c.args.self.now c.raise.new.self c.in-Err.ensures.job
 
 pub returns-clause-one_job : goal.returns-clause-one_job
 returns-clause-one_job g c =
@@ -116,7 +116,7 @@ returns-clause-one_job g c =
     on_err_weaker c.raise-2.result
     (λ job. omega (
       arith,
-      may_keep_one c.args.mark.document _ c.raise.new.self c.raise-2.new.self job,
+      may_keep_one c.args.mark.document (reached_in (state_of c.raise.new.self) c.args.mark.document) c.raise.new.self c.raise-2.new.self job,
       ap (λ (l : List Job). length l) c.in_default.ensures.dropped,
       fewer_without c.args.mark.document old,
     ))
