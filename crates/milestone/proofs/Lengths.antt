@@ -1,5 +1,5 @@
 -- The lengths of the deltas that lead from the empty document to a revision.
-use Rattle.std.proofs.Common.{◌≡◌, ℕ, zero, suc, ◌+◌, ◌-◌, ◌*◌, ◌≤◌, ◌^◌, true, false, Bool, List, [], ◌∷◌, length, take, map, refl, sym, ◌∙◌, ap, subst, length-append, arith}
+use Rattle.std.proofs.Common.{◌≡◌, ℕ, zero, suc, ◌+◌, ◌-◌, ◌*◌, ◌≤◌, ◌^◌, true, false, Bool, List, [], ◌∷◌, length, take, ap, subst, length-append, arith}
 use Rattle.std.specs.Prelude.{◌==◌, ◌<◌, if◌then◌else◌}
 use Rattle.std.proofs.lemmas.List.{length-map}
 use Rattle.delta.specs.Element.{Element}
@@ -11,7 +11,7 @@ use Rattle.document.specs.Weight as document
 use Rattle.compose.specs.Many.{applied, lengths_of}
 use Rattle.revision.specs.Past.{Past, Change, StandInTurn, StayShort, newest, newest_units, content_at, sources_at, deltas_of}
 use Rattle.revision.specs.Sources.{count_of}
-use Rattle.revision.specs.Replay.{deltas_to, replay_of}
+use Rattle.revision.specs.Replay.{deltas_to}
 use Rattle.revision.specs.State.{Limits, weight_of}
 use Rattle.revision.specs.Invariants.{IsLimits, IsPast}
 use Rattle.milestone.specs.Job.{KeepLengths}
