@@ -1,5 +1,6 @@
 pub mod CallerLemmas
 pub mod InTurn
+pub mod Lengths
 pub mod Sizes
 pub mod Light
 pub mod Bytes

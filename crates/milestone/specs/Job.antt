@@ -1,8 +1,8 @@
 -- What a milestone is made of: deltas that lead from the empty document to a revision, with the document's sources there.
-use Rattle.std.specs.Prelude.{ℕ, ◌<◌, ◌^◌, List, [], refl}
+use Rattle.std.specs.Prelude.{ℕ, ◌≤◌, ◌<◌, ◌^◌, List, [], refl}
 use Rattle.std.specs.Coded.{Coded, code_by, coded×, coded_list, coded_ℕ}
 use Rattle.delta.specs.Operation.{Operation, operation_code}
-use Rattle.compose.specs.Many.{applied}
+use Rattle.compose.specs.Many.{applied, lengths_of}
 use Rattle.revision.specs.Past.{StandInTurn}
 use Rattle.revision.specs.Sources.{Sources, sources_code}
 use Rattle.history.specs.Cell.{Cell}
@@ -21,10 +21,16 @@ pub record Job : Type 0 where
 abbrev pub cell_of_job : Job → Cell
 cell_of_job job = record { name = job.name; revision = job.revision; content = record { units = applied [] job.deltas }; sources = job.sources }
 
--- Each delta is accepted by the document that those before it make, and what comes of them is a milestone.
+-- the base lengths and the output lengths of all deltas together sum to at most 2^48
+abbrev pub KeepLengths : List (List Operation) → Type 0
+KeepLengths deltas = lengths_of deltas ≤ 2 ^ 48
+
+-- Each delta is accepted by the document that those before it make: it speaks of units that are there, and parts no pair. All their lengths
+-- keep the bound, and what comes of them is a milestone.
 pub record IsJob (job : Job) : Type 0 where
   pub document : job.document < 2 ^ 32
   pub stand : StandInTurn [] job.deltas
+  pub lengths : KeepLengths job.deltas
   pub milestone : IsMilestone (cell_of_job job)
 
 -- how a job is told from another

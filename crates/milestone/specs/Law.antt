@@ -4,8 +4,12 @@ use Rattle.delta.specs.Element.{Element}
 use Rattle.document.specs.Weight.{weight_of}
 use Rattle.revision.specs.State.{Limits}
 use Rattle.revision.specs.Width.{delta_width}
+use Rattle.revision.specs.Past.{Past}
+use Rattle.revision.specs.Invariants.{IsLimits, IsPast}
+use Rattle.revision.specs.Replay.{replay_of}
 use Rattle.history.specs.Cell.{Cell, Pair, CellKeeps}
 use Rattle.milestone.specs.CellSpelling.{cell_body, inserts_of, IsCell}
+use Rattle.milestone.specs.Job.{KeepLengths}
 use Rattle.milestone.specs.OneCell.{HoldsPair}
 
 -- What has a spelling as a cell and keeps the limits fits a cell that has 128 bytes more than a document may weigh: the gate and the
@@ -26,3 +30,8 @@ OnePair = (place size number : ℕ) (content : List ℕ) (a b : Pair) → HoldsP
 abbrev pub AgreeWithin : Type 0
 AgreeWithin = (place size number : ℕ) (a b : List ℕ) (pair : Pair) → take (2 * size) (drop place b) ≡ take (2 * size) (drop place a)
     → HoldsPair place size number a pair → HoldsPair place size number b pair
+
+-- What leads from the empty document to a revision keeps the bound of a job's lengths, where the past keeps the limits: it is the inserts of
+-- one document and at most 65,536 deltas, and each document has at most 2^29 units.
+abbrev pub PastsKeepLengths : Type 0
+PastsKeepLengths = (limits : Limits) (past : Past) (revision : ℕ) → IsLimits limits → IsPast limits past → KeepLengths (replay_of past revision)

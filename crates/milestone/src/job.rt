@@ -2,7 +2,7 @@
 ghost use Rattle.std.specs.Prelude.{◌≡◌, ◌≤◌, ◌↔◌, true, [], IsTrue, IfOk, IsOkUnless};
 ghost use Rattle.revision.specs.Past.{StandInTurn};
 ghost use Rattle.revision.specs.State.{last_of_all, are_sources};
-ghost use Rattle.milestone.specs.Job.{IsJob};
+ghost use Rattle.milestone.specs.Job.{KeepLengths, IsJob};
 
 use delta::Delta;
 use refusal::Refusal;
@@ -37,8 +37,8 @@ impl Model for Job {
 
 impl Job {
     /// A job for the document of this number, counted from 0 in order of creation, at a revision of 1 to 2^53 - 1. Each delta is
-    /// accepted by the document that those before it make of the empty one, and the sources have numbers of 1 to 2^53 - 1 and
-    /// revisions of 1 to this one. It takes no memory.
+    /// accepted by the document that those before it make of the empty one, the base lengths and the output lengths of all sum to at
+    /// most 2^48, and the sources have numbers of 1 to 2^53 - 1 and revisions of 1 to this one. It takes no memory.
     pub fn new(
         document: u32,
         name: Name,
@@ -47,6 +47,7 @@ impl Job {
         sources: Sources,
     ) -> Job
         requires stand { StandInTurn [] deltas.items }
+        requires lengths { KeepLengths deltas.items }
         requires first { 1 ≤ revision }
         requires last { revision ≤ last_of_all }
         requires sources { are_sources revision sources.entries ≡ true }

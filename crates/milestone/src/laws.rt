@@ -1,5 +1,5 @@
 //! What holds of cells, as contracts of functions that do nothing.
-ghost use Rattle.milestone.specs.Law.{FitsItsCell, LightContent, OnePair, AgreeWithin};
+ghost use Rattle.milestone.specs.Law.{FitsItsCell, LightContent, OnePair, AgreeWithin, PastsKeepLengths};
 
 /// What has a spelling as a cell and keeps the limits fits a cell that has 128 bytes more than a document may weigh.
 pub fn fits()
@@ -19,4 +19,9 @@ pub fn one_pair()
 /// Contents that agree within the range of two cells hold the same pair there.
 pub fn agree_within()
     ensures { AgreeWithin }
+{}
+
+/// What leads from the empty document to a revision of a past that keeps the limits has lengths that sum to at most 2^48.
+pub fn job_lengths()
+    ensures { PastsKeepLengths }
 {}

@@ -21,8 +21,8 @@ use Rattle.recovery.specs.Cells.{lowest_known}
 use Rattle.recovery.specs.Marks.{marks_of, revision_for, greatest_marked}
 use Rattle.recovery.specs.Jobs.{jobs_for, without_job}
 use Rattle.recovery.specs.Marked.{MayRetire}
-use Rattle.recovery.specs.Open.{IsOpen, IsUnchanged, IsRetiredNow, IsFreedNow, IsHalfFreed, IsSpared, IsOnePut, AreBothNewest, needing, ring_of, state_of, known_cells, known_marks, kept_jobs}
-use Rattle.recovery.specs.steps.Freeing.{reached, reached_in, MayReach, KeepsSegments, IsMarkSpared, IsMarkAbove, IsPutOf, IsOnePutOrNone, AreCovered}
+use Rattle.recovery.specs.Open.{IsOpen, IsUnchanged, IsRetiredNow, IsFreedNow, IsHalfFreed, IsHalfRaised, IsSpared, AreBothNewest, needing, ring_of, state_of, known_cells, known_marks, kept_jobs}
+use Rattle.recovery.specs.steps.Freeing.{reached, reached_in, MayReach, KeepsSegments, IsMarkSpared, IsMarkAbove, IsPutOf, IsHalfPut, AreCovered}
 use Rattle.recovery.proofs.Going.{open_unchanged, unchanged_cells, unchanged_table}
 use Rattle.recovery.proofs.Marked.{one_oldest}
 use Rattle.recovery.proofs.Marking.{marked_push, marked_member, own, other_document, other_segment}
@@ -136,6 +136,7 @@ module _ {D : Type 0} {disk : Ghosts D} where
     goes_on = is_open;
     same_table = refl;
     spared = λ document low. refl;
+    kept = λ document low. refl;
     raised = λ document above. absurd (omega (arith, above));
     dropped = λ document above. absurd (omega (arith, above));
   }
@@ -187,6 +188,7 @@ module _ {D : Type 0} {disk : Ghosts D} where
       goes_on = before.goes_on;
       same_table = before.same_table;
       spared = λ document low. before.spared document (omega (arith, low, next document));
+      kept = λ document low. before.kept document (omega (arith, low, next document));
       raised = λ document above. elim (low_or_above (first document) (low_at document)) [
         | inr high ↦ before.raised document high
         | inl low ↦
@@ -227,6 +229,18 @@ module _ {D : Type 0} {disk : Ghosts D} where
               ap low_at same,
             ))
       ];
+      kept = λ document low. elim (cases_eq document mark.document) [
+        | inr apart ↦ others_jobs document apart ∙ before.kept document (omega (arith, low, next document))
+        | inl same ↦
+            absurd (omega (
+              arith,
+              low,
+              next document,
+              own_revision segment document mark above.0 (sym same),
+              above_before reach above,
+              ap low_at same,
+            ))
+      ];
       raised = λ document high. elim (cases_eq document mark.document) [
         | inl same ↦
             subst (λ n. AreBothNewest (state_of start) n (cells_at put.goes_on.cells n)) (sym same)
@@ -239,11 +253,15 @@ module _ {D : Type 0} {disk : Ghosts D} where
         | inl same ↦
             subst (λ n. jobs_for n (kept_jobs new) ≡ []) (sym same) (ap (λ (l : List Job). jobs_for mark.document l) jobs ∙ none_own mark.document (kept_jobs store))
         | inr apart ↦
-            own_stay document mark.document (kept_jobs store) (kept_jobs new) apart
-            (ap (λ (l : List Job). without_job mark.document l) jobs ∙ others_without mark.document mark.document (kept_jobs store) refl)
+            others_jobs document apart
             ∙ before.dropped document (omega (arith, high, next document, no_revision segment document mark (inr (λ is. apart (sym is)))))
       ];
     }
+      where
+        others_jobs : (document : ℕ) → document ≢ mark.document → jobs_for document (kept_jobs new) ≡ jobs_for document (kept_jobs store)
+        others_jobs document apart =
+            own_stay document mark.document (kept_jobs store) (kept_jobs new) apart
+            (ap (λ (l : List Job). without_job mark.document l) jobs ∙ others_without mark.document mark.document (kept_jobs store) refl)
 
     -- one mark more is covered
     pub covered_more : (new : Store D disk) → state_of store ≡ state_of start → MayReach segment mark (state_of start)
@@ -256,50 +274,52 @@ module _ {D : Type 0} {disk : Ghosts D} where
       | inr above ↦ covered_put new state reach above (put above) (jobs above)
     ]
 
-    -- where memory ran out, no cell of the mark's document was put, or one
+    -- it was given up within the milestones of the mark's document
     pub half_freed : (new : Store D disk) (slot : ℕ) → IsOldest (known_numbers (ring_of start)) slot segment → state_of store ≡ state_of start
-        → MayReach segment mark (state_of start) → IsMarkAbove segment mark store
-        → IsPutOf mark.document (IsOnePutOrNone (state_of store) mark.document (cells_at before.goes_on.cells mark.document)) store before.goes_on new
-        → IsHalfFreed start is_open new
-    half_freed new slot oldest state reach above put = record {
+        → MayReach segment mark (state_of start) → IsMarkAbove segment mark store → IsHalfPut mark.document store before.goes_on new
+        → without_job mark.document (kept_jobs new) ≡ without_job mark.document (kept_jobs store) → IsHalfFreed start is_open new
+    half_freed new slot oldest state reach above put others = record {
       goes_on = put.goes_on;
       same_table = put.same_table ∙ before.same_table;
       slot = slot;
       segment = segment;
       oldest = oldest;
       spared = λ document low. elim (cases_eq document mark.document) [
-        | inr apart ↦ put.others document apart ∙ before.spared document (omega (arith, low, first_low segment document place (known_marks start)))
-        | inl same ↦
-            absurd (omega (
-              arith,
-              low,
-              ap low_at same,
-              ap (λ n. greatest_marked segment n (known_marks start)) same,
-              marked_member segment (known_marks start) place mark inside is above.0,
-              above_before reach above,
-            ))
+        | inr apart ↦ left document apart (omega (arith, low, first_low segment document place (known_marks start)))
+        | inl same ↦ absurd (needs (subst (λ n. IsSpared segment n start) same low))
       ];
-      raised = λ document needed. elim (cases_eq document mark.document) [
-        | inr apart ↦ elim (low_or_above (first document) (low_at document)) [
-          | inl low ↦ inl (put.others document apart ∙ before.spared document low)
-          | inr high ↦ inr (inr (subst (AreBothNewest (state_of start) document) (sym (put.others document apart)) (before.raised document high)))
-        ]
-        | inl same ↦
-            subst (λ n. (cells_at put.goes_on.cells n ≡ cells_at is_open.cells n)
-            ⊎ (IsOnePut (state_of start) n (cells_at is_open.cells n) (cells_at put.goes_on.cells n) ⊎ AreBothNewest (state_of start) n (cells_at put.goes_on.cells n))) (sym same)
-            (own_put (before.spared mark.document (first_above reach above)) put.own)
+      under_way = mark.document;
+      needs = needs;
+      own = subst (λ (s : State). IsHalfRaised s mark.document (cells_at is_open.cells mark.document) (jobs_for mark.document (kept_jobs start))
+          (cells_at put.goes_on.cells mark.document) (jobs_for mark.document (kept_jobs new))) state
+          (subst (λ (p : Pair). IsHalfRaised (state_of store) mark.document p (jobs_for mark.document (kept_jobs start))
+          (cells_at put.goes_on.cells mark.document) (jobs_for mark.document (kept_jobs new))) (before.spared mark.document (first_above reach above))
+          (subst (λ (l : List Job). IsHalfRaised (state_of store) mark.document (cells_at before.goes_on.cells mark.document) l
+          (cells_at put.goes_on.cells mark.document) (jobs_for mark.document (kept_jobs new))) (before.kept mark.document (first_above reach above)) put.own));
+      others = λ document apart needed. elim (low_or_above (first document) (low_at document)) [
+        | inl low ↦ inl (left document apart low)
+        | inr high ↦ inr (
+          subst (AreBothNewest (state_of start) document) (sym (put.others document apart)) (before.raised document high),
+          own_stay document mark.document (kept_jobs store) (kept_jobs new) apart others ∙ before.dropped document high,
+        )
       ];
     }
       where
-        own_put : cells_at before.goes_on.cells mark.document ≡ cells_at is_open.cells mark.document
-            → IsOnePutOrNone (state_of store) mark.document (cells_at before.goes_on.cells mark.document) (cells_at put.goes_on.cells mark.document)
-            → (cells_at put.goes_on.cells mark.document ≡ cells_at is_open.cells mark.document)
-            ⊎ (IsOnePut (state_of start) mark.document (cells_at is_open.cells mark.document) (cells_at put.goes_on.cells mark.document)
-            ⊎ AreBothNewest (state_of start) mark.document (cells_at put.goes_on.cells mark.document))
-        own_put was (inl same) = inl (same ∙ was)
-        own_put was (inr one) =
-            inr (inl (subst (λ (s : State). IsOnePut s mark.document (cells_at is_open.cells mark.document) (cells_at put.goes_on.cells mark.document)) state
-            (subst (λ (p : Pair). IsOnePut (state_of store) mark.document p (cells_at put.goes_on.cells mark.document)) was one)))
+        needs : ¬ IsSpared segment mark.document start
+        needs low =
+            omega (
+              arith,
+              low,
+              marked_member segment (known_marks start) place mark inside is above.0,
+              above_before reach above,
+            )
+
+        left : (document : ℕ) → document ≢ mark.document → first document ≤ low_at document
+            → (cells_at put.goes_on.cells document ≡ cells_at is_open.cells document) × (jobs_for document (kept_jobs new) ≡ jobs_for document (kept_jobs start))
+        left document apart low = (
+          put.others document apart ∙ before.spared document low,
+          own_stay document mark.document (kept_jobs store) (kept_jobs new) apart others ∙ before.kept document low,
+        )
 
     -- a document that has marks is there
     inside_state : MayReach segment mark (state_of start) → IsMarkAbove segment mark store → mark.document < length (state_of start).documents

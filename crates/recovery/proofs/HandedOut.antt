@@ -10,8 +10,10 @@ use Rattle.revision.specs.Past.{sources_at}
 use Rattle.revision.specs.Pending.{PendingDocument, record_of}
 use Rattle.revision.specs.State.{Limits, DocumentRecord, State, revision_of, are_sources}
 use Rattle.revision.specs.Invariants.{IsState}
+use Rattle.revision.specs.Replay.{replay_of}
 use Rattle.history.specs.Cell.{CellKeeps, cell_of}
-use Rattle.milestone.specs.Job.{Job, cell_of_job}
+use Rattle.milestone.specs.Job.{Job, KeepLengths, cell_of_job}
+use Rattle.milestone.proofs.CallerLemmas.{pasts_keep_lengths}
 use Rattle.recovery.specs.Jobs.{no_job_of, no_job_for, IsJobTo, KeepsLimits, AllKeep, without_job, with_job}
 use Rattle.recovery.proofs.KeptJobs.{all_passing}
 use Rattle.std.specs.Prelude.{◌==◌, not}
@@ -51,6 +53,11 @@ err_of P result e is has = subst (λ r. IfErr r P) (sym is) has
 
 pub same_error : {A : Type 0} (result : Result A Refusal) (x y : Refusal) → result ≡ Err x → result ≡ Err y → x ≡ y
 same_error result x y one other = cc
+
+-- what leads to a revision of a document has lengths that a job may have
+pub lengths_here : (state : State) (is_state : IsState state) (document : ℕ) (found : DocumentRecord) → slice_get state.documents document ≡ Some found
+    → (revision : ℕ) → KeepLengths (replay_of found.past revision)
+lengths_here state is_state document found there revision = pasts_keep_lengths state.limits found.past revision is_state.limits (is_state.each document found there)
 
 module _ (state : State) (is_state : IsState state) (document revision highest : ℕ) (found : DocumentRecord) (there : slice_get state.documents document ≡ Some found)
     (none : no_job_of found highest revision ≡ None) where

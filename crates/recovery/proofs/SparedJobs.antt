@@ -1,5 +1,5 @@
 -- The kept jobs of documents that need no milestone while a segment is freed.
-use Rattle.std.proofs.Common.{◌≡◌, ◌≢◌, ◌⊎◌, inl, inr, ℕ, ◌≤◌, ◌<◌, List, length, get_or, sym, ◌∙◌, ap, subst}
+use Rattle.std.proofs.Common.{◌≡◌, ◌≢◌, ◌⊎◌, inl, inr, ℕ, ◌+◌, ◌≤◌, ◌<◌, arith, List, length, get_or, sym, ◌∙◌, ap, subst}
 use Rattle.std.proofs.lemmas.Bool.{cases_eq}
 use Rattle.disk.specs.declared.device.Disk.{Ghosts}
 use Rattle.milestone.specs.Job.{Job}
@@ -9,9 +9,12 @@ use Rattle.segments.specs.Numbers.{IsOldest}
 use Rattle.segments.specs.Ring.{known_numbers}
 use Rattle.recovery.specs.Cells.{lowest_known}
 use Rattle.recovery.specs.Jobs.{jobs_for, without_job}
+use Rattle.recovery.specs.steps.Freeing.{IsMarkSpared, IsMarkAbove}
+use Rattle.recovery.specs.Unwritten.{MayKeepJob}
 use Rattle.recovery.specs.Open.{IsSpared, KeepsJobs, ring_of, known_cells, known_marks, kept_jobs}
+use Rattle.recovery.proofs.Covering.{spared_or_above}
 use Rattle.recovery.proofs.Marked.{one_oldest}
-use Rattle.recovery.proofs.OtherJobs.{own_stay}
+use Rattle.recovery.proofs.OtherJobs.{own_stay, fewer_without, one_more_with}
 
 module _ {D : Type 0} {disk : Ghosts D} where
   -- nothing but other things changed
@@ -20,6 +23,19 @@ module _ {D : Type 0} {disk : Ghosts D} where
 
   pub spared_then : (segment : ℕ) (old mid new : Store D disk) → KeepsJobs segment old mid → kept_jobs new ≡ kept_jobs mid → KeepsJobs segment old new
   spared_then segment old mid new keeps same document spared = ap (λ (l : List Job). jobs_for document l) same ∙ keeps document spared
+
+  -- one job more is kept at most
+  pub may_keep_one : (document revision : ℕ) (old new : Store D disk) → MayKeepJob document revision old new → length (kept_jobs new) ≤ length (kept_jobs old) + 1
+  may_keep_one document revision old new (inl same) = omega (arith, ap (λ (l : List Job). length l) same)
+  may_keep_one document revision old new (inr one) = omega (arith, ap (λ (l : List Job). length l) one.1.1, one_more_with one.0 (kept_jobs old))
+
+  -- and none more where a document's are dropped
+  pub no_more_kept : (segment : ℕ) (mark : Mark) (old new : Store D disk) → (IsMarkSpared segment mark old → new ≡ old)
+      → (IsMarkAbove segment mark old → kept_jobs new ≡ without_job mark.document (kept_jobs old)) → length (kept_jobs new) ≤ length (kept_jobs old)
+  no_more_kept segment mark old new still dropped = elim (spared_or_above segment mark old) [
+    | inl spared ↦ omega (arith, ap (λ s. length (kept_jobs s)) (still spared))
+    | inr above ↦ omega (arith, ap (λ (l : List Job). length l) (dropped above), fewer_without mark.document (kept_jobs old))
+  ]
 
   -- one segment is the oldest
   pub spared_oldest : (old new : Store D disk) (slot segment other number : ℕ) → IsOldest (known_numbers (ring_of old)) slot segment

@@ -7,9 +7,9 @@ use Rattle.revision.specs.Replay.{replay_of}
 use Rattle.revision.specs.State.{DocumentRecord}
 use Rattle.milestone.specs.Job.{Job}
 use Rattle.recovery.specs.declared.store.Store.{Store}
-use Rattle.recovery.specs.Jobs.{IsJobTo, with_job}
+use Rattle.recovery.specs.Jobs.{IsJobTo, IsMadeOf, with_job}
 use Rattle.recovery.specs.Open.{IsUnchanged, device_of, state_of, kept_jobs}
-use Rattle.recovery.specs.Unwritten.{IsMadeOf, IsUnchangedButJobs, IsUnwritten, MayKeepJob}
+use Rattle.recovery.specs.Unwritten.{IsUnchangedButJobs, IsUnwritten, MayKeepJob}
 
 module _ {D : Type 0} {disk : Ghosts D} where
   pub but_jobs : {old new : Store D disk} → IsUnchanged old new → IsUnchangedButJobs old new

@@ -1,9 +1,10 @@
 -- The jobs of milestones that a store has handed out.
-use Rattle.std.specs.Prelude.{◌≡◌, ◌≤◌, ◌<◌, ℕ, ◌==◌, ◌||◌, not, nat_lt, if◌then◌else◌, Option, Some, None, List, [], ◌∷◌, ◌++◌, filter, slice_get, All}
+use Rattle.std.specs.Prelude.{◌≡◌, ◌⊎◌, ◌≤◌, ◌<◌, ℕ, ◌==◌, ◌||◌, not, nat_lt, if◌then◌else◌, Option, Some, None, List, [], ◌∷◌, ◌++◌, filter, slice_get, All}
 use Rattle.refusal.specs.declared.Refusal.{Refusal}
 use Rattle.refusal.specs.declared.Refusal.TheVariants.{NoDocument, Future, TooOld}
 use Rattle.revision.specs.Command.{Taken}
-use Rattle.revision.specs.State.{Limits, DocumentRecord, revision_of}
+use Rattle.revision.specs.Replay.{replay_of}
+use Rattle.revision.specs.State.{Limits, DocumentRecord, State, revision_of}
 use Rattle.history.specs.Entries.{of_document}
 use Rattle.history.specs.Cell.{Pair, cells_at, cell_of, CellKeeps}
 use Rattle.history.specs.Running.{IsCellOf}
@@ -70,3 +71,23 @@ pub record IsJobTo (documents : List DocumentRecord) (document revision : ℕ) (
   pub held : found.past.floor ≤ revision
   pub reached : revision ≤ revision_of found
   pub is : cell_of_job job ≡ cell_of found revision
+
+-- A job is made of what the document of this number holds and of nothing else: what stands at its floor as one delta, and behind that each
+-- delta up to the revision; or, to the newest revision, what stands there as one delta.
+pub record IsMadeOf (documents : List DocumentRecord) (document revision : ℕ) (job : Job) : Type 0 where
+  pub found : DocumentRecord
+  pub there : slice_get documents document ≡ Some found
+  pub deltas : job.deltas ≡ replay_of found.past revision
+
+-- One job alone is kept of a document: it leads to the newest revision, and is made of what the document holds.
+pub record IsNewestJob (state : State) (document : ℕ) (jobs : List Job) : Type 0 where
+  pub job : Job
+  pub found : DocumentRecord
+  pub there : slice_get state.documents document ≡ Some found
+  pub to : IsJobTo state.documents document (revision_of found) job
+  pub made : IsMadeOf state.documents document (revision_of found) job
+  pub alone : jobs ≡ job ∷ []
+
+-- the jobs that are kept of a document are those of before, or the one to its newest revision in their place
+abbrev pub MayKeepNewest : State → ℕ → List Job → List Job → Type 0
+MayKeepNewest state document before now = (now ≡ before) ⊎ IsNewestJob state document now

@@ -1,5 +1,5 @@
 -- A store that is open, and what a crash within a commit leaves of it.
-use Rattle.std.specs.Prelude.{◌≡◌, ◌⊎◌, ◌+◌, ◌≤◌, ℕ, zero, suc, nat_lt, if◌then◌else◌, Bool, Option, Some, List, [], length, slice_get}
+use Rattle.std.specs.Prelude.{◌≡◌, ◌≢◌, ◌⊎◌, ◌+◌, ◌≤◌, ℕ, zero, suc, nat_lt, if◌then◌else◌, Bool, Option, Some, List, [], length, slice_get}
 use Rattle.disk.specs.declared.device.Disk.{Ghosts}
 use Rattle.revision.specs.Command.{Taken}
 use Rattle.journal.specs.BatchSpelling.{batch as spelled, batch_width}
@@ -21,7 +21,7 @@ use Rattle.recovery.specs.Cells.{AreCellsOf, FitEach, lowest_known}
 use Rattle.recovery.specs.declared.marks.Mark.{Mark}
 use Rattle.recovery.specs.Marks.{marks_of, greatest_marked}
 use Rattle.recovery.specs.Marked.{AreMarked}
-use Rattle.recovery.specs.Jobs.{jobs_of, jobs_for, CanAllBePut}
+use Rattle.recovery.specs.Jobs.{jobs_of, jobs_for, CanAllBePut, MayKeepNewest}
 use Rattle.recovery.specs.Found.{limits_of, commands_of, HoldsParts, FoundAs}
 
 -- a content that stands for a state that agrees with the one before a batch, or with the one with it
@@ -55,6 +55,13 @@ pub record IsOnePut (state : State) (document : ℕ) (before after : Pair) : Typ
   pub found : DocumentRecord
   pub there : slice_get state.documents document ≡ Some found
   pub put : after ≡ with_cell (newest_cell found) (freed before)
+
+-- Milestones of a document were given up: no cell of it was put, or one, at its newest revision. The job of the next one may be kept, in place
+-- of those of before; those of before are dropped where one was put.
+abbrev pub IsHalfRaised : State → ℕ → Pair → List Job → Pair → List Job → Type 0
+IsHalfRaised state document cells jobs cells_now jobs_now =
+    ((cells_now ≡ cells) × MayKeepNewest state document jobs jobs_now)
+    ⊎ (IsOnePut state document cells cells_now × MayKeepNewest state document [] jobs_now)
 
 module _ {D : Type 0} {disk : Ghosts D} where
   -- the device under a store
@@ -161,19 +168,32 @@ module _ {D : Type 0} {disk : Ghosts D} where
     pub raised : (document : ℕ) → ¬ IsSpared retired.segment.number document old → AreBothNewest (state_of old) document (cells_at goes_on.cells document)
     pub dropped : (document : ℕ) → ¬ IsSpared retired.segment.number document old → jobs_for document (kept_jobs new) ≡ []
 
-  -- Room was being made when it was given up: the store goes on over the same slots. The cells of each document that needs no milestone
-  -- for the oldest segment are as they were. Of each other document no cell was put, or one at its newest revision, or both.
+  -- the cells of a document and the kept jobs of it are as they were
+  abbrev pub IsLeft : (old : Store D disk) → IsOpen old → (new : Store D disk) → IsOpen new → ℕ → Type 0
+  IsLeft old is_open new goes_on document =
+      (cells_at goes_on.cells document ≡ cells_at is_open.cells document) × (jobs_for document (kept_jobs new) ≡ jobs_for document (kept_jobs old))
+
+  -- both cells of a document hold it at its newest revision, and no job of it is kept
+  abbrev pub IsRaised : Store D disk → (new : Store D disk) → IsOpen new → ℕ → Type 0
+  IsRaised old new goes_on document =
+      AreBothNewest (state_of old) document (cells_at goes_on.cells document) × (jobs_for document (kept_jobs new) ≡ [])
+
+  -- Room was being made when it was given up, in the milestones of one document that needs them: the store goes on over the same slots. Each
+  -- document that needs no milestone for the oldest segment is left as it was, with its kept jobs. So is each other one, or it has both its
+  -- milestones and no kept job; the one document has one of them at most, and the job of the next one may be kept.
   pub record IsHalfFreed (old : Store D disk) (is_open : IsOpen old) (new : Store D disk) : Type 0 where
     pub goes_on : IsOpen new
     pub same_table : goes_on.table ≡ is_open.table
     pub slot : ℕ
     pub segment : ℕ
     pub oldest : IsOldest (known_numbers (ring_of old)) slot segment
-    pub spared : (document : ℕ) → IsSpared segment document old → cells_at goes_on.cells document ≡ cells_at is_open.cells document
-    pub raised : (document : ℕ) → ¬ IsSpared segment document old
-        → (cells_at goes_on.cells document ≡ cells_at is_open.cells document)
-        ⊎ (IsOnePut (state_of old) document (cells_at is_open.cells document) (cells_at goes_on.cells document)
-        ⊎ AreBothNewest (state_of old) document (cells_at goes_on.cells document))
+    pub spared : (document : ℕ) → IsSpared segment document old → IsLeft old is_open new goes_on document
+    pub under_way : ℕ
+    pub needs : ¬ IsSpared segment under_way old
+    pub own : IsHalfRaised (state_of old) under_way (cells_at is_open.cells under_way) (jobs_for under_way (kept_jobs old))
+        (cells_at goes_on.cells under_way) (jobs_for under_way (kept_jobs new))
+    pub others : (document : ℕ) → document ≢ under_way → ¬ IsSpared segment document old
+        → IsLeft old is_open new goes_on document ⊎ IsRaised old new goes_on document
 
   -- After a commit for which room was made: the oldest segment was freed first, and the batch committed behind that.
   pub record IsCommittedBehind (commands : List Taken) (old : Store D disk) (is_open : IsOpen old) (new : Store D disk) : Type 0 where
@@ -181,11 +201,13 @@ module _ {D : Type 0} {disk : Ghosts D} where
     pub freed : IsFreedNow old is_open mid
     pub committed : IsCommittedNow commands mid freed.goes_on new
 
-  -- Memory ran out in a commit for which room was made: the oldest segment was freed, and the commit given up behind that.
+  -- Memory ran out in a commit for which room was made: the oldest segment was freed, and the commit given up behind that. The kept jobs are
+  -- those that freeing left.
   pub record IsGivenUpBehind (commands : List Taken) (old : Store D disk) (is_open : IsOpen old) (new : Store D disk) : Type 0 where
     pub mid : Store D disk
     pub freed : IsFreedNow old is_open mid
     pub given_up : IsCommitGivenUp commands mid freed.goes_on new
+    pub jobs : kept_jobs new ≡ kept_jobs mid
 
   -- The kept jobs stay of each document that needs no milestone before a segment is retired.
   abbrev pub KeepsJobs : ℕ → Store D disk → Store D disk → Type 0

@@ -1,19 +1,10 @@
--- What a job is made of, and what a milestone leaves of a store whose job was handed out and that was not put.
-use Rattle.std.specs.Prelude.{◌≡◌, ◌⊎◌, ℕ, Some, List, slice_get}
+-- What a milestone leaves of a store whose job was handed out and that was not put.
+use Rattle.std.specs.Prelude.{◌≡◌, ◌⊎◌, ℕ}
 use Rattle.disk.specs.declared.device.Disk.{Ghosts}
-use Rattle.revision.specs.Replay.{replay_of}
-use Rattle.revision.specs.State.{DocumentRecord}
 use Rattle.milestone.specs.Job.{Job}
 use Rattle.recovery.specs.declared.store.Store.{Store}
-use Rattle.recovery.specs.Jobs.{IsJobTo, with_job}
+use Rattle.recovery.specs.Jobs.{IsJobTo, IsMadeOf, with_job}
 use Rattle.recovery.specs.Open.{known_cells, known_marks, kept_jobs, state_of}
-
--- A job is made of what the document of this number holds and of nothing else: what stands at its floor as one delta, and behind that each
--- delta up to the revision; or, to the newest revision, what stands there as one delta.
-pub record IsMadeOf (documents : List DocumentRecord) (document revision : ℕ) (job : Job) : Type 0 where
-  pub found : DocumentRecord
-  pub there : slice_get documents document ≡ Some found
-  pub deltas : job.deltas ≡ replay_of found.past revision
 
 module _ {D : Type 0} {disk : Ghosts D} where
   -- a call has left all of the store as it was but for the jobs that it keeps

@@ -7,13 +7,13 @@ ghost use Rattle.revision.specs.State.{fold, all_grow, first_grows};
 ghost use Rattle.segments.specs.Numbers.{IsOldest, newest_number, open_count};
 ghost use Rattle.segments.specs.Ring.{IsSameOrOpened, known_numbers};
 ghost use Rattle.recovery.specs.Found.{FoundAs};
-ghost use Rattle.history.specs.Cell.{cells_at};
 ghost use Rattle.recovery.specs.Goes.{Goes};
 ghost use Rattle.recovery.specs.Jobs.{without_job};
 ghost use Rattle.recovery.specs.Marks.{without_segment};
 ghost use Rattle.recovery.specs.Open.{FitsSlot, IsOpen, IsUnchanged, IsCommittedNow, IsCommittedBehind, IsGivenUpBehind, IsFreedNow, IsHalfFreed, AreBothNewest, IsWithOrWithout, KeepsJobs, needing, device_of, ring_of, state_of, known_cells, known_marks, kept_jobs, has_failed, has_room, fits_newest_segment};
 ghost use Rattle.recovery.specs.Run.{IsPutAt};
-ghost use Rattle.recovery.specs.steps.Freeing.{reached_in, MayReach, KeepsSegments, IsMarkSpared, IsMarkAbove, IsPutOf, IsOnePutOrNone, AreCovered};
+ghost use Rattle.recovery.specs.steps.Freeing.{reached_in, MayReach, KeepsSegments, IsMarkSpared, IsMarkAbove, IsPutOf, IsHalfPut, AreCovered};
+ghost use Rattle.recovery.specs.Unwritten.{MayKeepJob};
 
 use crate::marks::Mark;
 use crate::receipt::Receipt;
@@ -27,8 +27,8 @@ use std::alloc::Global;
 impl<D: Disk> Store<D> {
     /// Makes room in a journal that is full: puts milestones of each document that needs an entry of the oldest segment, at its
     /// revision, until both its cells stand there, and retires the segment. `StillNeeded` comes just where fewer than two slots are
-    /// open, and then makes no call of the device. After `NoMemory` some of the milestones may be put. After a `Fault` the store
-    /// has failed. The documents stay.
+    /// open, and then makes no call of the device. After `NoMemory` some of the milestones may be put, and the job of one that
+    /// wasn't may be kept. After a `Fault` the store has failed. The documents stay.
     pub fn free_oldest(&mut self, alloc: Global) -> Result<(), Refusal>
         // When each refusal comes.
         ensures failed_before { has_failed self.old ≡ true → (IsErrOf result Refusal.Fault)
@@ -41,10 +41,13 @@ impl<D: Disk> Store<D> {
             → Rose (D.faults (device_of self.old)) (D.faults (device_of self.new)) }
         ensures only { IfErr result (λ e. (e ≡ Refusal.StillNeeded) ⊎ ((e ≡ Refusal.NoMemory) ⊎ (e ≡ Refusal.Fault))) }
 
-        // What each answer leaves. The kept jobs stay of each document that needs no milestone for it.
+        // What each answer leaves. The kept jobs stay of each document that needs no milestone for it, and no refusal leaves more than one
+        // job more.
         ensures state { state_of self.new ≡ state_of self.old }
         ensures jobs { IsOpen self.old → (slot segment : ℕ)
             → IsOldest (known_numbers (ring_of self.old)) slot segment → KeepsJobs segment self.old self.new }
+        ensures no_more_jobs { OnOk result (length (kept_jobs self.new) ≤ length (kept_jobs self.old)) }
+        ensures one_job { length (kept_jobs self.new) ≤ length (kept_jobs self.old) + 1 }
         ensures marks { OnOk result ((slot segment : ℕ) → IsOldest (known_numbers (ring_of self.old)) slot segment
             → known_marks self.new ≡ without_segment segment (known_marks self.old)) }
         ensures same_marks { OnErr result (known_marks self.new ≡ known_marks self.old) }
@@ -58,8 +61,8 @@ impl<D: Disk> Store<D> {
             → D.faults (device_of self.new) ≡ D.faults (device_of self.old)) }
 
         // A crash at any moment leaves the state; once it is Ok, the slot of the oldest segment is closed. The cells of the documents that
-        // it spares are as they were, and both cells of each other document hold it at its newest revision. Where memory ran out, some
-        // of those milestones may be put.
+        // it spares are as they were, and both cells of each other document hold it at its newest revision. Where memory ran out, each
+        // document but one has both those milestones or is as it was; the one may have the first of them, and the job of the next one.
         ensures goes { Goes (λ content. FoundAs content (state_of self.old)) self.old self.new }
         ensures any_moment { has_failed self.old ≡ false → IsOpen self.old
             → LeavesOnly ⟦<D as Disk>⟧ (λ content. FoundAs content (state_of self.old)) (device_of self.old)
@@ -144,6 +147,8 @@ impl<D: Disk> Store<D> {
             → known_marks self.new ≡ known_marks self.old) }
         ensures other_jobs { IsOpen self.old → (slot segment : ℕ)
             → IsOldest (known_numbers (ring_of self.old)) slot segment → KeepsJobs segment self.old self.new }
+        ensures no_more_jobs { OnOk result (length (kept_jobs self.new) ≤ length (kept_jobs self.old)) }
+        ensures one_job { length (kept_jobs self.new) ≤ length (kept_jobs self.old) + 1 }
         ensures fails { has_failed self.old ≡ false → (has_failed self.new ≡ true ↔ IsErrOf result Refusal.Fault) }
         ensures works { OnOk result (has_failed self.new ≡ false) }
         ensures good { OnOk result (D.faults (device_of self.new) ≡ D.faults (device_of self.old)) }
@@ -232,6 +237,8 @@ impl<D: Disk> Store<D> {
             ≤ length (D.past (device_of self.old)) + 12 * length (known_marks self.old) }
         ensures keeps { KeepsSegments self.old self.new }
         ensures jobs { IsOpen self.old → KeepsJobs segment self.old self.new }
+        ensures no_more_jobs { OnOk result (length (kept_jobs self.new) ≤ length (kept_jobs self.old)) }
+        ensures one_job { OnErr result (length (kept_jobs self.new) ≤ length (kept_jobs self.old) + 1) }
         ensures fails { has_failed self.new ≡ true ↔ IsErrOf result Refusal.Fault }
         ensures faults { CountsFaultsAs ⟦<D as Disk>⟧ Refusal.Fault result (device_of self.old) (device_of self.new) }
         ensures goes { Goes (λ content. FoundAs content (state_of self.old)) self.old self.new }
@@ -259,11 +266,10 @@ impl<D: Disk> Store<D> {
         ensures covered { OnOk result (IsMarkAbove segment mark self.old → (is_open : IsOpen self.old)
             → IsPutOf mark.document (AreBothNewest (state_of self.old) mark.document) self.old is_open self.new) }
         ensures half { IfErr result (λ e. e ≢ Refusal.Fault → (is_open : IsOpen self.old)
-            → IsPutOf mark.document
-            (IsOnePutOrNone (state_of self.old) mark.document (cells_at is_open.cells mark.document)) self.old is_open
-            self.new) }
+            → IsHalfPut mark.document self.old is_open self.new) }
         ensures dropped { OnOk result (IsMarkAbove segment mark self.old
             → kept_jobs self.new ≡ without_job mark.document (kept_jobs self.old)) }
+        ensures one_job { OnErr result (length (kept_jobs self.new) ≤ length (kept_jobs self.old) + 1) }
         ensures calls { length (D.past (device_of self.new)) ≤ length (D.past (device_of self.old)) + 12 }
         ensures keeps { KeepsSegments self.old self.new }
         ensures others { without_job mark.document (kept_jobs self.new)
@@ -296,6 +302,8 @@ impl<D: Disk> Store<D> {
         ensures put { OnOk result ((is_open : IsOpen self.old)
             → IsPutAt document (reached_in (state_of self.old) document) self.old is_open self.new) }
         ensures dropped { OnOk result (kept_jobs self.new ≡ without_job document (kept_jobs self.old)) }
+        ensures job { OnErr result
+            (MayKeepJob document (reached_in (state_of self.old) document) self.old self.new) }
         ensures unwritten { IfErr result (λ e. e ≢ Refusal.Fault → device_of self.new ≡ device_of self.old) }
         ensures calls { length (D.past (device_of self.new)) ≤ length (D.past (device_of self.old)) + 6 }
         ensures keeps { KeepsSegments self.old self.new }

@@ -6,11 +6,11 @@ ghost use Rattle.revision.specs.Pending.{record_of};
 ghost use Rattle.revision.specs.Replay.{replay_of};
 ghost use Rattle.revision.specs.State.{are_sources, revision_of};
 ghost use Rattle.history.specs.Cell.{cells_at, cell_of};
-ghost use Rattle.milestone.specs.Job.{cell_of_job};
+ghost use Rattle.milestone.specs.Job.{KeepLengths, cell_of_job};
 ghost use Rattle.recovery.specs.Cells.{highest_known};
-ghost use Rattle.recovery.specs.Jobs.{IsJobTo, KeepsLimits, highest, no_job_of, no_job_for, with_job};
+ghost use Rattle.recovery.specs.Jobs.{IsJobTo, IsMadeOf, KeepsLimits, highest, no_job_of, no_job_for, with_job};
 ghost use Rattle.recovery.specs.Open.{IsOpen, IsUnchanged, IsStillOver, device_of, ring_of, state_of, known_cells, known_marks, has_failed, kept_jobs};
-ghost use Rattle.recovery.specs.Unwritten.{IsMadeOf, IsUnchangedButJobs};
+ghost use Rattle.recovery.specs.Unwritten.{IsUnchangedButJobs};
 
 use crate::store::Store;
 use disk::Disk;
@@ -138,6 +138,7 @@ fn job_of(alloc: Global, document: u32, found: &DocState, revision: u64) -> Resu
     requires held { found.now.past.past.floor ≤ revision }
     requires there { revision ≤ revision_of (record_of found.now) }
     requires sources { are_sources revision (sources_at found.now.past.past revision).entries ≡ true }
+    requires lengths { KeepLengths (replay_of found.now.past.past revision) }
     ensures document { IfOk result (λ job. job.document ≡ document) }
     ensures is { IfOk result (λ job. cell_of_job job ≡ cell_of (record_of found.now) revision) }
     ensures deltas { IfOk result (λ job. job.deltas ≡ replay_of found.now.past.past revision) }

@@ -11,7 +11,7 @@ use Rattle.recovery.specs.Cells.{lowest_known}
 use Rattle.recovery.specs.Jobs.{jobs_for}
 use Rattle.recovery.specs.Marked.{MayRetire}
 use Rattle.recovery.specs.Marks.{greatest_marked}
-use Rattle.recovery.specs.Open.{IsOpen, IsOnePut, AreBothNewest, state_of, ring_of, known_cells, known_marks, kept_jobs}
+use Rattle.recovery.specs.Open.{IsOpen, IsHalfRaised, AreBothNewest, state_of, ring_of, known_cells, known_marks, kept_jobs}
 
 -- the newest revision of a document, 0 where it isn't there
 abbrev pub reached : Option DocumentRecord → ℕ
@@ -24,10 +24,6 @@ reached_in state document = reached (slice_get state.documents document)
 -- a mark is of another segment, or the document has reached it
 abbrev pub MayReach : ℕ → Mark → State → Type 0
 MayReach segment mark state = mark.segment ≡ segment → mark.revision ≤ reached_in state mark.document
-
--- no cell of a document was put, or one at its newest revision
-abbrev pub IsOnePutOrNone : State → ℕ → Pair → Pair → Type 0
-IsOnePutOrNone state document before after = (after ≡ before) ⊎ IsOnePut state document before after
 
 module _ {D : Type 0} {disk : Ghosts D} where
   -- the documents stay, and so do the segments and what is known of them
@@ -57,13 +53,23 @@ module _ {D : Type 0} {disk : Ghosts D} where
     pub others : (number : ℕ) → number ≢ document → cells_at goes_on.cells number ≡ cells_at is_open.cells number
     pub own : P (cells_at goes_on.cells document)
 
+  -- Milestones of one document were given up: the store goes on over the same slots, and the cells of the others are as they were.
+  pub record IsHalfPut (document : ℕ) (old : Store D disk) (is_open : IsOpen old) (new : Store D disk) : Type 0 where
+    pub goes_on : IsOpen new
+    pub same_table : goes_on.table ≡ is_open.table
+    pub others : (number : ℕ) → number ≢ document → cells_at goes_on.cells number ≡ cells_at is_open.cells number
+    pub own : IsHalfRaised (state_of old) document (cells_at is_open.cells document) (jobs_for document (kept_jobs old))
+        (cells_at goes_on.cells document) (jobs_for document (kept_jobs new))
+
   -- The documents of these marks of a segment are covered: the store goes on over the same slots. Where no mark is above the open cells of a
-  -- document these are as they were, and else both hold it at its newest revision, and no job of it is kept.
+  -- document these are as they were, and so are its kept jobs; else both hold it at its newest revision, and no job of it is kept.
   pub record AreCovered (segment : ℕ) (marks : List Mark) (old : Store D disk) (is_open : IsOpen old) (new : Store D disk) : Type 0 where
     pub goes_on : IsOpen new
     pub same_table : goes_on.table ≡ is_open.table
     pub spared : (document : ℕ) → greatest_marked segment document marks ≤ lowest_known (known_cells old) document
         → cells_at goes_on.cells document ≡ cells_at is_open.cells document
+    pub kept : (document : ℕ) → greatest_marked segment document marks ≤ lowest_known (known_cells old) document
+        → jobs_for document (kept_jobs new) ≡ jobs_for document (kept_jobs old)
     pub raised : (document : ℕ) → lowest_known (known_cells old) document < greatest_marked segment document marks
         → AreBothNewest (state_of old) document (cells_at goes_on.cells document)
     pub dropped : (document : ℕ) → lowest_known (known_cells old) document < greatest_marked segment document marks

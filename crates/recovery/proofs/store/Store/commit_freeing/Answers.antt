@@ -18,6 +18,8 @@ use Rattle.recovery.proofs.Going.{goes_call, goes_map, goes_on}
 use Rattle.recovery.proofs.Faults.{done_by, kept_by}
 use Rattle.recovery.specs.declared.marks.Mark.{Mark}
 use Rattle.recovery.specs.Marks.{marks_of}
+use Rattle.milestone.specs.Job.{Job}
+use Rattle.recovery.proofs.HandedOut.{on_ok}
 use Rattle.recovery.proofs.Covering.{freed_still}
 use Rattle.recovery.proofs.Freed.{no_needed, no_full, no_stranger_freed, marks_grow, not_full, widened}
 use Rattle.recovery.proofs.Rooms.{freed_up, few_up, room_where_it_fits}
@@ -31,6 +33,12 @@ returns-then-has_room-clause-goes g c =
 
 pub returns-then-has_room-clause-other_jobs : goal.returns-then-has_room-clause-other_jobs
 returns-then-has_room-clause-other_jobs g c is_open slot segment oldest = spared_same segment c.args.self.now c.commit.new.self c.commit.ensures.jobs
+
+pub returns-then-has_room-clause-no_more_jobs : goal.returns-then-has_room-clause-no_more_jobs
+returns-then-has_room-clause-no_more_jobs g c = on_ok c.commit.result (omega (arith, ap (λ (l : List Job). length l) c.commit.ensures.jobs))
+
+pub returns-then-has_room-clause-one_job : goal.returns-then-has_room-clause-one_job
+returns-then-has_room-clause-one_job g c = omega (arith, ap (λ (l : List Job). length l) c.commit.ensures.jobs)
 
 pub returns-then-has_room-clause-committed : goal.returns-then-has_room-clause-committed
 returns-then-has_room-clause-committed g c = on_ok_weaker c.commit.result (λ committed room. committed) c.commit.ensures.committed
@@ -223,6 +231,13 @@ pub returns-clause-other_jobs : goal.returns-clause-other_jobs
 returns-clause-other_jobs g c is_open slot segment oldest =
     spared_then segment c.args.self.now c.free_oldest.new.self c.commit-2.new.self (c.free_oldest.ensures.jobs is_open slot segment oldest) c.commit-2.ensures.jobs
 
+pub returns-clause-no_more_jobs : goal.returns-clause-no_more_jobs
+returns-clause-no_more_jobs g c =
+    on_ok c.commit-2.result (omega (arith, c.in_default.ensures.no_more_jobs, ap (λ (l : List Job). length l) c.commit-2.ensures.jobs))
+
+pub returns-clause-one_job : goal.returns-clause-one_job
+returns-clause-one_job g c = omega (arith, c.in_default.ensures.no_more_jobs, ap (λ (l : List Job). length l) c.commit-2.ensures.jobs)
+
 pub returns-clause-committed : goal.returns-clause-committed
 returns-clause-committed g c =
     let none : has_room c.args.self.now c.args.batch.now ≡ false = search rules in
@@ -300,7 +315,7 @@ returns-clause-stranger_behind g c told none is_open =
 pub returns-clause-memory_behind : goal.returns-clause-memory_behind
 returns-clause-memory_behind g c told none is_open =
     let freed = c.in_default.ensures.freed is_open in
-    inr (record { mid = c.free_oldest.new.self; freed = freed; given_up = c.commit-2.ensures.given_up_now told freed.goes_on })
+    inr (record { mid = c.free_oldest.new.self; freed = freed; given_up = c.commit-2.ensures.given_up_now told freed.goes_on; jobs = c.commit-2.ensures.jobs })
 
 pub returns-clause-calls_behind : goal.returns-clause-calls_behind
 returns-clause-calls_behind g c is_open slot segment oldest = omega (arith, c.free_oldest.ensures.calls is_open slot segment oldest, c.commit-2.ensures.calls)

@@ -8,7 +8,7 @@ use Rattle.recovery.proofs.Going.{goes_nowhere, goes_same}
 use Rattle.recovery.proofs.Faults.{counts_on, works_now}
 use Rattle.recovery.proofs.Raising.{keeps_on, may_reach}
 use Rattle.recovery.proofs.Covering.{none_covered, covered_more, spared_still, half_freed, calls_more, calls_all}
-use Rattle.recovery.proofs.SparedJobs.{spared_same, spared_more}
+use Rattle.recovery.proofs.SparedJobs.{spared_same, spared_more, no_more_kept}
 use Rattle.recovery.proofs.store.Store.cover_segment.Goals as goal
 
 pub loop-place-init : goal.loop-place-init
@@ -22,6 +22,7 @@ loop-place-init g c = record {
   calls = λ is_open. omega arith;
   calls_by_marks = omega arith;
   jobs = λ is_open. spared_same c.args.segment c.args.self.now c.args.self.now refl;
+  few_jobs = omega arith;
 }
 
 -- the mark at the place
@@ -57,6 +58,7 @@ loop-place-preserved g c =
       jobs = λ is_open.
           spared_more start store new c.args.segment place mark inside is (spared_still c.args.segment place mark start store is_open inside is (before.covered is_open))
           (λ spared. ap (λ s. kept_jobs s) (c.cover_mark.ensures.spared spared)) c.cover_mark.ensures.others (before.jobs is_open);
+      few_jobs = omega (arith, before.few_jobs, no_more_kept c.args.segment mark store new c.cover_mark.ensures.spared c.in_default.ensures.dropped);
     }
 
 pub returns-in-Err-clause-needed : goal.returns-in-Err-clause-needed
@@ -80,7 +82,7 @@ returns-in-Err-clause-half g c other is_open =
     let is : get_or (marks_of start.marks) place mark ≡ mark = subst (λ (l : List Mark). get_or l place mark ≡ mark) before.keeps.marks c.mark_at-mark.ensures in
     half_freed c.args.segment place mark start c.loop-place.self is_open inside is (before.covered is_open) c.cover_mark.new.self c.requires.oldest.0 c.requires.oldest.1 before.keeps.state
     (may_reach start is_open c.requires.oldest.0 c.args.segment c.requires.oldest.1 place mark inside is) c.in-Err.ensures.above
-    (c.in-Err.ensures.half other (before.covered is_open).goes_on)
+    (c.in-Err.ensures.half other (before.covered is_open).goes_on) c.cover_mark.ensures.others
 
 pub returns-in-Err-clause-calls : goal.returns-in-Err-clause-calls
 returns-in-Err-clause-calls g c is_open =
@@ -109,6 +111,12 @@ returns-in-Err-clause-jobs g c is_open =
     let is : get_or (marks_of start.marks) place mark ≡ mark = subst (λ (l : List Mark). get_or l place mark ≡ mark) before.keeps.marks c.mark_at-mark.ensures in
     spared_more start store c.cover_mark.new.self c.args.segment place mark inside is (spared_still c.args.segment place mark start store is_open inside is (before.covered is_open))
     (λ spared. ap (λ s. kept_jobs s) (c.cover_mark.ensures.spared spared)) c.cover_mark.ensures.others (before.jobs is_open)
+
+pub returns-in-Err-clause-one_job : goal.returns-in-Err-clause-one_job
+returns-in-Err-clause-one_job g c = omega (arith, c.loop-place.invariant.few_jobs, c.in-Err.ensures.one_job)
+
+pub returns-clause-no_more_jobs : goal.returns-clause-no_more_jobs
+returns-clause-no_more_jobs g c = c.loop-place.invariant.few_jobs
 
 pub returns-in-Err-clause-faults : goal.returns-in-Err-clause-faults
 returns-in-Err-clause-faults g c = counts_on c.loop-place.invariant.faults c.in-Err.ensures.faults

@@ -1,7 +1,7 @@
 use Rattle.std.proofs.Common.{◌≡◌, ◌≤◌, ◌+◌, ◌*◌, ◌↔◌, false, length, take}
 use Rattle.recovery.specs.Found.{FoundAs}
 use Rattle.recovery.specs.Goes.{Goes}
-use Rattle.recovery.specs.Open.{IsOpen, KeepsJobs, needing, device_of, state_of, has_failed, known_cells, known_marks}
+use Rattle.recovery.specs.Open.{IsOpen, KeepsJobs, needing, device_of, kept_jobs, state_of, has_failed, known_cells, known_marks}
 use Rattle.recovery.specs.steps.Freeing.{KeepsSegments, AreCovered}
 use Rattle.recovery.proofs.store.Store.cover_segment.Given as goal
 
@@ -18,4 +18,5 @@ invariant-loop-place g l = record {
       + 12 * needing l.segment (take l.place (known_marks l.fn.self)) (known_cells l.fn.self) (length (state_of l.fn.self).documents);
   calls_by_marks : length (g.D.Disk.past (device_of l.self)) ≤ length (g.D.Disk.past (device_of l.fn.self)) + 12 * l.place;
   jobs : IsOpen l.fn.self → KeepsJobs l.segment l.fn.self l.self;
+  few_jobs : length (kept_jobs l.self) ≤ length (kept_jobs l.fn.self);
 }

@@ -6,12 +6,14 @@ use Rattle.refusal.specs.declared.Refusal.{Refusal}
 use Rattle.refusal.specs.declared.Refusal.TheVariants.{StillNeeded, NoMemory, Fault}
 use Rattle.segments.specs.Numbers.{open_count}
 use Rattle.segments.specs.Ring.{known_numbers}
+use Rattle.milestone.specs.Job.{Job}
 use Rattle.recovery.specs.declared.marks.Mark.{Mark}
 use Rattle.recovery.specs.Open.{needing, known_cells, known_marks}
 use Rattle.recovery.proofs.Going.{goes_nowhere, goes_same}
 use Rattle.recovery.proofs.Faults.{retire_goes, works_now, works_still, works_by, done_by, kept_by}
 use Rattle.recovery.proofs.Covering.{may_go, freed_by}
 use Rattle.recovery.proofs.Freed.{no_memory}
+use Rattle.recovery.proofs.HandedOut.{on_ok}
 use Rattle.recovery.proofs.Marked.{one_oldest}
 use Rattle.recovery.proofs.Raising.{marks_gone}
 use Rattle.recovery.proofs.Refusals.{refusal_or}
@@ -73,6 +75,17 @@ returns-clause-jobs g c is_open slot segment oldest =
     let found = c.in-Some.ensures.oldest in
     spared_then segment store mid c.retire.new.self
     (spared_oldest store mid found.0 c.in-Some.oldest slot segment found.1 oldest (c.cover_segment.ensures.jobs is_open)) c.retire.ensures.jobs
+
+-- one job more at most
+pub returns-in-Err-clause-one_job : goal.returns-in-Err-clause-one_job
+returns-in-Err-clause-one_job g c = c.in-Err.ensures.one_job
+
+pub returns-clause-one_job : goal.returns-clause-one_job
+returns-clause-one_job g c = omega (arith, c.in_default-cover_segment.ensures.no_more_jobs, ap (λ (l : List Job). length l) c.retire.ensures.jobs)
+
+pub returns-clause-no_more_jobs : goal.returns-clause-no_more_jobs
+returns-clause-no_more_jobs g c =
+    on_ok c.retire.result (omega (arith, c.in_default-cover_segment.ensures.no_more_jobs, ap (λ (l : List Job). length l) c.retire.ensures.jobs))
 
 pub returns-clause-marks : goal.returns-clause-marks
 returns-clause-marks g c =

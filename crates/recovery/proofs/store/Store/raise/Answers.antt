@@ -1,10 +1,11 @@
-use Rattle.std.proofs.Common.{◌≡◌, ◌≤◌, ◌∙◌, ⊎_elim, None, sym, ap, subst, arith, rules}
+use Rattle.std.proofs.Common.{◌≡◌, ◌≤◌, ◌∙◌, ⊎_elim, inl, refl, None, sym, ap, subst, arith, rules}
 use Rattle.std.specs.Prelude.{Err, slice_get}
 use Rattle.refusal.specs.declared.Refusal.{Refusal}
 use Rattle.refusal.specs.declared.Refusal.TheVariants.{StillNeeded, Fault}
 use Rattle.recovery.specs.Cells.{highest_known}
 use Rattle.recovery.specs.Jobs.{no_job_for}
 use Rattle.recovery.specs.Run.{IsPutAt}
+use Rattle.recovery.specs.Unwritten.{MayKeepJob}
 use Rattle.recovery.proofs.Refusals.{refusal_or}
 use Rattle.recovery.proofs.Going.{goes_nowhere, goes_call}
 use Rattle.recovery.proofs.Faults.{counted_as}
@@ -15,6 +16,12 @@ use Rattle.recovery.proofs.store.Store.raise.Goals as goal
 
 pub returns-then-newest-revision-clause-goes : goal.returns-then-newest-revision-clause-goes
 returns-then-newest-revision-clause-goes g c = goes_nowhere c.args.self.now
+
+pub returns-then-newest-revision-clause-job : goal.returns-then-newest-revision-clause-job
+returns-then-newest-revision-clause-job g c = inl refl
+
+pub returns-in-Err-clause-job : goal.returns-in-Err-clause-job
+returns-in-Err-clause-job g c = subst (λ n. MayKeepJob c.args.document n c.args.self.now c.put_document.new.self) c.newest_of-newest.ensures c.in-Err.ensures.job
 
 -- in an open store nothing speaks against the milestone
 pub returns-in-Err-clause-needed : goal.returns-in-Err-clause-needed

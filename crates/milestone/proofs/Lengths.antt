@@ -1,0 +1,109 @@
+-- The lengths of the deltas that lead from the empty document to a revision.
+use Rattle.std.proofs.Common.{◌≡◌, ℕ, zero, suc, ◌+◌, ◌-◌, ◌*◌, ◌≤◌, ◌^◌, true, false, Bool, List, [], ◌∷◌, length, take, ap, subst, length-append, arith}
+use Rattle.std.specs.Prelude.{◌==◌, ◌<◌, if◌then◌else◌}
+use Rattle.std.proofs.lemmas.List.{length-map}
+use Rattle.delta.specs.Element.{Element}
+use Rattle.delta.specs.Operation.{Operation, base_of, out_of}
+use Rattle.delta.specs.Gaps.{End, counted, apply}
+use Rattle.delta.specs.Normal.{nf}
+use Rattle.delta.proofs.CallerLemmas.{apply-nf, base_of-nf, length-apply_counted, units_below-counted}
+use Rattle.document.specs.Weight as document
+use Rattle.compose.specs.Many.{applied, lengths_of}
+use Rattle.revision.specs.Past.{Past, Change, StandInTurn, StayShort, newest, newest_units, content_at, sources_at, deltas_of}
+use Rattle.revision.specs.Sources.{count_of}
+use Rattle.revision.specs.Replay.{deltas_to}
+use Rattle.revision.specs.State.{Limits, weight_of}
+use Rattle.revision.specs.Invariants.{IsLimits, IsPast}
+use Rattle.milestone.specs.Job.{KeepLengths}
+use Rattle.milestone.specs.Law.{PastsKeepLengths}
+
+-- each unit weighs 12 and more
+heavy : (units : List Element) → 12 * length units ≤ document.weight_of units
+heavy [] = omega arith
+heavy (x ∷ units) = omega (arith, heavy units)
+
+-- so a document of a weight below 2^32 is short
+light_is_short : (units : List Element) (sources : ℕ) → weight_of units sources < 2 ^ 32 → length units ≤ 2 ^ 29
+light_is_short units sources light = omega (arith, heavy units, light)
+
+-- the delta that makes a document of the empty one has no more units
+inserts_short : (units : List Element) → length units ≤ 2 ^ 29 → base_of (nf (End units)) + out_of (nf (End units)) ≤ 2 ^ 29
+inserts_short units short =
+    omega (
+      arith,
+      short,
+      base_of-nf (End units),
+      length-apply_counted [] (nf (End units)) (base_of-nf (End units)),
+      ap length (apply-nf [] (End units)),
+      length-append units [],
+    )
+
+short_here : (units : List Element) (deltas : List (List Operation)) → StayShort units deltas → length units ≤ 2 ^ 29
+short_here units [] short = short
+short_here units (taken ∷ others) short = short.0
+
+-- a delta that stands on a short document and leaves one has short lengths
+lengths_in_turn : (units : List Element) (deltas : List (List Operation)) → StandInTurn units deltas → StayShort units deltas
+    → lengths_of deltas ≤ 2 ^ 30 * length deltas
+lengths_in_turn units [] stand short = omega arith
+lengths_in_turn units (taken ∷ others) stand short =
+    let base : base_of taken ≤ length units = omega (arith, stand.0.0, units_below-counted taken) in
+    omega (
+      arith,
+      base,
+      short.0,
+      length-apply_counted units taken base,
+      short_here (apply units (counted taken)) others short.1,
+      lengths_in_turn (apply units (counted taken)) others stand.1 short.1,
+    )
+
+-- the first of them have no more
+lengths_first : (count : ℕ) (deltas : List (List Operation)) → lengths_of (take count deltas) ≤ lengths_of deltas
+lengths_first zero deltas = omega arith
+lengths_first (suc count) [] = omega arith
+lengths_first (suc count) (taken ∷ others) = omega (arith, lengths_first count others)
+
+-- where the document is short after each count of them, it stays short
+stays_short : (units : List Element) (deltas : List (List Operation))
+    → ((count : ℕ) → count ≤ length deltas → length (applied units (take count deltas)) ≤ 2 ^ 29) → StayShort units deltas
+stays_short units [] short = short 0 (omega arith)
+stays_short units (taken ∷ others) short =
+    (short 0 (omega arith), stays_short (apply units (counted taken)) others (λ count within. short (suc count) (omega (arith, within))))
+
+module _ (limits : Limits) (past : Past) (ranges : IsLimits limits) (keeps : IsPast limits past) where
+  count_of_deltas : length (deltas_of past) ≡ length past.changes
+  count_of_deltas = length-map past.changes (λ (change : Change). change.delta)
+
+  -- a document is short at each revision that is held
+  short_at : (revision : ℕ) → past.floor ≤ revision → revision ≤ newest past → length (content_at past revision).units ≤ 2 ^ 29
+  short_at revision held there =
+      light_is_short (content_at past revision).units (count_of (sources_at past revision)) (omega (arith, (keeps.each revision held there).weight, ranges.weight))
+
+  short_after : (count : ℕ) → count ≤ length (deltas_of past) → length (applied past.content.units (take count (deltas_of past))) ≤ 2 ^ 29
+  short_after count within =
+      let same : past.floor + count - past.floor ≡ count = omega arith in
+      subst (λ n. length (applied past.content.units (take n (deltas_of past))) ≤ 2 ^ 29) same
+      (short_at (past.floor + count) (omega arith) (omega (arith, within, count_of_deltas)))
+
+  all_lengths : lengths_of (deltas_of past) ≤ 2 ^ 46
+  all_lengths =
+      omega (
+        arith,
+        lengths_in_turn past.content.units (deltas_of past) keeps.stand (stays_short past.content.units (deltas_of past) short_after),
+        count_of_deltas,
+        keeps.count,
+        ranges.keep,
+      )
+
+  by_test : (revision : ℕ) (b : Bool) → KeepLengths (if b then nf (End (newest_units past)) ∷ [] else deltas_to past revision)
+  by_test revision true = omega (arith, inserts_short (newest_units past) (short_at (newest past) (omega arith) (omega arith)))
+  by_test revision false =
+      omega (
+        arith,
+        inserts_short past.content.units (short_after 0 (omega arith)),
+        lengths_first (revision - past.floor) (deltas_of past),
+        all_lengths,
+      )
+
+pub pasts_keep_lengths : PastsKeepLengths
+pasts_keep_lengths limits past revision ranges keeps = by_test limits past ranges keeps revision (revision == newest past)
