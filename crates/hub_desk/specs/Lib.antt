@@ -1,2 +1,3 @@
 pub mod AtHub
+pub mod Standing
 pub mod Tickets
