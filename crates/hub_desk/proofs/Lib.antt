@@ -1,2 +1,4 @@
 pub mod Batches
+pub mod Finding
+pub mod Standing
 pub mod Tickets
