@@ -97,7 +97,8 @@ find-created name from at [] new place = by_test (bytes_eq new.name name)
     start : from ≡ at
     start = omega (arith, place)
 
-    by_test : (b : Bool) → ((find name from [] ≡ None) × (cond b (Some (from, new)) None ≡ Some (at, new))) ⊎ (cond b (Some (from, new)) None ≡ find name from [])
+    by_test : (b : Bool) → ((find name from [] ≡ None) × (cond {A = Option (ℕ × DocumentRecord)} b (Some (from, new)) None ≡ Some (at, new)))
+        ⊎ (cond {A = Option (ℕ × DocumentRecord)} b (Some (from, new)) None ≡ find name from [])
     by_test true = inl (refl, ap (λ n. Some (n, new)) start)
     by_test false = inr refl
 find-created name from at (first ∷ others) new place = by_test (bytes_eq first.name name) (find-created name (from + 1) at others new (omega (arith, place)))

@@ -29,7 +29,7 @@ reaches-next : (number revision : ℕ) (last : LastTaken) (taken : Taken) (b : B
     → Reaches number revision last → Reaches number revision (cond b (noted taken) last)
 reaches-next number revision last taken true next reaches =
     let more : taken.number ≡ last.number + 1 = next refl in
-    record { number = omega (arith, more, reaches.number); revision = λ same. absurd (omega (arith, more, same, reaches.number)) }
+    record { least = omega (arith, more, reaches.least); made = λ same. absurd (omega (arith, more, same, reaches.least)) }
 reaches-next number revision last taken false next reaches = reaches
 
 -- one command more
@@ -111,11 +111,11 @@ module _ (state : State) (command : Command) (revision : ℕ) (found : ℕ × Do
   answered-again : (action : Action) → (last_of command.source (sources_of found.1)).number ≡ command.number
       → answer_to state command action (Some found) ≡ Repeats revision
   answered-again (Create delta) same =
-      first_case _ _ _ (is_again command.number (last_of command.source (sources_of found.1)).number some same) ∙ ap Repeats (stands.revision same)
+      first_case _ _ _ (is_again command.number (last_of command.source (sources_of found.1)).number some same) ∙ ap Repeats (stands.made same)
   answered-again (Edit base delta) same =
-      by_number-again (last_of command.source (sources_of found.1)) command.number revision (edit state found.0 found.1 command base delta) some same (stands.revision same)
+      by_number-again (last_of command.source (sources_of found.1)) command.number revision (edit state found.0 found.1 command base delta) some same (stands.made same)
   answered-again Undo same =
-      by_number-again (last_of command.source (sources_of found.1)) command.number revision (undo state found.0 found.1 command) some same (stands.revision same)
+      by_number-again (last_of command.source (sources_of found.1)) command.number revision (undo state found.0 found.1 command) some same (stands.made same)
 
   answered-old : (action : Action) → command.number < (last_of command.source (sources_of found.1)).number
       → answer_to state command action (Some found) ≡ Refuses (refusal_of_old action)
@@ -134,7 +134,7 @@ not_taken_again state command revision some stands = by_found (find command.name
     by_found (Some found) stands = elim (cases_lt command.number (last_of command.source (sources_of found.1)).number) [
       | inl lower ↦ inr (lower, answered-old state command revision found some stands command.action lower)
       | inr least ↦
-          let same : (last_of command.source (sources_of found.1)).number ≡ command.number = omega (arith, least, stands.number) in
+          let same : (last_of command.source (sources_of found.1)).number ≡ command.number = omega (arith, least, stands.least) in
           inl (same, answered-again state command revision found some stands command.action same)
     ]
 
@@ -143,16 +143,16 @@ number-stays : (name : List ℕ) (state : State) (commands : List Taken) (number
     → find name 0 state.documents ≡ Some (number, found)
     → (later : DocumentRecord) × (find name 0 (fold state commands).documents ≡ Some (number, later))
 number-stays name state [] number found grow is = (found, is)
-number-stays name state (first ∷ others) number found grow is = by_leaves (grown-leaves state first name [] parts.0)
+number-stays name state (first ∷ others) number found grow is =
+    let parts = and_parts (grows state first) (all_grow (grown state first) others) grow in
+    by_leaves (λ now here. number-stays name (grown state first) others number now parts.1 here) (grown-leaves state first name [] parts.0)
   where
-    parts : (grows state first ≡ true) × (all_grow (grown state first) others ≡ true)
-    parts = and_parts (grows state first) (all_grow (grown state first) others) grow
-
-    by_leaves : Leaves first [] (find name 0 state.documents) (find name 0 (grown state first).documents)
+    by_leaves : ((now : DocumentRecord) → find name 0 (grown state first).documents ≡ Some (number, now)
+        → (later : DocumentRecord) × (find name 0 (fold (grown state first) others).documents ≡ Some (number, later)))
+        → Leaves first [] (find name 0 state.documents) (find name 0 (grown state first).documents)
         → (later : DocumentRecord) × (find name 0 (fold (grown state first) others).documents ≡ Some (number, later))
-    by_leaves (inl same) = number-stays name (grown state first) others number found parts.1 (same ∙ is)
-    by_leaves (inr left) =
-        number-stays name (grown state first) others number left.0 parts.1 (left.1 ∙ ap (λ n. Some (n, left.0)) (sym (left.2 number found is)))
+    by_leaves further (inl same) = further found (same ∙ is)
+    by_leaves further (inr left) = further left.0 (left.1 ∙ ap (λ n. Some (n, left.0)) (sym (left.2 number found is)))
 
 any-cons : (P : Taken → Type 0) (first : Taken) (others : List Taken) → Any P others → Any P (first ∷ others)
 any-cons P first others there = (suc there.0, there.1, omega (arith, there.2), there.3, there.4)
@@ -174,14 +174,14 @@ module _ (state : State) (first : Taken) (others : List Taken) (command : Comman
       let at : (last_held (grown state first) command).number ≡ first.number = ap (λ (l : LastTaken). l.number) now in
       let same : first.number ≡ command.number = omega (arith, next e, fresh, least, at) in
       let here : Reaches command.number first.revision (last_of command.source (sources_of found)) =
-      subst (Reaches command.number first.revision) (sym last) (record { number = omega (arith, same); revision = λ s. refl }) in
+      subst (Reaches command.number first.revision) (sym last) (record { least = omega (arith, same); made = λ s. refl }) in
       let later : StandsIn (fold (grown state first) others) command first.revision =
       stands_later (grown state first) others command first.revision more (subst (StandsWhere command first.revision) (sym is) here) in
       record {
         source = (bytes_eq-Decides first.source command.source).0 e;
         number = same;
         document = number-stays command.name (grown state first) others first.document found more is;
-        revision = λ last_is. sym ((reached command first.revision _ later).revision last_is) ∙ (reached command revision _ stands).revision last_is;
+        made = λ last_is. sym ((reached command first.revision _ later).made last_is) ∙ (reached command revision _ stands).made last_is;
       }
   by_source found false e is last next =
       let now : (last_held (grown state first) command).number ≡ (last_held state command).number = ap (λ (l : LastTaken). l.number) (ap (last_found command.source) is ∙ last) in
@@ -196,7 +196,7 @@ module _ (state : State) (first : Taken) (others : List Taken) (command : Comman
 
 pub was_taken_among : WasTakenAmong
 was_taken_among state [] command revision grow fresh stands =
-    absurd (omega (arith, fresh, (reached command revision (find command.name 0 state.documents) stands).number))
+    absurd (omega (arith, fresh, (reached command revision (find command.name 0 state.documents) stands).least))
 was_taken_among state (first ∷ others) command revision grow fresh stands =
     let parts = and_parts (grows state first) (all_grow (grown state first) others) grow in
     elim (cases_lt (last_held (grown state first) command).number command.number) [

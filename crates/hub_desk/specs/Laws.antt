@@ -37,7 +37,7 @@ pub record IsTakenOf (state : State) (command : Command) (revision : ℕ) (taken
   pub source : taken.source ≡ command.source
   pub number : taken.number ≡ command.number
   pub document : (found : DocumentRecord) × (find command.name 0 state.documents ≡ Some (taken.document, found))
-  pub revision : (last_held state command).number ≡ command.number → taken.revision ≡ revision
+  pub made : (last_held state command).number ≡ command.number → taken.revision ≡ revision
 
 -- Where it stands after commands, and the state before them hadn't its number, it is one of them.
 abbrev pub WasTakenAmong : Type 0

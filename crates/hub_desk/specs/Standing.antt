@@ -6,8 +6,8 @@ use Rattle.revision.specs.State.{State, find, sources_of}
 
 -- What a source has last is this number, as this revision, or a higher number.
 pub record Reaches (number revision : ℕ) (last : LastTaken) : Type 0 where
-  pub number : number ≤ last.number
-  pub revision : last.number ≡ number → last.revision ≡ revision
+  pub least : number ≤ last.number
+  pub made : last.number ≡ number → last.revision ≡ revision
 
 -- A command stands in a state as this revision: the document of its name is there, and the last command of its source that was taken
 -- there has its number, and made this revision, or has a higher number.
