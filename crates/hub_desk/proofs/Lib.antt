@@ -1,4 +1,4 @@
 pub mod Batches
 pub mod Finding
-pub mod Standing
+pub mod StandsOn
 pub mod Tickets

@@ -88,20 +88,6 @@ impl<'a, D, J: Site, R> HubDesk<'a, D, J, R> {
     {
         ticket.length() as u64 <= self.viewer.told().len()
     }
-}
-
-impl<D, J: Site, R: Wait> HubDesk<'_, D, J, R> {
-    // Waits until a ticket is settled, unless the viewer was told of that, and tells the viewer. Refused with `StoreFailed` alone.
-    fn await_ticket(&mut self, ticket: &Ticket) -> Result<(), Refusal>
-        ensures kept { IsPrefix self.old.told self.new.told }
-        ensures others { self.new ≡ record self.old { told = self.new.told } }
-        ensures holds { OnOk result (ticket.now.length ≤ length (commands_of self.new.told)) }
-        ensures only { IfErr result (λ e. e ≡ Refusal.StoreFailed) }
-    {
-        let told = self.hub.wait_ack(self.rt, ticket)?;
-        self.viewer.learn(&told);
-        Ok(())
-    }
 
     // Looks whether the state that readers are shown has a command, as the revision of its reply. It waits for nobody, and takes no
     // memory. Refused with `StoreFailed` alone, where the state hasn't, which a board that keeps its order leaves no room for, or where
@@ -136,6 +122,20 @@ impl<D, J: Site, R: Wait> HubDesk<'_, D, J, R> {
         let reply = reply_of(ticket);
         self.look(command, reply)?;
         Ok(reply)
+    }
+}
+
+impl<D, J: Site, R: Wait> HubDesk<'_, D, J, R> {
+    // Waits until a ticket is settled, unless the viewer was told of that, and tells the viewer. Refused with `StoreFailed` alone.
+    fn await_ticket(&mut self, ticket: &Ticket) -> Result<(), Refusal>
+        ensures kept { IsPrefix self.old.told self.new.told }
+        ensures others { self.new ≡ record self.old { told = self.new.told } }
+        ensures holds { OnOk result (ticket.now.length ≤ length (commands_of self.new.told)) }
+        ensures only { IfErr result (λ e. e ≡ Refusal.StoreFailed) }
+    {
+        let told = self.hub.wait_ack(self.rt, ticket)?;
+        self.viewer.learn(&told);
+        Ok(())
     }
 
     // Submits a command, and waits for nothing but the board. What it gives, a ticket or a refusal, a board of the run gave.

@@ -1,4 +1,4 @@
-use Rattle.hub_desk.proofs.Standing.{not_taken_again}
+use Rattle.hub_desk.proofs.StandsOn.{not_taken_again}
 use Rattle.hub_desk.proofs.laws.sent_again.Goals as goal
 
 pub returns : goal.returns

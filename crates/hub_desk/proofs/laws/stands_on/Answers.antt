@@ -1,4 +1,4 @@
-use Rattle.hub_desk.proofs.Standing.{stands_later, stands_alike}
+use Rattle.hub_desk.proofs.StandsOn.{stands_later, stands_alike}
 use Rattle.hub_desk.proofs.laws.stands_on.Goals as goal
 
 pub returns-clause-later : goal.returns-clause-later
