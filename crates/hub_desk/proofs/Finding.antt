@@ -73,9 +73,9 @@ find-changed name from zero at (first ∷ others) found next place is same = by_
       ap (λ b. cond b (Some (from, next)) (find name (from + 1) others)) (alike ∙ e) ∙ ap (λ n. Some (n, next)) start,
     )
     by_test false e = inr (
-      ap (λ b. cond b (Some (from, next)) (find name (from + 1) others)) (alike ∙ e)
-      ∙ sym (ap (λ b. cond b (Some (from, first)) (find name (from + 1) others)) e)
-    )
+        ap (λ b. cond b (Some (from, next)) (find name (from + 1) others)) (alike ∙ e)
+        ∙ sym (ap (λ b. cond b (Some (from, first)) (find name (from + 1) others)) e)
+        )
 find-changed name from (suc number) at (first ∷ others) found next place is same =
     by_test (bytes_eq first.name name) (find-changed name (from + 1) number at others found next (omega (arith, place)) is same)
   where
