@@ -1,15 +1,15 @@
 -- A command that stands in a state stands in what comes of it, and was taken.
-use Rattle.std.proofs.Common.{◌≡◌, ℕ, zero, suc, ◌+◌, ◌≤◌, Bool, true, false, cond, ◌&&◌, List, [], ◌∷◌, length, Option, Some, None, get_or, refl, sym, ap, ◌∙◌, subst, arith, inl, inr}
+use Rattle.std.proofs.Common.{◌≡◌, ℕ, suc, ◌+◌, ◌≤◌, Bool, true, false, cond, ◌&&◌, List, [], ◌∷◌, Option, Some, None, refl, sym, ap, ◌∙◌, subst, arith, inl, inr}
 use Rattle.std.specs.Prelude.{◌⊎◌, ◌<◌, ◌==◌, nat_lt, bytes_eq, slice_get, IsSomeAnd, Any}
 use Rattle.std.proofs.lemmas.Bool.{and_parts, cases_lt}
 use Rattle.std.proofs.lemmas.Bool.Decides.{nat_tests}
 use Rattle.std.proofs.lemmas.Slice.Eq.{bytes_eq-Decides}
-use Rattle.refusal.specs.declared.Refusal.TheVariants.{Exists, OldNumber, Gap}
+use Rattle.refusal.specs.declared.Refusal.TheVariants.{OldNumber}
 use Rattle.revision.specs.Command.{Action, Create, Edit, Undo, Command, Taken}
 use Rattle.revision.specs.Sources.{LastTaken, Sources, last_of}
 use Rattle.revision.specs.State.{DocumentRecord, State, sources_of, find, grows, grown, all_grow, fold}
-use Rattle.revision.specs.Acceptance.{Answer, Repeats, Refuses, by_number, edit, undo, answer_to, answer}
-use Rattle.revision.specs.Agree.{DocumentsAgree, PlacesAgree, Agree}
+use Rattle.revision.specs.Acceptance.{Answer, Repeats, Refuses, by_number, edit, undo, answer_to}
+use Rattle.revision.specs.Agree.{DocumentsAgree, PlacesAgree}
 use Rattle.world.specs.Law.{last_found, last_held}
 use Rattle.hub_desk.specs.Standing.{Reaches, StandsIn}
 use Rattle.hub_desk.specs.Laws.{refusal_of_old, IsNotTakenAgain, StandsLater, StandsAlike, IsTakenOf, WasTakenAmong}
