@@ -13,3 +13,4 @@ pub use fields::{
 };
 pub use reading::{decode_batch, read_delta};
 pub use writing::{batch_len, encode_batch, write_delta};
+pub(crate) use writing::put_batch;

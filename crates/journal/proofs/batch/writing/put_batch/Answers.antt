@@ -5,7 +5,7 @@ use Rattle.std.proofs.lemmas.List.Elements.{All-more}
 use Rattle.revision.specs.Command.{IsTaken}
 use Rattle.journal.specs.BatchSpelling.{batch}
 use Rattle.journal.proofs.BatchWidths.{length-batch}
-use Rattle.journal.proofs.batch.writing.encode_batch.Goals as goal
+use Rattle.journal.proofs.batch.writing.put_batch.Goals as goal
 
 pub loop-taken-preserved : goal.loop-taken-preserved
 loop-taken-preserved c =
