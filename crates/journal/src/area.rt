@@ -97,20 +97,20 @@ impl Area {
 
     /// Appends a record: two writes and two syncs. `NoRoom` comes just where it doesn't fit, with the closed gate behind it, and makes
     /// no call of the device; after a `Fault` the record may be there or not. It takes no memory.
-    pub fn append<D: Disk>(&mut self, disk: &mut D, record: &Record) -> Result<(), AppendError>
+    pub fn append<D: Disk>(&mut self, disk: &mut D, added: &Record) -> Result<(), AppendError>
         requires within { self.old.at + self.old.size ≤ length (D.seen disk.old) }
 
-        ensures no_room { IsErrOf result AppendError.NoRoom ↔ (self.old.size < self.old.next + 6 + length record.now) }
+        ensures no_room { IsErrOf result AppendError.NoRoom ↔ (self.old.size < self.old.next + 6 + length added.now) }
         ensures untouched { IsErrOf result AppendError.NoRoom → disk.new ≡ disk.old }
         ensures err { OnErr result (self.new ≡ self.old) }
-        ensures place { OnOk result (self.new ≡ record self.old { next = self.old.next + 5 + length record.now }) }
+        ensures place { OnOk result (self.new ≡ record self.old { next = self.old.next + 5 + length added.now }) }
 
         // Whatever bodies the area stood for: a crash at any moment leaves them with the new one or without.
         ensures any_moment { (bodies : List (List ℕ)) → D.unsynced disk.old ≡ []
             → Stands (D.seen disk.old) self.old bodies
-            → LeavesOnly ⟦<D as Disk>⟧ (IsLeftByAppend (D.seen disk.old) self.old bodies record.now) disk.old disk.new }
+            → LeavesOnly ⟦<D as Disk>⟧ (IsLeftByAppend (D.seen disk.old) self.old bodies added.now) disk.old disk.new }
         ensures done { OnOk result ((bodies : List (List ℕ)) → Stands (D.seen disk.old) self.old bodies
-            → IsAppended (D.seen disk.old) self.old bodies record.now (D.seen disk.new) self.new) }
+            → IsAppended (D.seen disk.old) self.old bodies added.now (D.seen disk.new) self.new) }
         ensures synced { OnOk result (D.unsynced disk.new ≡ []) }
 
         // Four calls of the device at most, good or not, and of these two syncs.
@@ -120,11 +120,11 @@ impl Area {
         ensures only_written { HasOnlyWritten ⟦<D as Disk>⟧ disk.old disk.new }
         ensures faults { CountsFaultsAs ⟦<D as Disk>⟧ AppendError.Fault result disk.old disk.new }
     {
-        let len = record.body_len();
+        let len = added.body_len();
         if !self.has_room(len) {
             return Err(AppendError::NoRoom);
         }
-        write_gated(disk, self.at + self.next, record.behind_gate())?;
+        write_gated(disk, self.at + self.next, added.behind_gate())?;
         self.next += 5 + len;
         Ok(())
     }

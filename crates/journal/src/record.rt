@@ -33,8 +33,8 @@ impl Record {
         requires some { 1 ≤ length batch.now }
         requires short { length batch.now < 2 ^ 32 }
         requires body { batch_width batch.now < 2 ^ 32 }
-        ensures spelled { IfOk result (λ record. record ≡ spelled batch.now) }
-        ensures width { IfOk result (λ record. length record ≡ batch_width batch.now) }
+        ensures spelled { IfOk result (λ r. r ≡ spelled batch.now) }
+        ensures width { IfOk result (λ r. length r ≡ batch_width batch.now) }
         ensures batch { OnOk result (IsBatch batch.now) }
     {
         let len = batch_len(batch) as u32;
@@ -49,7 +49,7 @@ impl Record {
     pub fn of_body(alloc: Global, body: &[u8]) -> Result<Record, AllocError>
         requires some { 0 < length body.now }
         requires short { length body.now < 2 ^ 32 }
-        ensures body { IfOk result (λ record. record ≡ body.now) }
+        ensures body { IfOk result (λ r. r ≡ body.now) }
     {
         let mut bytes = Vec::with_capacity(alloc, body.len() + 5)?;
         bytes.extend_from_slice(&(body.len() as u32).to_le_bytes())?;

@@ -1,10 +1,9 @@
-use Rattle.std.proofs.Common.{All, length, subst, ap, ◌∙◌, arith}
+use Rattle.std.proofs.Common.{All, subst, arith}
 use Rattle.std.proofs.lemmas.Grind.{common_steps}
 use Rattle.std.proofs.lemmas.List.{take_all}
 use Rattle.std.proofs.lemmas.List.Elements.{All-more}
 use Rattle.revision.specs.Command.{IsTaken}
 use Rattle.journal.specs.BatchSpelling.{batch}
-use Rattle.journal.proofs.BatchWidths.{length-batch}
 use Rattle.journal.proofs.batch.writing.put_batch.Goals as goal
 
 pub loop-taken-preserved : goal.loop-taken-preserved
@@ -18,9 +17,6 @@ loop-taken-preserved c =
 pub returns-clause-spelled : goal.returns-clause-spelled
 unfolding batch
 returns-clause-spelled c = grind (arith, common_steps)
-
-pub returns-clause-width : goal.returns-clause-width
-returns-clause-width c = ap length (returns-clause-spelled c) ∙ length-batch c.args.batch.now
 
 pub returns-clause-batch : goal.returns-clause-batch
 returns-clause-batch c = record {
