@@ -51,10 +51,10 @@ returns-clause-done g c bodies stands =
     let sizes : c.self.inside.size ≡ place.size = ap (λ (p : Place). p.size) c.self.view_is in
     let body = c.body_len-len.ensures.body in
     let inside : place.next < place.size = omega arith in
-    let next : c.self.inside.next + (5 + length c.args.added.now) ≡ place.next + 5 + length c.args.added.now = omega (arith, ap (λ (p : Place). p.next) c.self.view_is) in
+    let next : c.self.inside.next + (5 + c.body_len-len.result) ≡ place.next + 5 + length c.args.added.now = omega (arith, ap (λ (p : Place). p.next) c.self.view_is, c.body_len-len.ensures.len) in
     let seen : g.D.Disk.seen c.write_gated.new.disk ≡ overwritten (overwritten old (place.at + place.next + 1) (frame c.args.added.now ++ 0 ∷ [])) (place.at + place.next) (open_gate ∷ []) =
     c.in_ok-write_gated.ensures.seen
     ∙ ap (λ k. overwritten (overwritten old (k + 1) c.behind_gate.result.now) k (open_gate ∷ [])) gate
     ∙ ap (λ (l : List ℕ). overwritten (overwritten old (place.at + place.next + 1) l) (place.at + place.next) (open_gate ∷ [])) bytes in
-    let done = after old place bodies stands inside c.requires.within c.args.added.now body.some body.short room (g.D.Disk.seen c.write_gated.new.disk) (c.self.inside.next + (5 + length c.args.added.now)) seen next in
-    subst (λ (p : Place). IsAppended old place bodies c.args.added.now (g.D.Disk.seen c.write_gated.new.disk) (record p { next = c.self.inside.next + (5 + length c.args.added.now) })) (sym c.self.view_is) done
+    let done = after old place bodies stands inside c.requires.within c.args.added.now body.some body.short room (g.D.Disk.seen c.write_gated.new.disk) (c.self.inside.next + (5 + c.body_len-len.result)) seen next in
+    subst (λ (p : Place). IsAppended old place bodies c.args.added.now (g.D.Disk.seen c.write_gated.new.disk) (record p { next = c.self.inside.next + (5 + c.body_len-len.result) })) (sym c.self.view_is) done
