@@ -330,6 +330,7 @@ fn append_batch<D: Disk>(
     requires some { 1 ≤ length batch.now }
     requires short { length batch.now < 2 ^ 32 }
     requires fits { batch_width batch.now + 15 ≤ size_of ring.old }
+    requires wide { size_of ring.old ≤ 16777216 }
 
     ensures full { IsErrOf result Refusal.JournalFull → has_room_for ring.old (batch_width batch.now) ≡ false }
     ensures only { IfErr result (λ e. (e ≡ Refusal.JournalFull) ⊎ ((e ≡ Refusal.NoMemory) ⊎ (e ≡ Refusal.Fault))) }

@@ -1,4 +1,4 @@
-use Rattle.std.proofs.Common.{◌≡◌, ◌∙◌, ◌+◌, ⊎_elim, true, false, [], ◌∷◌, ◌++◌, Err, refl, ap, subst, sym, inl, rules}
+use Rattle.std.proofs.Common.{◌≡◌, ◌∙◌, ◌+◌, ◌-◌, ⊎_elim, true, false, [], ◌∷◌, ◌++◌, Err, refl, ap, subst, sym, inl, rules}
 use Rattle.journal.specs.BatchSpelling.{batch}
 use Rattle.revision.specs.State.{Limits, State, fold, all_grow, first_grows}
 use Rattle.history.specs.Running.{Runs}
@@ -14,6 +14,7 @@ use Rattle.recovery.specs.declared.marks.Mark.{Mark}
 use Rattle.recovery.specs.Marks.{marks_of, IsNoted}
 use Rattle.recovery.proofs.Upkeep.{cells_later, marked_with}
 use Rattle.recovery.proofs.Folds.{fold-limits, first_of_all}
+use Rattle.recovery.proofs.Superblocks.{ranges_of}
 use Rattle.recovery.specs.Open.{kept_jobs}
 use Rattle.recovery.proofs.Going.{open_unchanged, unchanged_leaves}
 use Rattle.recovery.proofs.KeptJobs.{kept_later}
@@ -86,6 +87,14 @@ returns-in-Ok-append_batch-clause-done g c is_open = (returns-in-Ok-append_batch
 
 pub returns-in-Ok-append_batch-clause-marks : goal.returns-in-Ok-append_batch-clause-marks
 returns-in-Ok-append_batch-clause-marks g c = omega (arith, c.mark_batch.ensures.grows, ap (λ (l : List Mark). length l) c.make_receipt.ensures.same)
+
+-- no slot has more than 16,777,216
+pub append_batch-requires-clause-wide : goal.append_batch-requires-clause-wide
+append_batch-requires-clause-wide g c =
+    let store = c.args.self.now in
+    let ranges = ranges_of store.shape store.in_range in
+    let width : store.state.limits.width ≡ store.shape.slot - 19 = ap (λ (l : Limits). l.width) store.bounded in
+    omega (arith, store.slot, width, ranges.slot, ranges.slot_low)
 
 -- a slot has as many bytes as the limits say
 pub invariant_of-self-in-Ok-append_batch-clause-slot : goal.invariant_of-self-in-Ok-append_batch-clause-slot
