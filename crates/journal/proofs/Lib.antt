@@ -1,6 +1,8 @@
 pub mod CallerLemmas
 pub mod Gated
 pub mod Areas
+pub mod Framed
+pub mod Counting
 pub mod Records
 pub mod Scanning
 pub mod Widths

@@ -1,4 +1,5 @@
 pub mod Area
+pub mod Record
 pub mod Scan
 pub mod Spelling
 pub mod DeltaSpelling

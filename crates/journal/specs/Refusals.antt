@@ -8,7 +8,6 @@ use Rattle.journal.specs.declared.scan.ScanError.TheVariants as scan
 
 abbrev pub refusal_of_append : AppendError → Refusal
 refusal_of_append append.NoRoom = refusals.JournalFull
-refusal_of_append append.NoMemory = refusals.NoMemory
 refusal_of_append append.Fault = refusals.Fault
 
 abbrev pub refusal_of_scan : ScanError → Refusal

@@ -1,14 +1,15 @@
 //! An area of a device that holds records, one behind another.
-ghost use Rattle.std.specs.Prelude.{◌≡◌, ◌⊎◌, ◌↔◌, ◌+◌, ◌^◌, ◌<◌, ◌≤◌, ℕ, List, [], ◌∷◌, ◌++◌, length, OnOk, OnErr, IfOk, IsErrOf, IsTrue, Err};
+ghost use Rattle.std.specs.Prelude.{◌≡◌, ◌↔◌, ◌+◌, ◌^◌, ◌<◌, ◌≤◌, ℕ, List, [], ◌++◌, length, OnOk, OnErr, IsErrOf, IsTrue};
 ghost use Rattle.disk.specs.Crash.{LeavesOnly};
 ghost use Rattle.disk.specs.Calls.{HasOnlyWritten, CountsFaultsAs};
-ghost use Rattle.journal.specs.Area.{Stands, IsLeftByAppend, IsAppended, frame};
-ghost use Rattle.journal.specs.declared.area.AppendError.TheVariants.{NoMemory, Fault};
+ghost use Rattle.disk.specs.Counted.{calls_of, syncs_of};
+ghost use Rattle.journal.specs.Area.{Stands, IsLeftByAppend, IsAppended};
+ghost use Rattle.journal.specs.declared.area.AppendError.TheVariants.{Fault};
 
-use crate::gate::{CLOSED, write_gated};
+use crate::gate::write_gated;
+use crate::record::Record;
 use disk::Disk;
 use refusal::Refusal;
-use std::alloc::{AllocError, Global};
 use std::marker::Model;
 use thiserror::Error;
 
@@ -18,20 +19,9 @@ pub enum AppendError {
     /// The record and the closed gate behind it don't fit into the area.
     #[error("the area has no room")]
     NoRoom,
-    /// Memory ran out.
-    #[error("out of memory")]
-    NoMemory,
     /// A call of the device failed.
     #[error("a call of the device failed")]
     Fault,
-}
-
-impl From<AllocError> for AppendError {
-    ghost from_gives = { λ _ e. e ≡ NoMemory };
-
-    fn from(_: AllocError) -> Self {
-        AppendError::NoMemory
-    }
 }
 
 impl From<disk::Fault> for AppendError {
@@ -50,7 +40,6 @@ impl From<AppendError> for Refusal {
     fn from(error: AppendError) -> Self {
         match error {
             AppendError::NoRoom => Refusal::JournalFull,
-            AppendError::NoMemory => Refusal::NoMemory,
             AppendError::Fault => Refusal::Fault,
         }
     }
@@ -106,57 +95,37 @@ impl Area {
         self.next + 6 + len <= self.size
     }
 
-    /// Appends a record with this body: two writes and two syncs. `NoRoom` comes just where the record, with a closed
-    /// gate behind it, doesn't fit. `NoRoom` and `NoMemory` make no call of the device; after a `Fault` the record may
-    /// be there or not.
-    pub fn append<D: Disk>(
-        &mut self,
-        alloc: Global,
-        disk: &mut D,
-        body: &[u8],
-    ) -> Result<(), AppendError>
+    /// Appends a record: two writes and two syncs. `NoRoom` comes just where it doesn't fit, with the closed gate behind it, and makes
+    /// no call of the device; after a `Fault` the record may be there or not. It takes no memory.
+    pub fn append<D: Disk>(&mut self, disk: &mut D, added: &Record) -> Result<(), AppendError>
         requires within { self.old.at + self.old.size ≤ length (D.seen disk.old) }
-        requires some { 0 < length body.now }
 
-        ensures no_room { IsErrOf result AppendError.NoRoom ↔ (self.old.size < self.old.next + 6 + length body.now) }
-        ensures untouched { (result ≡ Err AppendError.NoRoom) ⊎ (result ≡ Err AppendError.NoMemory)
-            → disk.new ≡ disk.old }
+        ensures no_room { IsErrOf result AppendError.NoRoom ↔ (self.old.size < self.old.next + 6 + length added.now) }
+        ensures untouched { IsErrOf result AppendError.NoRoom → disk.new ≡ disk.old }
         ensures err { OnErr result (self.new ≡ self.old) }
-        ensures place { OnOk result (self.new ≡ record self.old { next = self.old.next + 5 + length body.now }) }
+        ensures place { OnOk result (self.new ≡ record self.old { next = self.old.next + 5 + length added.now }) }
 
         // Whatever bodies the area stood for: a crash at any moment leaves them with the new one or without.
         ensures any_moment { (bodies : List (List ℕ)) → D.unsynced disk.old ≡ []
             → Stands (D.seen disk.old) self.old bodies
-            → LeavesOnly ⟦<D as Disk>⟧ (IsLeftByAppend (D.seen disk.old) self.old bodies body.now) disk.old disk.new }
+            → LeavesOnly ⟦<D as Disk>⟧ (IsLeftByAppend (D.seen disk.old) self.old bodies added.now) disk.old disk.new }
         ensures done { OnOk result ((bodies : List (List ℕ)) → Stands (D.seen disk.old) self.old bodies
-            → IsAppended (D.seen disk.old) self.old bodies body.now (D.seen disk.new) self.new) }
+            → IsAppended (D.seen disk.old) self.old bodies added.now (D.seen disk.new) self.new) }
         ensures synced { OnOk result (D.unsynced disk.new ≡ []) }
 
-        // Four calls of the device at most.
+        // Four calls of the device at most, good or not, and of these two syncs.
         ensures calls { length (D.past disk.new) ≤ length (D.past disk.old) + 4 }
+        ensures every_call { calls_of ⟦<D as Disk>⟧ disk.new ≤ calls_of ⟦<D as Disk>⟧ disk.old + 4 }
+        ensures syncs { syncs_of ⟦<D as Disk>⟧ disk.new ≤ syncs_of ⟦<D as Disk>⟧ disk.old + 2 }
         ensures only_written { HasOnlyWritten ⟦<D as Disk>⟧ disk.old disk.new }
         ensures faults { CountsFaultsAs ⟦<D as Disk>⟧ AppendError.Fault result disk.old disk.new }
     {
-        let len = body.len() as u64;
+        let len = added.body_len();
         if !self.has_room(len) {
             return Err(AppendError::NoRoom);
         }
-        let record = record_behind_gate(alloc, body)?;
-        write_gated(disk, self.at + self.next, &record)?;
+        write_gated(disk, self.at + self.next, added.behind_gate())?;
         self.next += 5 + len;
         Ok(())
     }
-}
-
-// What is written behind a record's gate: the length, the body, and the closed gate of the next record.
-fn record_behind_gate(alloc: Global, body: &[u8]) -> Result<Vec<u8>, AllocError>
-    requires { length body.now < 2 ^ 32 }
-    ensures bytes { IfOk result (λ v. v.items ≡ frame body.now ++ 0 ∷ []) }
-    ensures length { IfOk result (λ v. length v.items ≡ length body.now + 5) }
-{
-    let mut record = Vec::with_capacity(alloc, body.len() + 5)?;
-    record.extend_from_slice(&(body.len() as u32).to_le_bytes())?;
-    record.extend_from_slice(body)?;
-    record.push(CLOSED)?;
-    Ok(record)
 }

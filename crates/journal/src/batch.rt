@@ -12,4 +12,5 @@ pub use fields::{
     read_number32, read_number64, read_text16, write_number32, write_number64, write_text16,
 };
 pub use reading::{decode_batch, read_delta};
+pub(crate) use writing::put_batch;
 pub use writing::{batch_len, encode_batch, write_delta};

@@ -3,6 +3,7 @@ ghost use Rattle.std.specs.Prelude.{◌≡◌, ◌+◌, ◌^◌, ◌<◌, ◌≤
 ghost use Rattle.disk.specs.Device.{overwritten};
 ghost use Rattle.disk.specs.Crash.{LeavesOnly};
 ghost use Rattle.disk.specs.Calls.{HasOnlyWritten, CountsFaults};
+ghost use Rattle.disk.specs.Counted.{calls_of, syncs_of};
 ghost use Rattle.journal.specs.Area.{open_gate, IsGated};
 
 use disk::{Disk, Fault};
@@ -27,8 +28,10 @@ pub fn write_gated<D: Disk>(disk: &mut D, gate: u64, bytes: &[u8]) -> Result<(),
     ensures synced { OnOk result (D.unsynced disk.new ≡ []) }
     ensures only_written { HasOnlyWritten ⟦<D as Disk>⟧ disk.old disk.new }
 
-    // Four calls of the device at most.
+    // Four calls of the device at most, good or not, and of these two syncs.
     ensures calls { length (D.past disk.new) ≤ length (D.past disk.old) + 4 }
+    ensures every_call { calls_of ⟦<D as Disk>⟧ disk.new ≤ calls_of ⟦<D as Disk>⟧ disk.old + 4 }
+    ensures syncs { syncs_of ⟦<D as Disk>⟧ disk.new ≤ syncs_of ⟦<D as Disk>⟧ disk.old + 2 }
     ensures faults { CountsFaults ⟦<D as Disk>⟧ result disk.old disk.new }
 {
     disk.write_at(gate + 1, bytes)?;

@@ -10,9 +10,10 @@
 //! ghost use Rattle.std.specs.Prelude.{◌+◌, ◌≤◌, ◌<◌, ◌^◌, ℕ, List, [], ◌∷◌, ◌++◌, length, OnOk};
 //! ghost use Rattle.journal.specs.Area.{Stands};
 //! ghost use Rattle.journal.specs.BatchSpelling as spelling;
+//! ghost use Rattle.journal.specs.BatchSpelling.{batch_width};
 //!
 //! use disk::Disk;
-//! use journal::{Area, encode_batch};
+//! use journal::{Area, Record};
 //! use refusal::Refusal;
 //! use revision::Taken;
 //! use std::alloc::Global;
@@ -26,12 +27,13 @@
 //! ) -> Result<(), Refusal>
 //!     requires some { 1 ≤ length batch.now }
 //!     requires short { length batch.now < 2 ^ 32 }
+//!     requires body { batch_width batch.now < 2 ^ 32 }
 //!     requires within { area.old.at + area.old.size ≤ length (D.seen disk.old) }
 //!     ensures { OnOk result ((bodies : List (List ℕ)) → Stands (D.seen disk.old) area.old bodies
 //!         → Stands (D.seen disk.new) area.new (bodies ++ spelling.batch batch.now ∷ [])) }
 //! {
-//!     let body = encode_batch(alloc, batch)?;
-//!     area.append(alloc, disk, &body)?;
+//!     let record = Record::of_batch(alloc, batch)?;
+//!     area.append(disk, &record)?;
 //!     Ok(())
 //! }
 //! ```
@@ -42,6 +44,7 @@ mod batch;
 mod gate;
 pub mod laws;
 mod pending;
+mod record;
 mod scan;
 
 pub use area::{AppendError, Area};
@@ -50,4 +53,5 @@ pub use batch::{
     write_delta, write_number32, write_number64, write_text16,
 };
 pub use gate::{CLOSED, OPEN, write_gated};
+pub use record::Record;
 pub use scan::{Scan, ScanError};

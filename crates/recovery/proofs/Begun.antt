@@ -10,29 +10,27 @@ use Rattle.refusal.specs.declared.Refusal.{Refusal}
 use Rattle.refusal.specs.declared.Refusal.TheVariants.{StillNeeded, NoMemory, Fault}
 use Rattle.revision.specs.Command.{Taken}
 use Rattle.milestone.specs.Job.{Job}
-use Rattle.segments.specs.Ring.{IsSameOrOpened}
 use Rattle.recovery.specs.declared.run.StoreStep.TheVariants.{Commit, Milestone, Retire}
 use Rattle.recovery.specs.declared.store.Store.{Store}
 use Rattle.recovery.specs.Found.{FoundAs}
 use Rattle.recovery.specs.Jobs.{without_job}
 use Rattle.recovery.specs.Unwritten.{IsUnwritten}
-use Rattle.recovery.specs.Open.{IsOpen, IsWithOrWithout, device_of, ring_of, state_of, known_cells, known_marks, kept_jobs, has_failed}
+use Rattle.recovery.specs.Open.{IsOpen, IsUnchanged, IsWithOrWithout, device_of, state_of, known_marks, kept_jobs, has_failed}
 use Rattle.recovery.specs.declared.run.StoreStep.{StoreStep}
 use Rattle.recovery.specs.Begun.{IsLeftBy, jobs_behind, jobs_after}
 
 module _ {D : Type 0} {disk : Ghosts D} (old new : Store D disk) where
   pub left_commit : {A : Type 0} (batch : Vec Taken Global) (commands : List Taken) → commands ≡ batch.items → (refusal : Refusal) → state_of new ≡ state_of old → known_marks new ≡ known_marks old
-      → kept_jobs new ≡ kept_jobs old → known_cells new ≡ known_cells old → length (disk.past (device_of new)) ≤ length (disk.past (device_of old)) + 8
+      → kept_jobs new ≡ kept_jobs old → length (disk.past (device_of new)) ≤ length (disk.past (device_of old)) + 8
       → (has_failed old ≡ false → IsOpen old → LeavesOnly disk (IsWithOrWithout (state_of old) commands) (device_of old) (device_of new))
-      → (IsErrOf {T = A} {E = Refusal} (Err refusal) NoMemory → IsSameOrOpened (ring_of old) (ring_of new))
-      → (IsErrOf {T = A} {E = Refusal} (Err refusal) NoMemory → length (disk.past (device_of new)) ≤ length (disk.past (device_of old)) + 4) → IsLeftBy (Commit batch) refusal old new
-  left_commit batch commands same refusal state marks jobs cells calls any_moment opened few = record {
+      → (IsErrOf {T = A} {E = Refusal} (Err refusal) NoMemory → IsUnchanged old new) → IsLeftBy (Commit batch) refusal old new
+  left_commit batch commands same refusal state marks jobs calls any_moment given_up = record {
     state = state;
     marks = marks;
     jobs = jobs;
     calls = calls;
     any_moment = λ unfailed is_open. subst (λ (l : List Taken). LeavesOnly disk (IsWithOrWithout (state_of old) l) (device_of old) (device_of new)) same (any_moment unfailed is_open);
-    memory = λ is. (opened (ap (λ (r : Refusal). Err r) is), cells, few (ap (λ (r : Refusal). Err r) is));
+    memory = λ is. given_up (ap (λ (r : Refusal). Err r) is);
   }
 
   pub left_milestone : {A : Type 0} (document revision : ℕ) (result : Result A Refusal) → state_of new ≡ state_of old → known_marks new ≡ known_marks old

@@ -14,14 +14,14 @@ use Rattle.segments.specs.Slot.{Segment}
 use Rattle.segments.specs.Numbers.{NumbersDiffer}
 use Rattle.segments.specs.Table.{HoldsTable, IsAppended, numbers_of}
 use Rattle.segments.specs.Order.{bodies_of}
-use Rattle.segments.specs.Ring.{Fits, IsReady, HoldsInRing, FitsNow, SamePlaces, IsLeftReady, IsLeftByAppend, at_of, size_of, ring_size, known_numbers}
+use Rattle.segments.specs.Ring.{Fits, IsReady, HoldsInRing, FitsNow, SamePlaces, IsLeftByAppend, at_of, size_of, ring_size, known_numbers}
 use Rattle.segments.proofs.CallerLemmas.{opened_bodies, appended_bodies, opened_differs}
 use Rattle.recovery.specs.declared.store.Store.{Store}
 use Rattle.recovery.specs.Shape.{slots_place}
 use Rattle.recovery.specs.Layout.{IsLaidOut}
 use Rattle.recovery.specs.Found.{FoundAs, HoldsParts, limits_of, commands_of}
 use Rattle.recovery.specs.Open.{IsOpen, IsWithOrWithout}
-use Rattle.recovery.specs.steps.Appending.{IsDone, IsGivenUp}
+use Rattle.recovery.specs.steps.Appending.{IsDone}
 use Rattle.recovery.proofs.Layouts.{laid_out_again, slots_held, as_many}
 use Rattle.recovery.proofs.Folds.{commands_of-push, fold-limits}
 use Rattle.recovery.proofs.Runs.{found_as, found_open}
@@ -71,11 +71,6 @@ module _ {D : Type 0} {disk : Ghosts D} (store : Store D disk) (is_open : IsOpen
     differ = opened_differs is_open.table ready is_open.fits.holds.differ opened.1;
   }
 
-  -- and so does what is left of one that is given up
-  pub left_same : (len : ℕ) (left : List (Option Segment)) → (left ≡ is_open.table) ⊎ IsReady store.ring len is_open.table left → SameBodies is_open.table left
-  left_same len left (inl same) = subst (SameBodies is_open.table) (sym same) (record { bodies = refl; count = refl; differ = is_open.fits.holds.differ })
-  left_same len left (inr is) = ready_same len left is
-
   -- a content that holds such a table holds the parts before
   pub parts_kept : (content : List ℕ) (now : List (Option Segment)) → SameBodies is_open.table now → HoldsInRing old store.ring now content
       → HoldsParts content store.shape is_open.cells now is_open.batches
@@ -97,17 +92,7 @@ module _ {D : Type 0} {disk : Ghosts D} (store : Store D disk) (is_open : IsOpen
   })
 
   found_held : (content : List ℕ) → HoldsInRing old store.ring is_open.table content → FoundAs content store.state
-  found_held content held = found_kept content is_open.table (left_same 0 is_open.table (inl refl)) held
-
-  -- a crash before anything of a batch is written
-  pub opened_for : (len : ℕ) (content : List ℕ) → IsLeftReady old store.ring len is_open.table content → FoundAs content store.state
-  opened_for len content (inl held) = found_held content held
-  opened_for len content (inr (ready, is, held)) = found_kept content ready (ready_same len ready is) held
-
-  -- an append that was given up
-  pub parts_left : (new : List ℕ) (later : Ring) (len : ℕ) → SamePlaces store.ring later → (kept : IsGivenUp old store.ring len is_open.table new later)
-      → HoldsParts new store.shape is_open.cells kept.left is_open.batches
-  parts_left new later len places kept = parts_kept new kept.left (left_same len kept.left kept.is_left) (held_now old new store.ring later kept.left places kept.fits)
+  found_held content held = found_kept content is_open.table (record { bodies = refl; count = refl; differ = is_open.fits.holds.differ }) held
 
   module _ (commands : List Taken) (is_batch : IsBatch commands) (grow : all_grow store.state commands ≡ true) where
     abbrev batches_then : List (List Taken)

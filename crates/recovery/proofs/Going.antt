@@ -22,7 +22,7 @@ use Rattle.recovery.specs.Cells.{AreCellsOf, FitEach}
 use Rattle.recovery.specs.Marked.{AreMarked}
 use Rattle.recovery.specs.Jobs.{CanAllBePut}
 use Rattle.recovery.specs.Found.{FoundAs, HoldsParts, limits_of, commands_of}
-use Rattle.recovery.specs.Open.{IsOpen, IsUnchanged, IsCommitGivenUp, device_of, state_of, has_failed}
+use Rattle.recovery.specs.Open.{IsOpen, IsUnchanged, device_of, state_of, has_failed}
 use Rattle.recovery.specs.Goes.{Goes}
 use Rattle.recovery.proofs.Runs.{found_as, found_open}
 
@@ -71,10 +71,9 @@ module _ {D : Type 0} {disk : Ghosts D} where
   unfolding open_unchanged
   unchanged_table same is_open = refl
 
-  -- a commit that left the store as it was
-  pub nothing_given_up : (old new : Store D disk) (commands : List Taken) (is_open : IsOpen old) → IsUnchanged old new → IsCommitGivenUp commands old is_open new
-  nothing_given_up old new commands is_open same =
-      record { goes_on = open_unchanged same is_open; same_cells = unchanged_cells same is_open; slots = inl (unchanged_table same is_open) }
+  -- a call that left the store as it was left no more than it holds
+  pub unchanged_leaves : {P : List ℕ → Type 0} {old new : Store D disk} → IsUnchanged old new → IsOpen old → P (disk.seen (device_of old)) → LeavesOnly disk P (device_of old) (device_of new)
+  unchanged_leaves {P} {old} {new} same is_open has = subst (LeavesOnly disk P (device_of old)) (sym same.device) (begins (history_of disk old.device) is_open.synced has)
 
   -- a crash now leaves what an open store holds
   pub found_now : (store : Store D disk) → IsOpen store → (content : List ℕ) → MayLeaveNow disk (device_of store) content → FoundAs content (state_of store)

@@ -1,6 +1,6 @@
 -- What is refused, whatever was asked for.
 use Rattle.std.proofs.Common.{◌≡◌, ◌⊎◌, inl, inr, sym, ◌∙◌, ap}
-use Rattle.std.specs.Prelude.{Result, Ok, Err}
+use Rattle.std.specs.Prelude.{Result, Ok, Err, IfErr, IsErrOf}
 use Rattle.refusal.specs.declared.Refusal.{Refusal}
 use Rattle.refusal.specs.declared.Refusal.TheVariants.{JournalFull, Stranger, NoMemory, Fault}
 
@@ -21,3 +21,17 @@ among refusal (inr (inr fault)) is = let same : Fault ≡ Stranger = sym fault �
 
 pub no_stranger : {T : Type 0} (refusal : Refusal) → (refusal ≡ JournalFull) ⊎ ((refusal ≡ NoMemory) ⊎ (refusal ≡ Fault)) → ◌≡◌ {A = Result T Refusal} (Err refusal) (Err Stranger) → ⊥
 no_stranger refusal only told = among refusal only (ap (refusal_or Stranger) told)
+
+-- an append to the ring takes no memory
+full_or_fault : (refusal : Refusal) → (refusal ≡ JournalFull) ⊎ (refusal ≡ Fault) → refusal ≡ NoMemory → ⊥
+full_or_fault refusal (inl full) is = let same : JournalFull ≡ NoMemory = sym full ∙ is in cc
+full_or_fault refusal (inr fault) is = let same : Fault ≡ NoMemory = sym fault ∙ is in cc
+
+pub takes_no_memory : {T : Type 0} (result : Result T Refusal) → IfErr result (λ e. (e ≡ JournalFull) ⊎ (e ≡ Fault)) → IsErrOf result NoMemory → ⊥
+takes_no_memory (Ok value) only told = ok≢err value NoMemory told
+takes_no_memory {T} (Err refusal) only told = full_or_fault refusal only (ap (refusal_or {T = T} NoMemory) told)
+
+pub or_memory : {T : Type 0} (result : Result T Refusal) → IfErr result (λ e. (e ≡ JournalFull) ⊎ (e ≡ Fault)) → IfErr result (λ e. (e ≡ JournalFull) ⊎ ((e ≡ NoMemory) ⊎ (e ≡ Fault)))
+or_memory (Ok value) only = tt
+or_memory (Err refusal) (inl full) = inl full
+or_memory (Err refusal) (inr fault) = inr (inr fault)

@@ -1,5 +1,5 @@
 -- What is known of the cells and of the marks after an append to the ring.
-use Rattle.std.proofs.Common.{◌≡◌, ◌⊎◌, inl, inr, ℕ, Option, List, length, take, sym, ◌∙◌, subst}
+use Rattle.std.proofs.Common.{◌≡◌, inl, inr, ℕ, Option, List, length, take, sym, ◌∙◌, subst}
 use Rattle.disk.specs.declared.device.Disk.{Ghosts}
 use Rattle.disk.specs.Device.{SameOutside}
 use Rattle.revision.specs.Command.{Taken}
@@ -31,10 +31,6 @@ module _ {D : Type 0} {disk : Ghosts D} (store : Store D disk) (is_open : IsOpen
   marked_ready : (len : ℕ) (ready : List (Option Segment)) → IsReady store.ring len is_open.table ready → AreMarked ready (marks_of store.marks)
   marked_ready len ready (inl fits) = subst (λ (t : List (Option Segment)). AreMarked t (marks_of store.marks)) (sym fits.1) is_open.marked
   marked_ready len ready (inr opened) = marked_opened is_open.table ready (marks_of store.marks) is_open.fits.holds.differ opened.1 is_open.marked
-
-  pub marked_left : (len : ℕ) (left : List (Option Segment)) → (left ≡ is_open.table) ⊎ IsReady store.ring len is_open.table left → AreMarked left (marks_of store.marks)
-  marked_left len left (inl same) = subst (λ (t : List (Option Segment)). AreMarked t (marks_of store.marks)) (sym same) is_open.marked
-  marked_left len left (inr is) = marked_ready len left is
 
   -- and with the batch, where its commands are noted in the newest segment
   pub marked_with : (commands : List Taken) → IsBatch commands → (new : List ℕ) (later : Ring) (done : IsDone (disk.seen store.device) store.ring is_open.table (batch commands) new later) (now : List Mark)

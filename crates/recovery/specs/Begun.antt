@@ -5,12 +5,11 @@ use Rattle.disk.specs.Crash.{LeavesOnly}
 use Rattle.refusal.specs.declared.Refusal.{Refusal}
 use Rattle.refusal.specs.declared.Refusal.TheVariants.{NoMemory}
 use Rattle.milestone.specs.Job.{Job}
-use Rattle.segments.specs.Ring.{IsSameOrOpened}
 use Rattle.recovery.specs.declared.store.Store.{Store}
 use Rattle.recovery.specs.declared.run.StoreStep.{StoreStep}
 use Rattle.recovery.specs.declared.run.StoreStep.TheVariants.{Commit, Milestone, Retire}
 use Rattle.recovery.specs.Jobs.{without_job}
-use Rattle.recovery.specs.Open.{IsOpen, IsWithOrWithout, device_of, ring_of, state_of, known_cells, known_marks, kept_jobs, has_failed}
+use Rattle.recovery.specs.Open.{IsOpen, IsUnchanged, IsWithOrWithout, device_of, state_of, known_marks, kept_jobs, has_failed}
 use Rattle.recovery.specs.Run.{AreTaken, batch_of}
 use Rattle.recovery.specs.Unwritten.{IsUnwritten}
 
@@ -26,12 +25,10 @@ jobs_after [] jobs = jobs
 jobs_after (step ∷ steps) jobs = jobs_after steps (jobs_behind step jobs)
 
 module _ {D : Type 0} {disk : Ghosts D} where
-  -- What a step leaves for which memory ran out: a commit at most a slot that was opened for its batch, a milestone at most its job. A
-  -- retirement takes no memory.
+  -- What a step leaves for which memory ran out: a commit leaves all as it was, and a milestone at most its job. A retirement takes no
+  -- memory.
   abbrev pub IsLeftByMemory : StoreStep → Store D disk → Store D disk → Type 0
-  IsLeftByMemory (Commit batch) old new =
-      IsSameOrOpened (ring_of old) (ring_of new) × (known_cells new ≡ known_cells old)
-      × (length (disk.past (device_of new)) ≤ length (disk.past (device_of old)) + 4)
+  IsLeftByMemory (Commit batch) old new = IsUnchanged old new
   IsLeftByMemory (Milestone document revision) old new = IsUnwritten document revision old new
   IsLeftByMemory Retire old new = ⊥
 

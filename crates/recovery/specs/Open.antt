@@ -142,13 +142,6 @@ module _ {D : Type 0} {disk : Ghosts D} where
     pub appended : IsAppended ready (spelled commands) goes_on.table
     pub jobs : kept_jobs new ≡ kept_jobs old
 
-  -- After a commit for which memory ran out: the store goes on over the same cells, and over the same slots, or with the next one opened
-  -- for the batch.
-  pub record IsCommitGivenUp (commands : List Taken) (old : Store D disk) (is_open : IsOpen old) (new : Store D disk) : Type 0 where
-    pub goes_on : IsOpen new
-    pub same_cells : goes_on.cells ≡ is_open.cells
-    pub slots : (goes_on.table ≡ is_open.table) ⊎ IsReady (ring_of old) (batch_width commands) is_open.table goes_on.table
-
   -- After a retirement: the store goes on over the same cells, and the slot of the oldest segment is closed.
   pub record IsRetiredNow (cells : List Pair) (table : List (Option Segment)) (store : Store D disk) : Type 0 where
     pub goes_on : IsOpen store
@@ -200,14 +193,6 @@ module _ {D : Type 0} {disk : Ghosts D} where
     pub mid : Store D disk
     pub freed : IsFreedNow old is_open mid
     pub committed : IsCommittedNow commands mid freed.goes_on new
-
-  -- Memory ran out in a commit for which room was made: the oldest segment was freed, and the commit given up behind that. The kept jobs are
-  -- those that freeing left.
-  pub record IsGivenUpBehind (commands : List Taken) (old : Store D disk) (is_open : IsOpen old) (new : Store D disk) : Type 0 where
-    pub mid : Store D disk
-    pub freed : IsFreedNow old is_open mid
-    pub given_up : IsCommitGivenUp commands mid freed.goes_on new
-    pub jobs : kept_jobs new ≡ kept_jobs mid
 
   -- The kept jobs stay of each document that needs no milestone before a segment is retired.
   abbrev pub KeepsJobs : ℕ → Store D disk → Store D disk → Type 0

@@ -5,12 +5,12 @@ ghost use Rattle.disk.specs.Device.{Rose};
 ghost use Rattle.disk.specs.Crash.{LeavesOnly};
 ghost use Rattle.revision.specs.State.{fold, all_grow, first_grows};
 ghost use Rattle.segments.specs.Numbers.{IsOldest, newest_number, open_count};
-ghost use Rattle.segments.specs.Ring.{IsSameOrOpened, known_numbers};
+ghost use Rattle.segments.specs.Ring.{known_numbers};
 ghost use Rattle.recovery.specs.Found.{FoundAs};
 ghost use Rattle.recovery.specs.Goes.{Goes};
 ghost use Rattle.recovery.specs.Jobs.{without_job};
 ghost use Rattle.recovery.specs.Marks.{without_segment};
-ghost use Rattle.recovery.specs.Open.{FitsSlot, IsOpen, IsUnchanged, IsCommittedNow, IsCommittedBehind, IsGivenUpBehind, IsFreedNow, IsHalfFreed, AreBothNewest, IsWithOrWithout, KeepsJobs, needing, device_of, ring_of, state_of, known_cells, known_marks, kept_jobs, has_failed, has_room, fits_newest_segment};
+ghost use Rattle.recovery.specs.Open.{FitsSlot, IsOpen, IsUnchanged, IsCommittedNow, IsCommittedBehind, IsFreedNow, IsHalfFreed, AreBothNewest, IsWithOrWithout, KeepsJobs, needing, device_of, ring_of, state_of, known_cells, known_marks, kept_jobs, has_failed, has_room, fits_newest_segment};
 ghost use Rattle.recovery.specs.Run.{IsPutAt};
 ghost use Rattle.recovery.specs.steps.Freeing.{reached_in, MayReach, KeepsSegments, IsMarkSpared, IsMarkAbove, IsPutOf, IsHalfPut, AreCovered};
 ghost use Rattle.recovery.specs.Unwritten.{MayKeepJob};
@@ -173,13 +173,11 @@ impl<D: Disk> Store<D> {
         ensures done { OnOk result (IsOpen self.old → IsOpen self.new) }
         ensures kept { IfErr result (λ e. e ≢ Refusal.Fault → IsOpen self.old → IsOpen self.new) }
 
-        // Where there was room, a refusal leaves what it leaves of `commit`: all as it was, or, where memory ran out, a slot opened.
+        // Where there was room, a refusal leaves what it leaves of `commit`: all as it was.
         ensures untouched { has_room self.old batch.now ≡ true → IsErrOf result Refusal.Stranger
             → IsUnchanged self.old self.new }
         ensures given_up { has_room self.old batch.now ≡ true → IsErrOf result Refusal.NoMemory
-            → IsSameOrOpened (ring_of self.old) (ring_of self.new) }
-        ensures given_up_where_it_fits { fits_newest_segment self.old batch.now ≡ true
-            → IsErrOf result Refusal.NoMemory → IsUnchanged self.old self.new }
+            → IsUnchanged self.old self.new }
         // Where there was none, `StillNeeded` leaves all as it was, `Stranger` comes behind a segment that was freed, and `NoMemory` too,
         // or while it was being freed.
         ensures needed_untouched { IsErrOf result Refusal.StillNeeded → IsOpen self.old
@@ -190,15 +188,13 @@ impl<D: Disk> Store<D> {
             → (is_open : IsOpen self.old) → IsFreedNow self.old is_open self.new }
         ensures memory_behind { IsErrOf result Refusal.NoMemory → has_room self.old batch.now ≡ false
             → (is_open : IsOpen self.old) → (IsHalfFreed self.old is_open self.new)
-            ⊎ (IsGivenUpBehind batch.now self.old is_open self.new) }
+            ⊎ (IsFreedNow self.old is_open self.new) }
 
-        // Where it has room, it makes eight calls of the device at most, and four where the batch fits the newest segment, or where memory
-        // ran out. Where it has none, those of `free_oldest` come first.
+        // Where it has room, it makes eight calls of the device at most, and four where the batch fits the newest segment. Where it has
+        // none, those of `free_oldest` come first.
         ensures calls { has_room self.old batch.now ≡ true
             → length (D.past (device_of self.new)) ≤ length (D.past (device_of self.old)) + 8 }
         ensures calls_where_it_fits { fits_newest_segment self.old batch.now ≡ true
-            → length (D.past (device_of self.new)) ≤ length (D.past (device_of self.old)) + 4 }
-        ensures calls_given_up { has_room self.old batch.now ≡ true → IsErrOf result Refusal.NoMemory
             → length (D.past (device_of self.new)) ≤ length (D.past (device_of self.old)) + 4 }
         ensures calls_behind { IsOpen self.old → (slot segment : ℕ)
             → IsOldest (known_numbers (ring_of self.old)) slot segment

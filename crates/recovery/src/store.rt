@@ -1,11 +1,12 @@
 //! A store that is open.
 ghost use Rattle.std.specs.Prelude.{◌≡◌, ◌≢◌, ◌⊎◌, ◌↔◌, ◌+◌, ◌<◌, ◌≤◌, ◌^◌, List, ℕ, true, false, [], Option, length, OnOk, OnErr, IfOk, IfErr, IsErrOf, IsOkUnless, IsTrue};
 ghost use Rattle.disk.specs.Calls.{HasOnlyWritten, CountsFaultsAs};
+ghost use Rattle.disk.specs.Counted.{calls_of, syncs_of};
 ghost use Rattle.disk.specs.Crash.{LeavesOnly};
 ghost use Rattle.journal.specs.BatchSpelling.{IsBatch, batch as spelled, batch_width};
 ghost use Rattle.segments.specs.Slot.{Segment};
-ghost use Rattle.segments.specs.Ring.{Fits, SamePlaces, IsSameOrOpened, IsLeftReady, IsLeftByAppend, end_of, size_of, fits_newest};
-ghost use Rattle.recovery.specs.steps.Appending.{IsDone, IsGivenUp};
+ghost use Rattle.segments.specs.Ring.{Fits, SamePlaces, IsLeftByAppend, end_of, size_of, fits_newest};
+ghost use Rattle.recovery.specs.steps.Appending.{IsDone};
 ghost use Rattle.segments.specs.Room.{has_room_for};
 ghost use Rattle.segments.specs.Numbers.{IsNewest};
 ghost use Rattle.segments.specs.Ring.{known_numbers};
@@ -22,7 +23,7 @@ use crate::receipt::Receipt;
 use crate::shape::Shape;
 use disk::Disk;
 use history::Pick;
-use journal::{batch_len, encode_batch};
+use journal::{Record, batch_len};
 use milestone::Cells;
 use refusal::Refusal;
 use revision::{State, Taken};
@@ -66,7 +67,7 @@ impl<D: Disk> Store<D> {
     ghost use Rattle.revision.specs.Agree.{Agree};
     ghost use Rattle.recovery.specs.Knows.{Knows};
     ghost use Rattle.revision.specs.State.{fold, all_grow, first_grows};
-    ghost use Rattle.recovery.specs.Open.{FitsSlot, IsOpen, IsUnchanged, IsCommittedNow, IsCommitGivenUp, IsWithOrWithout, device_of, ring_of, state_of, has_failed, has_room, kept_jobs, known_cells, known_marks, fits_newest_segment};
+    ghost use Rattle.recovery.specs.Open.{FitsSlot, IsOpen, IsUnchanged, IsCommittedNow, IsWithOrWithout, device_of, state_of, has_failed, has_room, kept_jobs, known_cells, known_marks, fits_newest_segment};
 
     /// Opens a formatted device, by the newer or the older cell of each document: syncs it, then reads, and writes nothing.
     /// `NotFormatted` comes just where the superblock's gate is closed or the device has less than 64 bytes, `Damaged` just
@@ -172,7 +173,7 @@ impl<D: Disk> Store<D> {
     /// Writes a batch, and answers with its receipt once it is on the disk: two syncs, and two more where a slot is opened for it.
     /// First comes `JournalFull`, just where the batch has more bytes than the newest segment has left and no slot is free. Next
     /// comes `Stranger`, where it doesn't continue the state: of its first command that is told before memory is taken, and of a
-    /// later one unless memory runs out before. `NoMemory` comes before any byte of the batch is written. After `Fault`
+    /// later one unless memory runs out before. `NoMemory` comes before any call of the device, and leaves all as it was. After `Fault`
     /// the store has failed: every later call answers `Fault`, until the device is opened again. The documents change only once
     /// the batch is on the disk, and no refusal changes them.
     pub fn commit(&mut self, alloc: Global, batch: &[Taken]) -> Result<Receipt<D>, Refusal>
@@ -222,7 +223,7 @@ impl<D: Disk> Store<D> {
         ensures any_moment { has_failed self.old ≡ false → IsOpen self.old
             → LeavesOnly ⟦<D as Disk>⟧ (IsWithOrWithout (state_of self.old) batch.now) (device_of self.old)
             (device_of self.new) }
-        // Where memory ran out nothing of the batch was written: a crash at any moment leaves the state before it.
+        // Where memory ran out a crash at any moment leaves the state before it.
         ensures unwritten { IsErrOf result Refusal.NoMemory → IsOpen self.old
             → LeavesOnly ⟦<D as Disk>⟧ (λ content. FoundAs content (state_of self.old)) (device_of self.old)
             (device_of self.new) }
@@ -233,19 +234,22 @@ impl<D: Disk> Store<D> {
         ensures done { OnOk result (IsOpen self.old → IsOpen self.new) }
         ensures kept { IfErr result (λ e. e ≢ Refusal.Fault → IsOpen self.old → IsOpen self.new) }
 
-        // Where memory ran out a slot may have been opened for it, in four calls at most, and only where it doesn't fit the newest segment.
-        ensures given_up { IsErrOf result Refusal.NoMemory → IsSameOrOpened (ring_of self.old) (ring_of self.new) }
-        ensures given_up_now { IsErrOf result Refusal.NoMemory → (is_open : IsOpen self.old)
-            → IsCommitGivenUp batch.now self.old is_open self.new }
-        ensures calls_given_up { IsErrOf result Refusal.NoMemory
-            → length (D.past (device_of self.new)) ≤ length (D.past (device_of self.old)) + 4 }
-        ensures given_up_where_it_fits { IsErrOf result Refusal.NoMemory
-            → fits_newest_segment self.old batch.now ≡ true → IsUnchanged self.old self.new }
+        // Where memory ran out all is as it was: no call of the device was made.
+        ensures given_up { IsErrOf result Refusal.NoMemory → IsUnchanged self.old self.new }
 
-        // Eight calls of the device at most: four for the record, and four for a slot that is opened for it.
+        // Four calls of the device at most for the record, of these two syncs, and as many for a slot that is opened for it. A call that
+        // fails is counted too.
         ensures calls { length (D.past (device_of self.new)) ≤ length (D.past (device_of self.old)) + 8 }
         ensures calls_where_it_fits { fits_newest_segment self.old batch.now ≡ true
             → length (D.past (device_of self.new)) ≤ length (D.past (device_of self.old)) + 4 }
+        ensures every_call { calls_of ⟦<D as Disk>⟧ (device_of self.new)
+            ≤ calls_of ⟦<D as Disk>⟧ (device_of self.old) + 8 }
+        ensures every_call_where_it_fits { fits_newest_segment self.old batch.now ≡ true
+            → calls_of ⟦<D as Disk>⟧ (device_of self.new) ≤ calls_of ⟦<D as Disk>⟧ (device_of self.old) + 4 }
+        ensures syncs { syncs_of ⟦<D as Disk>⟧ (device_of self.new)
+            ≤ syncs_of ⟦<D as Disk>⟧ (device_of self.old) + 4 }
+        ensures syncs_where_it_fits { fits_newest_segment self.old batch.now ≡ true
+            → syncs_of ⟦<D as Disk>⟧ (device_of self.new) ≤ syncs_of ⟦<D as Disk>⟧ (device_of self.old) + 2 }
         ensures honest { D.honest (device_of self.new) ↔ D.honest (device_of self.old) }
     {
         if self.failed {
@@ -315,7 +319,7 @@ fn make_receipt<D: Disk>(
     Ok(receipt)
 }
 
-// Spells the batch and appends it. `NoMemory` comes before anything of it is written.
+// Spells the batch into its record, and appends it. `NoMemory` comes before any call of the device.
 fn append_batch<D: Disk>(
     alloc: Global,
     ring: &mut Ring,
@@ -326,39 +330,35 @@ fn append_batch<D: Disk>(
     requires some { 1 ≤ length batch.now }
     requires short { length batch.now < 2 ^ 32 }
     requires fits { batch_width batch.now + 15 ≤ size_of ring.old }
+    requires wide { size_of ring.old ≤ 16777216 }
 
     ensures full { IsErrOf result Refusal.JournalFull → has_room_for ring.old (batch_width batch.now) ≡ false }
     ensures only { IfErr result (λ e. (e ≡ Refusal.JournalFull) ⊎ ((e ≡ Refusal.NoMemory) ⊎ (e ≡ Refusal.Fault))) }
+    ensures untouched { IsErrOf result Refusal.NoMemory → (disk.new ≡ disk.old) × (ring.new ≡ ring.old) }
     ensures places { SamePlaces ring.old ring.new }
 
     ensures any_moment { (table : List (Option Segment)) → D.unsynced disk.old ≡ []
         → Fits (D.seen disk.old) ring.old table
         → LeavesOnly ⟦<D as Disk>⟧ (IsLeftByAppend (D.seen disk.old) ring.old table (spelled batch.now)) disk.old
         disk.new }
-    ensures unwritten { IsErrOf result Refusal.NoMemory → (table : List (Option Segment)) → D.unsynced disk.old ≡ []
-        → Fits (D.seen disk.old) ring.old table
-        → LeavesOnly ⟦<D as Disk>⟧ (IsLeftReady (D.seen disk.old) ring.old (batch_width batch.now) table) disk.old
-        disk.new }
     ensures done { OnOk result ((table : List (Option Segment)) → Fits (D.seen disk.old) ring.old table
         → IsDone (D.seen disk.old) ring.old table (spelled batch.now) (D.seen disk.new) ring.new) }
     ensures synced { OnOk result (D.unsynced disk.new ≡ []) }
-    ensures given_up { IsErrOf result Refusal.NoMemory → (table : List (Option Segment))
-        → Fits (D.seen disk.old) ring.old table
-        → IsGivenUp (D.seen disk.old) ring.old (batch_width batch.now) table (D.seen disk.new) ring.new }
-    ensures still_synced { IsErrOf result Refusal.NoMemory → D.unsynced disk.old ≡ [] → D.unsynced disk.new ≡ [] }
 
-    ensures same_or_opened { IsErrOf result Refusal.NoMemory → IsSameOrOpened ring.old ring.new }
-    ensures calls_given_up { IsErrOf result Refusal.NoMemory → length (D.past disk.new) ≤ length (D.past disk.old) + 4 }
-    ensures given_up_where_it_fits { IsErrOf result Refusal.NoMemory
-        → fits_newest ring.old (batch_width batch.now) ≡ true → (disk.new ≡ disk.old) × (ring.new ≡ ring.old) }
     ensures calls { length (D.past disk.new) ≤ length (D.past disk.old) + 8 }
     ensures calls_where_it_fits { fits_newest ring.old (batch_width batch.now) ≡ true
         → length (D.past disk.new) ≤ length (D.past disk.old) + 4 }
+    ensures every_call { calls_of ⟦<D as Disk>⟧ disk.new ≤ calls_of ⟦<D as Disk>⟧ disk.old + 8 }
+    ensures every_call_where_it_fits { fits_newest ring.old (batch_width batch.now) ≡ true
+        → calls_of ⟦<D as Disk>⟧ disk.new ≤ calls_of ⟦<D as Disk>⟧ disk.old + 4 }
+    ensures syncs { syncs_of ⟦<D as Disk>⟧ disk.new ≤ syncs_of ⟦<D as Disk>⟧ disk.old + 4 }
+    ensures syncs_where_it_fits { fits_newest ring.old (batch_width batch.now) ≡ true
+        → syncs_of ⟦<D as Disk>⟧ disk.new ≤ syncs_of ⟦<D as Disk>⟧ disk.old + 2 }
     ensures only_written { HasOnlyWritten ⟦<D as Disk>⟧ disk.old disk.new }
     ensures faults { CountsFaultsAs ⟦<D as Disk>⟧ Refusal.Fault result disk.old disk.new }
 {
-    let body = encode_batch(alloc, batch)?;
-    ring.append(alloc, disk, &body)
+    let record = Record::of_batch(alloc, batch)?;
+    ring.append(disk, &record)
 }
 
 // Marks the documents of a batch in the newest segment, which it was appended to. It takes no memory.

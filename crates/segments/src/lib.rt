@@ -14,6 +14,7 @@
 //! ghost use Rattle.segments.specs.Ring.{Fits, IsLeftByAppend, end_of};
 //!
 //! use disk::Disk;
+//! use journal::Record;
 //! use refusal::Refusal;
 //! use segments::Ring;
 //! use std::alloc::Global;
@@ -24,7 +25,8 @@
 //!     ensures any_moment { (table : List (Option Segment)) → D.unsynced disk.old ≡ [] → Fits (D.seen disk.old) ring.old table
 //!         → LeavesOnly ⟦<D as Disk>⟧ (IsLeftByAppend (D.seen disk.old) ring.old table (byte ∷ [])) disk.old disk.new }
 //! {
-//!     ring.append(alloc, disk, &[byte])
+//!     let record = Record::of_body(alloc, &[byte])?;
+//!     ring.append(disk, &record)
 //! }
 //! ```
 #![tactic(auto)]

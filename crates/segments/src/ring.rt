@@ -3,13 +3,14 @@ ghost use Rattle.std.specs.Prelude.{◌≡◌, ◌⊎◌, ◌↔◌, ℕ, ◌+�
 ghost use Rattle.std.specs.Int.{w64, to_le_bytes};
 ghost use Rattle.std.specs.Option.{ForSome};
 ghost use Rattle.disk.specs.Calls.{HasOnlyRead, HasOnlyWritten, CountsFaults, CountsFaultsAs};
+ghost use Rattle.disk.specs.Counted.{calls_of, syncs_of};
 
 use crate::numbers::{differ, newest, next_slot, oldest_of_two};
 use crate::order::in_order;
 use crate::reading::{RecoveredSegment, newest_area, numbers_of, read_slots};
 use crate::room::has_free;
 use disk::Disk;
-use journal::{Area, CLOSED, write_gated};
+use journal::{Area, CLOSED, Record, write_gated};
 use refusal::Refusal;
 use std::alloc::Global;
 
@@ -115,8 +116,10 @@ impl Ring {
             × FitsNow (D.seen disk.old) self.old (D.seen disk.new) self.new after) }
         ensures synced { OnOk result (D.unsynced disk.new ≡ []) }
 
-        // Four calls of the device at most.
+        // Four calls of the device at most, good or not, and of these two syncs.
         ensures calls { length (D.past disk.new) ≤ length (D.past disk.old) + 4 }
+        ensures every_call { calls_of ⟦<D as Disk>⟧ disk.new ≤ calls_of ⟦<D as Disk>⟧ disk.old + 4 }
+        ensures syncs { syncs_of ⟦<D as Disk>⟧ disk.new ≤ syncs_of ⟦<D as Disk>⟧ disk.old + 2 }
         ensures only_written { HasOnlyWritten ⟦<D as Disk>⟧ disk.old disk.new }
         ensures faults { CountsFaultsAs ⟦<D as Disk>⟧ Refusal.Fault result disk.old disk.new }
     {
@@ -124,24 +127,17 @@ impl Ring {
         Ok(())
     }
 
-    /// Appends a record with this body: to the newest segment, or, where it doesn't fit there, to one that is opened for
-    /// it. `JournalFull` comes just where no slot is free and it doesn't fit, and makes no call of the device. After
-    /// `NoMemory` a slot that was just opened stays open. After a `Fault` the body may be there or not, and the ring knows
-    /// nothing of it: it is not to be used again.
-    pub fn append<D: Disk>(
-        &mut self,
-        alloc: Global,
-        disk: &mut D,
-        body: &[u8],
-    ) -> Result<(), Refusal>
+    /// Appends a record: to the newest segment, or, where it doesn't fit there, to one that is opened for it. `JournalFull` comes just
+    /// where no slot is free and it doesn't fit, and makes no call of the device. After a `Fault` the record may be there or not, and
+    /// the ring knows nothing of it: it is not to be used again. It takes no memory.
+    pub fn append<D: Disk>(&mut self, disk: &mut D, added: &Record) -> Result<(), Refusal>
         requires within { end_of self.old ≤ length (D.seen disk.old) }
-        requires some { 0 < length body.now }
-        requires fits { length body.now + 15 ≤ size_of self.old }
+        requires fits { length added.now + 15 ≤ size_of self.old }
 
-        ensures full { IsErrOf result Refusal.JournalFull ↔ (fits_newest self.old (length body.now) ≡ false)
+        ensures full { IsErrOf result Refusal.JournalFull ↔ (fits_newest self.old (length added.now) ≡ false)
             × IsFull (known_numbers self.old) }
         ensures untouched { IsErrOf result Refusal.JournalFull → (disk.new ≡ disk.old) × (self.new ≡ self.old) }
-        ensures only { IfErr result (λ e. (e ≡ Refusal.JournalFull) ⊎ ((e ≡ Refusal.NoMemory) ⊎ (e ≡ Refusal.Fault))) }
+        ensures only { IfErr result (λ e. (e ≡ Refusal.JournalFull) ⊎ (e ≡ Refusal.Fault)) }
         ensures err { OnErr result (IsSameOrOpened self.old self.new) }
         ensures places { SamePlaces self.old self.new }
 
@@ -149,36 +145,28 @@ impl Ring {
         // that with the body.
         ensures any_moment { (table : List (Option Segment)) → D.unsynced disk.old ≡ []
             → Fits (D.seen disk.old) self.old table
-            → LeavesOnly ⟦<D as Disk>⟧ (IsLeftByAppend (D.seen disk.old) self.old table body.now) disk.old disk.new }
+            → LeavesOnly ⟦<D as Disk>⟧ (IsLeftByAppend (D.seen disk.old) self.old table added.now) disk.old disk.new }
         ensures done { OnOk result ((table : List (Option Segment)) → Fits (D.seen disk.old) self.old table
-            → (ready : List (Option Segment)) × IsReady self.old (length body.now) table ready
-            × (after : List (Option Segment)) × IsAppended ready body.now after
+            → (ready : List (Option Segment)) × IsReady self.old (length added.now) table ready
+            × (after : List (Option Segment)) × IsAppended ready added.now after
             × FitsNow (D.seen disk.old) self.old (D.seen disk.new) self.new after) }
         ensures synced { OnOk result (D.unsynced disk.new ≡ []) }
-        ensures given_up { IsErrOf result Refusal.NoMemory → (table : List (Option Segment))
-            → Fits (D.seen disk.old) self.old table
-            → (ready : List (Option Segment)) × IsReady self.old (length body.now) table ready
-            × FitsNow (D.seen disk.old) self.old (D.seen disk.new) self.new ready }
-        // Want of memory comes before anything of the body is written: at most a slot is opened.
-        ensures unwritten { IsErrOf result Refusal.NoMemory → (table : List (Option Segment))
-            → D.unsynced disk.old ≡ [] → Fits (D.seen disk.old) self.old table
-            → LeavesOnly ⟦<D as Disk>⟧ (IsLeftReady (D.seen disk.old) self.old (length body.now) table) disk.old
-            disk.new }
-        ensures still_synced { IsErrOf result Refusal.NoMemory → D.unsynced disk.old ≡ [] → D.unsynced disk.new ≡ [] }
 
-        // Four calls of the device at most, and four more where a slot is opened.
+        // Four calls of the device at most, of these two syncs, and as many again where a slot is opened. A call that fails is counted too.
         ensures calls { length (D.past disk.new) ≤ length (D.past disk.old) + 8 }
-        ensures calls_where_it_fits { fits_newest self.old (length body.now) ≡ true
+        ensures calls_where_it_fits { fits_newest self.old (length added.now) ≡ true
             → length (D.past disk.new) ≤ length (D.past disk.old) + 4 }
-        ensures calls_given_up { IsErrOf result Refusal.NoMemory
-            → length (D.past disk.new) ≤ length (D.past disk.old) + 4 }
-        ensures given_up_where_it_fits { IsErrOf result Refusal.NoMemory
-            → fits_newest self.old (length body.now) ≡ true → (disk.new ≡ disk.old) × (self.new ≡ self.old) }
+        ensures every_call { calls_of ⟦<D as Disk>⟧ disk.new ≤ calls_of ⟦<D as Disk>⟧ disk.old + 8 }
+        ensures every_call_where_it_fits { fits_newest self.old (length added.now) ≡ true
+            → calls_of ⟦<D as Disk>⟧ disk.new ≤ calls_of ⟦<D as Disk>⟧ disk.old + 4 }
+        ensures syncs { syncs_of ⟦<D as Disk>⟧ disk.new ≤ syncs_of ⟦<D as Disk>⟧ disk.old + 4 }
+        ensures syncs_where_it_fits { fits_newest self.old (length added.now) ≡ true
+            → syncs_of ⟦<D as Disk>⟧ disk.new ≤ syncs_of ⟦<D as Disk>⟧ disk.old + 2 }
         ensures only_written { HasOnlyWritten ⟦<D as Disk>⟧ disk.old disk.new }
         ensures faults { CountsFaultsAs ⟦<D as Disk>⟧ Refusal.Fault result disk.old disk.new }
     {
-        let mut area = self.ready(disk, body.len() as u64)?;
-        area.append(alloc, disk, body)?;
+        let mut area = self.ready(disk, added.body_len())?;
+        area.append(disk, added)?;
         self.newest = Some(area);
         Ok(())
     }
@@ -207,6 +195,8 @@ impl Ring {
         ensures synced { OnOk result (D.unsynced disk.old ≡ [] → D.unsynced disk.new ≡ []) }
 
         ensures calls { length (D.past disk.new) ≤ length (D.past disk.old) + 4 }
+        ensures every_call { calls_of ⟦<D as Disk>⟧ disk.new ≤ calls_of ⟦<D as Disk>⟧ disk.old + 4 }
+        ensures syncs { syncs_of ⟦<D as Disk>⟧ disk.new ≤ syncs_of ⟦<D as Disk>⟧ disk.old + 2 }
         ensures only_written { HasOnlyWritten ⟦<D as Disk>⟧ disk.old disk.new }
         ensures faults { CountsFaultsAs ⟦<D as Disk>⟧ Refusal.Fault result disk.old disk.new }
     {
@@ -327,6 +317,8 @@ impl Ring {
         ensures synced { OnOk result (D.unsynced disk.new ≡ []) }
 
         ensures calls { length (D.past disk.new) ≤ length (D.past disk.old) + 4 }
+        ensures every_call { calls_of ⟦<D as Disk>⟧ disk.new ≤ calls_of ⟦<D as Disk>⟧ disk.old + 4 }
+        ensures syncs { syncs_of ⟦<D as Disk>⟧ disk.new ≤ syncs_of ⟦<D as Disk>⟧ disk.old + 2 }
         ensures only_written { HasOnlyWritten ⟦<D as Disk>⟧ disk.old disk.new }
         ensures faults { CountsFaultsAs ⟦<D as Disk>⟧ Refusal.Fault result disk.old disk.new }
     {

@@ -6,6 +6,7 @@ ghost use Rattle.disk.specs.Calls.{HasOnlyRead};
 ghost use Rattle.disk.specs.Crash.{LeavesOnly};
 ghost use Rattle.journal.specs.Area.{Stands};
 ghost use Rattle.journal.specs.BatchSpelling as spelling;
+ghost use Rattle.journal.specs.BatchSpelling.{batch_width};
 ghost use Rattle.milestone.specs.CellSpelling.{cell_body, IsCell};
 ghost use Rattle.milestone.specs.OneCell.{HoldsPair};
 ghost use Rattle.milestone.specs.Cells.{with_cell};
@@ -15,7 +16,7 @@ ghost use Rattle.segments.specs.Ring.{Fits, IsLeftByAppend, end_of};
 ghost use Rattle.recovery.specs.Open.{FitsSlot, IsOpen, IsWithOrWithout, device_of, state_of, has_failed};
 
 use disk::{Disk, Fault};
-use journal::{Area, encode_batch};
+use journal::{Area, Record};
 use milestone::{Cells, Job, Milestone, ReadCells, Uncomposed, compose_job};
 use recovery::{Receipt, Store};
 use refusal::Refusal;
@@ -42,12 +43,13 @@ pub fn keep<D: Disk>(
 ) -> Result<(), Refusal>
     requires some { 1 ≤ length batch.now }
     requires short { length batch.now < 2 ^ 32 }
+    requires body { batch_width batch.now < 2 ^ 32 }
     requires within { area.old.at + area.old.size ≤ length (D.seen disk.old) }
     ensures { OnOk result ((bodies : List (List ℕ)) → Stands (D.seen disk.old) area.old bodies
         → Stands (D.seen disk.new) area.new (bodies ++ spelling.batch batch.now ∷ [])) }
 {
-    let body = encode_batch(alloc, batch)?;
-    area.append(alloc, disk, &body)?;
+    let record = Record::of_batch(alloc, batch)?;
+    area.append(disk, &record)?;
     Ok(())
 }
 
@@ -63,7 +65,8 @@ pub fn append_byte<D: Disk>(
         → Fits (D.seen disk.old) ring.old table
         → LeavesOnly ⟦<D as Disk>⟧ (IsLeftByAppend (D.seen disk.old) ring.old table (byte ∷ [])) disk.old disk.new }
 {
-    ring.append(alloc, disk, &[byte])
+    let record = Record::of_body(alloc, &[byte])?;
+    ring.append(disk, &record)
 }
 
 /// How many units a document has at the revision of a job. Refused for want of memory alone, and then the job comes back.

@@ -35,11 +35,22 @@ pub fn encode_batch(alloc: Global, batch: &[Taken]) -> Result<Vec<u8>, AllocErro
     ensures batch { OnOk result (batches.IsBatch batch.now) }
 {
     let mut out = Vec::new(alloc);
-    put_number32(&mut out, batch.len() as u32)?;
-    for taken in batch {
-        put_entry(&mut out, taken)?;
-    }
+    put_batch(&mut out, batch)?;
     Ok(out)
+}
+
+// Puts the spelling of a batch behind what is there.
+pub(crate) fn put_batch(out: &mut Vec<u8>, batch: &[Taken]) -> Result<(), AllocError>
+    requires some { 1 ≤ length batch.now }
+    requires short { length batch.now < 2 ^ 32 }
+    ensures spelled { OnOk result (out.new.items ≡ out.old.items ++ batches.batch batch.now) }
+    ensures batch { OnOk result (batches.IsBatch batch.now) }
+{
+    put_number32(out, batch.len() as u32)?;
+    for taken in batch {
+        put_entry(out, taken)?;
+    }
+    Ok(())
 }
 
 #[tactic(auto, unfolding(crate::specs::BatchSpelling::entry))]
@@ -95,7 +106,7 @@ fn put_number16(out: &mut Vec<u8>, n: u16) -> Result<(), AllocError>
 }
 
 #[tactic(auto, unfolding(crate::specs::Spelling::number))]
-pub(super) fn put_number32(out: &mut Vec<u8>, n: u32) -> Result<(), AllocError>
+pub(crate) fn put_number32(out: &mut Vec<u8>, n: u32) -> Result<(), AllocError>
     ensures { OnOk result (out.new.items ≡ out.old.items ++ spelling.number w32 n) }
 {
     out.extend_from_slice(&n.to_le_bytes())

@@ -11,23 +11,19 @@ pub returns-then-not-has_room-clause-any_moment : goal.returns-then-not-has_room
 returns-then-not-has_room-clause-any_moment g c bodies synced stands =
     begins (history_of g.D.Disk c.args.disk.now) synced (record { outside = record { same_length = refl; before = refl; after = refl }; holds = inl stands.holds })
 
-pub returns-in_err-record-clause-any_moment : goal.returns-in_err-record-clause-any_moment
-returns-in_err-record-clause-any_moment g c bodies synced stands =
-    begins (history_of g.D.Disk c.args.disk.now) synced (record { outside = record { same_length = refl; before = refl; after = refl }; holds = inl stands.holds })
-
 pub returns-in_err-write_gated-clause-any_moment : goal.returns-in_err-write_gated-clause-any_moment
 returns-in_err-write_gated-clause-any_moment g c bodies synced stands =
     let old = g.D.Disk.seen c.args.disk.now in
     let place = c.args.self.now in
     let gate : c.self.inside.at + c.self.inside.next ≡ place.at + place.next = ap (λ (p : Place). p.at + p.next) c.self.view_is in
-    let bytes : c.deref.result.now ≡ frame c.args.body.now ++ 0 ∷ [] = c.deref.ensures.value ∙ c.in_ok-record.ensures.bytes in
-    let room : place.next + 6 + length c.args.body.now ≤ place.size = search rules in
+    let bytes : c.behind_gate.result.now ≡ frame c.args.added.now ++ 0 ∷ [] = c.behind_gate.ensures in
+    let room : place.next + 6 + length c.args.added.now ≤ place.size = search rules in
     let sizes : c.self.inside.size ≡ place.size = ap (λ (p : Place). p.size) c.self.view_is in
-    let short : length c.args.body.now < 2 ^ 32 = omega arith in
+    let body = c.body_len-len.ensures.body in
     let inside : place.next < place.size = omega arith in
     leaves_map (λ content left.
-    before_or_after old place bodies stands inside c.requires.within c.args.body.now c.requires.some short room content
-    (subst (λ (l : List ℕ). IsGated (place.at + place.next) l old content) bytes (subst (λ k. IsGated k c.deref.result.now old content) gate left)))
+    before_or_after old place bodies stands inside c.requires.within c.args.added.now body.some body.short room content
+    (subst (λ (l : List ℕ). IsGated (place.at + place.next) l old content) bytes (subst (λ k. IsGated k c.behind_gate.result.now old content) gate left)))
     (c.write_gated.ensures.any_moment synced)
 
 pub returns-clause-any_moment : goal.returns-clause-any_moment
@@ -35,14 +31,14 @@ returns-clause-any_moment g c bodies synced stands =
     let old = g.D.Disk.seen c.args.disk.now in
     let place = c.args.self.now in
     let gate : c.self.inside.at + c.self.inside.next ≡ place.at + place.next = ap (λ (p : Place). p.at + p.next) c.self.view_is in
-    let bytes : c.deref.result.now ≡ frame c.args.body.now ++ 0 ∷ [] = c.deref.ensures.value ∙ c.in_ok-record.ensures.bytes in
-    let room : place.next + 6 + length c.args.body.now ≤ place.size = search rules in
+    let bytes : c.behind_gate.result.now ≡ frame c.args.added.now ++ 0 ∷ [] = c.behind_gate.ensures in
+    let room : place.next + 6 + length c.args.added.now ≤ place.size = search rules in
     let sizes : c.self.inside.size ≡ place.size = ap (λ (p : Place). p.size) c.self.view_is in
-    let short : length c.args.body.now < 2 ^ 32 = omega arith in
+    let body = c.body_len-len.ensures.body in
     let inside : place.next < place.size = omega arith in
     leaves_map (λ content left.
-    before_or_after old place bodies stands inside c.requires.within c.args.body.now c.requires.some short room content
-    (subst (λ (l : List ℕ). IsGated (place.at + place.next) l old content) bytes (subst (λ k. IsGated k c.deref.result.now old content) gate left)))
+    before_or_after old place bodies stands inside c.requires.within c.args.added.now body.some body.short room content
+    (subst (λ (l : List ℕ). IsGated (place.at + place.next) l old content) bytes (subst (λ k. IsGated k c.behind_gate.result.now old content) gate left)))
     (c.write_gated.ensures.any_moment synced)
 
 pub returns-clause-done : goal.returns-clause-done
@@ -50,15 +46,15 @@ returns-clause-done g c bodies stands =
     let old = g.D.Disk.seen c.args.disk.now in
     let place = c.args.self.now in
     let gate : c.self.inside.at + c.self.inside.next ≡ place.at + place.next = ap (λ (p : Place). p.at + p.next) c.self.view_is in
-    let bytes : c.deref.result.now ≡ frame c.args.body.now ++ 0 ∷ [] = c.deref.ensures.value ∙ c.in_ok-record.ensures.bytes in
-    let room : place.next + 6 + length c.args.body.now ≤ place.size = search rules in
+    let bytes : c.behind_gate.result.now ≡ frame c.args.added.now ++ 0 ∷ [] = c.behind_gate.ensures in
+    let room : place.next + 6 + length c.args.added.now ≤ place.size = search rules in
     let sizes : c.self.inside.size ≡ place.size = ap (λ (p : Place). p.size) c.self.view_is in
-    let short : length c.args.body.now < 2 ^ 32 = omega arith in
+    let body = c.body_len-len.ensures.body in
     let inside : place.next < place.size = omega arith in
-    let next : c.self.inside.next + (5 + length c.args.body.now) ≡ place.next + 5 + length c.args.body.now = omega (arith, ap (λ (p : Place). p.next) c.self.view_is) in
-    let seen : g.D.Disk.seen c.write_gated.new.disk ≡ overwritten (overwritten old (place.at + place.next + 1) (frame c.args.body.now ++ 0 ∷ [])) (place.at + place.next) (open_gate ∷ []) =
+    let next : c.self.inside.next + (5 + c.body_len-len.result) ≡ place.next + 5 + length c.args.added.now = omega (arith, ap (λ (p : Place). p.next) c.self.view_is, c.body_len-len.ensures.len) in
+    let seen : g.D.Disk.seen c.write_gated.new.disk ≡ overwritten (overwritten old (place.at + place.next + 1) (frame c.args.added.now ++ 0 ∷ [])) (place.at + place.next) (open_gate ∷ []) =
     c.in_ok-write_gated.ensures.seen
-    ∙ ap (λ k. overwritten (overwritten old (k + 1) c.deref.result.now) k (open_gate ∷ [])) gate
+    ∙ ap (λ k. overwritten (overwritten old (k + 1) c.behind_gate.result.now) k (open_gate ∷ [])) gate
     ∙ ap (λ (l : List ℕ). overwritten (overwritten old (place.at + place.next + 1) l) (place.at + place.next) (open_gate ∷ [])) bytes in
-    let done = after old place bodies stands inside c.requires.within c.args.body.now c.requires.some short room (g.D.Disk.seen c.write_gated.new.disk) (c.self.inside.next + (5 + length c.args.body.now)) seen next in
-    subst (λ (p : Place). IsAppended old place bodies c.args.body.now (g.D.Disk.seen c.write_gated.new.disk) (record p { next = c.self.inside.next + (5 + length c.args.body.now) })) (sym c.self.view_is) done
+    let done = after old place bodies stands inside c.requires.within c.args.added.now body.some body.short room (g.D.Disk.seen c.write_gated.new.disk) (c.self.inside.next + (5 + c.body_len-len.result)) seen next in
+    subst (λ (p : Place). IsAppended old place bodies c.args.added.now (g.D.Disk.seen c.write_gated.new.disk) (record p { next = c.self.inside.next + (5 + c.body_len-len.result) })) (sym c.self.view_is) done

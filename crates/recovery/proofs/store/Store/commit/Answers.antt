@@ -1,4 +1,4 @@
-use Rattle.std.proofs.Common.{◌≡◌, ◌∙◌, ◌+◌, ⊎_elim, true, false, [], ◌∷◌, ◌++◌, Err, refl, ap, subst, sym, inl, rules}
+use Rattle.std.proofs.Common.{◌≡◌, ◌∙◌, ◌+◌, ◌-◌, ⊎_elim, true, false, [], ◌∷◌, ◌++◌, Err, refl, ap, subst, sym, inl, rules}
 use Rattle.journal.specs.BatchSpelling.{batch}
 use Rattle.revision.specs.State.{Limits, State, fold, all_grow, first_grows}
 use Rattle.history.specs.Running.{Runs}
@@ -8,15 +8,15 @@ use Rattle.refusal.specs.declared.Refusal.{Refusal}
 use Rattle.refusal.specs.declared.Refusal.TheVariants.{JournalFull, Stranger, NoMemory}
 use Rattle.disk.specs.Crash.{history_of}
 use Rattle.disk.proofs.CallerLemmas.{begins, leaves_map}
-use Rattle.recovery.proofs.Commits.{found_before, opened_for, with_or_without, parts_after, parts_left, runs_with, limits_with}
+use Rattle.recovery.proofs.Commits.{found_before, with_or_without, parts_after, runs_with, limits_with}
 use Rattle.std.proofs.Common.{List, length, arith}
 use Rattle.recovery.specs.declared.marks.Mark.{Mark}
 use Rattle.recovery.specs.Marks.{marks_of, IsNoted}
-use Rattle.recovery.specs.Marked.{AreMarked}
-use Rattle.recovery.proofs.Upkeep.{cells_later, marked_with, marked_left}
+use Rattle.recovery.proofs.Upkeep.{cells_later, marked_with}
 use Rattle.recovery.proofs.Folds.{fold-limits, first_of_all}
+use Rattle.recovery.proofs.Superblocks.{ranges_of}
 use Rattle.recovery.specs.Open.{kept_jobs}
-use Rattle.recovery.proofs.Going.{nothing_given_up}
+use Rattle.recovery.proofs.Going.{open_unchanged, unchanged_leaves}
 use Rattle.recovery.proofs.KeptJobs.{kept_later}
 use Rattle.recovery.proofs.Refusals.{refusal_or, ok≢err, no_stranger}
 use Rattle.recovery.proofs.store.Store.commit.Goals as goal
@@ -88,6 +88,14 @@ returns-in-Ok-append_batch-clause-done g c is_open = (returns-in-Ok-append_batch
 pub returns-in-Ok-append_batch-clause-marks : goal.returns-in-Ok-append_batch-clause-marks
 returns-in-Ok-append_batch-clause-marks g c = omega (arith, c.mark_batch.ensures.grows, ap (λ (l : List Mark). length l) c.make_receipt.ensures.same)
 
+-- no slot has more than 16,777,216
+pub append_batch-requires-clause-wide : goal.append_batch-requires-clause-wide
+append_batch-requires-clause-wide g c =
+    let store = c.args.self.now in
+    let ranges = ranges_of store.shape store.in_range in
+    let width : store.state.limits.width ≡ store.shape.slot - 19 = ap (λ (l : Limits). l.width) store.bounded in
+    omega (arith, store.slot, width, ranges.slot, ranges.slot_low)
+
 -- a slot has as many bytes as the limits say
 pub invariant_of-self-in-Ok-append_batch-clause-slot : goal.invariant_of-self-in-Ok-append_batch-clause-slot
 invariant_of-self-in-Ok-append_batch-clause-slot g c =
@@ -97,35 +105,14 @@ invariant_of-self-in-Ok-append_batch-clause-slot g c =
     let width : c.accept.result.limits.width ≡ store.state.limits.width = ap (λ (s : State). s.limits.width) state ∙ ap (λ (l : Limits). l.width) (fold-limits store.state c.args.batch.now) in
     c.append_batch.ensures.places.size ∙ store.slot ∙ ap (λ n. n + 19) (sym width)
 
--- it was given up before its first write
-pub returns-in-Err-append_batch-clause-given_up_now : goal.returns-in-Err-append_batch-clause-given_up_now
-returns-in-Err-append_batch-clause-given_up_now g c told is_open =
+-- it was given up before the first call
+pub returns-in-Err-append_batch-clause-given_up : goal.returns-in-Err-append_batch-clause-given_up
+returns-in-Err-append_batch-clause-given_up g c told =
     let store = c.args.self.now in
     let state : c.forget-in-Err-append_batch.result ≡ store.state = c.forget-in-Err-append_batch.ensures ∙ c.in-Ok.ensures.before ∙ c.replace.ensures.value in
-    let places = c.append_batch.ensures.places in
     let memory : c.in-Err-append_batch.refusal ≡ NoMemory = ap (refusal_or JournalFull) told in
-    let kept = c.in-Err-append_batch.ensures.given_up (ap (λ (r : Refusal). Err r) memory) is_open.table is_open.fits in
-    record {
-      goes_on = record {
-        synced = c.in-Err-append_batch.ensures.still_synced (ap (λ (r : Refusal). Err r) memory) is_open.synced;
-        cells = is_open.cells;
-        table = kept.left;
-        batches = is_open.batches;
-        order = is_open.order;
-        holds = parts_left store is_open _ c.append_batch.new.ring _ places kept;
-        fits = kept.fits.fits;
-        ring_at = places.at ∙ is_open.ring_at;
-        ring_size = places.size ∙ is_open.ring_size;
-        cells_are = is_open.cells_are;
-        cells_fit = cells_later store is_open _ kept.fits.outside;
-        marked = subst (AreMarked kept.left) (sym c.make_receipt.ensures.same) (marked_left store is_open _ kept.left kept.is_left);
-        limits = subst (λ (s : State). s.limits ≡ limits_of store.shape) (sym state) is_open.limits;
-        runs = subst (Runs is_open.order is_open.cells (commands_of is_open.batches)) (sym state) is_open.runs;
-        kept = is_open.kept;
-      };
-      same_cells = refl;
-      slots = kept.is_left;
-    }
+    let same = c.in-Err-append_batch.ensures.untouched (ap (λ (r : Refusal). Err r) memory) in
+    record { device = same.0; shape = refl; ring = same.1; cells = refl; marks = c.make_receipt.ensures.same; jobs = refl; state = state; failed = search rules }
 
 pub returns-in-Err-append_batch-clause-kept : goal.returns-in-Err-append_batch-clause-kept
 returns-in-Err-append_batch-clause-kept g c not_fault is_open =
@@ -133,7 +120,7 @@ returns-in-Err-append_batch-clause-kept g c not_fault is_open =
     let memory : c.in-Err-append_batch.refusal ≡ NoMemory =
     ⊎_elim (λ full. let both : true ≡ false = sym (sym c.has_room.ensures.room ∙ fits) ∙ c.in-Err-append_batch.ensures.full (ap (λ (r : Refusal). Err r) full) in absurd cc)
     (λ others. ⊎_elim (λ is. is) (λ fault. absurd (not_fault fault)) others) c.in-Err-append_batch.ensures.only in
-    (returns-in-Err-append_batch-clause-given_up_now g c (ap (λ (r : Refusal). Err r) memory) is_open).goes_on
+    open_unchanged (returns-in-Err-append_batch-clause-given_up g c (ap (λ (r : Refusal). Err r) memory)) is_open
 
 pub returns-in-Err-clause-unwritten : goal.returns-in-Err-clause-unwritten
 returns-in-Err-clause-unwritten g c memory is_open =
@@ -141,7 +128,7 @@ returns-in-Err-clause-unwritten g c memory is_open =
 
 pub returns-in-Err-append_batch-clause-unwritten : goal.returns-in-Err-append_batch-clause-unwritten
 returns-in-Err-append_batch-clause-unwritten g c memory is_open =
-    leaves_map (λ content left. opened_for c.args.self.now is_open _ content left) (c.in-Err-append_batch.ensures.unwritten (ap (λ (r : Refusal). Err r) (ap (refusal_or NoMemory) memory)) is_open.table is_open.synced is_open.fits)
+    unchanged_leaves (returns-in-Err-append_batch-clause-given_up g c memory) is_open (found_before c.args.self.now is_open)
 
 -- the receipt could not be made
 pub returns-in_default-clause-any_moment : goal.returns-in_default-clause-any_moment
@@ -181,10 +168,3 @@ returns-in-Err-append_batch-clause-untouched g c told =
     ⊎_elim
     (λ full. let both : true ≡ false = sym (sym c.has_room.ensures.room ∙ fits) ∙ c.in-Err-append_batch.ensures.full (ap (λ (r : Refusal). Err r) (ap (refusal_or Stranger) full)) in absurd cc)
     (λ stranger. absurd (no_stranger c.in-Err-append_batch.refusal c.in-Err-append_batch.ensures.only stranger)) told
-
--- what is left where memory ran out
-pub returns-in-Err-clause-given_up_now : goal.returns-in-Err-clause-given_up_now
-returns-in-Err-clause-given_up_now g c told is_open = nothing_given_up c.args.self.now _ c.args.batch.now is_open (search rules)
-
-pub returns-in_default-clause-given_up_now : goal.returns-in_default-clause-given_up_now
-returns-in_default-clause-given_up_now g c told is_open = nothing_given_up c.args.self.now _ c.args.batch.now is_open (search rules)

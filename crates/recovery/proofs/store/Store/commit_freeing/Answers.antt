@@ -67,8 +67,8 @@ returns-then-has_room-clause-same_marks g c = on_err_weaker c.commit.result (λ 
 pub returns-then-has_room-clause-untouched : goal.returns-then-has_room-clause-untouched
 returns-then-has_room-clause-untouched g c room told = c.commit.ensures.untouched (inr told)
 
-pub returns-then-has_room-clause-given_up_where_it_fits : goal.returns-then-has_room-clause-given_up_where_it_fits
-returns-then-has_room-clause-given_up_where_it_fits g c fits told = c.commit.ensures.given_up_where_it_fits told fits
+pub returns-then-has_room-clause-given_up : goal.returns-then-has_room-clause-given_up
+returns-then-has_room-clause-given_up g c room told = c.commit.ensures.given_up told
 
 pub returns-then-has_room-clause-needed_untouched : goal.returns-then-has_room-clause-needed_untouched
 returns-then-has_room-clause-needed_untouched g c told = absurd (no_needed c.commit.result c.commit.ensures.only told)
@@ -111,20 +111,10 @@ returns-in-Err-clause-given_up g c room told =
     let none : has_room c.args.self.now c.args.batch.now ≡ false = search rules in
     absurd (false≢true (sym none ∙ room))
 
-pub returns-in-Err-clause-given_up_where_it_fits : goal.returns-in-Err-clause-given_up_where_it_fits
-returns-in-Err-clause-given_up_where_it_fits g c fits told =
-    let none : has_room c.args.self.now c.args.batch.now ≡ false = search rules in
-    absurd (false≢true (sym none ∙ room_where_it_fits c.args.self.now c.args.batch.now fits))
-
 pub returns-in-Err-clause-calls_where_it_fits : goal.returns-in-Err-clause-calls_where_it_fits
 returns-in-Err-clause-calls_where_it_fits g c fits =
     let none : has_room c.args.self.now c.args.batch.now ≡ false = search rules in
     absurd (false≢true (sym none ∙ room_where_it_fits c.args.self.now c.args.batch.now fits))
-
-pub returns-in-Err-clause-calls_given_up : goal.returns-in-Err-clause-calls_given_up
-returns-in-Err-clause-calls_given_up g c room told =
-    let none : has_room c.args.self.now c.args.batch.now ≡ false = search rules in
-    absurd (false≢true (sym none ∙ room))
 
 pub returns-in-Err-clause-needed_untouched : goal.returns-in-Err-clause-needed_untouched
 returns-in-Err-clause-needed_untouched g c told =
@@ -289,20 +279,10 @@ returns-clause-given_up g c room told =
     let none : has_room c.args.self.now c.args.batch.now ≡ false = search rules in
     absurd (false≢true (sym none ∙ room))
 
-pub returns-clause-given_up_where_it_fits : goal.returns-clause-given_up_where_it_fits
-returns-clause-given_up_where_it_fits g c fits told =
-    let none : has_room c.args.self.now c.args.batch.now ≡ false = search rules in
-    absurd (false≢true (sym none ∙ room_where_it_fits c.args.self.now c.args.batch.now fits))
-
 pub returns-clause-calls_where_it_fits : goal.returns-clause-calls_where_it_fits
 returns-clause-calls_where_it_fits g c fits =
     let none : has_room c.args.self.now c.args.batch.now ≡ false = search rules in
     absurd (false≢true (sym none ∙ room_where_it_fits c.args.self.now c.args.batch.now fits))
-
-pub returns-clause-calls_given_up : goal.returns-clause-calls_given_up
-returns-clause-calls_given_up g c room told =
-    let none : has_room c.args.self.now c.args.batch.now ≡ false = search rules in
-    absurd (false≢true (sym none ∙ room))
 
 -- what is left behind a segment that was freed
 pub returns-clause-needed_untouched : goal.returns-clause-needed_untouched
@@ -314,8 +294,7 @@ returns-clause-stranger_behind g c told none is_open =
 
 pub returns-clause-memory_behind : goal.returns-clause-memory_behind
 returns-clause-memory_behind g c told none is_open =
-    let freed = c.in_default.ensures.freed is_open in
-    inr (record { mid = c.free_oldest.new.self; freed = freed; given_up = c.commit-2.ensures.given_up_now told freed.goes_on; jobs = c.commit-2.ensures.jobs })
+    inr (freed_still c.args.self.now c.free_oldest.new.self c.commit-2.new.self is_open (c.commit-2.ensures.given_up told) (c.in_default.ensures.freed is_open))
 
 pub returns-clause-calls_behind : goal.returns-clause-calls_behind
 returns-clause-calls_behind g c is_open slot segment oldest = omega (arith, c.free_oldest.ensures.calls is_open slot segment oldest, c.commit-2.ensures.calls)

@@ -70,8 +70,8 @@ pub returns-in-Err-clause-left : goal.returns-in-Err-clause-left
 returns-in-Err-clause-left g c =
     let e = c.commit.ensures in
     subst (λ (s : StoreStep). IsLeftBy s c.in-Err.refusal c.args.self.now c.commit.new.self) (sym c.in-Commit.is)
-    (left_commit c.args.self.now c.commit.new.self c.in-Commit.batch c.deref.result.now c.deref.ensures.value c.in-Err.refusal c.in-Err.ensures.same_state c.in-Err.ensures.same_marks e.jobs e.cells e.calls
-    e.any_moment c.in-Err.ensures.given_up c.in-Err.ensures.calls_given_up)
+    (left_commit c.args.self.now c.commit.new.self c.in-Commit.batch c.deref.result.now c.deref.ensures.value c.in-Err.refusal c.in-Err.ensures.same_state c.in-Err.ensures.same_marks e.jobs e.calls
+    e.any_moment c.in-Err.ensures.given_up)
 
 pub returns-in-Milestone-clause-left : goal.returns-in-Milestone-clause-left
 returns-in-Milestone-clause-left g c =
