@@ -1,4 +1,4 @@
-use Rattle.std.proofs.Common.{false, ◌≡◌, inl, rules}
+use Rattle.std.proofs.Common.{false, ◌≡◌, inl, inr, rules}
 use Rattle.disk.specs.Crash.{history_of}
 use Rattle.disk.proofs.CallerLemmas.{begins, leaves_map}
 use Rattle.segments.specs.Ring.{fits_newest}
@@ -18,3 +18,9 @@ pub returns-clause-any_moment : goal.returns-clause-any_moment
 returns-clause-any_moment g c table synced fits =
     let full : fits_newest c.args.self.now c.args.len ≡ false = search rules in
     leaves_map (opening_ready _ c.args.self.now c.args.len table full) (c.open_next.ensures.any_moment table synced fits)
+
+pub returns-clause-done : goal.returns-clause-done
+returns-clause-done g c table fits =
+    let full : fits_newest c.args.self.now c.args.len ≡ false = search rules in
+    let opened = c.in_ok-area.ensures.done table fits in
+    (opened.0, inr (full, opened.1), opened.2)
