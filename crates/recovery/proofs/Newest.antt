@@ -177,8 +177,8 @@ module _ {D : Type 0} {disk : Ghosts D} where
   newest_kept old new document (inl same) = inl (ap (λ (l : List Job). jobs_for document l) same)
   newest_kept old new document (inr one) =
       let job = one.0 in
-      let to = one.1.0.0 in
-      let made = one.1.0.1 in
+      let to = one.1.0 in
+      let made = one.1.1 in
       let newest : reached_in (state_of old) document ≡ revision_of to.found = ap reached to.there in
       inr (record {
         job = job;
@@ -186,7 +186,7 @@ module _ {D : Type 0} {disk : Ghosts D} where
         there = to.there;
         to = subst (λ n. IsJobTo (state_of old).documents document n job) newest to;
         made = subst (λ n. IsMadeOf (state_of old).documents document n job) newest made;
-        alone = ap (λ (l : List Job). jobs_for document l) one.1.1 ∙ own_with document job (kept_jobs old) to.number;
+        alone = ap (λ (l : List Job). jobs_for document l) one.2 ∙ own_with document job (kept_jobs old) to.number;
       })
 
   -- no more than one was put, where the store is over the same device as behind it, or as before

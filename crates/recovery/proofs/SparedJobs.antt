@@ -27,7 +27,7 @@ module _ {D : Type 0} {disk : Ghosts D} where
   -- one job more is kept at most
   pub may_keep_one : (document revision : ℕ) (old new : Store D disk) → MayKeepJob document revision old new → length (kept_jobs new) ≤ length (kept_jobs old) + 1
   may_keep_one document revision old new (inl same) = omega (arith, ap (λ (l : List Job). length l) same)
-  may_keep_one document revision old new (inr one) = omega (arith, ap (λ (l : List Job). length l) one.1.1, one_more_with one.0 (kept_jobs old))
+  may_keep_one document revision old new (inr one) = omega (arith, ap (λ (l : List Job). length l) one.2, one_more_with one.0 (kept_jobs old))
 
   -- and none more where a document's are dropped
   pub no_more_kept : (segment : ℕ) (mark : Mark) (old new : Store D disk) → (IsMarkSpared segment mark old → new ≡ old)

@@ -1,5 +1,5 @@
 -- A milestone that was not put, since memory ran out.
-use Rattle.std.proofs.Common.{◌≡◌, ◌⊎◌, inl, inr, ℕ, ◌+◌, ◌≤◌, List, Some, length, sym, subst, arith, ◌∙◌}
+use Rattle.std.proofs.Common.{◌≡◌, inl, inr, ℕ, ◌+◌, ◌≤◌, List, Some, length, sym, subst, arith, ◌∙◌}
 use Rattle.std.specs.Prelude.{Result, Ok, Err, IfOk, slice_get}
 use Rattle.disk.specs.declared.device.Disk.{Ghosts}
 use Rattle.refusal.specs.declared.Refusal.{Refusal}
@@ -9,7 +9,7 @@ use Rattle.milestone.specs.Job.{Job}
 use Rattle.recovery.specs.declared.store.Store.{Store}
 use Rattle.recovery.specs.Jobs.{IsJobTo, IsMadeOf, with_job}
 use Rattle.recovery.specs.Open.{IsUnchanged, device_of, state_of, kept_jobs}
-use Rattle.recovery.specs.Unwritten.{IsUnchangedButJobs, IsUnwritten, MayKeepJob}
+use Rattle.recovery.specs.Unwritten.{IsUnchangedButJobs, IsUnwritten}
 
 module _ {D : Type 0} {disk : Ghosts D} where
   pub but_jobs : {old new : Store D disk} → IsUnchanged old new → IsUnchangedButJobs old new
