@@ -71,6 +71,10 @@ module _ {D : Type 0} {disk : Ghosts D} (store : Store D disk) (is_open : IsOpen
     differ = opened_differs is_open.table ready is_open.fits.holds.differ opened.1;
   }
 
+  -- and so does the table before
+  pub table_same : SameBodies is_open.table is_open.table
+  table_same = record { bodies = refl; count = refl; differ = is_open.fits.holds.differ }
+
   -- a content that holds such a table holds the parts before
   pub parts_kept : (content : List ℕ) (now : List (Option Segment)) → SameBodies is_open.table now → HoldsInRing old store.ring now content
       → HoldsParts content store.shape is_open.cells now is_open.batches
@@ -92,7 +96,7 @@ module _ {D : Type 0} {disk : Ghosts D} (store : Store D disk) (is_open : IsOpen
   })
 
   found_held : (content : List ℕ) → HoldsInRing old store.ring is_open.table content → FoundAs content store.state
-  found_held content held = found_kept content is_open.table (record { bodies = refl; count = refl; differ = is_open.fits.holds.differ }) held
+  found_held content held = found_kept content is_open.table table_same held
 
   module _ (commands : List Taken) (is_batch : IsBatch commands) (grow : all_grow store.state commands ≡ true) where
     abbrev batches_then : List (List Taken)

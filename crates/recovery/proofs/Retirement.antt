@@ -24,7 +24,7 @@ use Rattle.recovery.specs.Cells.{lowest_known, highest_known}
 use Rattle.recovery.specs.Marks.{marks_of, greatest_marked}
 use Rattle.recovery.specs.Jobs.{highest}
 use Rattle.recovery.specs.Marked.{SpellSegment, MayRetire}
-use Rattle.recovery.proofs.Commits.{again, left_same, parts_kept}
+use Rattle.recovery.proofs.Commits.{again, table_same, parts_kept}
 use Rattle.recovery.proofs.KnownCells.{lowest_same, highest_same}
 use Rattle.recovery.proofs.Marked.{number_held, one_oldest, covered_by_marks}
 use Rattle.recovery.proofs.Runs.{found_as}
@@ -127,7 +127,7 @@ module _ {D : Type 0} {disk : Ghosts D} (store : Store D disk) (is_open : IsOpen
       table = is_open.table;
       batches = is_open.batches;
       order = is_open.order;
-      holds = parts_kept store is_open content is_open.table (left_same store is_open 0 is_open.table (inl refl)) held;
+      holds = parts_kept store is_open content is_open.table (table_same store is_open) held;
       limits = is_open.limits;
       runs = is_open.runs;
     })
