@@ -1,4 +1,2 @@
 pub mod Batches
-pub mod Finding
-pub mod StandsOn
 pub mod Tickets

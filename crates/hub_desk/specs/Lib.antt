@@ -1,4 +1,2 @@
 pub mod AtHub
-pub mod Laws
-pub mod Standing
 pub mod Tickets
