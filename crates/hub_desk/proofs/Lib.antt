@@ -1,2 +1,4 @@
 pub mod Batches
+pub mod Finding
+pub mod StandsOn
 pub mod Tickets
