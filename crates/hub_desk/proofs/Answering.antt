@@ -1,5 +1,5 @@
 -- What a command is answered whose ticket is settled, once it is shown.
-use Rattle.std.proofs.Common.{◌≡◌, ◌≤◌, ◌∙◌, List, length, Result, Ok, Err, ap, arith, inr}
+use Rattle.std.proofs.Common.{◌≡◌, ◌≤◌, ◌∙◌, length, Result, Ok, Err, ap, arith, inr}
 use Rattle.std.specs.Prelude.{IfOk, IfErr}
 use mathlib.Core.List.{IsPrefix}
 use Rattle.refusal.specs.declared.Refusal.{Refusal}
