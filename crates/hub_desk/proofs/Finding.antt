@@ -10,7 +10,8 @@ use Rattle.attributes.specs.Map.{empty, get}
 use Rattle.attributes.specs.Table.{is_name}
 use Rattle.attributes.proofs.CallerLemmas.{get-insert}
 use Rattle.revision.specs.Command.{Taken}
-use Rattle.revision.specs.Sources.{LastTaken, Sources, last_of, with_last}
+use Rattle.revision.specs.declared.sources.LastTaken.{LastTaken}
+use Rattle.revision.specs.Sources.{Sources, last_of, with_last}
 use Rattle.revision.specs.Past.{Change, Past, empty_past, newest, sources_at, with_change}
 use Rattle.revision.specs.State.{Limits, DocumentRecord, State, revision_of, units_of, sources_of, find, last_of_all, has_place, keeps, begins, follows, continues_by_name, change_of, record_by_name, has_room, grows, set_document, grown}
 use Rattle.revision.proofs.CallerLemmas.{change_makes}

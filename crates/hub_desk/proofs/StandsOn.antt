@@ -6,7 +6,8 @@ use Rattle.std.proofs.lemmas.Bool.Decides.{nat_tests}
 use Rattle.std.proofs.lemmas.Slice.Eq.{bytes_eq-Decides}
 use Rattle.refusal.specs.declared.Refusal.TheVariants.{OldNumber}
 use Rattle.revision.specs.Command.{Action, Create, Edit, Undo, Command, Taken}
-use Rattle.revision.specs.Sources.{LastTaken, Sources, last_of}
+use Rattle.revision.specs.declared.sources.LastTaken.{LastTaken}
+use Rattle.revision.specs.Sources.{Sources, last_of}
 use Rattle.revision.specs.State.{DocumentRecord, State, sources_of, find, grows, grown, all_grow, fold}
 use Rattle.revision.specs.Acceptance.{Answer, Repeats, Refuses, by_number, edit, undo, answer_to}
 use Rattle.revision.specs.Agree.{DocumentsAgree, PlacesAgree}

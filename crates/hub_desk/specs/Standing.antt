@@ -1,7 +1,8 @@
 -- When a command stands in a state.
 use Rattle.std.specs.Prelude.{◌≡◌, ◌≤◌, ℕ, IsSomeAnd}
 use Rattle.revision.specs.Command.{Command}
-use Rattle.revision.specs.Sources.{LastTaken, last_of}
+use Rattle.revision.specs.declared.sources.LastTaken.{LastTaken}
+use Rattle.revision.specs.Sources.{last_of}
 use Rattle.revision.specs.State.{State, find, sources_of}
 
 -- What a source has last is this number, as this revision, or a higher number.

@@ -239,7 +239,7 @@ impl<D, J: Site, R: Wait> Desk for HubDesk<'_, D, J, R> {
     ghost reached = { λ desk. fold J.start (commands_of desk.shown) };
 
     fn ask(&mut self, alloc: Global, command: &Command) -> Result<Reply, Refusal> {
-        let ticket = self.hub.submit(self.rt, alloc, &mut self.seat, command)?;
+        let ticket = self.submit(alloc, command)?;
         self.await_ticket(&ticket)?;
         self.reply_shown(command, &ticket)
     }
