@@ -15,7 +15,7 @@ use Rattle.delta.specs.Operation.{Operation, insert_text, insert_embed, retain, 
 use Rattle.delta.specs.Laws.{NormalIsKept}
 use Rattle.optext.specs.Described.{scalar_of_number, scalar_of, change_of, with_members, described_by, attributes_of, changes_of, length_of, insert_of, insertion_of, retain_of, operation_of, operations_of, delta_of, delta_by}
 use Rattle.optext.specs.Printed.{printed_scalar, printed_change, printed_entries, attributes_member, then_member, printed}
-use Rattle.optext.specs.Laws.{IsAttribute, IsAttributeChange, IsSpellable, OperationReadsBack, DeltaReadsBack}
+use Rattle.optext.specs.Laws.{IsAttribute, IsAttributeChange, HasMessageSpelling, OperationReadsBack, DeltaReadsBack}
 use Rattle.optext.proofs.Embeds.{key_of-key}
 use Rattle.optext.proofs.Deltas.{bounded_delta}
 
@@ -91,10 +91,10 @@ operation_of-printed entries (retain n c) spellable =
     ∙ rw (length_of-printed n spellable.1, changes_of-printed entries c spellable.0) refl
 operation_of-printed entries (delete n) spellable = ap (option_map delete) (length_of-printed n spellable.1)
 
-operations_of-printed : EntriesMakeMap → (ops : List Operation) → All IsSpellable ops → operations_of (printed ops) ≡ Some ops
+operations_of-printed : EntriesMakeMap → (ops : List Operation) → All HasMessageSpelling ops → operations_of (printed ops) ≡ Some ops
 operations_of-printed entries [] spellable = refl
 operations_of-printed entries (op ∷ ops) spellable =
-    rw (operation_of-printed entries op (All-head IsSpellable op ops spellable), operations_of-printed entries ops (All-tail IsSpellable op ops spellable)) refl
+    rw (operation_of-printed entries op (All-head HasMessageSpelling op ops spellable), operations_of-printed entries ops (All-tail HasMessageSpelling op ops spellable)) refl
 
 items_len-printed : (ops : List Operation) → items_len (printed ops) ≡ length ops
 items_len-printed [] = refl

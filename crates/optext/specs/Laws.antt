@@ -15,14 +15,14 @@ IsAttribute e = IsKey e.0 × IsExactScalar e.1
 abbrev pub IsAttributeChange : List ℕ × Option Scalar → Type 0
 IsAttributeChange e = IsKey e.0 × IfSome e.1 IsExactScalar
 
--- the code units of a text
-abbrev pub IsText : List ℕ → Type 0
-IsText units = units_of (utf8_of units) ≡ units
+-- these are the code units of a text
+abbrev pub AreTextUnits : List ℕ → Type 0
+AreTextUnits units = units_of (utf8_of units) ≡ units
 
 -- what an operation inserts or changes is what a message can spell: its text is a text, its names have 1 to 64 bytes,
 -- and its whole numbers are exact. Every operation of the program has such a content.
 abbrev pub HasSpellableContent : Operation → Type 0
-HasSpellableContent (insert_text units a) = IsText units × All IsAttribute a.entries
+HasSpellableContent (insert_text units a) = AreTextUnits units × All IsAttribute a.entries
 HasSpellableContent (insert_embed name value a) = IsKey name × IsExactScalar value × All IsAttribute a.entries
 HasSpellableContent (retain n c) = All IsAttributeChange c.entries
 HasSpellableContent (delete n) = Unit {0}
@@ -33,17 +33,18 @@ HasSpellableLength (retain n c) = n < 2 ^ 32
 HasSpellableLength (delete n) = n < 2 ^ 32
 HasSpellableLength _ = Unit {0}
 
-abbrev pub IsSpellable : Operation → Type 0
-IsSpellable op = HasSpellableContent op × HasSpellableLength op
+-- an operation that a message can spell
+abbrev pub HasMessageSpelling : Operation → Type 0
+HasMessageSpelling op = HasSpellableContent op × HasSpellableLength op
 
 -- such an operation, printed, describes itself
 abbrev pub OperationReadsBack : Type 0
-OperationReadsBack = (op : Operation) → IsSpellable op → operation_of (printed_operation op) ≡ Some op
+OperationReadsBack = (op : Operation) → HasMessageSpelling op → operation_of (printed_operation op) ≡ Some op
 
 -- and a delta of at most 1,024 of them
 abbrev pub DeltaReadsBack : Type 0
 DeltaReadsBack =
-    (ops : List Operation) → IsNormal ops → IsBounded ops → length ops ≤ 1024 → All IsSpellable ops
+    (ops : List Operation) → IsNormal ops → IsBounded ops → length ops ≤ 1024 → All HasMessageSpelling ops
     → delta_of (printed ops) ≡ Ok ops
 
 -- a delta that is read as itself, printed, where it has at most 1,024 operations and no length of 2^32 or more

@@ -5,7 +5,7 @@ ghost use Rattle.attributes.specs.Scalar.{IsExactScalar};
 ghost use Rattle.serde_json.specs.Data.{array, string};
 ghost use Rattle.serde_json.specs.View.{view, members_view};
 ghost use Rattle.utf16.specs.Units.{units_of, utf8_of};
-ghost use Rattle.optext.specs.Laws.{IsText, IsAttribute, IsAttributeChange, HasSpellableContent, IsReadBack};
+ghost use Rattle.optext.specs.Laws.{AreTextUnits, IsAttribute, IsAttributeChange, HasSpellableContent, IsReadBack};
 ghost use Rattle.optext.specs.Printed.{printed, printed_operation, printed_insert, printed_retain, printed_attributes, printed_changes, printed_embed, printed_scalar, printed_change, attributes_member};
 
 use crate::laws::delta_reads_back;
@@ -55,7 +55,7 @@ fn write_op(alloc: Global, op: &Op) -> Result<Json, Refusal>
 
 fn write_text(alloc: Global, text: &str) -> Result<Json, Refusal>
     ensures text { IfOk result (λ value. view value ≡ string (utf8_of (units_of text.now))) }
-    ensures kept { OnOk result (IsText (units_of text.now)) }
+    ensures kept { OnOk result (AreTextUnits (units_of text.now)) }
     ensures only { IsOkUnless result Refusal.NoMemory }
 {
     text_of_units();
