@@ -42,14 +42,14 @@ pub fn turn<D: Disk, J: Site, R: Wait>(
     ensures fails { has_failed (store_of flusher.new) ≡ true ↔ IsErrOf result Refusal.Fault }
     ensures refused { IfErr result (λ e. ((e ≡ Refusal.NoMemory) ⊎ (e ≡ Refusal.Fault))
         ⊎ IsTurnRefused (cap_of (state_of (store_of flusher.old))) board.old (store_of flusher.old) e
-        (store_of flusher.new)) }
+        flusher.new) }
     ensures failed { board.new.failed ≡ board.old.failed }
     ensures order { board.new.board.order ≡ board.old.board.order }
 {
     let run = board.take(alloc, flusher.cap())?;
     let count = run.len();
     if count == 0 {
-        run.nothing();
+        let _nothing = run.nothing();
         return Ok(0);
     }
     flusher.hold(run);
