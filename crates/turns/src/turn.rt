@@ -73,10 +73,13 @@ fn turn_made<D: Disk, J: Site, R: Wait, G: Gate>(
     if let Err(refusal) = upkeep.put_due(alloc, flusher) {
         return Err(refusal);
     }
-    match hold_next(rt, alloc, flusher, hub, writer) {
-        Ok(None) => write_held(rt, alloc, flusher, hub, writer, upkeep, gate),
-        Ok(Some(nothing)) => Ok(Turned::Nothing(nothing)),
-        Err(refusal) => Err(refusal),
+    let answer = match hold_next(rt, alloc, flusher, hub, writer) {
+        Ok(answer) => answer,
+        Err(refusal) => return Err(refusal),
+    };
+    match answer {
+        None => write_held(rt, alloc, flusher, hub, writer, upkeep, gate),
+        Some(nothing) => Ok(Turned::Nothing(nothing)),
     }
 }
 
