@@ -99,7 +99,10 @@ impl<D, J: Site> Kept<D, J> {
     {
         let shown = Snapshot::of(&told);
         if self.board.settle(receipt, told).is_err() {
-            return (Err(Unsettled::by_board(&self.board, receipt, shown)), [false; 64]);
+            return (
+                Err(Unsettled::by_board(&self.board, receipt, shown)),
+                [false; 64],
+            );
         }
         let settled = self.board.settled();
         (Ok(()), woken(&mut self.awaited, settled))
