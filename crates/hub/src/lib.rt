@@ -64,9 +64,11 @@ mod hub;
 mod run;
 mod seat;
 mod tokens;
+mod unsettled;
 
 pub use board::Board;
 pub use hub::Hub;
 pub use run::Run;
 pub use seat::{Seat, Ticket};
-pub use tokens::{Failed, Idle, Settled};
+pub use tokens::{Closer, Failed, Idle, Nothing, Settled, Writer};
+pub use unsettled::Unsettled;
