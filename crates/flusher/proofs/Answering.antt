@@ -26,8 +26,10 @@ use Rattle.flusher.specs.declared.calls.Call.{Call}
 use Rattle.flusher.specs.declared.calls.Call.TheVariants.{Submit, Turn, Ack, Milestone, Retire}
 use Rattle.flusher.specs.declared.calls.Answer.{Answer}
 use Rattle.flusher.specs.declared.calls.Answer.TheVariants.{Submitted, Turned, Acked, Put, Retired, Refused}
+use Rattle.flusher.specs.declared.flusher.Flusher.{Flusher}
 use Rattle.flusher.specs.Batches.{IsFirst}
 use Rattle.flusher.specs.Flushers.{IsUsedUp, cap_of}
+use Rattle.flusher.specs.Holding.{CannotPublish, store_of}
 use Rattle.flusher.specs.Standing.{Standing, batches_of, IsEven, IsCalm, RunGoes}
 use Rattle.flusher.specs.Driving.{Between, AckGives, Gives, Answered, Begins, Follows, IsHeld, AreHeld, IsTurnRefused, Stops, StopsAtTurn, with_run, turned}
 use Rattle.flusher.proofs.Beginnings.{is_first}
@@ -313,19 +315,20 @@ not_needed refusal is = (λ memory. let no : ⊥ = cc in no, λ failed. let no :
 not_stranger : (refusal : Refusal) → refusal ≡ Stranger → (refusal ≢ NoMemory) × (refusal ≢ StoreFailed)
 not_stranger refusal is = (λ memory. let no : ⊥ = cc in no, λ failed. let no : ⊥ = cc in no)
 
-module _ {D : Type 0} {disk : Ghosts D} where
+module _ {D J : Type 0} {disk : Ghosts D} where
   -- Why a turn is refused whose write is: by the run that was held.
-  pub turn_refused : (cap : ℕ) (board : Outer) (store mid new : Store D disk) (waiting : List (List Taken)) (run : List Taken) (refusal : Refusal) → waiting ≡ run ∷ [] → mid ≡ store
+  pub turn_refused : (cap : ℕ) (board : Outer) (store mid : Store D disk) (new : Flusher D J disk) (waiting : List (List Taken)) (run : List Taken) (refusal : Refusal) → waiting ≡ run ∷ [] → mid ≡ store
       → run ≡ takens (next_run board.board (length run)) → IsLongest cap (untaken board.board) (length run) → 1 ≤ length run
-      → (refusal ≡ JournalFull → (batch : List Taken) × (waiting ≡ batch ∷ []) × (has_room mid batch ≡ false) × (has_room new batch ≡ false))
+      → (refusal ≡ JournalFull → (batch : List Taken) × (waiting ≡ batch ∷ []) × (has_room mid batch ≡ false) × (has_room (store_of new) batch ≡ false))
       → (refusal ≡ StillNeeded → (batch : List Taken) × (waiting ≡ batch ∷ []) × (has_room mid batch ≡ false))
       → ((refusal ≡ JournalFull) ⊎ (refusal ≡ StillNeeded) → IsUsedUp mid)
       → (refusal ≡ Stranger → all_grow (state_of mid) (commands_of waiting) ≡ false)
-      → (refusal ≢ NoMemory → refusal ≢ StoreFailed → state_of new ≡ state_of mid)
-      → (refusal ≡ StoreFailed → state_of new ≡ fold (state_of mid) (commands_of waiting))
+      → (refusal ≢ NoMemory → refusal ≢ StoreFailed → state_of (store_of new) ≡ state_of mid)
+      → (refusal ≡ StoreFailed → state_of (store_of new) ≡ fold (state_of mid) (commands_of waiting))
+      → (refusal ≡ StoreFailed → CannotPublish new)
       → (((refusal ≡ JournalFull) ⊎ ((refusal ≡ StillNeeded) ⊎ (refusal ≡ Stranger))) ⊎ ((refusal ≡ NoMemory) ⊎ (refusal ≡ Fault))) ⊎ (refusal ≡ StoreFailed)
       → ((refusal ≡ NoMemory) ⊎ (refusal ≡ Fault)) ⊎ IsTurnRefused cap board store refusal new
-  turn_refused cap board store mid new waiting run refusal waits same is longest some full needed used stranger stays lost only = by_case only
+  turn_refused cap board store mid new waiting run refusal waits same is longest some full needed used stranger stays lost barred only = by_case only
     where
       no_room : (batch : List Taken) → waiting ≡ batch ∷ [] → has_room mid batch ≡ false → has_room store (takens (next_run board.board (length run))) ≡ false
       no_room batch held none =
@@ -337,7 +340,7 @@ module _ {D : Type 0} {disk : Ghosts D} where
       commands : commands_of waiting ≡ takens (next_run board.board (length run))
       commands = ap commands_of waits ∙ append-nil run ∙ is
 
-      still : (refusal ≢ NoMemory) × (refusal ≢ StoreFailed) → state_of new ≡ state_of store
+      still : (refusal ≢ NoMemory) × (refusal ≢ StoreFailed) → state_of (store_of new) ≡ state_of store
       still others = stays others.0 others.1 ∙ ap state_of same
 
       by_case : (((refusal ≡ JournalFull) ⊎ ((refusal ≡ StillNeeded) ⊎ (refusal ≡ Stranger))) ⊎ ((refusal ≡ NoMemory) ⊎ (refusal ≡ Fault))) ⊎ (refusal ≡ StoreFailed)
@@ -354,11 +357,11 @@ module _ {D : Type 0} {disk : Ghosts D} where
           inr (length run, longest, some, inr (inl ((is_stranger, grows), still (not_stranger refusal is_stranger))))
       by_case (inl (inr known)) = inl known
       by_case (inr failed) =
-          inr (length run, longest, some, inr (inr (failed, lost failed ∙ ap (λ (s : Store D disk). fold (state_of s) (commands_of waiting)) same ∙ ap (fold (state_of store)) commands)))
+          inr (length run, longest, some, inr (inr (failed, lost failed ∙ ap (λ (s : Store D disk). fold (state_of s) (commands_of waiting)) same ∙ ap (fold (state_of store)) commands, barred failed)))
 
 module _ {D J : Type 0} {disk : Ghosts D} where
   -- where a call was refused that isn't an answer
-  pub stops_there : (cap : ℕ) (start here : Between D disk) (calls : List Call) (at : ℕ) (answers : List (Answer D J)) (call d : Call) (refusal : Refusal) (after : Store D disk) → at < length calls
+  pub stops_there : (cap : ℕ) (start here : Between D disk) (calls : List Call) (at : ℕ) (answers : List (Answer D J)) (call d : Call) (refusal : Refusal) (after : Flusher D J disk) → at < length calls
       → call ≡ get_or calls at d → length answers ≡ at → Answered cap start (take (length answers) calls) answers here
       → ((refusal ≡ NoMemory) ⊎ (refusal ≡ Fault)) ⊎ ((call ≡ Turn) × IsTurnRefused cap here.board here.store refusal after) → Stops cap start calls answers refusal after
   stops_there cap start here calls at answers call d refusal after inside is same answered (inl known) = inl known
@@ -369,9 +372,9 @@ module _ {D J : Type 0} {disk : Ghosts D} where
     refused = turns.1;
   })
 
-module _ {D : Type 0} {disk : Ghosts D} where
+module _ {D J : Type 0} {disk : Ghosts D} where
   -- a turn that is refused as the state of its store says is so by the start's
-  pub stops_turn : (cap other : ℕ) (board : Outer) (store : Store D disk) (call : Call) (refusal : Refusal) (after : Store D disk) → call ≡ Turn → cap ≡ other
+  pub stops_turn : (cap other : ℕ) (board : Outer) (store : Store D disk) (call : Call) (refusal : Refusal) (after : Flusher D J disk) → call ≡ Turn → cap ≡ other
       → ((refusal ≡ NoMemory) ⊎ (refusal ≡ Fault)) ⊎ IsTurnRefused cap board store refusal after
       → ((refusal ≡ NoMemory) ⊎ (refusal ≡ Fault)) ⊎ ((call ≡ Turn) × IsTurnRefused other board store refusal after)
   stops_turn cap other board store call refusal after is same (inl known) = inl known

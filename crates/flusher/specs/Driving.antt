@@ -16,10 +16,12 @@ use Rattle.recovery.specs.Run.{IsTaken, IsWhy}
 use Rattle.hub.specs.Legal.{Board}
 use Rattle.hub.specs.Runs.{IsLongest, untaken}
 use Rattle.flusher.specs.Flushers.{IsUsedUp}
+use Rattle.flusher.specs.Holding.{CannotPublish, store_of}
 use Rattle.flusher.specs.declared.calls.Call.{Call}
 use Rattle.flusher.specs.declared.calls.Call.TheVariants.{Submit, Turn, Ack, Milestone, Retire}
 use Rattle.flusher.specs.declared.calls.Answer.{Answer}
 use Rattle.flusher.specs.declared.calls.Answer.TheVariants.{Submitted, Turned, Acked, Put, Retired, Refused}
+use Rattle.flusher.specs.declared.flusher.Flusher.{Flusher}
 
 -- What stands between two calls of a run: the board, the tickets that were given, in order, and the store.
 pub record Between (D : Type 0) (disk : Ghosts D) : Type 0 where
@@ -103,29 +105,29 @@ abbrev pub stop_of : Result (Unit {0}) Refusal → Option Refusal
 stop_of (Ok done) = None
 stop_of (Err refusal) = Some refusal
 
-module _ {D : Type 0} {disk : Ghosts D} where
+module _ {D J : Type 0} {disk : Ghosts D} where
   -- Why the write of a run is refused, where neither the device failed nor memory ran out, and what that leaves: the run isn't committed,
   -- since it finds no room in the journal, of which the last segment is opened, or doesn't continue the state; or it is committed, and the
-  -- log of what is published can't be made longer.
-  abbrev pub IsRunRefused : Store D disk → List Taken → Refusal → Store D disk → Type 0
+  -- log of what is published can't be made longer, as the flusher has noted.
+  abbrev pub IsRunRefused : Store D disk → List Taken → Refusal → Flusher D J disk → Type 0
   IsRunRefused store run refusal after =
-      ((((refusal ≡ JournalFull) ⊎ (refusal ≡ StillNeeded)) × (has_room store run ≡ false) × IsUsedUp store) × (state_of after ≡ state_of store))
-      ⊎ ((((refusal ≡ Stranger) × (all_grow (state_of store) run ≡ false)) × (state_of after ≡ state_of store))
-      ⊎ ((refusal ≡ StoreFailed) × (state_of after ≡ fold (state_of store) run)))
+      ((((refusal ≡ JournalFull) ⊎ (refusal ≡ StillNeeded)) × (has_room store run ≡ false) × IsUsedUp store) × (state_of (store_of after) ≡ state_of store))
+      ⊎ ((((refusal ≡ Stranger) × (all_grow (state_of store) run ≡ false)) × (state_of (store_of after) ≡ state_of store))
+      ⊎ ((refusal ≡ StoreFailed) × (state_of (store_of after) ≡ fold (state_of store) run) × CannotPublish after))
 
   -- Why a turn is refused, likewise: it took off a run with a command, and the write of that is refused.
-  abbrev pub IsTurnRefused : ℕ → Board → Store D disk → Refusal → Store D disk → Type 0
+  abbrev pub IsTurnRefused : ℕ → Board → Store D disk → Refusal → Flusher D J disk → Type 0
   IsTurnRefused cap board store refusal after =
       (count : ℕ) × IsLongest cap (untaken board.board) count × (1 ≤ count) × IsRunRefused store (takens (next_run board.board count)) refusal after
 
 module _ {D J : Type 0} {disk : Ghosts D} where
-  -- The call behind those that were answered is a turn, and by what stood there it is refused so, and leaves this store.
-  pub record StopsAtTurn (cap : ℕ) (start : Between D disk) (calls : List Call) (answers : List (Answer D J)) (refusal : Refusal) (after : Store D disk) : Type 0 where
+  -- The call behind those that were answered is a turn, and by what stood there it is refused so, and leaves this flusher.
+  pub record StopsAtTurn (cap : ℕ) (start : Between D disk) (calls : List Call) (answers : List (Answer D J)) (refusal : Refusal) (after : Flusher D J disk) : Type 0 where
     pub last : Between D disk
     pub answered : Answered cap start (take (length answers) calls) answers last
     pub turns : slice_get calls (length answers) ≡ Some Turn
     pub refused : IsTurnRefused cap last.board last.store refusal after
 
-  -- Why a run stops at a call, and with which store: for want of memory, at a fault of the device, or where a turn is refused.
-  abbrev pub Stops : ℕ → Between D disk → List Call → List (Answer D J) → Refusal → Store D disk → Type 0
+  -- Why a run stops at a call, and with which flusher: for want of memory, at a fault of the device, or where a turn is refused.
+  abbrev pub Stops : ℕ → Between D disk → List Call → List (Answer D J) → Refusal → Flusher D J disk → Type 0
   Stops cap start calls answers refusal after = ((refusal ≡ NoMemory) ⊎ (refusal ≡ Fault)) ⊎ StopsAtTurn cap start calls answers refusal after

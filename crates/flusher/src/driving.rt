@@ -178,7 +178,7 @@ fn call_one<D: Disk, J: Site, R: Wait>(
     ensures fails { has_failed (store_of flusher.new) ≡ true ↔ IsErrOf result Refusal.Fault }
     ensures stops { IfErr result (λ e. ((e ≡ Refusal.NoMemory) ⊎ (e ≡ Refusal.Fault))
         ⊎ ((call.now ≡ Call.Turn)
-        × IsTurnRefused (cap_of J.start) board.old (store_of flusher.old) e (store_of flusher.new))) }
+        × IsTurnRefused (cap_of J.start) board.old (store_of flusher.old) e flusher.new)) }
 {
     match call {
         Call::Submit(command) => submit_one(alloc, board, seat, tickets, command),
@@ -214,7 +214,7 @@ fn drive_all<D: Disk, J: Site, R: Wait>(
         (between board.new tickets.new.items flusher.new) calls.now answers.new.items }
     ensures stops { IfErr result
         (λ e. Stops (cap_of J.start) (between board.old [] flusher.old) calls.now answers.new.items e
-        (store_of flusher.new)) }
+        flusher.new) }
     ensures whole { OnOk result ((length answers.new.items ≡ length calls.now)
         × Answered (cap_of J.start) (between board.old [] flusher.old) calls.now answers.new.items
         (between board.new tickets.new.items flusher.new)) }
@@ -276,7 +276,7 @@ pub fn drive<D: Disk, J: Site, R: Wait>(
         (between board.new result.tickets.items flusher.new) calls.now result.answers.items }
     ensures stops { IfSome result.stopped
         (λ refusal. Stops (cap_of J.start) (between board.old [] flusher.old) calls.now result.answers.items refusal
-        (store_of flusher.new)) }
+        flusher.new) }
     ensures whole { result.stopped ≡ None → (length result.answers.items ≡ length calls.now)
         × Answered (cap_of J.start) (between board.old [] flusher.old) calls.now result.answers.items
         (between board.new result.tickets.items flusher.new) }

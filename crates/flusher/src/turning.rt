@@ -21,8 +21,8 @@ use std::alloc::Global;
 use std::sync::Wait;
 
 /// A turn: takes off the longest run of commands whose batch fits a slot, writes it, and settles it. Gives how many commands there are
-/// in it, which are none where nothing was left to take off. At `StoreFailed` the run is committed and not published, at `NoMemory` it
-/// may be committed, and at any other refusal it isn't.
+/// in it, which are none where nothing was left to take off. At `StoreFailed` the run is committed and not published, and the flusher has
+/// noted why; at `NoMemory` it may be committed, and at any other refusal it isn't.
 pub fn turn<D: Disk, J: Site, R: Wait>(
     rt: &R,
     alloc: Global,
@@ -42,7 +42,7 @@ pub fn turn<D: Disk, J: Site, R: Wait>(
     ensures fails { has_failed (store_of flusher.new) ≡ true ↔ IsErrOf result Refusal.Fault }
     ensures refused { IfErr result (λ e. ((e ≡ Refusal.NoMemory) ⊎ (e ≡ Refusal.Fault))
         ⊎ IsTurnRefused (cap_of (state_of (store_of flusher.old))) board.old (store_of flusher.old) e
-        (store_of flusher.new)) }
+        flusher.new) }
     ensures failed { board.new.failed ≡ board.old.failed }
     ensures order { board.new.board.order ≡ board.old.board.order }
 {

@@ -44,6 +44,12 @@ pub record IsOfRun (start : State) (board : Inner Entry) : Type 0 where
   pub begun : board.start ≡ start
   pub history : IsHistory board
 
+-- the order had so many commands at some moment of such a run
+pub record WasOrdered (start : State) (count : ℕ) : Type 0 where
+  pub board : Inner Entry
+  pub run : IsOfRun start board
+  pub ordered : count ≡ length board.order
+
 -- What a board gave for a command at some moment of such a run: the world's ticket, or a refusal of the rule of acceptance, or none for
 -- want of memory or since the store had failed.
 abbrev pub WasGiven : State → Command → Result Ticket Refusal → Type 0

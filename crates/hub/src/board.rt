@@ -4,7 +4,7 @@ ghost use Rattle.revision.specs.Acceptance.{answer, Refuses};
 ghost use Rattle.recovery.specs.Found.{commands_of};
 ghost use Rattle.world.specs.Board.{begun_board, submitted, ticket_of, next_run, taken_more, settled_more, can_ack};
 ghost use Rattle.world.specs.World.{entry_of, takens};
-ghost use Rattle.hub.specs.Legal.{IsHistory, IsWithin, counted};
+ghost use Rattle.hub.specs.Legal.{IsHistory, IsOfRun, IsWithin, counted};
 ghost use Rattle.hub.specs.Runs.{IsLongest, untaken, MaySettle};
 
 use crate::run::{Run, copied, is_beginning, longest};
@@ -84,7 +84,8 @@ impl<D, J: Site> Board<D, J> {
 
     /// How many commands the order has.
     pub fn ordered(&self) -> usize
-        ensures { result ≡ length self.now.board.order }
+        ensures ordered { result ≡ length self.now.board.order }
+        ensures run { IsOfRun J.start self.now.board }
     {
         self.board.ordered()
     }

@@ -1,13 +1,13 @@
 //! The board behind its lock, and the threads that wait for it.
-ghost use Rattle.std.specs.Prelude.{◌≡◌, ◌⊎◌, ◌≤◌, ◌<◌, ◌+◌, true, false, [], Some, length, min, set, get_or, IfOk, IfErr, IfSome, IsOk, IsErrOf, OnOk, OnErr};
+ghost use Rattle.std.specs.Prelude.{◌≡◌, ◌⊎◌, ◌≤◌, ◌<◌, ◌+◌, true, false, [], Some, length, min, set, get_or, replicate, IfOk, IfErr, IfSome, IsOk, IsErrOf, OnOk, OnErr};
 ghost use Rattle.journal.specs.BatchSpelling.{batch_width};
 ghost use Rattle.recovery.specs.Found.{commands_of};
 ghost use Rattle.revision.specs.Acceptance.{answer, Refuses};
 ghost use Rattle.world.specs.Board.{settled_more, submitted};
 ghost use Rattle.world.specs.World.{entry_of};
-ghost use Rattle.hub.specs.Legal.{counted, WasGiven};
+ghost use Rattle.hub.specs.Legal.{counted, WasGiven, WasOrdered};
 ghost use Rattle.hub.specs.Runs.{MaySettle};
-ghost use Rattle.hub.specs.Waiting.{AreWoken};
+ghost use Rattle.hub.specs.Waiting.{AreWoken, nobody};
 
 use crate::board::Board;
 use crate::run::Run;
@@ -31,6 +31,26 @@ struct Kept<D, J: Site> {
 }
 
 impl<D, J: Site> Kept<D, J> {
+    // a board at which nobody waits yet, and of which the end wasn't called
+    fn new(board: Board<D, J>) -> Kept<D, J>
+        ensures board { result.board ≡ board }
+        ensures awaited { result.awaited ≡ replicate 64 nobody }
+        ensures ended { result.ended ≡ false }
+    {
+        Kept {
+            board,
+            awaited: [usize::MAX; 64],
+            ended: false,
+        }
+    }
+
+    // notes that the end was called
+    fn end(&mut self)
+        ensures { self.new ≡ record self.old { ended = true } }
+    {
+        self.ended = true;
+    }
+
     // submits a command to the board, unless the end was called
     fn submit(
         &mut self,
@@ -121,11 +141,7 @@ impl<D, J: Site> Hub<D, J> {
     /// A hub of a board. It takes no memory.
     pub fn new(board: Board<D, J>) -> Hub<D, J> {
         Hub {
-            kept: Mutex::new(Kept {
-                board,
-                awaited: [usize::MAX; 64],
-                ended: false,
-            }),
+            kept: Mutex::new(Kept::new(board)),
             moved: array::from_fn(|_| Condvar::new()),
             work: Condvar::new(),
         }
@@ -239,12 +255,14 @@ impl<D, J: Site> Hub<D, J> {
     /// Tells the flusher that nothing more will be submitted. From then on `submit` is refused with `StoreFailed`, so that nobody waits
     /// for a turn that doesn't come.
     pub fn end<R: Wait>(&self, rt: &R) {
-        self.kept.lock(rt).ended = true;
+        self.kept.lock(rt).end();
         self.work.notify_all();
     }
 
-    /// How many commands the order has.
-    pub fn ordered<R: Wait>(&self, rt: &R) -> usize {
+    /// How many commands the order has: as many as that of a board of this run had at some moment.
+    pub fn ordered<R: Wait>(&self, rt: &R) -> usize
+        ensures { WasOrdered J.start result }
+    {
         self.kept.lock(rt).board.ordered()
     }
 }

@@ -1,2 +1,5 @@
+pub mod Answering
 pub mod Batches
+pub mod Finding
+pub mod StandsOn
 pub mod Tickets

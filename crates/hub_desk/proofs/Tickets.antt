@@ -100,18 +100,18 @@ asked_all start old mid new exchanges ts ts' counts others same asked =
     (subst (λ (d : Desk). Asks (PassesAtHub start) (with_count mid old.counted) exchanges d) e2 (asked old.counted))
 
 -- The next was answered by its submission.
-pub answered_more : (start : State) (old now new : Desk) (sent : List Sent) (ts : List (Result Ticket Refusal)) (i : ℕ) (item : Sent) (t : Result Ticket Refusal) (answer : Result Reply Refusal)
-    → i < length sent → i < length ts → item ≡ get_or sent i item → t ≡ get_or ts i t → AreOf start (commands_of sent) ts
+pub answered_more : (start : State) (old now new : Desk) (sent : List Sent) (ts : List (Result Ticket Refusal)) (i : ℕ) (asked item : Sent) (t : Result Ticket Refusal) (answer : Result Reply Refusal)
+    → i < length sent → i < length ts → asked ≡ get_or sent i asked → item ≡ get_or sent i item → t ≡ get_or ts i t → AreOf start (commands_of sent) ts
     → ((count : ℕ) → Asks (PassesAtHub start) (with_count old count) (exchanges_of (take i sent)) (with_count now (counted_all count (take i ts))))
-    → AnswersFor start now t answer new
+    → AnswersFor start now asked.command t answer new
     → (count : ℕ) → Asks (PassesAtHub start) (with_count old count) (exchanges_of (take (i + 1) (set sent i (record { command = item.command; answer = answer }))))
     (with_count new (counted_all count (take (i + 1) ts)))
-answered_more start old now new sent ts i item t answer within ticked is t_is of before answers count =
+answered_more start old now new sent ts i asked item t answer within ticked asked_is is t_is of before answers count =
     let k = counted_all count (take i ts) in
-    let this = is_of_at start (commands_of sent) ts i item.command t ticked of (command_at sent i item is) t_is in
+    let this = is_of_at start (commands_of sent) ts i asked.command t ticked of (command_at sent i asked asked_is) t_is in
     subst (λ (n : ℕ). Asks (PassesAtHub start) (with_count old count) (exchanges_of (take (i + 1) (set sent i (record { command = item.command; answer = answer })))) (with_count new n))
     (sym (counted_next count ts i t ticked t_is))
-    (asked_more (PassesAtHub start) (with_count old count) (with_count now k) (with_count new (counted_by k t)) sent i item item answer within is is (before count) (answers item.command k this)).1
+    (asked_more (PassesAtHub start) (with_count old count) (with_count now k) (with_count new (counted_by k t)) sent i asked item answer within asked_is is (before count) (answers k this)).1
 
 -- The next was refused for want of memory.
 pub refused_more : (refusal : Refusal) (sent : List Sent) (i : ℕ) (item : Sent) → refusal ≡ NoMemory → i < length sent → item ≡ get_or sent i item

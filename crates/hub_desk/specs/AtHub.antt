@@ -11,6 +11,8 @@ use Rattle.hub.specs.Legal.{counted, WasGiven}
 use Rattle.session.specs.declared.reply.Reply.{Reply}
 use Rattle.session.specs.Alone.{answered}
 use Rattle.session.specs.Exchange.{Exchange, Answered, Shown}
+use Rattle.session.specs.Reply.{rev_of}
+use Rattle.hub_desk.specs.Standing.{StandsIn}
 
 -- a desk: the published batches that it was told of, those that it has shown, and how many commands its seat has counted
 pub record Desk : Type 0 where
@@ -27,14 +29,16 @@ pub record Submits (start : State) (old : Desk) (command : Command) (ticket : Ti
   pub told : IsPrefix old.told new.told
   pub shown : new.shown ≡ old.shown
 
--- It is answered by its ticket, once what the desk was told of holds the ticket's length: what is shown from then on holds it.
+-- It is answered by its ticket, once what the desk was told of holds the ticket's length, and once the state that those batches make of
+-- the start of the run has the command, as the revision of the reply. What is shown from then on begins with them.
 pub record Acknowledges (start : State) (old : Desk) (command : Command) (reply : Reply) (new : Desk) : Type 0 where
   pub ticket : Ticket
   pub submits : Submits start old command ticket new
   pub answer : answered ticket.reply ≡ Ok reply
   pub holds : ticket.length ≤ length (commands_of new.told)
+  pub stands : StandsIn (fold start (commands_of new.told)) command (rev_of reply)
 
--- It is refused as a board of the run refused it, and leaves the desk as it was; or the store failed before it was settled.
+-- It is refused as a board of the run refused it, and leaves the desk as it was; or the store failed before it was settled or shown.
 abbrev pub Refuses : State → Desk → Command → Refusal → Desk → Type 0
 Refuses start old command refusal new =
     ((new ≡ old) × WasGiven start command (Err refusal)) ⊎ ((refusal ≡ StoreFailed) × (ticket : Ticket) × Submits start old command ticket new)

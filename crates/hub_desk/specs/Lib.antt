@@ -1,2 +1,4 @@
 pub mod AtHub
+pub mod Laws
+pub mod Standing
 pub mod Tickets

@@ -42,8 +42,8 @@ last_of ticket (first ∷ others) = last_of (last_by ticket first) others
 abbrev pub with_count : Desk → ℕ → Desk
 with_count desk count = record desk { counted = count }
 
--- What is answered by a submission, whichever command it was of, and however many commands the seat had counted before it.
-abbrev pub AnswersFor : State → Desk → Result Ticket Refusal → Result Reply Refusal → Desk → Type 0
-AnswersFor start old submitted result new =
-    (command : Command) (count : ℕ) → IsOf start command submitted
+-- What is answered by a submission of this command, however many commands the seat had counted before it.
+abbrev pub AnswersFor : State → Desk → Command → Result Ticket Refusal → Result Reply Refusal → Desk → Type 0
+AnswersFor start old command submitted result new =
+    (count : ℕ) → IsOf start command submitted
     → PassesAtHub start (with_count old count) (Answered command result) (with_count new (counted_by count submitted))

@@ -7,10 +7,13 @@ ghost use Rattle.revision.specs.State as state;
 ghost use Rattle.session.specs.Alone.{answered};
 ghost use Rattle.session.specs.Ahead as ahead;
 ghost use Rattle.session.specs.Replies.{Asks};
+ghost use Rattle.session.specs.Reply.{rev_of};
 ghost use Rattle.hub_desk.specs.AtHub as at_hub;
 ghost use Rattle.hub_desk.specs.AtHub.{PassesAtHub};
+ghost use Rattle.hub_desk.specs.Standing.{StandsIn};
 ghost use Rattle.hub_desk.specs.Tickets.{AreOf, IsOf, AnswersFor, counted_by, counted_all, last_by, last_of, with_count};
 
+use crate::standing::stands;
 use hub::{Hub, Seat, Ticket};
 use published::{Site, Told};
 use refusal::Refusal;
@@ -21,8 +24,8 @@ use std::marker::Model;
 use std::sync::Wait;
 use view::Viewer;
 
-/// Answers each command once it is settled at the hub, and shows what is published. It owns a seat of the hub and a viewer of the
-/// same run, for one session after another. Contracts see it as the published batches that it was told of, those that it has shown,
+/// Answers each command once it is settled at the hub and the state that readers are shown has it, and shows what is published. It
+/// owns a seat of the hub and a viewer of the same run, for one session after another. Contracts see it as the published batches that it was told of, those that it has shown,
 /// and how many commands its seat has counted.
 #[derive(Drop)]
 pub struct HubDesk<'a, D, J: Site, R> {
@@ -84,6 +87,41 @@ impl<'a, D, J: Site, R> HubDesk<'a, D, J, R> {
         ensures { IsTrue result ↔ (ticket.now.length ≤ length (commands_of self.now.told)) }
     {
         ticket.length() as u64 <= self.viewer.told().len()
+    }
+
+    // Looks whether the state that readers are shown has a command, as the revision of its reply. It waits for nobody, and takes no
+    // memory. Refused with `StoreFailed` alone, where the state hasn't, which a board that keeps its order leaves no room for, or where
+    // the view has ended.
+    fn look(&mut self, command: &Command, reply: Reply) -> Result<(), Refusal>
+        ensures kept { IsPrefix self.old.told self.new.told }
+        ensures others { self.new ≡ record self.old { told = self.new.told } }
+        ensures stands { OnOk result
+            (StandsIn (state.fold J.start (commands_of self.new.told)) command.now (rev_of reply)) }
+        ensures only { IfErr result (λ e. e ≡ Refusal.StoreFailed) }
+    {
+        let shown = self.viewer.read(
+            |state: &State| -> bool
+                ensures { IsTrue result ↔ StandsIn state.now command.entry.now (rev_of reply) }
+            { stands(state, command, reply) },
+        )?;
+        if shown {
+            return Ok(());
+        }
+        Err(Refusal::StoreFailed)
+    }
+
+    // The reply of a ticket that is settled, once the state that readers are shown has its command. Refused with `StoreFailed` alone.
+    fn reply_shown(&mut self, command: &Command, ticket: &Ticket) -> Result<Reply, Refusal>
+        ensures kept { IsPrefix self.old.told self.new.told }
+        ensures others { self.new ≡ record self.old { told = self.new.told } }
+        ensures answer { IfOk result (λ reply. answered ticket.now.reply ≡ Ok reply) }
+        ensures stands { IfOk result (λ reply.
+            StandsIn (state.fold J.start (commands_of self.new.told)) command.now (rev_of reply)) }
+        ensures only { IfErr result (λ e. e ≡ Refusal.StoreFailed) }
+    {
+        let reply = reply_of(ticket);
+        self.look(command, reply)?;
+        Ok(reply)
     }
 }
 
@@ -153,19 +191,21 @@ impl<D, J: Site, R: Wait> HubDesk<'_, D, J, R> {
         self.await_ticket(ticket)
     }
 
-    // What is answered by a submission: its ticket's reply, once the ticket is settled, or why it was refused.
+    // What is answered by a submission of a command: its ticket's reply, once the ticket is settled and the command is shown, or why it
+    // was refused.
     fn answer_by(
         &mut self,
+        command: &Command,
         submitted: &Result<Ticket, Refusal>,
         tickets: &[Result<Ticket, Refusal>],
     ) -> Result<Reply, Refusal>
         ensures others { self.new ≡ record self.old { told = self.new.told } }
-        ensures answer { AnswersFor J.start self.old submitted.now result self.new }
+        ensures answer { AnswersFor J.start self.old command.now submitted.now result self.new }
     {
         match submitted {
             Ok(ticket) => {
                 self.await_among(ticket, tickets)?;
-                Ok(reply_of(ticket))
+                self.reply_shown(command, ticket)
             }
             Err(refusal) => Err(*refusal),
         }
@@ -183,7 +223,7 @@ impl<D, J: Site, R: Wait> HubDesk<'_, D, J, R> {
             (with_count self.new (counted_all count tickets.now)) }
     {
         for i in 0..sent.len() {
-            let answer = self.answer_by(&tickets[i], tickets);
+            let answer = self.answer_by(&sent[i].command, &tickets[i], tickets);
             sent[i].answer = answer;
         }
     }
@@ -199,9 +239,9 @@ impl<D, J: Site, R: Wait> Desk for HubDesk<'_, D, J, R> {
     ghost reached = { λ desk. fold J.start (commands_of desk.shown) };
 
     fn ask(&mut self, alloc: Global, command: &Command) -> Result<Reply, Refusal> {
-        let ticket = self.hub.submit(self.rt, alloc, &mut self.seat, command)?;
+        let ticket = self.submit(alloc, command)?;
         self.await_ticket(&ticket)?;
-        Ok(reply_of(&ticket))
+        self.reply_shown(command, &ticket)
     }
 
     fn ask_all(&mut self, alloc: Global, sent: &mut Vec<Sent>) {

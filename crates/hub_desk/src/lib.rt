@@ -1,9 +1,11 @@
 //! A session's desk at a hub.
 //!
 //! A `HubDesk` submits each command to the hub by its seat, waits until the ticket is settled, and tells its viewer of the token that
-//! it is given. Only then it answers, so what is acknowledged is on the device, and what is read afterwards shows it. What it shows is
+//! it is given. Then it looks through the viewer whether the state that readers are shown has the command. Only then it answers: so what
+//! it answers as taken stands in the state that the published batches make, whatever the hub did. What it shows is
 //! read through the viewer, which waits for nobody. Commands of lines that were sent ahead are submitted one after another, and then one
-//! wait, for the last ticket, serves for all of them. `specs/AtHub.antt` says what passes between it and a session.
+//! wait, for the last ticket, serves for all of them. `specs/AtHub.antt` says what passes between it and a session,
+//! `specs/Standing.antt` when a command stands in a state, and `laws` what that is good for.
 //!
 //! It is a crate of its own, so that `session` stands on nothing of stores and threads.
 //!
@@ -21,7 +23,7 @@
 //! use std::alloc::Global;
 //! use std::sync::Wait;
 //!
-//! /// Answers a command at a hub once it is settled: what the desk shows from then on holds it.
+//! /// Answers a command at a hub once it is settled and shown: what the desk shows from then on has it.
 //! pub fn answer<D, J: Site, R: Wait>(
 //!     alloc: Global,
 //!     desk: &mut HubDesk<'_, D, J, R>,
@@ -36,5 +38,7 @@
 #![tactic(auto)]
 
 mod desk;
+pub mod laws;
+mod standing;
 
 pub use desk::HubDesk;

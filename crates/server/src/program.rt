@@ -88,9 +88,13 @@ fn invoke<
         }
         Invocation::Dump { path, older } => {
             let store = open(rt, path, pick_of(older))?;
-            dump(rt.alloc(), store.state(), output)
+            let mut stream = Stream::new(output);
+            dump(rt.alloc(), store.state(), &mut stream)
         }
-        Invocation::Delta(task) => print_answer(rt.alloc(), task, output),
+        Invocation::Delta(task) => {
+            let mut stream = Stream::new(output);
+            print_answer(rt.alloc(), task, &mut stream)
+        }
     }
 }
 

@@ -1,33 +1,36 @@
 //! The documents of a store, as lines.
-ghost use Rattle.std.specs.Prelude.{◌≡◌, ◌⊎◌, OnOk, IfOk, IfErr};
+ghost use Rattle.std.specs.Prelude.{◌≡◌, ◌⊎◌, true, OnOk, OnErr, IfOk, IfErr, IsErrOf};
 ghost use Rattle.std.specs.String.{string_bytes};
 ghost use Rattle.std.specs.Io.KnownBytes.{Appends};
 ghost use Rattle.revision.specs.Pending.{record_of};
+ghost use Rattle.session.specs.Output.{AppendsFront};
 ghost use Rattle.serving.specs.Dump as spec;
 
 use crate::failure::Failure;
 use algebra::write_delta;
 use refusal::Refusal;
 use revision::{DocState, State};
+use session::Output;
 use std::alloc::{AllocError, Global};
-use std::io::Write;
 
 /// Writes one line for each document, in order of creation: name, revision, floor and operations. Ends where a write
-/// fails (`Stream`), or with `NoMemory`.
-pub fn dump<W: Write>(alloc: Global, state: &State, output: &mut W) -> Result<(), Failure>
-    ensures dumped { OnOk result (Appends (W.contents output.old) (W.contents output.new)
+/// fails (`Stream`), or with `NoMemory`, and then a beginning of the lines is written.
+pub fn dump<O: Output>(alloc: Global, state: &State, output: &mut O) -> Result<(), Failure>
+    ensures dumped { OnOk result (Appends (O.contents output.old) (O.contents output.new)
         (spec.dump_of state.now.documents)) }
     ensures only { IfErr result (λ e. (e ≡ Failure.Stream) ⊎ (e ≡ Failure.Refused Refusal.NoMemory)) }
+    ensures front { OnErr result (AppendsFront (O.contents output.old) (O.contents output.new)
+        (spec.dump_of state.now.documents)) }
+    // It is the output that fails where a write fails, and where memory runs out no write has failed.
+    ensures cause { IsErrOf result Failure.Stream → O.has_failed output.new ≡ true }
+    ensures no_memory { IsErrOf result (Failure.Refused Refusal.NoMemory)
+        → O.has_failed output.new ≡ O.has_failed output.old }
 {
     for document in state.documents() {
         let line = line_of(alloc, document)?;
-        if output.write_all(line.as_bytes()).is_err() {
-            return Err(Failure::Stream);
-        }
+        output.put(line.as_bytes())?;
     }
-    if output.flush().is_err() {
-        return Err(Failure::Stream);
-    }
+    output.flush()?;
     Ok(())
 }
 

@@ -1,10 +1,11 @@
 //! Why a program ends before its end.
 ghost use Rattle.std.specs.Prelude.{◌≡◌};
-ghost use Rattle.serving.specs.declared.failure.Failure.TheVariants.{Refused};
+ghost use Rattle.serving.specs.declared.failure.Failure.TheVariants.{Refused, Stream};
 ghost use Rattle.refusal.specs.declared.Refusal.TheVariants as refusal;
 
 use disk::Fault;
 use refusal::Refusal;
+use session::WriteFailed;
 use std::alloc::AllocError;
 
 /// Why a program ends with status 1.
@@ -37,5 +38,13 @@ impl From<Fault> for Failure {
 
     fn from(_fault: Fault) -> Failure {
         Failure::Refused(Refusal::Fault)
+    }
+}
+
+impl From<WriteFailed> for Failure {
+    ghost from_gives = { λ _ failure. failure ≡ Stream };
+
+    fn from(_failed: WriteFailed) -> Failure {
+        Failure::Stream
     }
 }

@@ -100,9 +100,9 @@ fn gate_call(rt: &(impl Abort + AllocGlobal)) -> u64 {
 
 /// The documents of a store over a device, as they are printed.
 fn dumped<D: Disk>(rt: &(impl Abort + AllocGlobal), store: &Store<D>) -> String {
-    let mut output = Vec::new(rt.alloc());
+    let mut output = Stream::new(Vec::new(rt.alloc()));
     let _ = dump(rt.alloc(), store.state(), &mut output);
-    String::from_utf8(output).expect(rt, "a text")
+    String::from_utf8(output.into_writer()).expect(rt, "a text")
 }
 
 #[test]

@@ -97,8 +97,8 @@ returns-in_err-count-in-Turn-clause-stops g c =
     let store = store_of c.args.flusher.now in
     let cap : ℕ = cap_of g.J.Site.start in
     let p = err_from_is_err_and c.from_residual.result c.from_residual.ensures.1 in
-    handed_on (λ r. ((r ≡ NoMemory) ⊎ (r ≡ Fault)) ⊎ ((c.args.call.now ≡ Turn) × IsTurnRefused cap c.args.board.now store r (store_of c.turn.new.flusher))) c.from_residual.result p.0 c.in_err-count-in-Turn.field-0.0 p.1 p.2
-    (stops_turn (cap_of (state_of store)) cap c.args.board.now store c.args.call.now c.in_err-count-in-Turn.field-0.0 (store_of c.turn.new.flusher) c.in-Turn.is
+    handed_on (λ r. ((r ≡ NoMemory) ⊎ (r ≡ Fault)) ⊎ ((c.args.call.now ≡ Turn) × IsTurnRefused cap c.args.board.now store r c.turn.new.flusher)) c.from_residual.result p.0 c.in_err-count-in-Turn.field-0.0 p.1 p.2
+    (stops_turn (cap_of (state_of store)) cap c.args.board.now store c.args.call.now c.in_err-count-in-Turn.field-0.0 c.turn.new.flusher c.in-Turn.is
     (same_cap g.J.Site.start (state_of store) (commands_of (told_of c.args.flusher.now)) c.requires.calm.state) c.in_err-count-in-Turn.ensures.refused)
 
 pub returns-in-Milestone-clause-fails : goal.returns-in-Milestone-clause-fails

@@ -32,7 +32,7 @@ returns-clause-whole g c = stop_none c.drive_all-ended.result c.stopped_by.resul
 
 pub returns-clause-stops : goal.returns-clause-stops
 returns-clause-stops g c =
-    stop_some (λ r. Stops (cap_of g.J.Site.start) (between c.args.board.now [] c.args.flusher.now) c.args.calls.now c.drive_all-ended.new.answers.items r (store_of c.drive_all-ended.new.flusher)) c.drive_all-ended.result c.stopped_by.result
+    stop_some (λ r. Stops (cap_of g.J.Site.start) (between c.args.board.now [] c.args.flusher.now) c.args.calls.now c.drive_all-ended.new.answers.items r c.drive_all-ended.new.flusher) c.drive_all-ended.result c.stopped_by.result
     c.stopped_by.ensures c.drive_all-ended.ensures.stops
 
 pub returns-clause-fails : goal.returns-clause-fails

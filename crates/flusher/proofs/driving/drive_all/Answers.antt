@@ -34,8 +34,8 @@ returns-in_err-answer-clause-stops g c =
     subst (λ l. Answered cap first (take (length l) c.args.calls.now) l last) (sym c.in_ok-reserve.ensures.items)
     (subst (λ n. Answered cap first (take n c.args.calls.now) c.loop-call.answers.items last) (sym i.count) i.answered) in
     let p = err_from_is_err_and c.from_residual-in_err-answer.result c.from_residual-in_err-answer.ensures.1 in
-    handed_on (λ r. Stops cap first c.args.calls.now c.reserve.new.self.items r (store_of c.call_one.new.flusher)) c.from_residual-in_err-answer.result p.0 c.in_err-answer.field-0.0 p.1 p.2
-    (stops_there cap first last c.args.calls.now c.loop-call.call-index c.reserve.new.self.items c.call-item.result _ c.in_err-answer.field-0.0 (store_of c.call_one.new.flusher) c.loop-call-test.true c.call-item.is
+    handed_on (λ r. Stops cap first c.args.calls.now c.reserve.new.self.items r c.call_one.new.flusher) c.from_residual-in_err-answer.result p.0 c.in_err-answer.field-0.0 p.1 p.2
+    (stops_there cap first last c.args.calls.now c.loop-call.call-index c.reserve.new.self.items c.call-item.result _ c.in_err-answer.field-0.0 c.call_one.new.flusher c.loop-call-test.true c.call-item.is
     (ap length c.in_ok-reserve.ensures.items ∙ i.count) answered c.in_err-answer.ensures.stops)
 
 pub loop-call-preserved : goal.loop-call-preserved

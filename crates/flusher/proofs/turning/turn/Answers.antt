@@ -162,12 +162,12 @@ returns-in_err-write-clause-refused g c =
     let longest = subst (λ (n : ℕ). IsLongest n (untaken c.args.board.now.board) (length run)) c.cap.ensures c.in_ok-run.ensures.longest in
     let p = err_from_is_err_and c.from_residual-in_err-write.result c.from_residual-in_err-write.ensures.1 in
     let some : 1 ≤ length run = omega arith in
-    handed_on (λ r. ((r ≡ NoMemory) ⊎ (r ≡ Fault)) ⊎ IsTurnRefused cap c.args.board.now store r (store_of c.write.new.self)) c.from_residual-in_err-write.result p.0 c.in_err-write.field-0.0 p.1 p.2
-    (turn_refused cap c.args.board.now store (store_of c.hold.new.self) (store_of c.write.new.self) (waiting_of c.hold.new.self) run c.in_err-write.field-0.0 c.hold.ensures.waiting
+    handed_on (λ r. ((r ≡ NoMemory) ⊎ (r ≡ Fault)) ⊎ IsTurnRefused cap c.args.board.now store r c.write.new.self) c.from_residual-in_err-write.result p.0 c.in_err-write.field-0.0 p.1 p.2
+    (turn_refused cap c.args.board.now store (store_of c.hold.new.self) c.write.new.self (waiting_of c.hold.new.self) run c.in_err-write.field-0.0 c.hold.ensures.waiting
     c.hold.ensures.store c.in_ok-run.ensures.run longest some (λ is. e.full (ap (λ (r : Refusal). Err r) is)) (λ is. e.needed (ap (λ (r : Refusal). Err r) is))
     (λ told. e.never_full (⊎_elim (λ full. inl (ap (λ (r : Refusal). Err r) full)) (λ still. inr (ap (λ (r : Refusal). Err r) still)) told))
     (λ is. e.stranger (ap (λ (r : Refusal). Err r) is)) (λ no_memory no_failure. (e.uncommitted no_memory no_failure).state)
-    (λ is. (e.lost (ap (λ (r : Refusal). Err r) is)).state) e.only)
+    (λ is. (e.lost (ap (λ (r : Refusal). Err r) is)).state) (λ is. (e.lost (ap (λ (r : Refusal). Err r) is)).barred) e.only)
 
 pub returns-in_err-settle-in-Some-clause-refused : goal.returns-in_err-settle-in-Some-clause-refused
 returns-in_err-settle-in-Some-clause-refused g c =

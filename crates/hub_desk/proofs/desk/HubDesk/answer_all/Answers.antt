@@ -13,6 +13,7 @@ use Rattle.hub_desk.proofs.desk.HubDesk.answer_all.Goals as goal
 pub loop-i-preserved : goal.loop-i-preserved
 loop-i-preserved g c =
     let so_far = c.loop-i.invariant in
+    let asked = c.index.result.now in
     let item = c.index_mut.result.now in
     let new = c.answer_by-answer.new.self in
     let ticked : c.loop-i.i < length c.args.tickets.now = search rules in
@@ -21,8 +22,8 @@ loop-i-preserved g c =
     record {
       commands = commands_same c.loop-i.sent.items c.loop-i.i item c.answer_by-answer.result c.index_mut.ensures.value ∙ so_far.commands;
       others = c.answer_by-answer.ensures.others ∙ ap (λ (d : Desk). record d { told = new.told }) so_far.others;
-      asks = answered_more g.J.Site.start c.args.self.now c.loop-i.self new c.loop-i.sent.items c.args.tickets.now c.loop-i.i item c.index-tickets-i.result c.answer_by-answer.result
-          within ticked c.index_mut.ensures.value c.index-tickets-i.is of so_far.asks c.answer_by-answer.ensures.answer;
+      asks = answered_more g.J.Site.start c.args.self.now c.loop-i.self new c.loop-i.sent.items c.args.tickets.now c.loop-i.i asked item c.index-tickets-i.result c.answer_by-answer.result
+          within ticked c.index.ensures c.index_mut.ensures.value c.index-tickets-i.is of so_far.asks c.answer_by-answer.ensures.answer;
     }
 
 pub returns-clause-answered : goal.returns-clause-answered

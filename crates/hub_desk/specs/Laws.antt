@@ -1,0 +1,46 @@
+-- What follows where a command stands in a state: each law is promised by a function of `laws`.
+use Rattle.std.specs.Prelude.{◌≡◌, ◌⊎◌, ◌≤◌, ◌<◌, ℕ, true, List, Some, Any}
+use Rattle.refusal.specs.declared.Refusal.{Refusal}
+use Rattle.refusal.specs.declared.Refusal.TheVariants.{Exists, OldNumber}
+use Rattle.revision.specs.Command.{Action, Create, Edit, Undo, Command, Taken}
+use Rattle.revision.specs.State.{State, DocumentRecord, find, all_grow, fold}
+use Rattle.revision.specs.Acceptance.{Repeats, Refuses, answer}
+use Rattle.revision.specs.Agree.{Agree}
+use Rattle.world.specs.Law.{last_held}
+use Rattle.hub_desk.specs.Standing.{StandsIn}
+
+-- why a command is refused whose number is below its source's last one: its document exists, or the number is old
+abbrev pub refusal_of_old : Action → Refusal
+refusal_of_old (Create delta) = Exists
+refusal_of_old (Edit base delta) = OldNumber
+refusal_of_old Undo = OldNumber
+
+-- Sent again it isn't taken: it is a retry with that revision where its number is its source's last one, and refused where it is lower.
+abbrev pub IsNotTakenAgain : Type 0
+IsNotTakenAgain = (state : State) (command : Command) (revision : ℕ) → 1 ≤ command.number → StandsIn state command revision
+    → (((last_held state command).number ≡ command.number) × (answer state command ≡ Repeats revision))
+    ⊎ ((command.number < (last_held state command).number) × (answer state command ≡ Refuses (refusal_of_old command.action)))
+
+-- Further commands that continue the state leave it there,
+abbrev pub StandsLater : Type 0
+StandsLater = (state : State) (commands : List Taken) (command : Command) (revision : ℕ) → all_grow state commands ≡ true
+    → StandsIn state command revision → StandsIn (fold state commands) command revision
+
+-- and it stands in each state that agrees with this one, as a state does that was recovered.
+abbrev pub StandsAlike : Type 0
+StandsAlike = (there state : State) (command : Command) (revision : ℕ) → Agree there state → StandsIn state command revision
+    → StandsIn there command revision
+
+-- What was taken is of this command: of its source, with its number, in the document that has its name in the state; and where no later one
+-- of its source was taken there, it made this revision.
+pub record IsTakenOf (state : State) (command : Command) (revision : ℕ) (taken : Taken) : Type 0 where
+  pub source : taken.source ≡ command.source
+  pub number : taken.number ≡ command.number
+  pub document : (found : DocumentRecord) × (find command.name 0 state.documents ≡ Some (taken.document, found))
+  pub made : (last_held state command).number ≡ command.number → taken.revision ≡ revision
+
+-- Where it stands after commands, and the state before them hadn't its number, it is one of them.
+abbrev pub WasTakenAmong : Type 0
+WasTakenAmong = (state : State) (commands : List Taken) (command : Command) (revision : ℕ) → all_grow state commands ≡ true
+    → (last_held state command).number < command.number → StandsIn (fold state commands) command revision
+    → Any (IsTakenOf (fold state commands) command revision) commands

@@ -1,0 +1,19 @@
+//! What follows where a command stands in a state. Each is a function that does nothing: its contract is the law.
+ghost use Rattle.hub_desk.specs.Laws.{IsNotTakenAgain, StandsLater, StandsAlike, WasTakenAmong};
+
+/// A command that stands in a state and is sent again isn't taken: it is a retry with its revision, or its number is old.
+pub fn sent_again()
+    ensures { IsNotTakenAgain }
+{}
+
+/// It stands in each later state, and in each that agrees: so also in what a crash leaves of the batches that made the state and of
+/// further ones.
+pub fn stands_on()
+    ensures later { StandsLater }
+    ensures alike { StandsAlike }
+{}
+
+/// Where it stands after commands, and the state before them hadn't its number, one of them is this command.
+pub fn taken_among()
+    ensures { WasTakenAmong }
+{}
