@@ -7,13 +7,12 @@ use Rattle.delta.specs.Element.{Element}
 use Rattle.delta.specs.Gaps.{counted, apply}
 use Rattle.document.specs.Outcome.{IsAccepted}
 use Rattle.compose.specs.Many.{applied}
-use Rattle.revision.specs.Command.{Taken, is_kind, width_of}
+use Rattle.revision.specs.Command.{Taken, is_kind}
 use Rattle.revision.specs.Sources.{Sources, Table, last_of, with_last}
-use Rattle.revision.specs.Parting.{parts_pair}
 use Rattle.revision.specs.Past.{Past, Prepared, Change, empty_past, newest, newest_units, deltas_in, sources_after, sources_at, content_at, with_change, with_changes, prepared_units, prepared_revision}
-use Rattle.revision.specs.State.{Limits, DocumentRecord, change_of, revision_of, units_of, sources_of, last_of_all, has_place, keeps, reaches_past, weight_after, begins, follows}
+use Rattle.revision.specs.State.{Limits, DocumentRecord, change_of, revision_of, units_of, sources_of, last_of_all, has_place, keeps, comes_next, begins, follows}
 use Rattle.revision.specs.Invariants.{IsLimits}
-use Rattle.revision.specs.Pending.{PendingDocument, with_prepared, newest_sources, prepared_sources, comes_next, is_kept, AreNextUnits, ComesOf}
+use Rattle.revision.specs.Pending.{PendingDocument, with_prepared, newest_sources, prepared_sources, AreNextUnits, ComesOf}
 use Rattle.revision.proofs.Room.{weight-some}
 use Rattle.revision.proofs.Keeping.{six, kept-accepted}
 use Rattle.revision.proofs.Changing.{applied-more, sources-more, newest-with_change, units-with_change, sources-with_change}
@@ -54,35 +53,16 @@ module _ (prepared : Prepared) (change : Change) where
       ≡ with_last change.source change.number (prepared_revision prepared + 1) (prepared_sources prepared)
   sources-prepared = sources-more (newest prepared.past) (prepared_revision prepared) (newest_sources prepared.past) prepared.next change refl
 
-by_halves : (i a b c d e f g h : Bool) → (a && b && c && d && e && (f && g && h && i)) ≡ ((a && b && c && d && e && i) && (f && g && h))
-by_halves i false b c d e f g h = refl
-by_halves i true false c d e f g h = refl
-by_halves i true true false d e f g h = refl
-by_halves i true true true false e f g h = refl
-by_halves i true true true true false f g h = refl
-by_halves true true true true true true false g h = refl
-by_halves true true true true true true true false h = refl
-by_halves true true true true true true true true false = refl
-by_halves true true true true true true true true true = refl
-by_halves false true true true true true false g h = refl
-by_halves false true true true true true true false h = refl
-by_halves false true true true true true true true false = refl
-by_halves false true true true true true true true true = refl
-
--- it follows just where it comes next and is kept
-pub follows_by_halves : (limits : Limits) (d : PendingDocument) (taken : Taken)
+-- a change follows the document with what is prepared
+pub follows_prepared : (limits : Limits) (d : PendingDocument) (taken : Taken)
     → follows limits (with_prepared limits.keep d) taken
-    ≡ (comes_next limits (prepared_revision d.past) (prepared_sources d.past) taken && is_kept limits (prepared_units d.past) (prepared_sources d.past) taken)
-follows_by_halves limits d taken =
+    ≡ (comes_next limits (prepared_revision d.past) (prepared_sources d.past) taken && keeps limits (prepared_units d.past) (prepared_sources d.past) taken)
+follows_prepared limits d taken =
     let found : DocumentRecord = with_prepared limits.keep d in
     let revision : revision_of found ≡ prepared_revision d.past = newest-with_changes limits.keep d.past.past d.past.next in
     let units : units_of found ≡ prepared_units d.past = units-with_changes limits.keep d.past.past d.past.next in
     let sources : sources_of found ≡ prepared_sources d.past = sources-with_changes limits.keep d.past.past d.past.next in
-    by_halves (nat_le (width_of taken) limits.width) (taken.revision == revision_of found + 1) (not (revision_of found == last_of_all))
-    (taken.number == (last_of taken.source (sources_of found)).number + 1) (nat_le taken.number last_of_all) (has_place limits taken.source (sources_of found))
-    (not (reaches_past taken.delta (units_of found))) (not (parts_pair taken.delta (units_of found)))
-    (nat_le (weight_after (units_of found) (sources_of found) taken) limits.weight)
-    ∙ ap₂ ◌&&◌ (ap₂ (λ r s. comes_next limits r s taken) revision sources) (ap₂ (λ u s. is_kept limits u s taken) units sources)
+    ap₂ ◌&&◌ (ap₂ (λ r s. comes_next limits r s taken) revision sources) (ap₂ (λ u s. keeps limits u s taken) units sources)
 
 -- what is kept beside a past whose changes are accepted
 pub accepted_comes : (keep : ℕ) (past : Prepared) (units : List Element) (sources : Sources) → units ≡ prepared_units past → sources ≡ prepared_sources past

@@ -68,23 +68,31 @@ weight_after units sources taken =
 abbrev pub has_place : Limits → List ℕ → Sources → Bool
 has_place limits source sources = not ((last_of source sources).number == 0) || nat_lt (count_of sources) limits.sources
 
--- what a delta keeps that is taken on these units and sources: it is defined, parts no pair, and the limits are kept
-abbrev pub keeps : Limits → List Element → Sources → Taken → Bool
-keeps limits units sources taken =
+-- a delta is defined on these units, parts no pair, and leaves a document that is no heavier than it may be
+abbrev pub stays_light : Limits → List Element → Sources → Taken → Bool
+stays_light limits units sources taken =
     not (reaches_past taken.delta units) && not (parts_pair taken.delta units)
-    && nat_le (weight_after units sources taken) limits.weight && nat_le (width_of taken) limits.width
+    && nat_le (weight_after units sources taken) limits.weight
+
+-- what a delta keeps that is taken on these units and sources: it leaves a light document, and its entry is as short as it has to be
+abbrev pub keeps : Limits → List Element → Sources → Taken → Bool
+keeps limits units sources taken = stays_light limits units sources taken && nat_le (width_of taken) limits.width
 
 -- A creation begins a document: it is revision 1, by its source's first command.
 abbrev pub begins : Limits → Taken → Bool
 begins limits taken = (taken.revision == 1) && (taken.number == 1) && keeps limits [] empty taken
 
--- a change follows the newest revision of a document: it is the next one, and has its source's next number
+-- a change is the next one after a revision with these sources: it has its source's next number, and its source has a place
+abbrev pub comes_next : Limits → ℕ → Sources → Taken → Bool
+comes_next limits revision sources taken =
+    (taken.revision == revision + 1) && not (revision == last_of_all)
+    && (taken.number == (last_of taken.source sources).number + 1) && nat_le taken.number last_of_all
+    && has_place limits taken.source sources
+
+-- a change follows the newest revision of a document: it is the next one, and keeps the limits
 abbrev pub follows : Limits → DocumentRecord → Taken → Bool
 follows limits found taken =
-    (taken.revision == revision_of found + 1) && not (revision_of found == last_of_all)
-    && (taken.number == (last_of taken.source (sources_of found)).number + 1) && nat_le taken.number last_of_all
-    && has_place limits taken.source (sources_of found)
-    && keeps limits (units_of found) (sources_of found) taken
+    comes_next limits (revision_of found) (sources_of found) taken && keeps limits (units_of found) (sources_of found) taken
 
 -- A command continues a document: it creates it where it isn't there, and changes it where it is.
 abbrev pub continues_by_name : Limits → Option DocumentRecord → Taken → Option (List ℕ) → Bool

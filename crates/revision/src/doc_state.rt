@@ -10,8 +10,8 @@ ghost use Rattle.document.specs.Outcome.{IsAccepted};
 ghost use Rattle.revision.specs.Replay.{replay_of};
 ghost use Rattle.revision.specs.Invariants.{IsLimits};
 ghost use Rattle.revision.specs.Sources.{last_of, with_last};
-ghost use Rattle.revision.specs.State.{revision_of, units_of, sources_of, begins as spec_begins, follows, change_of};
-ghost use Rattle.revision.specs.Pending.{record_of, with_prepared, comes_next as spec_comes_next, is_kept};
+ghost use Rattle.revision.specs.State.{revision_of, units_of, sources_of, begins as spec_begins, comes_next as spec_comes_next, follows, keeps as spec_keeps, stays_light as spec_stays_light, change_of};
+ghost use Rattle.revision.specs.Pending.{record_of, with_prepared};
 
 use crate::limits::Limits;
 use crate::name::Name;
@@ -326,12 +326,12 @@ fn follows_at(
 ) -> bool
     requires { revision < 2 ^ 53 }
     ensures { result
-        ≡ (spec_comes_next limits revision sources.now taken.now && is_kept limits document.now sources.now taken.now) }
+        ≡ (spec_comes_next limits revision sources.now taken.now && spec_keeps limits document.now sources.now taken.now) }
 {
-    comes_next(limits, revision, sources, taken) && stays_light(limits, document, sources, taken)
+    comes_next(limits, revision, sources, taken) && keeps(limits, document, sources, taken)
 }
 
-// whether a change is the next one after a revision with these sources, and its entry is as short as it has to be
+// whether a change is the next one after a revision with these sources
 fn comes_next(limits: Limits, revision: u64, sources: &Sources, taken: &Taken) -> bool
     requires { revision < 2 ^ 53 }
     ensures { result ≡ spec_comes_next limits revision sources.now taken.now }
@@ -343,12 +343,18 @@ fn comes_next(limits: Limits, revision: u64, sources: &Sources, taken: &Taken) -
         && taken.number() - 1 == last.number
         && taken.number() <= LAST
         && (last.number != 0 || sources.count() < limits.sources() as usize)
-        && taken.width() <= u64::from(limits.width())
+}
+
+// whether a change keeps the limits: what it leaves is no heavier than it may be, and its entry is as short as it has to be
+fn keeps(limits: Limits, document: &Document, sources: &Sources, taken: &Taken) -> bool
+    ensures { result ≡ spec_keeps limits document.now sources.now taken.now }
+{
+    stays_light(limits, document, sources, taken) && taken.width() <= u64::from(limits.width())
 }
 
 // whether a change's delta is defined on the document, parts no pair, and leaves what is no heavier than it may be
 fn stays_light(limits: Limits, document: &Document, sources: &Sources, taken: &Taken) -> bool
-    ensures { result ≡ is_kept limits document.now sources.now taken.now }
+    ensures { result ≡ spec_stays_light limits document.now sources.now taken.now }
 {
     let beside = sources.count_after(taken.source()).saturating_mul(64);
     match document.weigh(taken.delta()) {

@@ -2,8 +2,9 @@ use Rattle.std.proofs.Common.{[], sym, ap₂, ◌∙◌}
 use Rattle.std.specs.Prelude.{◌&&◌}
 use Rattle.revision.specs.Past.{empty_past}
 use Rattle.revision.specs.Sources.{Sources}
-use Rattle.revision.specs.Pending.{PendingDocument, comes_next, is_kept}
-use Rattle.revision.proofs.Following.{follows_by_halves, follows-empty}
+use Rattle.revision.specs.State.{comes_next, keeps}
+use Rattle.revision.specs.Pending.{PendingDocument}
+use Rattle.revision.proofs.Following.{follows_prepared, follows-empty}
 use Rattle.revision.proofs.doc_state.begins.Goals as goal
 
 pub returns : goal.returns
@@ -12,5 +13,5 @@ returns c =
     let taken = c.args.taken.now in
     let d : PendingDocument = record { name = []; past = record { past = empty_past; next = [] } } in
     c.follows_at.ensures
-    ∙ ap₂ (λ u (s : Sources). comes_next limits 0 s taken && is_kept limits u s taken) c.empty-document.ensures c.new-sources.ensures
-    ∙ sym (follows_by_halves limits d taken) ∙ follows-empty limits [] taken c.requires
+    ∙ ap₂ (λ u (s : Sources). comes_next limits 0 s taken && keeps limits u s taken) c.empty-document.ensures c.new-sources.ensures
+    ∙ sym (follows_prepared limits d taken) ∙ follows-empty limits [] taken c.requires

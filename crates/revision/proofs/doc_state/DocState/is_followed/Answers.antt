@@ -2,9 +2,9 @@ use Rattle.std.proofs.Common.{◌≡◌, sym, ap, ap₂, ◌∙◌}
 use Rattle.std.specs.Prelude.{◌&&◌}
 use Rattle.revision.specs.Sources.{Sources}
 use Rattle.revision.specs.Past.{prepared_units, prepared_revision}
-use Rattle.revision.specs.State.{follows}
-use Rattle.revision.specs.Pending.{PendingDocument, with_prepared, prepared_sources, comes_next, is_kept}
-use Rattle.revision.proofs.Following.{follows_by_halves}
+use Rattle.revision.specs.State.{follows, comes_next, keeps}
+use Rattle.revision.specs.Pending.{PendingDocument, with_prepared, prepared_sources}
+use Rattle.revision.proofs.Following.{follows_prepared}
 use Rattle.revision.proofs.doc_state.DocState.is_followed.Goals as goal
 
 pub returns : goal.returns
@@ -16,6 +16,6 @@ returns c =
     let sources : c.prepared.result.now ≡ prepared_sources past = c.prepared.ensures ∙ c.self.invariant.prepared in
     let units : c.ahead.result.now ≡ prepared_units past = c.ahead.ensures ∙ ap (λ (e : PendingDocument). prepared_units e.past) (sym c.self.view_is) in
     c.follows_at.ensures
-    ∙ ap (λ r. comes_next limits r c.prepared.result.now taken && is_kept limits c.ahead.result.now c.prepared.result.now taken) c.prepared_revision-revision.ensures.revision
-    ∙ ap₂ (λ u (s : Sources). comes_next limits (prepared_revision past) s taken && is_kept limits u s taken) units sources
-    ∙ sym (follows_by_halves limits d taken) ∙ ap (λ (e : PendingDocument). follows limits (with_prepared limits.keep e) taken) c.self.view_is
+    ∙ ap (λ r. comes_next limits r c.prepared.result.now taken && keeps limits c.ahead.result.now c.prepared.result.now taken) c.prepared_revision-revision.ensures.revision
+    ∙ ap₂ (λ u (s : Sources). comes_next limits (prepared_revision past) s taken && keeps limits u s taken) units sources
+    ∙ sym (follows_prepared limits d taken) ∙ ap (λ (e : PendingDocument). follows limits (with_prepared limits.keep e) taken) c.self.view_is
