@@ -10,7 +10,7 @@ ghost use Rattle.recovery.specs.Due.{due_of, due_for, IsPutDue};
 ghost use Rattle.recovery.specs.Found.{FoundAs};
 ghost use Rattle.recovery.specs.Goes.{Goes};
 ghost use Rattle.recovery.specs.Jobs.{highest, no_job_of, no_job_for, without_job};
-ghost use Rattle.recovery.specs.Open.{IsOpen, IsUnchanged, device_of, state_of, known_cells, kept_jobs, has_failed};
+ghost use Rattle.recovery.specs.Open.{IsOpen, IsUnchanged, device_of, state_of, known_cells, known_marks, kept_jobs, has_failed};
 ghost use Rattle.recovery.specs.Unwritten.{IsUnwritten};
 ghost use Rattle.recovery.specs.steps.Freeing.{IsOverFewer};
 
@@ -54,6 +54,7 @@ impl<D: Disk> Store<D> {
 
         // What each answer leaves.
         ensures state { state_of self.new ≡ state_of self.old }
+        ensures no_more_marks { length (known_marks self.new) ≤ length (known_marks self.old) }
         ensures others { without_job document (kept_jobs self.new) ≡ without_job document (kept_jobs self.old) }
         ensures fails { has_failed self.old ≡ false → (has_failed self.new ≡ true ↔ IsErrOf result Refusal.Fault) }
         ensures works { OnOk result (has_failed self.new ≡ false) }
@@ -93,6 +94,7 @@ impl<D: Disk> Store<D> {
         requires working { has_failed self.old ≡ false }
         ensures only { IsOkUnless result Refusal.Fault }
         ensures state { state_of self.new ≡ state_of self.old }
+        ensures no_more_marks { length (known_marks self.new) ≤ length (known_marks self.old) }
         ensures jobs { kept_jobs self.new ≡ kept_jobs self.old }
         ensures fails { has_failed self.new ≡ true ↔ IsErrOf result Refusal.Fault }
         ensures faults { CountsFaultsAs ⟦<D as Disk>⟧ Refusal.Fault result (device_of self.old) (device_of self.new) }

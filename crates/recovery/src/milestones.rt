@@ -2,6 +2,7 @@
 ghost use Rattle.std.specs.Prelude.{◌≡◌, ◌≢◌, ◌⊎◌, ◌↔◌, ◌+◌, ◌≤◌, ◌<◌, ℕ, true, false, length, Contains, OnOk, OnErr, IfErr, IsErrOf, Some, slice_get};
 ghost use Rattle.disk.specs.Device.{Rose};
 ghost use Rattle.disk.specs.Crash.{LeavesOnly};
+ghost use Rattle.refusal.specs.declared.Refusal.{Refusal as Why};
 ghost use Rattle.history.specs.Cell.{cells_at};
 ghost use Rattle.milestone.specs.Job.{cell_of_job};
 ghost use Rattle.recovery.specs.Cells.{highest_known};
@@ -82,8 +83,8 @@ impl<D: Disk> Store<D> {
         }
     }
     /// Puts a milestone of a document at a revision: hands out its job, composes it here, and puts what came of it. The refusals are
-    /// those of `milestone_job`, and `NoMemory` and `Fault` while it is composed and put. The documents stay. Where memory runs
-    /// out, the job may stay kept, in place of one that was handed out before.
+    /// those of `milestone_job`, which come just where it tells them, and `NoMemory` and `Fault` while it is composed and put.
+    /// The documents stay. Where memory runs out, the job may stay kept, in place of one that was handed out before.
     pub fn put_document(
         &mut self,
         alloc: Global,
@@ -99,6 +100,9 @@ impl<D: Disk> Store<D> {
         ensures refused_by { IfErr result (λ e. e ≢ Refusal.NoMemory → e ≢ Refusal.Fault
             → no_job_for (slice_get (state_of self.old).documents document)
             (highest_known (known_cells self.old) document) revision ≡ Some e) }
+        ensures due { has_failed self.old ≡ false → (why : Why)
+            → no_job_for (slice_get (state_of self.old).documents document)
+            (highest_known (known_cells self.old) document) revision ≡ Some why → IsErrOf result why }
         ensures fault { IsErrOf result Refusal.Fault → has_failed self.old ≡ false
             → Rose (D.faults (device_of self.old)) (D.faults (device_of self.new)) }
         ensures only { IfErr result (λ e. ((e ≡ Refusal.NoDocument) ⊎ ((e ≡ Refusal.Future) ⊎ (e ≡ Refusal.TooOld)))

@@ -5,7 +5,7 @@ use Rattle.milestone.specs.Job.{Job}
 use Rattle.refusal.specs.declared.Refusal.TheVariants.{Fault}
 use Rattle.recovery.specs.Jobs.{without_job}
 use Rattle.recovery.specs.Open.{has_failed, kept_jobs}
-use Rattle.recovery.proofs.Refusals.{ok≢err}
+use Rattle.recovery.proofs.Refusals.{ok≢err, refusal_or}
 use Rattle.recovery.proofs.PutAtOnce.{keeps_it, had_not_failed, has_not_failed, still, from_there, put_at, refused_unfailed}
 use Rattle.recovery.proofs.OtherJobs.{others_with, others_without}
 use Rattle.recovery.proofs.Unwritten.{unwritten_same, unwritten_kept, unwritten_behind, few_none, few_behind}
@@ -189,3 +189,16 @@ returns-in-Err-put_milestone-clause-calls g c =
 pub returns-clause-calls : goal.returns-clause-calls
 returns-clause-calls g c =
     few_behind c.args.self.now c.milestone_job.new.self c.milestone_job.ensures.device 6 c.put_milestone.new.self c.put_milestone.ensures.calls
+
+-- a refusal that is due comes of the job, and without one nothing is put
+pub returns-in-Err-clause-due : goal.returns-in-Err-clause-due
+returns-in-Err-clause-due g c works why is = ap (λ (r : Refusal). Err r) (ap (refusal_or why) (c.in-Err.ensures.refused_by works why is))
+
+pub returns-in-Err-compose_job-clause-due : goal.returns-in-Err-compose_job-clause-due
+returns-in-Err-compose_job-clause-due g c works why is = absurd (ok≢err c.in-Ok.job why (c.in-Ok.ensures.refused_by works why is))
+
+pub returns-in-Err-put_milestone-clause-due : goal.returns-in-Err-put_milestone-clause-due
+returns-in-Err-put_milestone-clause-due g c works why is = absurd (ok≢err c.in-Ok.job why (c.in-Ok.ensures.refused_by works why is))
+
+pub returns-clause-due : goal.returns-clause-due
+returns-clause-due g c works why is = absurd (ok≢err c.in-Ok.job why (c.in-Ok.ensures.refused_by works why is))

@@ -1,8 +1,9 @@
 use Rattle.std.proofs.Common.{◌≡◌, ◌∙◌, Some, None, sym, ap, subst, rules, arith}
-use Rattle.std.specs.Prelude.{Ok, Err, slice_get}
+use Rattle.std.specs.Prelude.{Ok, Err, List, length, slice_get}
 use Rattle.disk.specs.Device.{Rose}
 use Rattle.refusal.specs.declared.Refusal.{Refusal}
 use Rattle.refusal.specs.declared.Refusal.TheVariants.{NoMemory, Fault}
+use Rattle.recovery.specs.declared.marks.Mark.{Mark}
 use Rattle.recovery.specs.Cells.{highest_known}
 use Rattle.recovery.specs.Due.{due_for}
 use Rattle.recovery.proofs.Refusals.{refusal_or}
@@ -100,3 +101,13 @@ returns-in-Err-retire_covered-clause-calls g c = omega (arith, c.put_document.en
 
 pub returns-clause-calls : goal.returns-clause-calls
 returns-clause-calls g c = omega (arith, c.put_document.ensures.calls, c.retire_covered.ensures.calls)
+
+-- the put leaves the marks, and the retirement takes some
+pub returns-in-Err-clause-no_more_marks : goal.returns-in-Err-clause-no_more_marks
+returns-in-Err-clause-no_more_marks g c = omega (arith, ap (λ (l : List Mark). length l) c.put_document.ensures.marks)
+
+pub returns-in-Err-retire_covered-clause-no_more_marks : goal.returns-in-Err-retire_covered-clause-no_more_marks
+returns-in-Err-retire_covered-clause-no_more_marks g c = omega (arith, ap (λ (l : List Mark). length l) c.put_document.ensures.marks, c.retire_covered.ensures.no_more_marks)
+
+pub returns-clause-no_more_marks : goal.returns-clause-no_more_marks
+returns-clause-no_more_marks g c = omega (arith, ap (λ (l : List Mark). length l) c.put_document.ensures.marks, c.retire_covered.ensures.no_more_marks)
