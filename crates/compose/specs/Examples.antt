@@ -7,7 +7,7 @@ use Rattle.delta.specs.Element.{Element, letters}
 use Rattle.delta.specs.Operation.{Operation, insert_text, retain, delete}
 use Rattle.delta.specs.Gaps.{counted}
 use Rattle.delta.specs.Normal.{nf}
-use Rattle.compose.specs.Composed.{composed}
+use Rattle.compose.specs.Composed.{one_for}
 use Rattle.compose.specs.Inverse.{inverse}
 
 abbrev bare : Attributes
@@ -28,24 +28,21 @@ unbolden = insert empty (codes "bold") None
 abbrev ins : List ℕ → Operation
 ins us = insert_text us bare
 
-abbrev one : List Operation → List Operation → List Operation
-one a b = nf (composed (counted a) (counted b))
-
 abbrev back : List Operation → List Element → List Operation
 back ops d = nf (inverse (counted ops) d)
 
 -- [ins "abc"], then [ret 1, del 1], is [ins "ac"]
-deleted_within : one (ins (codes "abc") ∷ []) (retain 1 plain ∷ delete 1 ∷ []) ≡ ins (codes "ac") ∷ []
+deleted_within : one_for (ins (codes "abc") ∷ []) (retain 1 plain ∷ delete 1 ∷ []) ≡ ins (codes "ac") ∷ []
 unfolding changed_by
 deleted_within = refl
 
 -- [ins "a" {bold: true}], then [ret 1 {bold: null}], is [ins "a"]
-null_on_insert : one (insert_text (codes "a") bold ∷ []) (retain 1 unbolden ∷ []) ≡ ins (codes "a") ∷ []
+null_on_insert : one_for (insert_text (codes "a") bold ∷ []) (retain 1 unbolden ∷ []) ≡ ins (codes "a") ∷ []
 unfolding insert retained changed_by
 null_on_insert = refl
 
 -- [ret 1 {bold: true}], then [ret 1 {bold: null}], is [ret 1 {bold: null}]
-null_on_retain : one (retain 1 bolden ∷ []) (retain 1 unbolden ∷ []) ≡ retain 1 unbolden ∷ []
+null_on_retain : one_for (retain 1 bolden ∷ []) (retain 1 unbolden ∷ []) ≡ retain 1 unbolden ∷ []
 unfolding insert insert_all
 null_on_retain = refl
 

@@ -58,7 +58,8 @@ impl Pending {
     ) -> Result<(), ScanError>
         requires within { at + count ≤ length (D.seen disk.old) }
         requires short { length self.old + count < 2 ^ 32 }
-        ensures bytes { OnOk result (D.honest disk.new → self.new ≡ self.old ++ take count (drop at (D.seen disk.old))) }
+        ensures bytes { OnOk result (D.honest disk.new
+            → self.new ≡ self.old ++ take count (drop at (D.seen disk.old))) }
         ensures length { OnOk result (length self.new ≡ length self.old + count) }
         ensures not_damaged { IfErr result (λ e. e ≢ ScanError.Damaged) }
         ensures only_read { HasOnlyRead ⟦<D as Disk>⟧ disk.old disk.new }

@@ -73,7 +73,7 @@ impl Job {
     }
 
     /// The document's number in order of creation.
-    pub fn document(&self) -> u32
+    pub fn document_number(&self) -> u32
         ensures { result ≡ self.now.document }
     {
         self.document
@@ -127,7 +127,7 @@ impl Job {
     pub fn is_same(&self, other: &Job) -> bool
         ensures { IsTrue result ↔ (self.now ≡ other.now) }
     {
-        if self.document() != other.document() {
+        if self.document_number() != other.document_number() {
             return false;
         }
         if self.revision() != other.revision() {

@@ -19,5 +19,8 @@ impl Site for Brand {
 
     ghost book = { record { number = 0; log_name = 0; cells_name = 0 } };
 
-    ghost start = { record { limits = record { docs = 0; sources = 0; weight = 0; width = 0; keep = 0 }; documents = [] } };
+    ghost start = { record {
+      limits = record { docs = 0; sources = 0; weight = 0; width = 0; keep = 0 };
+      documents = [];
+    } };
 }

@@ -41,8 +41,8 @@ impl Jobs {
         ensures only { IsOkUnless result Refusal.NoMemory }
     {
         self.list.reserve(1)?;
-        let document = job.document();
-        self.list.retain(|kept| kept.document() != document);
+        let document = job.document_number();
+        self.list.retain(|kept| kept.document_number() != document);
         self.list.push(job).unwrap();
         Ok(())
     }
@@ -51,6 +51,6 @@ impl Jobs {
     pub fn forget(&mut self, document: u32)
         ensures { jobs_of self.new ≡ without_job document (jobs_of self.old) }
     {
-        self.list.retain(|job| job.document() != document);
+        self.list.retain(|job| job.document_number() != document);
     }
 }

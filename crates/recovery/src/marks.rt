@@ -66,7 +66,7 @@ impl Marks {
         ensures { IsNoted segment batch.now (marks_of self.old) (marks_of self.new) }
     {
         for taken in batch {
-            self.raise(segment, taken.document(), taken.revision());
+            self.raise(segment, taken.document_number(), taken.revision());
         }
     }
 
@@ -144,7 +144,7 @@ fn cover_all(places: &mut Vec<usize>, batch: &[Taken]) -> Result<(), Refusal>
     ensures { IsOkUnless result Refusal.NoMemory }
 {
     for taken in batch {
-        cover(places, taken.document())?;
+        cover(places, taken.document_number())?;
     }
     Ok(())
 }

@@ -66,7 +66,7 @@ impl<D: Disk> Store<D> {
         if !self.jobs.is_kept(job) {
             return Err(Refusal::Stranger);
         }
-        let document = job.document();
+        let document = job.document_number();
         let milestone = composed.milestone();
         if let Err(refusal) = milestone.content(alloc) {
             return Err(refusal);

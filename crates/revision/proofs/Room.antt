@@ -14,11 +14,11 @@ use Rattle.delta.specs.Normal.{nf, spelled}
 use Rattle.delta.proofs.CallerLemmas.{units_below-front, units_below-run, units_below-counted, counted-spelled, units_made-counted, base_of-nf, lengths-nf, out_of-spelled, length-apply_counted}
 use Rattle.document.specs.Weight.{weight_of}
 use Rattle.compose.specs.Inverse.{unit_back, inverse}
-use Rattle.xform.specs.After.{beside, left_of, after}
+use Rattle.xform.specs.After.{beside, left_of, after, second_past}
 use Rattle.xform.specs.Outcome.{CanTransform, IsTransformRefused}
 use Rattle.xform.proofs.CallerLemmas.{units_below-beside}
 use Rattle.revision.specs.Past.{way_back}
-use Rattle.revision.specs.Late.{past_one, inserted_of, all_inserted, HasRoom, InsertedStay, RoomForCommands, RoomForUndo, LightInserts}
+use Rattle.revision.specs.Late.{inserted_of, all_inserted, HasRoom, InsertedStay, RoomForCommands, RoomForUndo, LightInserts}
 
 -- how many units a gap form inserts
 abbrev inserts_of : Gaps → ℕ
@@ -96,7 +96,7 @@ out-past taken edit priority =
     omega (arith, made-nf (after (counted taken) (counted edit) priority), made-after (counted taken) (counted edit) priority, units_made-counted edit, inserts_of-counted taken)
 
 -- so there is room past the others, and what comes of it is within the bound
-pub room-past : (taken edit : List Operation) (others : List (List Operation)) → HasRoom edit (taken ∷ others) → HasRoom (past_one taken edit) others
+pub room-past : (taken edit : List Operation) (others : List (List Operation)) → HasRoom edit (taken ∷ others) → HasRoom (second_past taken edit true) others
 room-past taken edit others room = record {
   base = omega (arith, room.base, base-past taken edit true);
   out = omega (arith, room.out, out-past taken edit true);

@@ -4,18 +4,13 @@ use Rattle.std.specs.Prelude.{ℕ, ◌+◌, ◌≤◌, ◌<◌, ◌^◌, true, L
 use Rattle.delta.specs.Element.{Element}
 use Rattle.delta.specs.Operation.{Operation, insert_text, insert_embed, retain, delete, base_of, out_of}
 use Rattle.delta.specs.Gaps.{counted, apply}
-use Rattle.delta.specs.Normal.{nf}
 use Rattle.document.specs.Weight.{weight_of}
-use Rattle.xform.specs.After.{after}
+use Rattle.xform.specs.After.{second_past}
 
--- an edit past one delta, which was taken first and so has priority
-abbrev pub past_one : List Operation → List Operation → List Operation
-past_one taken edit = nf (after (counted taken) (counted edit) true)
-
--- an edit past each delta that was taken since its base, in turn from the oldest
+-- an edit past each delta that was taken since its base, in turn from the oldest, which was taken first and so has priority
 abbrev pub late : List Operation → List (List Operation) → List Operation
 late edit [] = edit
-late edit (taken ∷ others) = late (past_one taken edit) others
+late edit (taken ∷ others) = late (second_past taken edit true) others
 
 -- how many units an operation, a delta, and several deltas insert
 abbrev pub op_inserted : Operation → ℕ

@@ -67,9 +67,13 @@ empty_past = record { floor = 0; content = record { units = [] }; sources = empt
 abbrev pub newest : Past → ℕ
 newest past = past.floor + length past.changes
 
+-- the deltas of changes
+abbrev pub deltas_in : List Change → List (List Operation)
+deltas_in changes = map (λ (change : Change). change.delta) changes
+
 -- the deltas of the revisions above the floor
 abbrev pub deltas_of : Past → List (List Operation)
-deltas_of past = map (λ (change : Change). change.delta) past.changes
+deltas_of past = deltas_in past.changes
 
 -- the sources after changes, the first of which is that of the revision after this one
 abbrev pub sources_after : ℕ → Sources → List Change → Sources
@@ -115,10 +119,6 @@ with_changes keep past (first ∷ others) = with_changes keep (with_change keep 
 pub record Prepared : Type 0 where
   pub past : Past
   pub next : List Change
-
--- the deltas of changes
-abbrev pub deltas_in : List Change → List (List Operation)
-deltas_in changes = map (λ (change : Change). change.delta) changes
 
 -- the units after all that was prepared, and its revision
 abbrev pub prepared_units : Prepared → List Element

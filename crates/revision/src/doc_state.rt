@@ -85,7 +85,12 @@ impl DocState {
               past =
                   record {
                     past =
-                        record { floor = revision; content = record { units = document }; sources = sources; changes = [] };
+                        record {
+                          floor = revision;
+                          content = record { units = document };
+                          sources = sources;
+                          changes = [];
+                        };
                     next = [];
                   };
             }) }
@@ -326,7 +331,8 @@ fn follows_at(
 ) -> bool
     requires { revision < 2 ^ 53 }
     ensures { result
-        ≡ (spec_comes_next limits revision sources.now taken.now && spec_keeps limits document.now sources.now taken.now) }
+        ≡ (spec_comes_next limits revision sources.now taken.now
+            && spec_keeps limits document.now sources.now taken.now) }
 {
     comes_next(limits, revision, sources, taken) && keeps(limits, document, sources, taken)
 }

@@ -140,7 +140,7 @@ impl Documents {
         requires name { taken.now.name ≡ Some name.now }
         ensures { result ≡ grows self.now.after taken.now }
     {
-        if !self.has_room_for(taken.document(), name) {
+        if !self.has_room_for(taken.document_number(), name) {
             return false;
         }
         begins(alloc, self.limits, taken)
@@ -180,7 +180,7 @@ impl Documents {
         ensures only { IsOkUnless result Refusal.NoMemory }
         ensures unchanged { OnErr result (self.new ≡ self.old) }
     {
-        self.touched.push(taken.document())?;
+        self.touched.push(taken.document_number())?;
         change(alloc, &mut self.documents, self.limits, taken)?;
         Ok(())
     }
@@ -193,7 +193,7 @@ impl Documents {
         ensures only { IsOkUnless result Refusal.NoMemory }
         ensures unchanged { OnErr result (self.new ≡ self.old) }
     {
-        let number = taken.document();
+        let number = taken.document_number();
         let document = begin(alloc, self.limits, taken, name)?;
         self.touched.push(number)?;
         push_named(
@@ -318,7 +318,7 @@ fn may_change(documents: &[DocState], limits: Limits, taken: &Taken) -> bool
         ≡ continues_by_name limits (slice_get (map (with_prepared limits.keep) documents.now) taken.now.document)
         taken.now None }
 {
-    match documents.get(taken.document() as usize) {
+    match documents.get(taken.document_number() as usize) {
         Some(document) => document.is_followed(limits, taken),
         None => false,
     }
@@ -339,7 +339,7 @@ fn change(
     ensures only { IsOkUnless result Refusal.NoMemory }
     ensures unchanged { OnErr result (documents.new.items ≡ documents.old.items) }
 {
-    let number = taken.document() as usize;
+    let number = taken.document_number() as usize;
     documents[number].prepare_next(alloc, limits, taken)?;
     Ok(())
 }

@@ -1,6 +1,7 @@
 //! Edits that come late: made on an older revision, they are taken over the newest one.
-ghost use Rattle.std.specs.Prelude.{◌≡◌, ◌∷◌, [], IfOk, IsOkUnless};
-ghost use Rattle.revision.specs.Late.{late as late_edit, past_one as past_one_edit, HasRoom};
+ghost use Rattle.std.specs.Prelude.{◌≡◌, ◌∷◌, [], true, IfOk, IsOkUnless};
+ghost use Rattle.revision.specs.Late.{late as late_edit, HasRoom};
+ghost use Rattle.xform.specs.After.{second_past};
 
 use delta::Delta;
 use refusal::Refusal;
@@ -35,7 +36,7 @@ pub(crate) fn past_all(alloc: Global, edit: Delta, since: &[Delta]) -> Result<De
 // an edit past one delta, which has priority
 fn past_one(alloc: Global, taken: &Delta, edit: Delta) -> Result<Delta, Refusal>
     requires { HasRoom edit (taken.now ∷ []) }
-    ensures late { IfOk result (λ made. made ≡ past_one_edit taken.now edit) }
+    ensures late { IfOk result (λ made. made ≡ second_past taken.now edit true) }
     ensures only { IsOkUnless result Refusal.NoMemory }
 {
     match move_past(alloc, taken, edit) {

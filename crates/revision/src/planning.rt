@@ -129,7 +129,8 @@ fn plan_existing(found: &DocState, command: &Command) -> Result<Plan, Refusal>
 
 fn plan_new(alloc: Global, state: &State, command: &Command, delta: &Delta) -> Result<Plan, Refusal>
     ensures due { Gives result (create_new state.now command.now delta.now) }
-    ensures memory { IsErrOf result Refusal.NoMemory → takes_command (create_new state.now command.now delta.now) ≡ true }
+    ensures memory { IsErrOf result Refusal.NoMemory
+        → takes_command (create_new state.now command.now delta.now) ≡ true }
 {
     let limits = state.limits();
     let count = state.documents().len();

@@ -108,7 +108,7 @@ impl Taken {
     }
 
     /// The document's number in order of creation, from 0.
-    pub fn document(&self) -> u32
+    pub fn document_number(&self) -> u32
         ensures { result ≡ self.now.document }
     {
         self.document
@@ -203,7 +203,7 @@ impl Taken {
     pub fn is_same(&self, other: &Taken) -> bool
         ensures { IsTrue result ↔ (self.now ≡ other.now) }
     {
-        self.document() == other.document()
+        self.document_number() == other.document_number()
             && self.revision() == other.revision()
             && self.number() == other.number()
             && has_same_name(self.name(), other.name())

@@ -141,7 +141,7 @@ impl<D: Disk> StoreDesk<D> {
         ensures kept { result ≡ Err Refusal.NoMemory → IsOpen (store_of self.old) → IsOpen (store_of self.new) }
         ensures honest { D.honest (device_of (store_of self.new)) ↔ D.honest (device_of (store_of self.old)) }
     {
-        let document = taken.document();
+        let document = taken.document_number();
         let rev = taken.revision();
         let Err(refusal) = self.store.commit_freeing(alloc, &[taken]) else {
             self.due = Some(document);

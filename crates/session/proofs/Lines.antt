@@ -5,7 +5,7 @@ use Rattle.std.proofs.lemmas.Bool.Decides.{nat_tests}
 use Rattle.std.proofs.Math.Nat.{min-le_left, min-le_right}
 use Rattle.std.proofs.lemmas.List.{take-append-drop, length-take-le}
 use Rattle.session.specs.declared.line.Event.TheVariants.{More, TooLong}
-use Rattle.session.specs.Line.{Partial, with_byte, HasNoEnd, GoesOn, StopsAt, TakesText}
+use Rattle.session.specs.Line.{Partial, with_byte, HasNoEnd, RunsThrough, StopsAt, TakesText}
 
 -- a line with room takes a byte of text
 pub more_of : (front : List ℕ) (byte : ℕ) → byte ≢ 10 → length front < 65536 → with_byte (Some front) byte ≡ (More, Some (front ++ byte ∷ []))
@@ -26,17 +26,17 @@ pub dropped_of : (byte : ℕ) → byte ≢ 10 → with_byte None byte ≡ (More,
 dropped_of byte inner = let not_end : (byte == 10) ≡ false = grind (arith, nat_tests) in rw not_end refl
 
 -- so is text
-goes_on_dropped : (text : List ℕ) → HasNoEnd text → GoesOn None text None
+goes_on_dropped : (text : List ℕ) → HasNoEnd text → RunsThrough None text None
 goes_on_dropped [] inner = refl
 goes_on_dropped (byte ∷ bytes) inner = (None, dropped_of byte inner.0, goes_on_dropped bytes inner.1)
 
-goes_on_within : (text front : List ℕ) → HasNoEnd text → length front + length text ≤ 65536 → GoesOn (Some front) text (Some (front ++ text))
+goes_on_within : (text front : List ℕ) → HasNoEnd text → length front + length text ≤ 65536 → RunsThrough (Some front) text (Some (front ++ text))
 goes_on_within [] front inner room = ap (λ (l : List ℕ). Some l) (append-nil front)
 goes_on_within (byte ∷ bytes) front inner room =
     let longer : length (front ++ byte ∷ []) + length bytes ≤ 65536 = omega (arith, length-append front (byte ∷ [])) in (
       Some (front ++ byte ∷ []),
       more_of front byte inner.0 (omega arith),
-      subst (λ (l : List ℕ). GoesOn (Some (front ++ byte ∷ [])) bytes (Some l)) (append_assoc front (byte ∷ []) bytes)
+      subst (λ (l : List ℕ). RunsThrough (Some (front ++ byte ∷ [])) bytes (Some l)) (append_assoc front (byte ∷ []) bytes)
           (goes_on_within bytes (front ++ byte ∷ []) inner.1 longer),
     )
 

@@ -12,7 +12,7 @@ use Rattle.session.specs.declared.line.Event.TheVariants.{More, TooLong, Complet
 use Rattle.session.specs.declared.request.Request.{Request}
 use Rattle.session.specs.declared.request.Request.TheVariants.{Greet, Ask, Read, Subscribe, Unsubscribe}
 use Rattle.optext.specs.Answer.{IsAnswer}
-use Rattle.session.specs.Line.{Partial, with_byte, GoesOn}
+use Rattle.session.specs.Line.{Partial, with_byte, RunsThrough}
 use Rattle.session.specs.Request.{request_of}
 use Rattle.session.specs.Reply.{greeting, unsubscribed_reply, subscribed_line, line_of, refusal_line}
 use Rattle.session.specs.Subscriptions.{may_follow_shown, subscribed, without_subscription}
@@ -135,7 +135,7 @@ pub goes_on : (old new : Session) (byte : ℕ) → with_byte old.line byte ≡ (
 goes_on old new byte event others = one_byte old new byte [] [] (subst (λ n. TakesByte old byte [] n []) (sym others) (LineContinues new.line event))
 
 -- through text, too
-pub goes_on_through : (text : List ℕ) (line : Partial) (old new : Session) → GoesOn old.line text line → new ≡ record old { line = line } → Replies old text [] new []
+pub goes_on_through : (text : List ℕ) (line : Partial) (old new : Session) → RunsThrough old.line text line → new ≡ record old { line = line } → Replies old text [] new []
 goes_on_through [] line old new same others = (refl, others ∙ ap (λ (l : Partial). record old { line = l }) same, refl)
 goes_on_through (byte ∷ bytes) line old new (next, event, goes) others =
     (record old { line = next }, [], [], [], [], LineContinues next event, goes_on_through bytes line (record old { line = next }) new goes others, refl, refl)

@@ -22,9 +22,9 @@ HasNoEnd [] = Unit {0}
 HasNoEnd (byte ∷ bytes) = (byte ≢ 10) × HasNoEnd bytes
 
 -- the line goes on through all of these bytes
-abbrev pub GoesOn : Partial → List ℕ → Partial → Type 0
-GoesOn old [] new = new ≡ old
-GoesOn old (byte ∷ bytes) new = (next : Partial) × (with_byte old byte ≡ (More, next)) × GoesOn next bytes new
+abbrev pub RunsThrough : Partial → List ℕ → Partial → Type 0
+RunsThrough old [] new = new ≡ old
+RunsThrough old (byte ∷ bytes) new = (next : Partial) × (with_byte old byte ≡ (More, next)) × RunsThrough next bytes new
 
 -- at the front of these bytes the line ends, or has no room for more, or there are none
 abbrev pub StopsAt : Partial → List ℕ → Type 0
@@ -36,5 +36,5 @@ pub record TakesText (old : Partial) (piece : List ℕ) (new : Partial) (rest : 
   pub text : List ℕ
   pub whole : piece ≡ text ++ rest
   pub inner : HasNoEnd text
-  pub goes_on : GoesOn old text new
+  pub goes_on : RunsThrough old text new
   pub stops : StopsAt new rest

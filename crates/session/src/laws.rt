@@ -54,8 +54,10 @@ pub fn worked_lines()
     ensures again { line_of (acknowledgement (codes "d") 1 (Again 1))
         ≡ codes "{\"doc\":\"d\",\"n\":1,\"ok\":\"again\",\"rev\":1}\n" }
     ensures fetched { line_of (document_with (codes "d")
-        (printed_delta (insert_text (codes "Hi") empty ∷ insert_text (codes "!") (insert empty (codes "bold") (flag_scalar true)) ∷ [])) 2)
-        ≡ codes "{\"doc\":\"d\",\"ok\":\"doc\",\"ops\":[{\"insert\":\"Hi\"},{\"attributes\":{\"bold\":true},\"insert\":\"!\"}],\"rev\":2}\n" }
+        (printed_delta (insert_text (codes "Hi") empty
+            ∷ insert_text (codes "!") (insert empty (codes "bold") (flag_scalar true)) ∷ [])) 2)
+        ≡ codes "{\"doc\":\"d\",\"ok\":\"doc\",\"ops\":[{\"insert\":\"Hi\"},"
+        ++ codes "{\"attributes\":{\"bold\":true},\"insert\":\"!\"}],\"rev\":2}\n" }
     ensures since { line_of (since_reply (codes "d") ((retain 1 empty ∷ insert_text (codes "x") empty ∷ []) ∷ []) 2)
         ≡ codes "{\"deltas\":[[{\"retain\":1},{\"insert\":\"x\"}]],\"doc\":\"d\",\"ok\":\"since\",\"rev\":2}\n" }
     ensures subscribed { line_of (subscribed_reply (codes "d") 0)

@@ -44,6 +44,12 @@ use thiserror::Error;
 #[error("the session has ended: a write failed")]
 pub struct SessionEnded;
 
+impl From<WriteFailed> for SessionEnded {
+    fn from(_: WriteFailed) -> SessionEnded {
+        SessionEnded
+    }
+}
+
 /// The lines of one source, taken in pieces.
 #[derive(Drop)]
 pub struct Session {

@@ -125,5 +125,6 @@ fn tell_news<K: Desk, O: Output>(
     ensures fits { Fits (K.reached desk.new) shelf.now }
 {
     session.on_news(alloc, output, desk)?;
-    output.flush().map_err(|_| SessionEnded)
+    output.flush()?;
+    Ok(())
 }

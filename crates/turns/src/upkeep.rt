@@ -83,7 +83,7 @@ fn put_each<D: Disk, J: Site>(
     ensures only { IfErr result (λ e. (e ≡ Refusal.NoMemory) ⊎ (e ≡ Refusal.Fault)) }
 {
     for taken in batch {
-        if let Err(refusal) = flusher.put_due(alloc, taken.document(), u64::from(every)) {
+        if let Err(refusal) = flusher.put_due(alloc, taken.document_number(), u64::from(every)) {
             return Err(refusal);
         }
     }

@@ -59,7 +59,7 @@ fn put_entry(out: &mut Vec<u8>, taken: &Taken) -> Result<(), AllocError>
     ensures taken { OnOk result (IsTaken taken.now) }
 {
     out.push(if taken.name().is_some() { 1 } else { 2 })?;
-    put_number32(out, taken.document())?;
+    put_number32(out, taken.document_number())?;
     put_number64(out, taken.revision())?;
     put_name(out, taken.source())?;
     put_number64(out, taken.number())?;

@@ -128,7 +128,7 @@ fn add_one(lists: &mut [Vec<Taken>], taken: Taken) -> Result<(), Refusal>
     ensures damaged { IfErr result (λ e. e ≡ Refusal.Damaged → length lists.old ≤ taken.document) }
     ensures only { IfErr result (λ e. (e ≡ Refusal.Damaged) ⊎ (e ≡ Refusal.NoMemory)) }
 {
-    let number = taken.document() as usize;
+    let number = taken.document_number() as usize;
     if number >= lists.len() {
         return Err(Refusal::Damaged);
     }

@@ -12,7 +12,7 @@ returns-clause-ok c =
     let documents = c.args.documents.now.items in
     let keep = c.args.limits.keep in
     let within = continued-within c.args.limits (map (with_prepared keep) documents) c.args.taken.document c.args.taken c.requires.continues in
-    let inside : c.document-number.result < length documents = omega (arith, within, same_length keep documents, c.document-number.ensures) in
-    set-changed (with_next (change_of c.args.taken)) documents c.document-number.result c.index_mut.result.now _
+    let inside : c.document_number-number.result < length documents = omega (arith, within, same_length keep documents, c.document_number-number.ensures) in
+    set-changed (with_next (change_of c.args.taken)) documents c.document_number-number.result c.index_mut.result.now _
     inside c.index_mut.ensures.value c.in_ok-prepare_next.ensures.ok
-    ∙ ap (λ i. changed_at (with_next (change_of c.args.taken)) i documents) c.document-number.ensures
+    ∙ ap (λ i. changed_at (with_next (change_of c.args.taken)) i documents) c.document_number-number.ensures

@@ -7,6 +7,11 @@ returns-in_err-on_news g c = record {
   fits = fits_later (g.K.Desk.reached c.args.desk.now) (g.K.Desk.reached c.on_news.new.desk) c.args.shelf.now c.on_news.ensures.later c.requires.fits;
 }
 
+pub returns-in_err-flush : goal.returns-in_err-flush
+returns-in_err-flush g c = record {
+  fits = fits_later (g.K.Desk.reached c.args.desk.now) (g.K.Desk.reached c.on_news.new.desk) c.args.shelf.now c.on_news.ensures.later c.requires.fits;
+}
+
 pub returns : goal.returns
 returns g c = record {
   fits = fits_later (g.K.Desk.reached c.args.desk.now) (g.K.Desk.reached c.on_news.new.desk) c.args.shelf.now c.on_news.ensures.later c.requires.fits;

@@ -6,7 +6,7 @@ use Rattle.recovery.proofs.jobs.Jobs.keep.Goals as goal
 
 pub returns-clause-ok : goal.returns-clause-ok
 returns-clause-ok c =
-    let document = c.document-document.result in
+    let document = c.document_number-document.result in
     let same : document ≡ c.args.job.document = search rules in
     let room : c.reserve.new.self.items ≡ jobs_of c.args.self.now = search rules in
     let left : c.retain.new.self.items ≡ without_job document c.reserve.new.self.items = filter_same _ _ _ (λ x b f' k. search rules) _ _ c.retain.ensures.filtered in

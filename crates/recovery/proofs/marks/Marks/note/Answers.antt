@@ -14,7 +14,7 @@ loop-taken-preserved c =
     let more : take (at + 1) batch ≡ take at batch ++ c.taken-item.result ∷ [] =
     take_more batch at c.taken-item.result c.loop-taken-test.true ∙ ap (λ (t : Taken). take at batch ++ t ∷ []) (sym c.taken-item.is) in
     let raised : Raised c.args.segment c.taken-item.result.document c.taken-item.result.revision (marks_of c.loop-taken.self) now =
-    rw (← c.document.ensures, ← c.revision.ensures) c.raise.ensures.raised in
+    rw (← c.document_number.ensures, ← c.revision.ensures) c.raise.ensures.raised in
     record {
       noted = subst (λ (l : List Taken). IsNoted c.args.segment l before now) (sym more)
           (noted_more c.args.segment (take at batch) c.taken-item.result before (marks_of c.loop-taken.self) now c.loop-taken.invariant.noted raised);

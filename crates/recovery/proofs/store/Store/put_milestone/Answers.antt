@@ -40,7 +40,7 @@ returns-in-Err-clause-only g c =
     let store = c.args.self.now in
     let job : Job = c.args.composed.now in
     let contains : Contains (kept_jobs store) job = search rules in
-    let document = c.document-document.result in
+    let document = c.document_number-document.result in
     let milestone : c.milestone-milestone.result.now ≡ cell_of_job job = c.milestone-milestone.ensures in
     ⊎_elim
     (λ heavy. absurd (never_heavy store job contains (subst (λ (m : Cell). 2 ^ 32 ≤ delta_width (inserts_of m.content.units)) milestone (c.in-Err.ensures.heavy (ap (λ (r : Refusal). Err r) heavy)))))
@@ -52,15 +52,15 @@ index_mut-requires g c =
     let store = c.args.self.now in
     let job : Job = c.args.composed.now in
     let contains : Contains (kept_jobs store) job = search rules in
-    omega (arith, inside_items store job contains c.document-document.result (c.document-document.ensures ∙ ap (λ (j : Job). j.document) c.job-job.ensures), store.cells.ok.0)
+    omega (arith, inside_items store job contains c.document_number-document.result (c.document_number-document.ensures ∙ ap (λ (j : Job). j.document) c.job-job.ensures), store.cells.ok.0)
 
 pub replace_older-requires-clause-within : goal.replace_older-requires-clause-within
 replace_older-requires-clause-within g c =
     let store = c.args.self.now in
     let job : Job = c.args.composed.now in
-    let document = c.document-document.result in
+    let document = c.document_number-document.result in
     let contains : Contains (kept_jobs store) job = search rules in
-    let is : document ≡ job.document = c.document-document.ensures ∙ ap (λ (j : Job). j.document) c.job-job.ensures in
+    let is : document ≡ job.document = c.document_number-document.ensures ∙ ap (λ (j : Job). j.document) c.job-job.ensures in
     let one = c.index_mut.result.now in
     let read = c.index_mut.ensures.value in
     cells_within store job contains document is one read
@@ -69,9 +69,9 @@ pub replace_older-requires-clause-is : goal.replace_older-requires-clause-is
 replace_older-requires-clause-is g c =
     let store = c.args.self.now in
     let job : Job = c.args.composed.now in
-    let document = c.document-document.result in
+    let document = c.document_number-document.result in
     let contains : Contains (kept_jobs store) job = search rules in
-    let is : document ≡ job.document = c.document-document.ensures ∙ ap (λ (j : Job). j.document) c.job-job.ensures in
+    let is : document ≡ job.document = c.document_number-document.ensures ∙ ap (λ (j : Job). j.document) c.job-job.ensures in
     let one = c.index_mut.result.now in
     let read = c.index_mut.ensures.value in
     let milestone : c.milestone-milestone.result.now ≡ cell_of_job job = c.milestone-milestone.ensures in
@@ -83,9 +83,9 @@ pub replace_older-requires-clause-fits : goal.replace_older-requires-clause-fits
 replace_older-requires-clause-fits g c =
     let store = c.args.self.now in
     let job : Job = c.args.composed.now in
-    let document = c.document-document.result in
+    let document = c.document_number-document.result in
     let contains : Contains (kept_jobs store) job = search rules in
-    let is : document ≡ job.document = c.document-document.ensures ∙ ap (λ (j : Job). j.document) c.job-job.ensures in
+    let is : document ≡ job.document = c.document_number-document.ensures ∙ ap (λ (j : Job). j.document) c.job-job.ensures in
     let one = c.index_mut.result.now in
     let read = c.index_mut.ensures.value in
     let milestone : c.milestone-milestone.result.now ≡ cell_of_job job = c.milestone-milestone.ensures in
@@ -98,9 +98,9 @@ pub invariant_of-self-in-Ok-clause-placed : goal.invariant_of-self-in-Ok-clause-
 invariant_of-self-in-Ok-clause-placed g c =
     let store = c.args.self.now in
     let job : Job = c.args.composed.now in
-    let document = c.document-document.result in
+    let document = c.document_number-document.result in
     let contains : Contains (kept_jobs store) job = search rules in
-    let is : document ≡ job.document = c.document-document.ensures ∙ ap (λ (j : Job). j.document) c.job-job.ensures in
+    let is : document ≡ job.document = c.document_number-document.ensures ∙ ap (λ (j : Job). j.document) c.job-job.ensures in
     let one = c.index_mut.result.now in
     let read = c.index_mut.ensures.value in
     placed_later store job contains document is one read c.replace_older.new.self c.replace_older.ensures.same
@@ -108,15 +108,15 @@ invariant_of-self-in-Ok-clause-placed g c =
 pub invariant_of-self-in-Ok-clause-composable : goal.invariant_of-self-in-Ok-clause-composable
 invariant_of-self-in-Ok-clause-composable g c =
     let store = c.args.self.now in
-    subst (AllKeep (limits_of store.shape)) (sym c.forget.ensures) (composable_later store c.document-document.result)
+    subst (AllKeep (limits_of store.shape)) (sym c.forget.ensures) (composable_later store c.document_number-document.result)
 
 pub invariant_of-self-in-Err-replace_older-clause-placed : goal.invariant_of-self-in-Err-replace_older-clause-placed
 invariant_of-self-in-Err-replace_older-clause-placed g c =
     let store = c.args.self.now in
     let job : Job = c.args.composed.now in
-    let document = c.document-document.result in
+    let document = c.document_number-document.result in
     let contains : Contains (kept_jobs store) job = search rules in
-    let is : document ≡ job.document = c.document-document.ensures ∙ ap (λ (j : Job). j.document) c.job-job.ensures in
+    let is : document ≡ job.document = c.document_number-document.ensures ∙ ap (λ (j : Job). j.document) c.job-job.ensures in
     let one = c.index_mut.result.now in
     let read = c.index_mut.ensures.value in
     placed_later store job contains document is one read c.replace_older.new.self c.replace_older.ensures.same
@@ -126,9 +126,9 @@ pub returns-in-Ok-clause-any_moment : goal.returns-in-Ok-clause-any_moment
 returns-in-Ok-clause-any_moment g c unfailed is_open =
     let store = c.args.self.now in
     let job : Job = c.args.composed.now in
-    let document = c.document-document.result in
+    let document = c.document_number-document.result in
     let contains : Contains (kept_jobs store) job = search rules in
-    let is : document ≡ job.document = c.document-document.ensures ∙ ap (λ (j : Job). j.document) c.job-job.ensures in
+    let is : document ≡ job.document = c.document_number-document.ensures ∙ ap (λ (j : Job). j.document) c.job-job.ensures in
     let one = c.index_mut.result.now in
     let read = c.index_mut.ensures.value in
     let milestone : c.milestone-milestone.result.now ≡ cell_of_job job = c.milestone-milestone.ensures in
@@ -140,9 +140,9 @@ pub returns-in-Err-replace_older-clause-any_moment : goal.returns-in-Err-replace
 returns-in-Err-replace_older-clause-any_moment g c unfailed is_open =
     let store = c.args.self.now in
     let job : Job = c.args.composed.now in
-    let document = c.document-document.result in
+    let document = c.document_number-document.result in
     let contains : Contains (kept_jobs store) job = search rules in
-    let is : document ≡ job.document = c.document-document.ensures ∙ ap (λ (j : Job). j.document) c.job-job.ensures in
+    let is : document ≡ job.document = c.document_number-document.ensures ∙ ap (λ (j : Job). j.document) c.job-job.ensures in
     let one = c.index_mut.result.now in
     let read = c.index_mut.ensures.value in
     let milestone : c.milestone-milestone.result.now ≡ cell_of_job job = c.milestone-milestone.ensures in
@@ -154,9 +154,9 @@ pub returns-in-Ok-clause-done : goal.returns-in-Ok-clause-done
 returns-in-Ok-clause-done g c is_open =
     let store = c.args.self.now in
     let job : Job = c.args.composed.now in
-    let document = c.document-document.result in
+    let document = c.document_number-document.result in
     let contains : Contains (kept_jobs store) job = search rules in
-    let is : document ≡ job.document = c.document-document.ensures ∙ ap (λ (j : Job). j.document) c.job-job.ensures in
+    let is : document ≡ job.document = c.document_number-document.ensures ∙ ap (λ (j : Job). j.document) c.job-job.ensures in
     let one = c.index_mut.result.now in
     let read = c.index_mut.ensures.value in
     let milestone : c.milestone-milestone.result.now ≡ cell_of_job job = c.milestone-milestone.ensures in
@@ -196,9 +196,9 @@ pub returns-in-Err-replace_older-clause-untouched : goal.returns-in-Err-replace_
 returns-in-Err-replace_older-clause-untouched g c told =
     let store = c.args.self.now in
     let job : Job = c.args.composed.now in
-    let document = c.document-document.result in
+    let document = c.document_number-document.result in
     let contains : Contains (kept_jobs store) job = search rules in
-    let is : document ≡ job.document = c.document-document.ensures ∙ ap (λ (j : Job). j.document) c.job-job.ensures in
+    let is : document ≡ job.document = c.document_number-document.ensures ∙ ap (λ (j : Job). j.document) c.job-job.ensures in
     let one = c.index_mut.result.now in
     let read = c.index_mut.ensures.value in
     let memory : c.in-Err-replace_older.refusal ≡ NoMemory =
@@ -220,9 +220,9 @@ pub returns-in-Err-replace_older-clause-kept : goal.returns-in-Err-replace_older
 returns-in-Err-replace_older-clause-kept g c not_fault is_open =
     let store = c.args.self.now in
     let job : Job = c.args.composed.now in
-    let document = c.document-document.result in
+    let document = c.document_number-document.result in
     let contains : Contains (kept_jobs store) job = search rules in
-    let is : document ≡ job.document = c.document-document.ensures ∙ ap (λ (j : Job). j.document) c.job-job.ensures in
+    let is : document ≡ job.document = c.document_number-document.ensures ∙ ap (λ (j : Job). j.document) c.job-job.ensures in
     let one = c.index_mut.result.now in
     let read = c.index_mut.ensures.value in
     let memory : c.in-Err-replace_older.refusal ≡ NoMemory = ⊎_elim (λ is_memory. is_memory) (λ fault. absurd (not_fault fault)) c.in-Err-replace_older.ensures.only in

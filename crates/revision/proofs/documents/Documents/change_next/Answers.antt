@@ -31,7 +31,7 @@ invariant_of-self-in_err-change c =
       room = rw same c.self.invariant.room;
       index = λ q. c.self.invariant.index q ∙ ap (λ ds. number_of q 0 (names_of ds)) (sym same);
       none_twice = rw same c.self.invariant.none_twice;
-      rest = rw same (rw c.in_ok-push.ensures.items (rest-touch c.self.inside.touched.items c.document.result c.self.inside.documents.items c.self.invariant.rest));
+      rest = rw same (rw c.in_ok-push.ensures.items (rest-touch c.self.inside.touched.items c.document_number.result c.self.inside.documents.items c.self.invariant.rest));
     }
 
 pub invariant_of-self-2 : goal.invariant_of-self-2
@@ -40,11 +40,11 @@ invariant_of-self-2 c =
     let made = c.in_ok-change.ensures.ok in
     let i = c.args.taken.document in
     let documents = c.self.inside.documents.items in
-    let touched = c.self.inside.touched.items ++ c.document.result ∷ [] in
+    let touched = c.self.inside.touched.items ++ c.document_number.result ∷ [] in
     let names : names_of c.change.new.documents.items ≡ names_of documents =
     ap names_of made ∙ map-changed_at (λ (d : PendingDocument). d.name) f (λ d. refl) i documents in
     let long : length c.change.new.documents.items ≡ length documents = ap length made ∙ length-changed_at f i documents in
-    let among : IsAmong i touched = rw c.document.ensures (among-last c.self.inside.touched.items i) in
+    let among : IsAmong i touched = rw c.document_number.ensures (among-last c.self.inside.touched.items i) in
     record {
       limits = c.self.invariant.limits;
       held = omega (arith, long, c.self.invariant.held);
@@ -52,7 +52,7 @@ invariant_of-self-2 c =
       index = λ q. c.self.invariant.index q ∙ ap (number_of q 0) (sym names);
       none_twice = rw names c.self.invariant.none_twice;
       rest = rw made (rw c.in_ok-push.ensures.items
-          (rest-changed f touched i documents among (rest-touch c.self.inside.touched.items c.document.result documents c.self.invariant.rest)));
+          (rest-changed f touched i documents among (rest-touch c.self.inside.touched.items c.document_number.result documents c.self.invariant.rest)));
     }
 
 pub returns-clause-ok : goal.returns-clause-ok

@@ -31,7 +31,7 @@ invariant_of-self-in_err-push_named c =
       room = rw same c.self.invariant.room;
       index = λ q. c.in_err-push_named.ensures.names_unchanged q ∙ c.self.invariant.index q ∙ ap (λ ds. number_of q 0 (names_of ds)) (sym same);
       none_twice = rw same c.self.invariant.none_twice;
-      rest = rw same (rw c.in_ok-push.ensures.items (rest-touch c.self.inside.touched.items c.document-number.result c.self.inside.documents.items c.self.invariant.rest));
+      rest = rw same (rw c.in_ok-push.ensures.items (rest-touch c.self.inside.touched.items c.document_number-number.result c.self.inside.documents.items c.self.invariant.rest));
     }
 
 -- there is room for the document
@@ -58,10 +58,10 @@ invariant_of-self-2 c =
       index = λ q. index-more (get_by_text c.self.inside.names.map) (get_by_text c.push_named.new.names.map) (names_of documents) c.args.name.now
           c.self.invariant.index there.2
           (λ q. c.in_ok-push_named.ensures.names q
-          ∙ ap (λ (n : ℕ). cond (bytes_eq c.args.name.now q) (Some n) (get_by_text c.self.inside.names.map q)) (c.document-number.ensures ∙ there.0 ∙ sym (names_length documents))) q
+          ∙ ap (λ (n : ℕ). cond (bytes_eq c.args.name.now q) (Some n) (get_by_text c.self.inside.names.map q)) (c.document_number-number.ensures ∙ there.0 ∙ sym (names_length documents))) q
           ∙ ap (number_of q 0) (sym names);
       none_twice = rw names (none_twice-more (names_of documents) c.args.name.now c.self.invariant.none_twice there.2);
-      rest = rw (made c) (rw c.in_ok-push.ensures.items (rest-more c.self.inside.touched.items c.document-number.result documents c.in_ok-document.document (c.document-number.ensures ∙ there.0) c.self.invariant.rest));
+      rest = rw (made c) (rw c.in_ok-push.ensures.items (rest-more c.self.inside.touched.items c.document_number-number.result documents c.in_ok-document.document (c.document_number-number.ensures ∙ there.0) c.self.invariant.rest));
     }
 
 pub returns-clause-ok : goal.returns-clause-ok
