@@ -332,7 +332,7 @@ fn follows_at(
     requires { revision < 2 ^ 53 }
     ensures { result
         ≡ (spec_comes_next limits revision sources.now taken.now
-            && spec_keeps limits document.now sources.now taken.now) }
+        && spec_keeps limits document.now sources.now taken.now) }
 {
     comes_next(limits, revision, sources, taken) && keeps(limits, document, sources, taken)
 }

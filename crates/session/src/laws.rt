@@ -55,7 +55,7 @@ pub fn worked_lines()
         ≡ codes "{\"doc\":\"d\",\"n\":1,\"ok\":\"again\",\"rev\":1}\n" }
     ensures fetched { line_of (document_with (codes "d")
         (printed_delta (insert_text (codes "Hi") empty
-            ∷ insert_text (codes "!") (insert empty (codes "bold") (flag_scalar true)) ∷ [])) 2)
+        ∷ insert_text (codes "!") (insert empty (codes "bold") (flag_scalar true)) ∷ [])) 2)
         ≡ codes "{\"doc\":\"d\",\"ok\":\"doc\",\"ops\":[{\"insert\":\"Hi\"},"
         ++ codes "{\"attributes\":{\"bold\":true},\"insert\":\"!\"}],\"rev\":2}\n" }
     ensures since { line_of (since_reply (codes "d") ((retain 1 empty ∷ insert_text (codes "x") empty ∷ []) ∷ []) 2)
