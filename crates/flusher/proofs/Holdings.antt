@@ -1,5 +1,5 @@
 -- What a flusher holds, and how it fits the state of its store.
-use Rattle.std.proofs.Common.{◌≡◌, ◌≢◌, ◌↔◌, ◌⊎◌, inl, inr, ℕ, Bool, true, false, List, [], ◌∷◌, ◌++◌, Option, Some, None, refl, sym, ◌∙◌, ap, subst, append-nil}
+use Rattle.std.proofs.Common.{◌≡◌, ◌≢◌, ◌⊎◌, inl, inr, ℕ, false, List, [], ◌∷◌, ◌++◌, Option, Some, None, refl, sym, ◌∙◌, ap, subst, append-nil}
 use Rattle.std.specs.Prelude.{Result, Ok, Err, OnOk, IfErr, IsErrOf, option_to_list}
 use Rattle.std.specs.Option.{option_map}
 use Rattle.disk.specs.Crash.{LeavesOnly}
@@ -9,6 +9,7 @@ use Rattle.disk.specs.declared.device.Disk.{Ghosts}
 use Rattle.revision.specs.Command.{Taken}
 use Rattle.revision.specs.State.{State, fold}
 use Rattle.recovery.specs.declared.store.Store.{Store}
+use Rattle.recovery.specs.Faults.{FailsAtFaults}
 use Rattle.recovery.specs.Found.{commands_of, FoundAs}
 use Rattle.milestone.specs.Job.{Job}
 use Rattle.recovery.specs.Open.{IsOpen, IsUnchanged, IsPutNow, IsRetiredNow, IsWithOrWithout, device_of, state_of, has_failed}
@@ -53,11 +54,6 @@ module _ {D : Type 0} {disk : Ghosts D} where
 pub no_error : {A : Type 0} (answer : A) (refusal : Refusal) → IsErrOf (Ok answer) refusal → ⊥
 no_error answer refusal is = cc
 
--- a truth value is one or the other
-either : (b : Bool) → (b ≡ true) ⊎ (b ≡ false)
-either true = inl refl
-either false = inr refl
-
 module _ {D : Type 0} {disk : Ghosts D} (old new : Store D disk) where
   -- what a retirement leaves, whatever it answers
   retire_done : (result : Result (Unit {0}) Refusal) → OnOk result ((is_open : IsOpen old) → IsRetiredNow is_open.cells is_open.table new) → OnOk result (IsOpen old → IsOpen new)
@@ -70,37 +66,20 @@ module _ {D : Type 0} {disk : Ghosts D} (old new : Store D disk) where
   retire_kept (Err refusal) (inl needed) untouched = λ no_fault is_open. open_unchanged (untouched (ap (λ (e : Refusal). Err e) needed)) is_open
   retire_kept (Err refusal) (inr fault) untouched = λ no_fault is_open. absurd (no_fault fault)
 
-  pub goes_retired : (result : Result (Unit {0}) Refusal) → (has_failed old ≡ true → IsErrOf result Fault × IsUnchanged old new)
-      → (has_failed old ≡ false → (has_failed new ≡ true ↔ IsErrOf result Fault))
+  pub goes_retired : (result : Result (Unit {0}) Refusal) → FailsAtFaults result old new
       → (has_failed old ≡ false → IsOpen old → LeavesOnly disk (λ content. FoundAs content (state_of old)) (device_of old) (device_of new))
       → OnOk result ((is_open : IsOpen old) → IsRetiredNow is_open.cells is_open.table new)
       → IfErr result (λ e. (e ≡ StillNeeded) ⊎ (e ≡ Fault)) → (IsErrOf result StillNeeded → IsUnchanged old new)
       → Goes (λ content. FoundAs content (state_of old)) old new
-  goes_retired result failed_before fails any_moment done only untouched = goes_call result failed_before fails any_moment (retire_done result done) (retire_kept result only untouched)
-
-  -- after an Ok the store works
-  works_after : {A : Type 0} (result : Result A Refusal) → (has_failed old ≡ true → IsErrOf result Fault × IsUnchanged old new)
-      → (has_failed old ≡ false → (has_failed new ≡ true ↔ IsErrOf result Fault)) → OnOk result (has_failed new ≡ false)
-  works_after (Ok answer) failed_before fails = by_case (either (has_failed old)) (either (has_failed new))
-    where
-      by_case : (has_failed old ≡ true) ⊎ (has_failed old ≡ false) → (has_failed new ≡ true) ⊎ (has_failed new ≡ false) → has_failed new ≡ false
-      by_case failed (inr works) = works
-      by_case (inl failed) (inl fails_now) = absurd (no_error answer Fault (failed_before failed).0)
-      by_case (inr works) (inl fails_now) = absurd (no_error answer Fault ((fails works).0 fails_now))
-  works_after (Err refusal) failed_before fails = tt
+  goes_retired result faults any_moment done only untouched =
+      goes_call result faults.failed_before faults.fails any_moment (retire_done result done) (retire_kept result only untouched)
 
   -- a retirement was made
-  taken_now : {A : Type 0} (result : Result A Refusal) → OnOk result (has_failed new ≡ false) → state_of new ≡ state_of old
+  pub retired_now : {A : Type 0} (result : Result A Refusal) → OnOk result (has_failed new ≡ false) → state_of new ≡ state_of old
       → OnOk result ((is_open : IsOpen old) → MayRetire is_open.table is_open.cells) → OnOk result ((is_open : IsOpen old) → IsRetiredNow is_open.cells is_open.table new)
       → OnOk result (IsTaken Retires old new)
-  taken_now (Ok answer) works state may retired = (works, state, λ is_open. record { may = may is_open; retired = retired is_open })
-  taken_now (Err refusal) works state may retired = tt
-
-  pub retired_now : (result : Result (Unit {0}) Refusal) → (has_failed old ≡ true → IsErrOf result Fault × IsUnchanged old new)
-      → (has_failed old ≡ false → (has_failed new ≡ true ↔ IsErrOf result Fault)) → state_of new ≡ state_of old
-      → OnOk result ((is_open : IsOpen old) → MayRetire is_open.table is_open.cells) → OnOk result ((is_open : IsOpen old) → IsRetiredNow is_open.cells is_open.table new)
-      → OnOk result (IsTaken Retires old new)
-  retired_now result failed_before fails state may retired = taken_now result (works_after result failed_before fails) state may retired
+  retired_now (Ok answer) works state may retired = (works, state, λ is_open. record { may = may is_open; retired = retired is_open })
+  retired_now (Err refusal) works state may retired = tt
 
   -- why it was refused
   pub retire_why : (result : Result (Unit {0}) Refusal) → IfErr result (λ e. (e ≡ StillNeeded) ⊎ (e ≡ Fault))
@@ -120,13 +99,12 @@ module _ {D : Type 0} {disk : Ghosts D} (old new : Store D disk) where
   put_done job (Ok answer) done = λ is_open. (done is_open).goes_on
   put_done job (Err refusal) done = tt
 
-  pub goes_put : (job : Job) (result : Result (Unit {0}) Refusal) → (has_failed old ≡ true → IsErrOf result Fault × IsUnchanged old new)
-      → (has_failed old ≡ false → (has_failed new ≡ true ↔ IsErrOf result Fault))
+  pub goes_put : (job : Job) (result : Result (Unit {0}) Refusal) → FailsAtFaults result old new
       → (has_failed old ≡ false → IsOpen old → LeavesOnly disk (λ content. FoundAs content (state_of old)) (device_of old) (device_of new))
       → OnOk result ((is_open : IsOpen old) → IsPutNow is_open.cells is_open.table job new)
       → IfErr result (λ e. e ≢ Fault → IsOpen old → IsOpen new)
       → Goes (λ content. FoundAs content (state_of old)) old new
-  goes_put job result failed_before fails any_moment done kept = goes_call result failed_before fails any_moment (put_done job result done) kept
+  goes_put job result faults any_moment done kept = goes_call result faults.failed_before faults.fails any_moment (put_done job result done) kept
 
 -- one batch that is committed more
 pub kept_more : (start old new : State) (before after : Published) (receipt batch : List Taken) → old ≡ fold start (commands_of (before.told ++ before.held)) → before.held ≡ []

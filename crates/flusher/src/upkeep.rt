@@ -5,6 +5,7 @@ ghost use Rattle.refusal.specs.declared.Refusal.TheVariants.{NoDocument, Future,
 ghost use Rattle.history.specs.Cell.{cells_at};
 ghost use Rattle.recovery.specs.declared.run.StoreStep.TheVariants.{Milestone, Retire};
 ghost use Rattle.recovery.specs.Due.{due_for, IsPutDue};
+ghost use Rattle.recovery.specs.Faults.{FailsAtFaults};
 ghost use Rattle.recovery.specs.Found.{FoundAs};
 ghost use Rattle.recovery.specs.Jobs.{IsJobTo, highest, no_job_for, with_job, without_job};
 ghost use Rattle.recovery.specs.Open.{IsOpen, IsPutNow, IsUnchanged, device_of, state_of, has_failed, kept_jobs};
@@ -24,13 +25,10 @@ impl<D: Disk, J: Site> Flusher<D, J> {
     /// `Store::put_due` does. What is held, and what is published, stays. Refused for want of memory, and with `Fault`.
     pub fn put_due(&mut self, alloc: Global, document: u32, every: u64) -> Result<bool, Refusal>
         requires { 1 ≤ every }
-        ensures failed_before { has_failed (store_of self.old) ≡ true → (IsErrOf result Fault)
-            × IsUnchanged (store_of self.old) (store_of self.new) }
+        ensures faults { FailsAtFaults result (store_of self.old) (store_of self.new) }
         ensures goes { Goes (λ content. FoundAs content (state_of (store_of self.old))) (store_of self.old)
             (store_of self.new) }
         ensures state { state_of (store_of self.new) ≡ state_of (store_of self.old) }
-        ensures fails { has_failed (store_of self.old) ≡ false
-            → (has_failed (store_of self.new) ≡ true ↔ IsErrOf result Fault) }
         ensures put { IfOk result (λ put. put ≡ true → (is_open : IsOpen (store_of self.old))
             → IsPutDue every document (store_of self.old) is_open (store_of self.new)) }
         ensures none { IfOk result (λ put. put ≡ false → (is_open : IsOpen (store_of self.old))
@@ -53,13 +51,10 @@ impl<D: Disk, J: Site> Flusher<D, J> {
         document: u32,
         revision: u64,
     ) -> Result<(), Refusal>
-        ensures failed_before { has_failed (store_of self.old) ≡ true → (IsErrOf result Fault)
-            × IsUnchanged (store_of self.old) (store_of self.new) }
+        ensures faults { FailsAtFaults result (store_of self.old) (store_of self.new) }
         ensures goes { Goes (λ content. FoundAs content (state_of (store_of self.old))) (store_of self.old)
             (store_of self.new) }
         ensures state { state_of (store_of self.new) ≡ state_of (store_of self.old) }
-        ensures fails { has_failed (store_of self.old) ≡ false
-            → (has_failed (store_of self.new) ≡ true ↔ IsErrOf result Fault) }
         ensures put { OnOk result (IsTaken (Milestone document revision) (store_of self.old) (store_of self.new)) }
         ensures refused { IfErr result (λ e. e ≢ NoMemory → e ≢ Fault
             → IsWhy (Milestone document revision) e (store_of self.old)) }
@@ -86,8 +81,7 @@ impl<D: Disk, J: Site> Flusher<D, J> {
         document: u32,
         revision: u64,
     ) -> Result<Job, Refusal>
-        ensures failed_before { has_failed (store_of self.old) ≡ true → (IsErrOf result Fault)
-            × IsUnchanged (store_of self.old) (store_of self.new) }
+        ensures faults { FailsAtFaults result (store_of self.old) (store_of self.new) }
         ensures goes { Goes (λ content. FoundAs content (state_of (store_of self.old))) (store_of self.old)
             (store_of self.new) }
         ensures state { state_of (store_of self.new) ≡ state_of (store_of self.old) }
@@ -113,13 +107,10 @@ impl<D: Disk, J: Site> Flusher<D, J> {
 
     /// Puts the milestone that came of a job, as `Store::put_milestone` does. What is held, and what is published, stays.
     pub fn put_milestone(&mut self, alloc: Global, composed: &Composed) -> Result<(), Refusal>
-        ensures failed_before { has_failed (store_of self.old) ≡ true → (IsErrOf result Fault)
-            × IsUnchanged (store_of self.old) (store_of self.new) }
+        ensures faults { FailsAtFaults result (store_of self.old) (store_of self.new) }
         ensures goes { Goes (λ content. FoundAs content (state_of (store_of self.old))) (store_of self.old)
             (store_of self.new) }
         ensures state { state_of (store_of self.new) ≡ state_of (store_of self.old) }
-        ensures fails { has_failed (store_of self.old) ≡ false
-            → (has_failed (store_of self.new) ≡ true ↔ IsErrOf result Fault) }
         ensures done { OnOk result ((is_open : IsOpen (store_of self.old))
             → IsPutNow is_open.cells is_open.table composed.now (store_of self.new)) }
         ensures dropped { OnOk result (kept_jobs (store_of self.new)
@@ -139,13 +130,10 @@ impl<D: Disk, J: Site> Flusher<D, J> {
 
     /// Retires the oldest segment of the store, as `Store::retire` does. It takes no memory. What is held, and what is published, stays.
     pub fn retire(&mut self) -> Result<(), Refusal>
-        ensures failed_before { has_failed (store_of self.old) ≡ true → (IsErrOf result Fault)
-            × IsUnchanged (store_of self.old) (store_of self.new) }
+        ensures faults { FailsAtFaults result (store_of self.old) (store_of self.new) }
         ensures goes { Goes (λ content. FoundAs content (state_of (store_of self.old))) (store_of self.old)
             (store_of self.new) }
         ensures state { state_of (store_of self.new) ≡ state_of (store_of self.old) }
-        ensures fails { has_failed (store_of self.old) ≡ false
-            → (has_failed (store_of self.new) ≡ true ↔ IsErrOf result Fault) }
         ensures retired { OnOk result (IsTaken Retire (store_of self.old) (store_of self.new)) }
         ensures needed { IfErr result (λ e. e ≢ Fault → IsWhy Retire e (store_of self.old)) }
         ensures untouched { IsErrOf result StillNeeded → IsUnchanged (store_of self.old) (store_of self.new) }

@@ -1,13 +1,14 @@
--- How the count of failed calls goes on over several calls, and what it says of a store.
-use Rattle.std.proofs.Common.{◌≡◌, ◌≢◌, ◌↔◌, ◌⊎◌, inl, inr, ℕ, List, true, false, ap, subst}
+-- What calls of a store say of its device's faults, one after another, and what that says of the store.
+use Rattle.std.proofs.Common.{◌≡◌, ◌≢◌, ◌⊎◌, inl, inr, ℕ, List, false, refl, sym, ◌∙◌, ap, subst}
 use Rattle.std.specs.Prelude.{Result, Ok, Err, OnOk, IfErr, IsErrOf}
+use Rattle.std.proofs.lemmas.Bool.{false≢true}
 use Rattle.disk.specs.declared.device.Disk.{Ghosts}
 use Rattle.disk.specs.Device.{Rose}
-use Rattle.disk.specs.Calls.{CountsFaultsAs}
 use Rattle.disk.specs.Crash.{LeavesOnly}
 use Rattle.refusal.specs.declared.Refusal.{Refusal}
 use Rattle.refusal.specs.declared.Refusal.TheVariants.{StillNeeded, Fault}
 use Rattle.recovery.specs.declared.store.Store.{Store}
+use Rattle.recovery.specs.Faults.{FailsAtFaults}
 use Rattle.recovery.specs.Found.{FoundAs}
 use Rattle.recovery.specs.Goes.{Goes}
 use Rattle.recovery.specs.Marked.{MayRetire}
@@ -15,61 +16,120 @@ use Rattle.recovery.specs.Open.{IsOpen, IsUnchanged, IsRetiredNow, device_of, st
 use Rattle.recovery.specs.steps.Freeing.{IsOverFewer}
 use Rattle.recovery.proofs.Refusals.{refusal_or, ok≢err}
 use Rattle.recovery.proofs.Going.{open_unchanged, unchanged_cells, unchanged_table, goes_call}
-use Rattle.recovery.proofs.PutAtOnce.{is_false, goes_on_retired, goes_on_needed}
+use Rattle.recovery.proofs.PutAtOnce.{is_false, refused_unfailed, goes_on_retired, goes_on_needed}
 
 module _ {D : Type 0} {disk : Ghosts D} where
-  -- a call behind one that failed nothing
-  pub counts_on : {A : Type 0} {result : Result A Refusal} {old mid new : D} → disk.faults mid ≡ disk.faults old
-      → CountsFaultsAs disk Fault result mid new → CountsFaultsAs disk Fault result old new
-  counts_on {A} {result} {old} {mid} {new} same counts =
-      record {
-        good = subst (λ n. OnOk result (disk.faults new ≡ n)) same counts.good;
-        others = subst (λ n. IfErr result (λ e. e ≢ Fault → disk.faults new ≡ n)) same counts.others;
-        failed = subst (λ n. IsErrOf result Fault → Rose n (disk.faults new)) same counts.failed;
-      }
-
-  -- a call on a store that had not failed, whose refusal is told as itself or as another that is no fault
-  pub counted_as : (old new : Store D disk) (refusal told : Refusal) → has_failed old ≡ false
-      → (refusal ≡ Fault → has_failed old ≡ false → Rose (disk.faults (device_of old)) (disk.faults (device_of new)))
-      → (refusal ≢ Fault → disk.faults (device_of new) ≡ disk.faults (device_of old))
-      → (told ≡ Fault → refusal ≡ Fault) → (refusal ≡ Fault → told ≡ Fault)
-      → CountsFaultsAs disk {A = Unit {0}} Fault (Err told) (device_of old) (device_of new)
-  counted_as old new refusal told works fault others back there = record {
+  -- no call of a store that had not failed, where no fault is told
+  pub faults_none : {A : Type 0} (store : Store D disk) (result : Result A Refusal) → has_failed store ≡ false → ¬ IsErrOf result Fault → FailsAtFaults result store store
+  faults_none store (Ok answer) works other = record {
+    failed_before = λ failed. absurd (false≢true (sym works ∙ failed));
+    fault = λ told. absurd (other told);
+    no_fault = tt;
+    good = refl;
+    fails = λ unfailed. (λ failed. absurd (false≢true (sym works ∙ failed)), λ told. absurd (other told));
+    works = works;
+    honest = (λ honest. honest, λ honest. honest);
+  }
+  faults_none store (Err refusal) works other = record {
+    failed_before = λ failed. absurd (false≢true (sym works ∙ failed));
+    fault = λ told. absurd (other told);
+    no_fault = λ away. refl;
     good = tt;
-    others = λ other. others (λ is. other (there is));
-    failed = λ is. fault (back (ap (refusal_or Fault) is)) works;
+    fails = λ unfailed. (λ failed. absurd (false≢true (sym works ∙ failed)), λ told. absurd (other told));
+    works = tt;
+    honest = (λ honest. honest, λ honest. honest);
   }
 
-  -- what an answer says of a store that had not failed
-  pub works_now : {A : Type 0} (new : Store D disk) (answer : A) → (has_failed new ≡ true ↔ IsErrOf {T = A} {E = Refusal} (Ok answer) Fault) → has_failed new ≡ false
-  works_now {A} new answer fails = is_false (has_failed new) (λ failed. ok≢err answer Fault (fails.0 failed))
+  -- a call behind one that was Ok
+  pub faults_on : {A B : Type 0} {old mid new : Store D disk} (answer : A) (result : Result B Refusal)
+      → FailsAtFaults (Ok answer) old mid → FailsAtFaults result mid new → FailsAtFaults result old new
+  faults_on {A} {B} {old} {mid} {new} answer result first second = record {
+    failed_before = λ failed. absurd (ok≢err answer Fault (first.failed_before failed).0);
+    fault = λ told works. subst (λ n. Rose n (disk.faults (device_of new))) first.good (second.fault told first.works);
+    no_fault = subst (λ n. IfErr result (λ e. e ≢ Fault → disk.faults (device_of new) ≡ n)) first.good second.no_fault;
+    good = subst (λ n. OnOk result (disk.faults (device_of new) ≡ n)) first.good second.good;
+    fails = λ works. second.fails first.works;
+    works = second.works;
+    honest = (λ honest. first.honest.0 (second.honest.0 honest), λ honest. second.honest.1 (first.honest.1 honest));
+  }
 
-  pub works_by : {A : Type 0} (new : Store D disk) (result : Result A Refusal) → (has_failed new ≡ true ↔ IsErrOf result Fault) → OnOk result (has_failed new ≡ false)
-  works_by new (Ok answer) fails = works_now new answer fails
-  works_by new (Err refusal) fails = tt
+  -- one that was Ok, told by another answer
+  pub faults_ok : {A B : Type 0} {old new : Store D disk} (answer : A) (told : B) → FailsAtFaults (Ok answer) old new → FailsAtFaults (Ok told) old new
+  faults_ok {A} {B} {old} {new} answer told faults = record {
+    failed_before = λ failed. absurd (ok≢err answer Fault (faults.failed_before failed).0);
+    fault = λ is. absurd (ok≢err told Fault is);
+    no_fault = tt;
+    good = faults.good;
+    fails = λ works. (λ failed. absurd (ok≢err answer Fault ((faults.fails works).0 failed)), λ is. absurd (ok≢err told Fault is));
+    works = faults.works;
+    honest = faults.honest;
+  }
 
-  pub works_still : {A : Type 0} (new : Store D disk) (refusal : Refusal) → (has_failed new ≡ true ↔ IsErrOf {T = A} {E = Refusal} (Err refusal) Fault) → refusal ≢ Fault → has_failed new ≡ false
-  works_still {A} new refusal fails other = is_false (has_failed new) (λ failed. other (ap (refusal_or {T = A} Fault) (fails.0 failed)))
+  -- one that was refused, told by itself or by another refusal, where the one is a fault just where the other is
+  pub faults_as : {A B : Type 0} {old new : Store D disk} (refusal told : Refusal) → (told ≡ Fault → refusal ≡ Fault) → (refusal ≡ Fault → told ≡ Fault)
+      → FailsAtFaults {A = A} (Err refusal) old new → FailsAtFaults {A = B} (Err told) old new
+  faults_as {A} {B} {old} {new} refusal told there back faults = record {
+    failed_before = λ failed. let before = faults.failed_before failed in (tells before.0, before.1);
+    fault = λ is. faults.fault (told_by is);
+    no_fault = λ other. faults.no_fault (λ is. other (back is));
+    good = tt;
+    fails = λ works. (λ failed. tells ((faults.fails works).0 failed), λ is. (faults.fails works).1 (told_by is));
+    works = tt;
+    honest = faults.honest;
+  }
+    where
+      tells : IsErrOf {T = A} {E = Refusal} (Err refusal) Fault → IsErrOf {T = B} {E = Refusal} (Err told) Fault
+      tells is = ap (λ (r : Refusal). Err r) (back (ap (refusal_or {T = A} Fault) is))
 
-  -- and of whether it is open
-  pub done_by : {A : Type 0} {P : List ℕ → Type 0} (old new : Store D disk) (result : Result A Refusal) → (has_failed new ≡ true ↔ IsErrOf result Fault) → Goes P old new
+      told_by : IsErrOf {T = B} {E = Refusal} (Err told) Fault → IsErrOf {T = A} {E = Refusal} (Err refusal) Fault
+      told_by is = ap (λ (r : Refusal). Err r) (there (ap (refusal_or {T = B} Fault) is))
+
+  pub faults_told : {A B : Type 0} {old new : Store D disk} (refusal : Refusal) → FailsAtFaults {A = A} (Err refusal) old new → FailsAtFaults {A = B} (Err refusal) old new
+  faults_told refusal faults = faults_as refusal refusal (λ is. is) (λ is. is) faults
+
+  -- one of a store that had not failed, told by an Ok where it told no fault
+  pub faults_passed : {A B : Type 0} {old new : Store D disk} (result : Result A Refusal) (told : B) → has_failed old ≡ false → ¬ IsErrOf result Fault
+      → FailsAtFaults result old new → FailsAtFaults (Ok told) old new
+  faults_passed (Ok answer) told works other faults = faults_ok answer told faults
+  faults_passed {A} {B} {old} {new} (Err refusal) told works other faults = record {
+    failed_before = λ failed. absurd (false≢true (sym works ∙ failed));
+    fault = λ is. absurd (ok≢err told Fault is);
+    no_fault = tt;
+    good = faults.no_fault (λ is. other (ap (λ (r : Refusal). Err r) is));
+    fails = λ unfailed. (λ failed. absurd (other ((faults.fails works).0 failed)), λ is. absurd (ok≢err told Fault is));
+    works = is_false (has_failed new) (λ failed. other ((faults.fails works).0 failed));
+    honest = faults.honest;
+  }
+
+  -- what one call keeps, by what it says of the faults
+  pub goes_by : {P : List ℕ → Type 0} {A : Type 0} {old new : Store D disk} (result : Result A Refusal) → FailsAtFaults result old new
+      → (has_failed old ≡ false → IsOpen old → LeavesOnly disk P (device_of old) (device_of new))
+      → OnOk result (IsOpen old → IsOpen new) → IfErr result (λ e. e ≢ Fault → IsOpen old → IsOpen new) → Goes P old new
+  goes_by result faults any_moment done kept = goes_call result faults.failed_before faults.fails any_moment done kept
+
+  -- a refusal that is no fault leaves a store that works
+  pub works_still : {A : Type 0} {old new : Store D disk} (refusal : Refusal) → FailsAtFaults {A = A} (Err refusal) old new → refusal ≢ Fault → has_failed new ≡ false
+  works_still {A} {old} {new} refusal faults other =
+      is_false (has_failed new) (λ failed. other (ap (refusal_or {T = A} Fault) ((faults.fails (refused_unfailed {A = A} old new refusal faults.failed_before other)).0 failed)))
+
+  -- so it is open where it was
+  pub done_by : {A : Type 0} {P : List ℕ → Type 0} {old new : Store D disk} (result : Result A Refusal) → FailsAtFaults result old new → Goes P old new
       → OnOk result (IsOpen old → IsOpen new)
-  done_by old new (Ok answer) fails goes = goes.opens (works_now new answer fails)
-  done_by old new (Err refusal) fails goes = tt
+  done_by (Ok answer) faults goes = goes.opens faults.works
+  done_by (Err refusal) faults goes = tt
 
-  pub kept_by : {A : Type 0} {P : List ℕ → Type 0} (old new : Store D disk) (result : Result A Refusal) → (has_failed new ≡ true ↔ IsErrOf result Fault) → Goes P old new
+  pub kept_by : {A : Type 0} {P : List ℕ → Type 0} {old new : Store D disk} (result : Result A Refusal) → FailsAtFaults result old new → Goes P old new
       → IfErr result (λ e. e ≢ Fault → IsOpen old → IsOpen new)
-  kept_by old new (Ok answer) fails goes = tt
-  kept_by {A} old new (Err refusal) fails goes = λ other. goes.opens (works_still {A = A} new refusal fails other)
+  kept_by (Ok answer) faults goes = tt
+  kept_by (Err refusal) faults goes = λ other. goes.opens (works_still refusal faults other)
 
   -- a retirement, by its clauses
-  pub retire_goes : (old new : Store D disk) (result : Result (Unit {0}) Refusal)
-      → (has_failed old ≡ true → IsErrOf result Fault × IsUnchanged old new) → (has_failed old ≡ false → (has_failed new ≡ true ↔ IsErrOf result Fault))
+  pub retire_goes : (old new : Store D disk) (result : Result (Unit {0}) Refusal) → FailsAtFaults result old new
       → (has_failed old ≡ false → IsOpen old → LeavesOnly disk (λ content. FoundAs content (state_of old)) (device_of old) (device_of new))
       → IfErr result (λ e. (e ≡ StillNeeded) ⊎ (e ≡ Fault)) → (IsErrOf result StillNeeded → IsUnchanged old new)
       → OnOk result ((is_open : IsOpen old) → IsRetiredNow is_open.cells is_open.table new) → Goes (λ content. FoundAs content (state_of old)) old new
-  retire_goes old new result failed_before fails any_moment only untouched done =
-      goes_call result failed_before fails any_moment (goes_on_retired old new result done) (goes_on_needed old new result only untouched)
+  retire_goes old new result faults any_moment only untouched done =
+      goes_by result faults any_moment (goes_on_retired old new result done) (goes_on_needed old new result only untouched)
 
   -- one that wasn't refused by the device
   pub fewer : (old new : Store D disk) (result : Result (Unit {0}) Refusal) → ¬ IsErrOf result Fault → IfErr result (λ e. (e ≡ StillNeeded) ⊎ (e ≡ Fault))
@@ -82,10 +142,3 @@ module _ {D : Type 0} {disk : Ghosts D} where
       let told : IsErrOf {T = Unit {0}} {E = Refusal} (Err refusal) StillNeeded = ap (λ (r : Refusal). Err r) is in
       record { goes_on = open_unchanged (untouched told) is_open; same_cells = unchanged_cells (untouched told) is_open; slots = inl (unchanged_table (untouched told) is_open, needed told is_open) }
   fewer old new (Err refusal) other (inr is) needed untouched done is_open = absurd (other (ap (λ (r : Refusal). Err r) is))
-
-  pub same_faults : (old new : Store D disk) (result : Result (Unit {0}) Refusal) → ¬ IsErrOf result Fault → IfErr result (λ e. (e ≡ StillNeeded) ⊎ (e ≡ Fault))
-      → (IsErrOf result StillNeeded → IsUnchanged old new) → OnOk result (disk.faults (device_of new) ≡ disk.faults (device_of old))
-      → disk.faults (device_of new) ≡ disk.faults (device_of old)
-  same_faults old new (Ok answer) other only untouched good = good
-  same_faults old new (Err refusal) other (inl is) untouched good = ap (λ (d : D). disk.faults d) (untouched (ap (λ (r : Refusal). Err r) is)).device
-  same_faults old new (Err refusal) other (inr is) untouched good = absurd (other (ap (λ (r : Refusal). Err r) is))

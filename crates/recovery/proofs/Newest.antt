@@ -1,6 +1,6 @@
 -- Two milestones of a document at its newest revision: both its cells hold it then.
-use Rattle.std.proofs.Common.{◌≡◌, ◌≢◌, ◌↔◌, inl, inr, ℕ, ◌≤◌, ◌<◌, true, false, Bool, Option, Some, None, List, [], length, take, refl, sym, ◌∙◌, ap, subst, arith}
-use Rattle.std.specs.Prelude.{Result, Ok, Err, OnOk, OnErr, IfErr, IsErrOf, nat_lt, cond, slice_get}
+use Rattle.std.proofs.Common.{◌≡◌, ◌≢◌, inl, inr, ℕ, ◌≤◌, ◌<◌, true, false, Bool, Option, Some, None, List, [], length, take, refl, sym, ◌∙◌, ap, subst, arith}
+use Rattle.std.specs.Prelude.{Result, Ok, Err, OnOk, OnErr, IfErr, nat_lt, cond, slice_get}
 use Rattle.std.proofs.lemmas.Bool.Decides.{nat_tests}
 use Rattle.std.proofs.lemmas.Option.{slice_get_within}
 use Rattle.disk.specs.declared.device.Disk.{Ghosts}
@@ -18,10 +18,11 @@ use Rattle.milestone.specs.Cells.{with_cell}
 use Rattle.milestone.specs.Job.{Job, cell_of_job}
 use Rattle.recovery.specs.declared.shape.Shape.{Shape}
 use Rattle.recovery.specs.declared.store.Store.{Store}
+use Rattle.recovery.specs.Faults.{FailsAtFaults}
 use Rattle.recovery.specs.Found.{HoldsParts}
 use Rattle.recovery.specs.Jobs.{IsJobTo, IsMadeOf, MayKeepNewest, highest, jobs_for, without_job}
 use Rattle.recovery.specs.Goes.{Goes}
-use Rattle.recovery.specs.Open.{IsOpen, AreBothNewest, newest_cell, device_of, state_of, kept_jobs, has_failed}
+use Rattle.recovery.specs.Open.{IsOpen, AreBothNewest, newest_cell, device_of, state_of, kept_jobs}
 use Rattle.recovery.specs.Run.{IsPutAt}
 use Rattle.recovery.specs.steps.Freeing.{reached, reached_in, IsPutOf, IsHalfPut}
 use Rattle.recovery.specs.Unwritten.{MayKeepJob}
@@ -235,9 +236,9 @@ module _ {D : Type 0} {disk : Ghosts D} where
       → ((is_open : IsOpen old) → IsPutAt document (reached_in (state_of old) document) old is_open mid)
       → state_of mid ≡ state_of old → kept_jobs mid ≡ without_job document (kept_jobs old)
       → IfErr result (λ e. e ≢ Fault → device_of new ≡ device_of mid) → OnErr result (MayKeepJob document (reached_in (state_of mid) document) mid new)
-      → (has_failed new ≡ true ↔ IsErrOf result Fault) → Goes P mid new
+      → FailsAtFaults result mid new → Goes P mid new
       → IfErr result (λ e. e ≢ Fault → (is_open : IsOpen old) → IsHalfPut document old is_open new)
-  half_behind old mid new document (Ok answer) first state dropped device job fails goes = tt
-  half_behind {A} old mid new document (Err refusal) first state dropped device job fails goes = λ other is_open.
-      one_put_then old mid new is_open document (first is_open) (goes.opens (works_still {A = A} new refusal fails other) (first is_open).put.goes_on) (device other)
+  half_behind old mid new document (Ok answer) first state dropped device job faults goes = tt
+  half_behind {A} old mid new document (Err refusal) first state dropped device job faults goes = λ other is_open.
+      one_put_then old mid new is_open document (first is_open) (goes.opens (works_still refusal faults other) (first is_open).put.goes_on) (device other)
       state dropped job

@@ -7,6 +7,7 @@ pub mod Marked
 pub mod Jobs
 pub mod Open
 pub mod Knows
+pub mod Faults
 pub mod Unwritten
 pub mod Goes
 pub mod Laws

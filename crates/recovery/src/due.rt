@@ -1,12 +1,11 @@
 //! Putting the milestones of documents where they are due.
-ghost use Rattle.std.specs.Prelude.{◌≡◌, ◌≢◌, ◌⊎◌, ◌↔◌, ◌+◌, ◌≤◌, ℕ, true, false, None, Some, length, slice_get, OnOk, IfOk, IfErr, IfSome, IsErrOf, IsOkUnless};
-ghost use Rattle.disk.specs.Calls.{CountsFaultsAs};
-ghost use Rattle.disk.specs.Device.{Rose};
+ghost use Rattle.std.specs.Prelude.{◌≡◌, ◌≢◌, ◌⊎◌, ◌+◌, ◌≤◌, ℕ, true, false, None, Some, length, slice_get, OnOk, IfOk, IfErr, IfSome, IsErrOf, IsOkUnless};
 ghost use Rattle.disk.specs.Crash.{LeavesOnly};
 ghost use Rattle.revision.specs.Pending.{record_of};
 ghost use Rattle.history.specs.Cell.{cells_at};
 ghost use Rattle.recovery.specs.Cells.{highest_known};
 ghost use Rattle.recovery.specs.Due.{due_of, due_for, IsPutDue};
+ghost use Rattle.recovery.specs.Faults.{FailsAtFaults};
 ghost use Rattle.recovery.specs.Found.{FoundAs};
 ghost use Rattle.recovery.specs.Goes.{Goes};
 ghost use Rattle.recovery.specs.Jobs.{highest, no_job_of, no_job_for, without_job};
@@ -31,10 +30,7 @@ impl<D: Disk> Store<D> {
         requires some { 1 ≤ every }
 
         // When each refusal comes.
-        ensures failed_before { has_failed self.old ≡ true → (IsErrOf result Refusal.Fault)
-            × IsUnchanged self.old self.new }
-        ensures fault { IsErrOf result Refusal.Fault → has_failed self.old ≡ false
-            → Rose (D.faults (device_of self.old)) (D.faults (device_of self.new)) }
+        ensures faults { FailsAtFaults result self.old self.new }
         ensures only { IfErr result (λ e. (e ≡ Refusal.NoMemory) ⊎ (e ≡ Refusal.Fault)) }
 
         // Where one was due, it was put.
@@ -56,11 +52,6 @@ impl<D: Disk> Store<D> {
         ensures state { state_of self.new ≡ state_of self.old }
         ensures no_more_marks { length (known_marks self.new) ≤ length (known_marks self.old) }
         ensures others { without_job document (kept_jobs self.new) ≡ without_job document (kept_jobs self.old) }
-        ensures fails { has_failed self.old ≡ false → (has_failed self.new ≡ true ↔ IsErrOf result Refusal.Fault) }
-        ensures works { OnOk result (has_failed self.new ≡ false) }
-        ensures good { OnOk result (D.faults (device_of self.new) ≡ D.faults (device_of self.old)) }
-        ensures no_fault { IfErr result (λ e. e ≢ Refusal.Fault
-            → D.faults (device_of self.new) ≡ D.faults (device_of self.old)) }
 
         // A crash at any moment leaves the state.
         ensures goes { Goes (λ content. FoundAs content (state_of self.old)) self.old self.new }
@@ -72,7 +63,6 @@ impl<D: Disk> Store<D> {
 
         // Eight calls of the device at most: six for the milestone, and two for the segment.
         ensures calls { length (D.past (device_of self.new)) ≤ length (D.past (device_of self.old)) + 8 }
-        ensures honest { D.honest (device_of self.new) ↔ D.honest (device_of self.old) }
     {
         if self.failed {
             return Err(Refusal::Fault);
@@ -96,12 +86,10 @@ impl<D: Disk> Store<D> {
         ensures state { state_of self.new ≡ state_of self.old }
         ensures no_more_marks { length (known_marks self.new) ≤ length (known_marks self.old) }
         ensures jobs { kept_jobs self.new ≡ kept_jobs self.old }
-        ensures fails { has_failed self.new ≡ true ↔ IsErrOf result Refusal.Fault }
-        ensures faults { CountsFaultsAs ⟦<D as Disk>⟧ Refusal.Fault result (device_of self.old) (device_of self.new) }
+        ensures faults { FailsAtFaults result self.old self.new }
         ensures goes { Goes (λ content. FoundAs content (state_of self.old)) self.old self.new }
         ensures slots { OnOk result ((is_open : IsOpen self.old) → IsOverFewer is_open.cells is_open.table self.new) }
         ensures calls { length (D.past (device_of self.new)) ≤ length (D.past (device_of self.old)) + 2 }
-        ensures honest { D.honest (device_of self.new) ↔ D.honest (device_of self.old) }
     {
         let retired = self.retire();
         if matches!(retired, Err(Refusal::Fault)) {

@@ -1,11 +1,10 @@
 //! Making room in a journal that is full.
-ghost use Rattle.std.specs.Prelude.{◌≡◌, ◌≢◌, ◌⊎◌, ◌↔◌, ◌<◌, ◌≤◌, ◌+◌, ◌-◌, ◌*◌, ◌^◌, ℕ, true, false, length, get_or, OnOk, OnErr, IfOk, IfErr, IsErrOf};
-ghost use Rattle.disk.specs.Calls.{CountsFaultsAs};
-ghost use Rattle.disk.specs.Device.{Rose};
+ghost use Rattle.std.specs.Prelude.{◌≡◌, ◌≢◌, ◌⊎◌, ◌<◌, ◌≤◌, ◌+◌, ◌-◌, ◌*◌, ◌^◌, ℕ, true, false, length, get_or, OnOk, OnErr, IfOk, IfErr, IsErrOf};
 ghost use Rattle.disk.specs.Crash.{LeavesOnly};
 ghost use Rattle.revision.specs.State.{fold, all_grow, first_grows};
 ghost use Rattle.segments.specs.Numbers.{IsOldest, newest_number, open_count};
 ghost use Rattle.segments.specs.Ring.{known_numbers};
+ghost use Rattle.recovery.specs.Faults.{FailsAtFaults};
 ghost use Rattle.recovery.specs.Found.{FoundAs};
 ghost use Rattle.recovery.specs.Goes.{Goes};
 ghost use Rattle.recovery.specs.Jobs.{without_job};
@@ -31,14 +30,11 @@ impl<D: Disk> Store<D> {
     /// wasn't may be kept. After a `Fault` the store has failed. The documents stay.
     pub fn free_oldest(&mut self, alloc: Global) -> Result<(), Refusal>
         // When each refusal comes.
-        ensures failed_before { has_failed self.old ≡ true → (IsErrOf result Refusal.Fault)
-            × IsUnchanged self.old self.new }
+        ensures faults { FailsAtFaults result self.old self.new }
         ensures few { has_failed self.old ≡ false → open_count (known_numbers (ring_of self.old)) < 2
             → (IsErrOf result Refusal.StillNeeded) × IsUnchanged self.old self.new }
         ensures needed { IsErrOf result Refusal.StillNeeded → IsOpen self.old
             → open_count (known_numbers (ring_of self.old)) < 2 }
-        ensures fault { IsErrOf result Refusal.Fault → has_failed self.old ≡ false
-            → Rose (D.faults (device_of self.old)) (D.faults (device_of self.new)) }
         ensures only { IfErr result (λ e. (e ≡ Refusal.StillNeeded) ⊎ ((e ≡ Refusal.NoMemory) ⊎ (e ≡ Refusal.Fault))) }
 
         // What each answer leaves. The kept jobs stay of each document that needs no milestone for it, and no refusal leaves more than one
@@ -54,11 +50,6 @@ impl<D: Disk> Store<D> {
         ensures no_more_marks { length (known_marks self.new) ≤ length (known_marks self.old) }
         ensures ring { OnErr result (ring_of self.new ≡ ring_of self.old) }
         ensures untouched { IsErrOf result Refusal.StillNeeded → IsOpen self.old → IsUnchanged self.old self.new }
-        ensures fails { has_failed self.old ≡ false → (has_failed self.new ≡ true ↔ IsErrOf result Refusal.Fault) }
-        ensures works { OnOk result (has_failed self.new ≡ false) }
-        ensures good { OnOk result (D.faults (device_of self.new) ≡ D.faults (device_of self.old)) }
-        ensures no_fault { IfErr result (λ e. e ≢ Refusal.Fault
-            → D.faults (device_of self.new) ≡ D.faults (device_of self.old)) }
 
         // A crash at any moment leaves the state; once it is Ok, the slot of the oldest segment is closed. The cells of the documents that
         // it spares are as they were, and both cells of each other document hold it at its newest revision. Where memory ran out, each
@@ -82,7 +73,6 @@ impl<D: Disk> Store<D> {
             + 2) }
         ensures calls_by_marks { length (D.past (device_of self.new))
             ≤ length (D.past (device_of self.old)) + (12 * length (known_marks self.old) + 2) }
-        ensures honest { D.honest (device_of self.new) ↔ D.honest (device_of self.old) }
     {
         if self.failed {
             return Err(Refusal::Fault);
@@ -108,8 +98,7 @@ impl<D: Disk> Store<D> {
         ensures receipt { IfOk result (λ receipt. receipt ≡ batch.now) }
 
         // When each refusal comes. Want of memory may be told in place of `Stranger`.
-        ensures failed_before { has_failed self.old ≡ true → (IsErrOf result Refusal.Fault)
-            × IsUnchanged self.old self.new }
+        ensures faults { FailsAtFaults result self.old self.new }
         ensures full { IsErrOf result Refusal.JournalFull → (has_room self.old batch.now ≡ false)
             × (has_room self.new batch.now ≡ false) }
         ensures full_still { IsErrOf result Refusal.JournalFull → (is_open : IsOpen self.old)
@@ -130,8 +119,6 @@ impl<D: Disk> Store<D> {
             → (IsErrOf result Refusal.Stranger) ⊎ (IsErrOf result Refusal.NoMemory) }
         ensures memory { IsErrOf result Refusal.NoMemory → has_room self.old batch.now ≡ true
             → first_grows (state_of self.old) batch.now ≡ true }
-        ensures fault { IsErrOf result Refusal.Fault → has_failed self.old ≡ false
-            → Rose (D.faults (device_of self.old)) (D.faults (device_of self.new)) }
         ensures only { IfErr result (λ e. ((e ≡ Refusal.JournalFull)
             ⊎ ((e ≡ Refusal.StillNeeded) ⊎ (e ≡ Refusal.Stranger))) ⊎ ((e ≡ Refusal.NoMemory) ⊎ (e ≡ Refusal.Fault))) }
 
@@ -149,11 +136,6 @@ impl<D: Disk> Store<D> {
             → IsOldest (known_numbers (ring_of self.old)) slot segment → KeepsJobs segment self.old self.new }
         ensures no_more_jobs { OnOk result (length (kept_jobs self.new) ≤ length (kept_jobs self.old)) }
         ensures one_job { length (kept_jobs self.new) ≤ length (kept_jobs self.old) + 1 }
-        ensures fails { has_failed self.old ≡ false → (has_failed self.new ≡ true ↔ IsErrOf result Refusal.Fault) }
-        ensures works { OnOk result (has_failed self.new ≡ false) }
-        ensures good { OnOk result (D.faults (device_of self.new) ≡ D.faults (device_of self.old)) }
-        ensures no_fault { IfErr result (λ e. e ≢ Refusal.Fault
-            → D.faults (device_of self.new) ≡ D.faults (device_of self.old)) }
 
         // A crash at any moment of the call leaves the state before it, or the one with the batch.
         ensures goes { Goes (IsWithOrWithout (state_of self.old) batch.now) self.old self.new }
@@ -203,7 +185,6 @@ impl<D: Disk> Store<D> {
             + 10) }
         ensures calls_by_marks { length (D.past (device_of self.new))
             ≤ length (D.past (device_of self.old)) + (12 * length (known_marks self.old) + 10) }
-        ensures honest { D.honest (device_of self.new) ↔ D.honest (device_of self.old) }
     {
         if self.has_room(batch) {
             return self.commit(alloc, batch);
@@ -235,10 +216,8 @@ impl<D: Disk> Store<D> {
         ensures jobs { IsOpen self.old → KeepsJobs segment self.old self.new }
         ensures no_more_jobs { OnOk result (length (kept_jobs self.new) ≤ length (kept_jobs self.old)) }
         ensures one_job { OnErr result (length (kept_jobs self.new) ≤ length (kept_jobs self.old) + 1) }
-        ensures fails { has_failed self.new ≡ true ↔ IsErrOf result Refusal.Fault }
-        ensures faults { CountsFaultsAs ⟦<D as Disk>⟧ Refusal.Fault result (device_of self.old) (device_of self.new) }
+        ensures faults { FailsAtFaults result self.old self.new }
         ensures goes { Goes (λ content. FoundAs content (state_of self.old)) self.old self.new }
-        ensures honest { D.honest (device_of self.new) ↔ D.honest (device_of self.old) }
     {
         for place in 0..self.mark_count() {
             let mark = self.mark_at(place);
@@ -270,10 +249,8 @@ impl<D: Disk> Store<D> {
         ensures keeps { KeepsSegments self.old self.new }
         ensures others { without_job mark.document (kept_jobs self.new)
             ≡ without_job mark.document (kept_jobs self.old) }
-        ensures fails { has_failed self.new ≡ true ↔ IsErrOf result Refusal.Fault }
-        ensures faults { CountsFaultsAs ⟦<D as Disk>⟧ Refusal.Fault result (device_of self.old) (device_of self.new) }
+        ensures faults { FailsAtFaults result self.old self.new }
         ensures goes { Goes (λ content. FoundAs content (state_of self.old)) self.old self.new }
-        ensures honest { D.honest (device_of self.new) ↔ D.honest (device_of self.old) }
     {
         if mark.segment != segment {
             return Ok(());
@@ -304,10 +281,8 @@ impl<D: Disk> Store<D> {
         ensures calls { length (D.past (device_of self.new)) ≤ length (D.past (device_of self.old)) + 6 }
         ensures keeps { KeepsSegments self.old self.new }
         ensures others { without_job document (kept_jobs self.new) ≡ without_job document (kept_jobs self.old) }
-        ensures fails { has_failed self.new ≡ true ↔ IsErrOf result Refusal.Fault }
-        ensures faults { CountsFaultsAs ⟦<D as Disk>⟧ Refusal.Fault result (device_of self.old) (device_of self.new) }
+        ensures faults { FailsAtFaults result self.old self.new }
         ensures goes { Goes (λ content. FoundAs content (state_of self.old)) self.old self.new }
-        ensures honest { D.honest (device_of self.new) ↔ D.honest (device_of self.old) }
     {
         let newest = self.newest_of(document);
         if newest < revision {

@@ -8,6 +8,7 @@ ghost use Rattle.revision.specs.State.{are_sources, revision_of};
 ghost use Rattle.history.specs.Cell.{cells_at, cell_of};
 ghost use Rattle.milestone.specs.Job.{KeepLengths, cell_of_job};
 ghost use Rattle.recovery.specs.Cells.{highest_known};
+ghost use Rattle.recovery.specs.Faults.{FailsAtFaults};
 ghost use Rattle.recovery.specs.Jobs.{IsJobTo, IsMadeOf, KeepsLimits, highest, no_job_of, no_job_for, with_job};
 ghost use Rattle.recovery.specs.Open.{IsOpen, IsUnchanged, IsStillOver, device_of, ring_of, state_of, known_cells, known_marks, has_failed, kept_jobs};
 ghost use Rattle.recovery.specs.Unwritten.{IsUnchangedButJobs};
@@ -35,8 +36,7 @@ impl<D: Disk> Store<D> {
         revision: u64,
     ) -> Result<Job, Refusal>
         // When each refusal comes.
-        ensures failed_before { has_failed self.old ≡ true → (IsErrOf result Refusal.Fault)
-            × IsUnchanged self.old self.new }
+        ensures faults { FailsAtFaults result self.old self.new }
         ensures refused { has_failed self.old ≡ false → (is_open : IsOpen self.old) → (why : Why)
             → no_job_for (slice_get (state_of self.old).documents document) (highest (cells_at is_open.cells document))
             revision ≡ Some why → IsErrOf result why }

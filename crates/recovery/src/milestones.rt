@@ -1,11 +1,10 @@
 //! Putting a milestone of a job, or of a document.
-ghost use Rattle.std.specs.Prelude.{◌≡◌, ◌≢◌, ◌⊎◌, ◌↔◌, ◌+◌, ◌≤◌, ◌<◌, ℕ, true, false, length, Contains, OnOk, OnErr, IfErr, IsErrOf, Some, slice_get};
-ghost use Rattle.disk.specs.Device.{Rose};
+ghost use Rattle.std.specs.Prelude.{◌≡◌, ◌≢◌, ◌⊎◌, ◌↔◌, ◌+◌, ◌≤◌, ◌<◌, false, length, Contains, OnOk, OnErr, IfErr, IsErrOf, Some, slice_get};
 ghost use Rattle.disk.specs.Crash.{LeavesOnly};
 ghost use Rattle.refusal.specs.declared.Refusal.{Refusal as Why};
 ghost use Rattle.history.specs.Cell.{cells_at};
-ghost use Rattle.milestone.specs.Job.{cell_of_job};
 ghost use Rattle.recovery.specs.Cells.{highest_known};
+ghost use Rattle.recovery.specs.Faults.{FailsAtFaults};
 ghost use Rattle.recovery.specs.Found.{FoundAs};
 ghost use Rattle.recovery.specs.Jobs.{highest, no_job_for, without_job};
 ghost use Rattle.recovery.specs.Open.{IsOpen, IsUnchanged, IsPutNow, device_of, ring_of, state_of, known_cells, known_marks, has_failed, kept_jobs};
@@ -25,12 +24,9 @@ impl<D: Disk> Store<D> {
     /// store has failed. The documents stay.
     pub fn put_milestone(&mut self, alloc: Global, composed: &Composed) -> Result<(), Refusal>
         // When each refusal comes.
-        ensures failed_before { has_failed self.old ≡ true → (IsErrOf result Refusal.Fault)
-            × IsUnchanged self.old self.new }
+        ensures faults { FailsAtFaults result self.old self.new }
         ensures stranger { has_failed self.old ≡ false
             → (IsErrOf result Refusal.Stranger ↔ (¬ Contains (kept_jobs self.old) composed.now)) }
-        ensures fault { IsErrOf result Refusal.Fault → has_failed self.old ≡ false
-            → Rose (D.faults (device_of self.old)) (D.faults (device_of self.new)) }
         ensures only { IfErr result (λ e. (e ≡ Refusal.Stranger) ⊎ ((e ≡ Refusal.NoMemory) ⊎ (e ≡ Refusal.Fault))) }
 
         // What each answer leaves.
@@ -39,10 +35,6 @@ impl<D: Disk> Store<D> {
             → IsUnchanged self.old self.new }
         ensures dropped { OnOk result (kept_jobs self.new ≡ without_job composed.now.document (kept_jobs self.old)) }
         ensures jobs { OnErr result (kept_jobs self.new ≡ kept_jobs self.old) }
-        ensures fails { has_failed self.old ≡ false → (has_failed self.new ≡ true ↔ IsErrOf result Refusal.Fault) }
-        ensures good { OnOk result (D.faults (device_of self.new) ≡ D.faults (device_of self.old)) }
-        ensures no_fault { IfErr result (λ e. e ≢ Refusal.Fault
-            → D.faults (device_of self.new) ≡ D.faults (device_of self.old)) }
 
         ensures ring { ring_of self.new ≡ ring_of self.old }
         ensures marks { known_marks self.new ≡ known_marks self.old }
@@ -57,7 +49,6 @@ impl<D: Disk> Store<D> {
 
         // Six calls of the device at most.
         ensures calls { length (D.past (device_of self.new)) ≤ length (D.past (device_of self.old)) + 6 }
-        ensures honest { D.honest (device_of self.new) ↔ D.honest (device_of self.old) }
     {
         if self.failed {
             return Err(Refusal::Fault);
@@ -92,8 +83,7 @@ impl<D: Disk> Store<D> {
         revision: u64,
     ) -> Result<(), Refusal>
         // When each refusal comes.
-        ensures failed_before { has_failed self.old ≡ true → (IsErrOf result Refusal.Fault)
-            × IsUnchanged self.old self.new }
+        ensures faults { FailsAtFaults result self.old self.new }
         ensures refused { IfErr result (λ e. e ≢ Refusal.NoMemory → e ≢ Refusal.Fault → (is_open : IsOpen self.old)
             → no_job_for (slice_get (state_of self.old).documents document) (highest (cells_at is_open.cells document))
             revision ≡ Some e) }
@@ -103,8 +93,6 @@ impl<D: Disk> Store<D> {
         ensures due { has_failed self.old ≡ false → (why : Why)
             → no_job_for (slice_get (state_of self.old).documents document)
             (highest_known (known_cells self.old) document) revision ≡ Some why → IsErrOf result why }
-        ensures fault { IsErrOf result Refusal.Fault → has_failed self.old ≡ false
-            → Rose (D.faults (device_of self.old)) (D.faults (device_of self.new)) }
         ensures only { IfErr result (λ e. ((e ≡ Refusal.NoDocument) ⊎ ((e ≡ Refusal.Future) ⊎ (e ≡ Refusal.TooOld)))
             ⊎ ((e ≡ Refusal.NoMemory) ⊎ (e ≡ Refusal.Fault))) }
 
@@ -121,12 +109,7 @@ impl<D: Disk> Store<D> {
         ensures state { state_of self.new ≡ state_of self.old }
         ensures ring { ring_of self.new ≡ ring_of self.old }
         ensures marks { known_marks self.new ≡ known_marks self.old }
-        ensures fails { has_failed self.old ≡ false → (has_failed self.new ≡ true ↔ IsErrOf result Refusal.Fault) }
         ensures others { without_job document (kept_jobs self.new) ≡ without_job document (kept_jobs self.old) }
-        ensures works { OnOk result (has_failed self.new ≡ false) }
-        ensures good { OnOk result (D.faults (device_of self.new) ≡ D.faults (device_of self.old)) }
-        ensures no_fault { IfErr result (λ e. e ≢ Refusal.Fault
-            → D.faults (device_of self.new) ≡ D.faults (device_of self.old)) }
 
         // A crash at any moment leaves the state; once it is Ok, the cell of the document at the revision is open.
         ensures any_moment { has_failed self.old ≡ false → IsOpen self.old
@@ -138,7 +121,6 @@ impl<D: Disk> Store<D> {
 
         // Six calls of the device at most.
         ensures calls { length (D.past (device_of self.new)) ≤ length (D.past (device_of self.old)) + 6 }
-        ensures honest { D.honest (device_of self.new) ↔ D.honest (device_of self.old) }
     {
         let job = match self.milestone_job(alloc, document, revision) {
             Ok(job) => job,

@@ -1,14 +1,13 @@
 //! Retiring the oldest segment of a store.
-ghost use Rattle.std.specs.Prelude.{◌≡◌, ◌≢◌, ◌⊎◌, ◌↔◌, ◌+◌, ◌≤◌, ◌<◌, ℕ, List, [], Option, true, false, length, get_or, OnOk, OnErr, IfErr, IsErrOf, IsTrue, slice_get};
-ghost use Rattle.disk.specs.Device.{Rose};
+ghost use Rattle.std.specs.Prelude.{◌≡◌, ◌⊎◌, ◌↔◌, ◌+◌, ◌≤◌, ◌<◌, ℕ, true, false, length, OnOk, OnErr, IfErr, IsErrOf};
 ghost use Rattle.disk.specs.Crash.{LeavesOnly};
-ghost use Rattle.history.specs.Cell.{Pair, cells_at, lowest};
 ghost use Rattle.segments.specs.Numbers.{IsOldest};
 ghost use Rattle.segments.specs.Ring.{known_numbers};
+ghost use Rattle.recovery.specs.Faults.{FailsAtFaults};
 ghost use Rattle.recovery.specs.Found.{FoundAs};
 ghost use Rattle.recovery.specs.Marks.{greatest_marked, without_segment};
 ghost use Rattle.recovery.specs.Marked.{MayRetire};
-ghost use Rattle.recovery.specs.Cells.{FitEach, lowest_known};
+ghost use Rattle.recovery.specs.Cells.{lowest_known};
 ghost use Rattle.recovery.specs.Open.{IsOpen, IsUnchanged, IsRetiredNow, device_of, ring_of, state_of, has_failed, kept_jobs, known_cells, known_marks};
 
 use crate::marks::Mark;
@@ -24,15 +23,12 @@ impl<D: Disk> Store<D> {
     /// memory, and the documents stay.
     pub fn retire(&mut self) -> Result<(), Refusal>
         // When each refusal comes.
-        ensures failed_before { has_failed self.old ≡ true → (IsErrOf result Refusal.Fault)
-            × IsUnchanged self.old self.new }
+        ensures faults { FailsAtFaults result self.old self.new }
         ensures needed { IsErrOf result Refusal.StillNeeded → (is_open : IsOpen self.old)
             → ¬ MayRetire is_open.table is_open.cells }
         ensures not_needed { OnOk result ((is_open : IsOpen self.old) → MayRetire is_open.table is_open.cells) }
         ensures exact { has_failed self.old ≡ false → (is_open : IsOpen self.old)
             → (IsErrOf result Refusal.StillNeeded ↔ (¬ MayRetire is_open.table is_open.cells)) }
-        ensures fault { IsErrOf result Refusal.Fault → has_failed self.old ≡ false
-            → Rose (D.faults (device_of self.old)) (D.faults (device_of self.new)) }
         ensures only { IfErr result (λ e. (e ≡ Refusal.StillNeeded) ⊎ (e ≡ Refusal.Fault)) }
 
         // What each answer leaves. Once it is Ok, the marks of the segment are gone.
@@ -45,8 +41,6 @@ impl<D: Disk> Store<D> {
         ensures jobs { kept_jobs self.new ≡ kept_jobs self.old }
         ensures cells { known_cells self.new ≡ known_cells self.old }
         ensures untouched { IsErrOf result Refusal.StillNeeded → IsUnchanged self.old self.new }
-        ensures fails { has_failed self.old ≡ false → (has_failed self.new ≡ true ↔ IsErrOf result Refusal.Fault) }
-        ensures good { OnOk result (D.faults (device_of self.new) ≡ D.faults (device_of self.old)) }
 
         // A crash at any moment leaves the state; once it is Ok, the slot of the oldest segment is closed.
         ensures any_moment { has_failed self.old ≡ false → IsOpen self.old
@@ -56,7 +50,6 @@ impl<D: Disk> Store<D> {
 
         // Two calls of the device at most.
         ensures calls { length (D.past (device_of self.new)) ≤ length (D.past (device_of self.old)) + 2 }
-        ensures honest { D.honest (device_of self.new) ↔ D.honest (device_of self.old) }
     {
         if self.failed {
             return Err(Refusal::Fault);

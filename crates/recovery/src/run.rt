@@ -5,6 +5,7 @@ ghost use Rattle.disk.specs.Crash.{LeavesOnly, MayLeaveNow};
 ghost use Rattle.refusal.specs.declared.Refusal.TheVariants.{JournalFull, Stranger, NoMemory, Fault};
 ghost use Rattle.revision.specs.State.{all_grow, fold};
 ghost use Rattle.recovery.specs.Open.{IsOpen, IsUnchanged, IsWithOrWithout, device_of, state_of, has_failed, has_room, kept_jobs};
+ghost use Rattle.recovery.specs.Faults.{FailsAtFaults};
 ghost use Rattle.recovery.specs.Begun.{IsBegun, IsLeftBy, jobs_behind, jobs_after};
 ghost use Rattle.recovery.specs.Run.{CanTake, IsOfStep, IsTaken, AreTaken, IsWhy, IsStopped, IsAfterSome, IsKeptFrom, state_after, batch_of, batch_at};
 
@@ -105,11 +106,9 @@ impl<D: Disk> Store<D> {
     fn take_step(&mut self, alloc: Global, step: &StoreStep) -> Result<(), Refusal>
         requires { CanTake (state_of self.old) step.now }
 
-        ensures failed_before { has_failed self.old ≡ true → (IsErrOf result Fault) × IsUnchanged self.old self.new }
+        ensures faults { FailsAtFaults result self.old self.new }
         ensures full { IsErrOf result JournalFull → has_room self.new (batch_of step.now) ≡ false }
         ensures stranger { IsErrOf result Stranger → all_grow (state_of self.new) (batch_of step.now) ≡ false }
-        ensures fault { IsErrOf result Fault → has_failed self.old ≡ false
-            → Rose (D.faults (device_of self.old)) (D.faults (device_of self.new)) }
         ensures only { IfErr result (λ e. IsOfStep e) }
         ensures refused { IfErr result (λ e. e ≢ NoMemory → e ≢ Fault → IsWhy step.now e self.old) }
         ensures untouched { IfErr result (λ e. e ≢ NoMemory → e ≢ Fault → IsUnchanged self.old self.new) }
@@ -121,18 +120,12 @@ impl<D: Disk> Store<D> {
         ensures jobs { OnOk result (kept_jobs self.new ≡ jobs_behind step.now (kept_jobs self.old)) }
         ensures state { OnOk result (state_of self.new ≡ fold (state_of self.old) (batch_of step.now)) }
         ensures same_state { OnErr result (state_of self.new ≡ state_of self.old) }
-        ensures fails { has_failed self.old ≡ false → (has_failed self.new ≡ true ↔ IsErrOf result Fault) }
-        ensures works { OnOk result (has_failed self.new ≡ false) }
-        ensures good { OnOk result (D.faults (device_of self.new) ≡ D.faults (device_of self.old)) }
-        ensures no_fault { IfErr result (λ e. e ≢ Fault
-            → D.faults (device_of self.new) ≡ D.faults (device_of self.old)) }
 
         ensures any_moment { has_failed self.old ≡ false → IsOpen self.old
             → LeavesOnly ⟦<D as Disk>⟧ (IsWithOrWithout (state_of self.old) (batch_of step.now)) (device_of self.old)
             (device_of self.new) }
         ensures done { OnOk result (IsOpen self.old → IsOpen self.new) }
         ensures kept { IfErr result (λ e. e ≢ Fault → IsOpen self.old → IsOpen self.new) }
-        ensures honest { D.honest (device_of self.new) ↔ D.honest (device_of self.old) }
     {
         match step {
             StoreStep::Commit(batch) => {

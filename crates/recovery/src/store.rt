@@ -63,6 +63,7 @@ impl<D: Disk> Store<D> {
     ghost use Rattle.disk.specs.Crash.{LeavesOnly, MayLeaveNow, history_of};
     ghost use Rattle.revision.specs.State.{State as StateValue};
     ghost use Rattle.recovery.specs.Layout.{IsFormatted};
+    ghost use Rattle.recovery.specs.Faults.{FailsAtFaults};
     ghost use Rattle.recovery.specs.Found.{Found, FoundAs};
     ghost use Rattle.revision.specs.Agree.{Agree};
     ghost use Rattle.recovery.specs.Knows.{Knows};
@@ -185,8 +186,7 @@ impl<D: Disk> Store<D> {
         ensures receipt { IfOk result (λ receipt. receipt ≡ batch.now) }
 
         // When each refusal comes. Want of memory may be told in place of `Stranger`, but not where the first command continues nothing.
-        ensures failed_before { has_failed self.old ≡ true → (IsErrOf result Refusal.Fault)
-            × IsUnchanged self.old self.new }
+        ensures faults { FailsAtFaults result self.old self.new }
         ensures full { has_failed self.old ≡ false
             → (IsErrOf result Refusal.JournalFull ↔ (has_room self.old batch.now ≡ false)) }
         ensures room { OnOk result (has_room self.old batch.now ≡ true) }
@@ -197,8 +197,6 @@ impl<D: Disk> Store<D> {
             → (IsErrOf result Refusal.Stranger) ⊎ (IsErrOf result Refusal.NoMemory) }
         ensures memory { IsErrOf result Refusal.NoMemory → (has_room self.old batch.now ≡ true)
             × (first_grows (state_of self.old) batch.now ≡ true) }
-        ensures fault { IsErrOf result Refusal.Fault → has_failed self.old ≡ false
-            → Rose (D.faults (device_of self.old)) (D.faults (device_of self.new)) }
         ensures only { IfErr result (λ e. ((e ≡ Refusal.JournalFull) ⊎ (e ≡ Refusal.Stranger))
             ⊎ ((e ≡ Refusal.NoMemory) ⊎ (e ≡ Refusal.Fault))) }
 
@@ -211,13 +209,8 @@ impl<D: Disk> Store<D> {
         ensures marks { OnOk result
             (length (known_marks self.new) ≤ length (known_marks self.old) + length batch.now) }
         ensures same_marks { OnErr result (known_marks self.new ≡ known_marks self.old) }
-        ensures fails { has_failed self.old ≡ false → (has_failed self.new ≡ true ↔ IsErrOf result Refusal.Fault) }
-        ensures works { OnOk result (has_failed self.new ≡ false) }
         ensures untouched { (IsErrOf result Refusal.JournalFull) ⊎ (IsErrOf result Refusal.Stranger)
             → IsUnchanged self.old self.new }
-        ensures good { OnOk result (D.faults (device_of self.new) ≡ D.faults (device_of self.old)) }
-        ensures no_fault { IfErr result (λ e. e ≢ Refusal.Fault
-            → D.faults (device_of self.new) ≡ D.faults (device_of self.old)) }
 
         // A crash at any moment of the call leaves the state before it, or the one with the batch.
         ensures any_moment { has_failed self.old ≡ false → IsOpen self.old
@@ -250,7 +243,6 @@ impl<D: Disk> Store<D> {
             ≤ syncs_of ⟦<D as Disk>⟧ (device_of self.old) + 4 }
         ensures syncs_where_it_fits { fits_newest_segment self.old batch.now ≡ true
             → syncs_of ⟦<D as Disk>⟧ (device_of self.new) ≤ syncs_of ⟦<D as Disk>⟧ (device_of self.old) + 2 }
-        ensures honest { D.honest (device_of self.new) ↔ D.honest (device_of self.old) }
     {
         if self.failed {
             return Err(Refusal::Fault);

@@ -4,11 +4,11 @@ use Rattle.flusher.proofs.driving.put_one.Goals as goal
 
 pub returns-in-Err-clause-works : goal.returns-in-Err-clause-works
 returns-in-Err-clause-works g c =
-    answer_works (store_of c.put_document.new.self) c.in-Err.refusal c.answered.result c.answered.ensures.answer (c.in-Err.ensures.fails c.requires.works)
+    answer_works (store_of c.put_document.new.self) c.in-Err.refusal c.answered.result c.answered.ensures.answer (c.in-Err.ensures.faults.fails c.requires.works)
 
 pub returns-in-Err-clause-fails : goal.returns-in-Err-clause-fails
 returns-in-Err-clause-fails g c =
-    answer_fails (store_of c.put_document.new.self) c.in-Err.refusal c.answered.result c.answered.ensures.answer c.answered.ensures.stops (c.in-Err.ensures.fails c.requires.works)
+    answer_fails (store_of c.put_document.new.self) c.in-Err.refusal c.answered.result c.answered.ensures.answer c.answered.ensures.stops (c.in-Err.ensures.faults.fails c.requires.works)
 
 pub returns-in-Err-clause-answer : goal.returns-in-Err-clause-answer
 returns-in-Err-clause-answer g c =

@@ -12,7 +12,7 @@ loop-taken-preserved g c =
     let i = c.loop-taken.invariant in
     let e = c.put_due.ensures in
     record {
-      works = λ works. works_after c.in_default.field-0 (has_failed (store_of c.loop-taken.flusher)) (has_failed (store_of c.put_due.new.self)) c.in_default.ensures.fails (i.works works);
+      works = λ works. works_after c.in_default.field-0 (has_failed (store_of c.loop-taken.flusher)) (has_failed (store_of c.put_due.new.self)) c.in_default.ensures.faults.fails (i.works works);
       kept_up = kept_up_on (store_of c.args.flusher.now) (store_of c.loop-taken.flusher) (store_of c.put_due.new.self) i.kept_up (record { goes = e.goes; state = e.state });
       told = e.told ∙ i.told;
       committed = e.committed ∙ i.committed;
@@ -26,7 +26,7 @@ returns-in-Err-clause-kept_up g c =
 
 pub returns-in-Err-clause-fails : goal.returns-in-Err-clause-fails
 returns-in-Err-clause-fails g c works =
-    fails_err c.in-Err.refusal (has_failed (store_of c.loop-taken.flusher)) (has_failed (store_of c.put_due.new.self)) c.in-Err.ensures.fails (c.loop-taken.invariant.works works)
+    fails_err c.in-Err.refusal (has_failed (store_of c.loop-taken.flusher)) (has_failed (store_of c.put_due.new.self)) c.in-Err.ensures.faults.fails (c.loop-taken.invariant.works works)
 
 pub returns-clause-fails : goal.returns-clause-fails
 returns-clause-fails g c = fails_ok tt (has_failed (store_of c.args.flusher.now)) (has_failed (store_of c.loop-taken.flusher)) c.loop-taken.invariant.works

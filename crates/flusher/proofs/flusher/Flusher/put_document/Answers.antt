@@ -7,12 +7,12 @@ use Rattle.flusher.proofs.flusher.Flusher.put_document.Goals as goal
 pub returns-clause-goes : goal.returns-clause-goes
 returns-clause-goes g c =
     let e = c.put_document.ensures in
-    goes_call c.put_document.result e.failed_before e.fails e.any_moment e.done e.kept
+    goes_call c.put_document.result e.faults.failed_before e.faults.fails e.any_moment e.done e.kept
 
 pub returns-clause-put : goal.returns-clause-put
 returns-clause-put g c =
     let e = c.put_document.ensures in
-    put_now c.args.self.now.store c.put_document.new.self c.args.document c.args.revision c.put_document.result e.works e.state e.put
+    put_now c.args.self.now.store c.put_document.new.self c.args.document c.args.revision c.put_document.result e.faults.works e.state e.put
 
 pub invariant_of-self : goal.invariant_of-self
 invariant_of-self g c =

@@ -6,12 +6,12 @@ use Rattle.flusher.proofs.flusher.Flusher.retire.Goals as goal
 pub returns-clause-goes : goal.returns-clause-goes
 returns-clause-goes g c =
     let e = c.retire.ensures in
-    goes_retired c.args.self.now.store c.retire.new.self c.retire.result e.failed_before e.fails e.any_moment e.done e.only e.untouched
+    goes_retired c.args.self.now.store c.retire.new.self c.retire.result e.faults e.any_moment e.done e.only e.untouched
 
 pub returns-clause-retired : goal.returns-clause-retired
 returns-clause-retired g c =
     let e = c.retire.ensures in
-    retired_now c.args.self.now.store c.retire.new.self c.retire.result e.failed_before e.fails e.state e.not_needed e.done
+    retired_now c.args.self.now.store c.retire.new.self c.retire.result e.faults.works e.state e.not_needed e.done
 
 pub returns-clause-needed : goal.returns-clause-needed
 returns-clause-needed g c =

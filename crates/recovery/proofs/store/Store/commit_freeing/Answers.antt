@@ -1,11 +1,10 @@
-use Rattle.std.proofs.Common.{◌≡◌, ◌≢◌, ◌∙◌, ⊎_elim, inl, inr, true, false, List, length, sym, ap, subst, rules, arith}
-use Rattle.std.specs.Prelude.{Err, IfErr}
+use Rattle.std.proofs.Common.{◌≡◌, ◌∙◌, ⊎_elim, inl, inr, true, false, List, length, sym, ap, subst, rules, arith}
+use Rattle.std.specs.Prelude.{Err}
 use Rattle.std.proofs.lemmas.Bool.{false≢true}
 use Rattle.std.proofs.lemmas.Result.{on_ok_weaker, on_err_weaker}
-use Rattle.disk.specs.Device.{Rose}
 use Rattle.disk.proofs.CallerLemmas.{leaves_map}
 use Rattle.refusal.specs.declared.Refusal.{Refusal}
-use Rattle.refusal.specs.declared.Refusal.TheVariants.{JournalFull, StillNeeded, Stranger, NoMemory, Fault}
+use Rattle.refusal.specs.declared.Refusal.TheVariants.{JournalFull, StillNeeded, Stranger, NoMemory}
 use Rattle.revision.specs.State.{State, all_grow}
 use Rattle.journal.specs.BatchSpelling.{batch_width}
 use Rattle.segments.specs.declared.ring.Ring.{Ring}
@@ -13,9 +12,9 @@ use Rattle.segments.specs.Room.{has_room_for}
 use Rattle.recovery.specs.Found.{FoundAs}
 use Rattle.recovery.specs.Goes.{Goes}
 use Rattle.recovery.specs.Open.{IsWithOrWithout, has_failed, has_room}
-use Rattle.recovery.proofs.Refusals.{refusal_or, ok≢err}
-use Rattle.recovery.proofs.Going.{goes_call, goes_map, goes_on}
-use Rattle.recovery.proofs.Faults.{done_by, kept_by}
+use Rattle.recovery.proofs.Refusals.{refusal_or}
+use Rattle.recovery.proofs.Going.{goes_map, goes_on}
+use Rattle.recovery.proofs.Faults.{faults_on, goes_by, done_by, kept_by}
 use Rattle.recovery.specs.declared.marks.Mark.{Mark}
 use Rattle.recovery.specs.Marks.{marks_of}
 use Rattle.milestone.specs.Job.{Job}
@@ -29,7 +28,7 @@ use Rattle.recovery.proofs.store.Store.commit_freeing.Goals as goal
 -- there was room
 pub returns-then-has_room-clause-goes : goal.returns-then-has_room-clause-goes
 returns-then-has_room-clause-goes g c =
-    goes_call c.commit.result c.commit.ensures.failed_before c.commit.ensures.fails c.commit.ensures.any_moment c.commit.ensures.done c.commit.ensures.kept
+    goes_by c.commit.result c.commit.ensures.faults c.commit.ensures.any_moment c.commit.ensures.done c.commit.ensures.kept
 
 pub returns-then-has_room-clause-other_jobs : goal.returns-then-has_room-clause-other_jobs
 returns-then-has_room-clause-other_jobs g c is_open slot segment oldest = spared_same segment c.args.self.now c.commit.new.self c.commit.ensures.jobs
@@ -52,7 +51,7 @@ pub returns-then-has_room-clause-full_still : goal.returns-then-has_room-clause-
 returns-then-has_room-clause-full_still g c told =
     let store = c.args.self.now in
     let room : has_room store c.args.batch.now ≡ true = search rules in
-    absurd (no_full c.commit.result (has_failed store) (has_room store c.args.batch.now) c.commit.ensures.failed_before c.commit.ensures.full room told)
+    absurd (no_full c.commit.result (has_failed store) (has_room store c.args.batch.now) c.commit.ensures.faults.failed_before c.commit.ensures.full room told)
 
 pub returns-then-has_room-clause-marks : goal.returns-then-has_room-clause-marks
 returns-then-has_room-clause-marks g c =
@@ -153,19 +152,15 @@ pub returns-in-Err-clause-any_moment : goal.returns-in-Err-clause-any_moment
 returns-in-Err-clause-any_moment g c works is_open = leaves_map (λ content found. inl found) (c.free_oldest.ensures.any_moment works is_open)
 
 -- it was freed, and the batch is committed
-pub returns-clause-failed_before : goal.returns-clause-failed_before
-returns-clause-failed_before g c failed = absurd (ok≢err c.in_default.field-0 Fault (c.in_default.ensures.failed_before failed).0)
-
-pub returns-clause-honest : goal.returns-clause-honest
-returns-clause-honest g c =
-    (λ honest. c.free_oldest.ensures.honest.0 (c.commit-2.ensures.honest.0 honest), λ honest. c.commit-2.ensures.honest.1 (c.free_oldest.ensures.honest.1 honest))
+pub returns-clause-faults : goal.returns-clause-faults
+returns-clause-faults g c = faults_on c.in_default.field-0 c.commit-2.result c.in_default.ensures.faults c.commit-2.ensures.faults
 
 pub returns-clause-full : goal.returns-clause-full
 returns-clause-full g c told =
     let none : has_room c.args.self.now c.args.batch.now ≡ false = search rules in
     let same = c.commit-2.ensures.untouched (inl told) in (
       none,
-      subst (λ (r : Ring). has_room_for r (batch_width c.args.batch.now) ≡ false) (sym same.ring) ((c.commit-2.ensures.full c.in_default.ensures.works).0 told),
+      subst (λ (r : Ring). has_room_for r (batch_width c.args.batch.now) ≡ false) (sym same.ring) ((c.commit-2.ensures.full c.in_default.ensures.faults.works).0 told),
     )
 
 pub returns-clause-full_still : goal.returns-clause-full_still
@@ -179,31 +174,20 @@ pub returns-clause-never_full : goal.returns-clause-never_full
 returns-clause-never_full g c told is_open =
     ⊎_elim
     (λ full. freed_up c.args.self.now c.free_oldest.new.self (batch_width c.args.batch.now) is_open (c.in_default.ensures.freed is_open)
-    ((c.commit-2.ensures.full c.in_default.ensures.works).0 full))
+    ((c.commit-2.ensures.full c.in_default.ensures.faults.works).0 full))
     (λ needed. absurd (no_needed c.commit-2.result c.commit-2.ensures.only needed)) told
 
 pub returns-clause-stranger : goal.returns-clause-stranger
 returns-clause-stranger g c told = subst (λ (s : State). all_grow s c.args.batch.now ≡ false) c.free_oldest.ensures.state (c.commit-2.ensures.stranger told)
 
-pub returns-clause-fault : goal.returns-clause-fault
-returns-clause-fault g c told works =
-    subst (λ n. Rose n (g.D.Disk.faults c.commit-2.new.self.device)) c.in_default.ensures.good (c.commit-2.ensures.fault told c.in_default.ensures.works)
-
 pub returns-clause-only : goal.returns-clause-only
 returns-clause-only g c = widened c.commit-2.result c.commit-2.ensures.only
-
-pub returns-clause-fails : goal.returns-clause-fails
-returns-clause-fails g c works = c.commit-2.ensures.fails c.in_default.ensures.works
-
-pub returns-clause-no_fault : goal.returns-clause-no_fault
-returns-clause-no_fault g c =
-    subst (λ n. IfErr c.commit-2.result (λ e. e ≢ Fault → g.D.Disk.faults c.commit-2.new.self.device ≡ n)) c.in_default.ensures.good c.commit-2.ensures.no_fault
 
 pub returns-clause-goes : goal.returns-clause-goes
 returns-clause-goes g c =
     goes_on (goes_map (λ content found. inl found) c.free_oldest.ensures.goes)
     (subst (λ (s : State). Goes (IsWithOrWithout s c.args.batch.now) c.free_oldest.new.self c.commit-2.new.self) c.free_oldest.ensures.state
-    (goes_call c.commit-2.result c.commit-2.ensures.failed_before c.commit-2.ensures.fails c.commit-2.ensures.any_moment c.commit-2.ensures.done c.commit-2.ensures.kept))
+    (goes_by c.commit-2.result c.commit-2.ensures.faults c.commit-2.ensures.any_moment c.commit-2.ensures.done c.commit-2.ensures.kept))
 
 pub returns-clause-any_moment : goal.returns-clause-any_moment
 unfolding returns-clause-goes
@@ -214,8 +198,7 @@ pub returns-clause-unwritten : goal.returns-clause-unwritten
 returns-clause-unwritten g c told works is_open =
     (goes_on c.free_oldest.ensures.goes
     (subst (λ (s : State). Goes (λ content. FoundAs content s) c.free_oldest.new.self c.commit-2.new.self) c.free_oldest.ensures.state
-    (goes_call c.commit-2.result c.commit-2.ensures.failed_before c.commit-2.ensures.fails (λ works is_open. c.commit-2.ensures.unwritten told is_open) c.commit-2.ensures.done
-    c.commit-2.ensures.kept))).any_moment works is_open
+    (goes_by c.commit-2.result c.commit-2.ensures.faults (λ works is_open. c.commit-2.ensures.unwritten told is_open) c.commit-2.ensures.done c.commit-2.ensures.kept))).any_moment works is_open
 
 pub returns-clause-other_jobs : goal.returns-clause-other_jobs
 returns-clause-other_jobs g c is_open slot segment oldest =
@@ -240,10 +223,10 @@ returns-clause-committed_behind g c =
     c.commit-2.ensures.committed
 
 pub returns-clause-done : goal.returns-clause-done
-returns-clause-done g c = done_by c.args.self.now c.commit-2.new.self c.commit-2.result (c.commit-2.ensures.fails c.in_default.ensures.works) (returns-clause-goes g c)
+returns-clause-done g c = done_by c.commit-2.result (returns-clause-faults g c) (returns-clause-goes g c)
 
 pub returns-clause-kept : goal.returns-clause-kept
-returns-clause-kept g c = kept_by c.args.self.now c.commit-2.new.self c.commit-2.result (c.commit-2.ensures.fails c.in_default.ensures.works) (returns-clause-goes g c)
+returns-clause-kept g c = kept_by c.commit-2.result (returns-clause-faults g c) (returns-clause-goes g c)
 
 -- what is known of the entries grows by no more than the batch
 pub returns-clause-marks : goal.returns-clause-marks

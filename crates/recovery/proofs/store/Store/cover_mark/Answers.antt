@@ -9,7 +9,7 @@ use Rattle.recovery.specs.Open.{IsOpen, kept_jobs, state_of}
 use Rattle.recovery.specs.steps.Freeing.{reached_in, IsMarkAbove}
 use Rattle.revision.specs.State.{State}
 use Rattle.recovery.proofs.Going.{goes_nowhere, goes_same}
-use Rattle.recovery.proofs.Faults.{counts_on, works_now, works_still}
+use Rattle.recovery.proofs.Faults.{faults_on, works_still}
 use Rattle.recovery.proofs.Newest.{on_err, none_put, half_behind, covered_behind}
 use Rattle.recovery.proofs.SparedJobs.{may_keep_one}
 use Rattle.recovery.proofs.store.Store.cover_mark.Goals as goal
@@ -77,14 +77,14 @@ returns-clause-spared g c out =
 pub returns-in-Err-clause-half : goal.returns-in-Err-clause-half
 returns-in-Err-clause-half g c other is_open =
     none_put c.args.self.now c.raise.new.self is_open c.args.mark.document
-    (c.raise.ensures.goes.opens (works_still {A = Unit {0}} c.raise.new.self c.in-Err.refusal c.in-Err.ensures.fails other) is_open) (c.in-Err.ensures.unwritten other)
+    (c.raise.ensures.goes.opens (works_still c.in-Err.refusal c.in-Err.ensures.faults other) is_open) (c.in-Err.ensures.unwritten other)
     c.in-Err.ensures.job
 
 -- the second one was put, or refused
 pub returns-clause-needed : goal.returns-clause-needed
 returns-clause-needed g c told is_open reach =
     let here : c.args.mark.segment ≡ c.args.segment = search rules in
-    let mid_open : IsOpen c.raise.new.self = c.raise.ensures.goes.opens (works_now c.raise.new.self c.in_default.field-0 c.in_default.ensures.fails) is_open in
+    let mid_open : IsOpen c.raise.new.self = c.raise.ensures.goes.opens c.in_default.ensures.faults.works is_open in
     let below = c.raise-2.ensures.needed told mid_open in
     omega (arith, below, reach here, ap (λ (s : State). reached_in s c.args.mark.document) c.raise.ensures.keeps.state)
 
@@ -104,7 +104,7 @@ returns-clause-dropped g c =
 pub returns-clause-half : goal.returns-clause-half
 returns-clause-half g c =
     half_behind c.args.self.now c.raise.new.self c.raise-2.new.self c.args.mark.document c.raise-2.result c.in_default.ensures.put c.raise.ensures.keeps.state
-    c.in_default.ensures.dropped c.raise-2.ensures.unwritten c.raise-2.ensures.job c.raise-2.ensures.fails c.raise-2.ensures.goes
+    c.in_default.ensures.dropped c.raise-2.ensures.unwritten c.raise-2.ensures.job c.raise-2.ensures.faults c.raise-2.ensures.goes
 
 -- the job of the one that was refused is one more at most
 pub returns-in-Err-clause-one_job : goal.returns-in-Err-clause-one_job
@@ -126,7 +126,7 @@ pub returns-clause-calls : goal.returns-clause-calls
 returns-clause-calls g c = omega (arith, c.raise.ensures.calls, c.raise-2.ensures.calls)
 
 pub returns-clause-faults : goal.returns-clause-faults
-returns-clause-faults g c = counts_on c.in_default.ensures.faults.good c.raise-2.ensures.faults
+returns-clause-faults g c = faults_on c.in_default.field-0 c.raise-2.result c.in_default.ensures.faults c.raise-2.ensures.faults
 
 pub returns-clause-goes : goal.returns-clause-goes
 returns-clause-goes g c = goes_same c.raise.ensures.keeps.state c.raise.ensures.goes c.raise-2.ensures.goes

@@ -1,22 +1,23 @@
-use Rattle.std.proofs.Common.{◌≡◌, ◌<◌, ◌+◌, ◌∙◌, List, length, take, get_or, refl, sym, ap, subst, arith}
+use Rattle.std.proofs.Common.{◌≡◌, ◌<◌, ◌+◌, List, length, take, get_or, refl, sym, ap, subst, arith}
+use Rattle.std.specs.Prelude.{Ok, Err}
 use Rattle.std.proofs.lemmas.List.{take_all}
+use Rattle.refusal.specs.declared.Refusal.TheVariants.{Fault}
 use Rattle.recovery.specs.declared.marks.Mark.{Mark}
 use Rattle.recovery.specs.Marks.{marks_of}
 use Rattle.recovery.specs.Open.{IsOpen, device_of, kept_jobs, state_of}
 use Rattle.recovery.specs.steps.Freeing.{MayReach, AreCovered}
 use Rattle.recovery.proofs.Going.{goes_nowhere, goes_same}
-use Rattle.recovery.proofs.Faults.{counts_on, works_now}
+use Rattle.recovery.proofs.Faults.{faults_none, faults_on, faults_ok}
 use Rattle.recovery.proofs.Raising.{keeps_on, may_reach}
+use Rattle.recovery.proofs.Refusals.{ok≢err}
 use Rattle.recovery.proofs.Covering.{none_covered, covered_more, spared_still, half_freed, calls_more, calls_all}
 use Rattle.recovery.proofs.SparedJobs.{spared_same, spared_more, no_more_kept}
 use Rattle.recovery.proofs.store.Store.cover_segment.Goals as goal
 
 pub loop-place-init : goal.loop-place-init
 loop-place-init g c = record {
-  working = c.requires.working;
+  faults = faults_none c.args.self.now (Ok tt) c.requires.working (ok≢err tt Fault);
   keeps = record { state = refl; ring = refl; marks = refl };
-  faults = refl;
-  honest = (λ honest. honest, λ honest. honest);
   goes = goes_nowhere c.args.self.now;
   covered = none_covered c.args.segment c.args.self.now;
   calls = λ is_open. omega arith;
@@ -42,10 +43,8 @@ loop-place-preserved g c =
     let reach : IsOpen start → MayReach c.args.segment mark (state_of start) =
     λ is_open. may_reach start is_open c.requires.oldest.0 c.args.segment c.requires.oldest.1 place mark inside is in
     record {
-      working = works_now new c.in_default.field-0 c.in_default.ensures.fails;
+      faults = faults_on tt (Ok tt) before.faults (faults_ok c.in_default.field-0 tt c.in_default.ensures.faults);
       keeps = keeps_on before.keeps c.cover_mark.ensures.keeps;
-      faults = c.in_default.ensures.faults.good ∙ before.faults;
-      honest = (λ honest. before.honest.0 (c.cover_mark.ensures.honest.0 honest), λ honest. c.cover_mark.ensures.honest.1 (before.honest.1 honest));
       goes = goes_same before.keeps.state before.goes c.cover_mark.ensures.goes;
       covered = λ is_open.
           covered_more c.args.segment place mark start store is_open inside is (before.covered is_open) new before.keeps.state (reach is_open) c.cover_mark.ensures.spared
@@ -119,7 +118,7 @@ pub returns-clause-no_more_jobs : goal.returns-clause-no_more_jobs
 returns-clause-no_more_jobs g c = c.loop-place.invariant.few_jobs
 
 pub returns-in-Err-clause-faults : goal.returns-in-Err-clause-faults
-returns-in-Err-clause-faults g c = counts_on c.loop-place.invariant.faults c.in-Err.ensures.faults
+returns-in-Err-clause-faults g c = faults_on tt (Err c.in-Err.refusal) c.loop-place.invariant.faults c.in-Err.ensures.faults
 
 pub returns-in-Err-clause-goes : goal.returns-in-Err-clause-goes
 returns-in-Err-clause-goes g c = goes_same c.loop-place.invariant.keeps.state c.loop-place.invariant.goes c.cover_mark.ensures.goes

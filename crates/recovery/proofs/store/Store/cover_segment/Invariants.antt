@@ -1,16 +1,16 @@
-use Rattle.std.proofs.Common.{◌≡◌, ◌≤◌, ◌+◌, ◌*◌, ◌↔◌, false, length, take}
+use Rattle.std.proofs.Common.{◌≤◌, ◌+◌, ◌*◌, length, take}
+use Rattle.std.specs.Prelude.{Ok}
+use Rattle.recovery.specs.Faults.{FailsAtFaults}
 use Rattle.recovery.specs.Found.{FoundAs}
 use Rattle.recovery.specs.Goes.{Goes}
-use Rattle.recovery.specs.Open.{IsOpen, KeepsJobs, needing, device_of, kept_jobs, state_of, has_failed, known_cells, known_marks}
+use Rattle.recovery.specs.Open.{IsOpen, KeepsJobs, needing, device_of, kept_jobs, state_of, known_cells, known_marks}
 use Rattle.recovery.specs.steps.Freeing.{KeepsSegments, AreCovered}
 use Rattle.recovery.proofs.store.Store.cover_segment.Given as goal
 
 abbrev pub invariant-loop-place : goal.invariant-loop-place
 invariant-loop-place g l = record {
-  working : has_failed l.self ≡ false;
+  faults : FailsAtFaults {A = Unit {0}} (Ok tt) l.fn.self l.self;
   keeps : KeepsSegments l.fn.self l.self;
-  faults : g.D.Disk.faults (device_of l.self) ≡ g.D.Disk.faults (device_of l.fn.self);
-  honest : g.D.Disk.honest (device_of l.self) ↔ g.D.Disk.honest (device_of l.fn.self);
   goes : Goes (λ content. FoundAs content (state_of l.fn.self)) l.fn.self l.self;
   covered : (is_open : IsOpen l.fn.self) → AreCovered l.segment (take l.place (known_marks l.fn.self)) l.fn.self is_open l.self;
   calls : IsOpen l.fn.self

@@ -1,7 +1,6 @@
-use Rattle.std.proofs.Common.{◌≡◌, ◌≤◌, ◌∙◌, List, length, refl, sym, ap, subst, rules, arith}
+use Rattle.std.proofs.Common.{◌≡◌, ◌≤◌, ◌∙◌, List, length, refl, sym, ap, rules, arith}
 use Rattle.std.specs.Prelude.{Err}
 use Rattle.std.proofs.lemmas.Result.{on_err_weaker}
-use Rattle.disk.specs.Device.{Rose}
 use Rattle.refusal.specs.declared.Refusal.{Refusal}
 use Rattle.refusal.specs.declared.Refusal.TheVariants.{StillNeeded, NoMemory, Fault}
 use Rattle.segments.specs.Numbers.{open_count}
@@ -10,7 +9,7 @@ use Rattle.milestone.specs.Job.{Job}
 use Rattle.recovery.specs.declared.marks.Mark.{Mark}
 use Rattle.recovery.specs.Open.{needing, known_cells, known_marks}
 use Rattle.recovery.proofs.Going.{goes_nowhere, goes_same}
-use Rattle.recovery.proofs.Faults.{retire_goes, works_now, works_still, works_by, done_by, kept_by}
+use Rattle.recovery.proofs.Faults.{faults_on, retire_goes, works_still, done_by, kept_by}
 use Rattle.recovery.proofs.Covering.{may_go, freed_by}
 use Rattle.recovery.proofs.Freed.{no_memory}
 use Rattle.recovery.proofs.HandedOut.{on_ok}
@@ -38,7 +37,7 @@ returns-in-Err-clause-jobs g c is_open slot segment oldest =
 
 pub returns-in-Err-clause-kept : goal.returns-in-Err-clause-kept
 returns-in-Err-clause-kept g c other =
-    c.cover_segment.ensures.goes.opens (works_still {A = Unit {0}} c.cover_segment.new.self c.in-Err.refusal c.in-Err.ensures.fails other)
+    c.cover_segment.ensures.goes.opens (works_still c.in-Err.refusal c.in-Err.ensures.faults other)
 
 -- nothing needs the oldest segment any more
 pub returns-clause-needed : goal.returns-clause-needed
@@ -124,24 +123,13 @@ returns-clause-calls g c is_open slot segment oldest =
     let same = one_oldest (known_numbers store.ring) found.0 slot c.in-Some.oldest segment found.1 oldest in
     omega (arith, c.cover_segment.ensures.calls is_open, c.retire.ensures.calls, ap (λ n. needing n (known_marks store) (known_cells store) (length store.state.documents)) same)
 
-pub returns-clause-fault : goal.returns-clause-fault
-returns-clause-fault g c told works =
-    let mid_works = works_now c.cover_segment.new.self c.in_default-cover_segment.field-0 c.in_default-cover_segment.ensures.fails in
-    subst (λ n. Rose n (g.D.Disk.faults c.retire.new.self.device)) c.in_default-cover_segment.ensures.faults.good (c.retire.ensures.fault told mid_works)
-
-pub returns-clause-fails : goal.returns-clause-fails
-returns-clause-fails g c works =
-    c.retire.ensures.fails (works_now c.cover_segment.new.self c.in_default-cover_segment.field-0 c.in_default-cover_segment.ensures.fails)
-
-pub returns-clause-works : goal.returns-clause-works
-returns-clause-works g c =
-    works_by c.retire.new.self c.retire.result
-    (c.retire.ensures.fails (works_now c.cover_segment.new.self c.in_default-cover_segment.field-0 c.in_default-cover_segment.ensures.fails))
+pub returns-clause-faults : goal.returns-clause-faults
+returns-clause-faults g c = faults_on c.in_default-cover_segment.field-0 c.retire.result c.in_default-cover_segment.ensures.faults c.retire.ensures.faults
 
 pub returns-clause-goes : goal.returns-clause-goes
 returns-clause-goes g c =
     goes_same c.cover_segment.ensures.keeps.state c.cover_segment.ensures.goes
-    (retire_goes c.cover_segment.new.self c.retire.new.self c.retire.result c.retire.ensures.failed_before c.retire.ensures.fails c.retire.ensures.any_moment c.retire.ensures.only c.retire.ensures.untouched c.retire.ensures.done)
+    (retire_goes c.cover_segment.new.self c.retire.new.self c.retire.result c.retire.ensures.faults c.retire.ensures.any_moment c.retire.ensures.only c.retire.ensures.untouched c.retire.ensures.done)
 
 pub returns-clause-any_moment : goal.returns-clause-any_moment
 unfolding returns-clause-goes
@@ -153,11 +141,7 @@ returns-clause-freed g c =
     freed_by c.args.self.now c.cover_segment.new.self c.retire.new.self oldest.0 c.in-Some.oldest c.retire.result oldest.1 c.in_default-cover_segment.ensures.covered c.retire.ensures.jobs c.retire.ensures.done
 
 pub returns-clause-done : goal.returns-clause-done
-returns-clause-done g c =
-    done_by c.args.self.now c.retire.new.self c.retire.result
-    (c.retire.ensures.fails (works_now c.cover_segment.new.self c.in_default-cover_segment.field-0 c.in_default-cover_segment.ensures.fails)) (returns-clause-goes g c)
+returns-clause-done g c = done_by c.retire.result (returns-clause-faults g c) (returns-clause-goes g c)
 
 pub returns-clause-kept : goal.returns-clause-kept
-returns-clause-kept g c =
-    kept_by c.args.self.now c.retire.new.self c.retire.result
-    (c.retire.ensures.fails (works_now c.cover_segment.new.self c.in_default-cover_segment.field-0 c.in_default-cover_segment.ensures.fails)) (returns-clause-goes g c)
+returns-clause-kept g c = kept_by c.retire.result (returns-clause-faults g c) (returns-clause-goes g c)

@@ -1,12 +1,13 @@
-use Rattle.std.proofs.Common.{◌≡◌, ◌∙◌, ⊎_elim, inl, inr, false, ap}
-use Rattle.std.specs.Prelude.{Err}
+use Rattle.std.proofs.Common.{◌≡◌, ◌∙◌, ⊎_elim, inl, inr, sym, ap}
+use Rattle.std.specs.Prelude.{Ok, Err, IsErrOf}
 use Rattle.refusal.specs.declared.Refusal.{Refusal}
 use Rattle.milestone.specs.Job.{Job}
-use Rattle.refusal.specs.declared.Refusal.TheVariants.{Fault}
+use Rattle.refusal.specs.declared.Refusal.TheVariants.{NoMemory, Fault}
 use Rattle.recovery.specs.Jobs.{without_job}
-use Rattle.recovery.specs.Open.{has_failed, kept_jobs}
+use Rattle.recovery.specs.Open.{kept_jobs}
 use Rattle.recovery.proofs.Refusals.{ok≢err, refusal_or}
-use Rattle.recovery.proofs.PutAtOnce.{keeps_it, had_not_failed, has_not_failed, still, from_there, put_at, refused_unfailed}
+use Rattle.recovery.proofs.Faults.{faults_none, faults_on, faults_told}
+use Rattle.recovery.proofs.PutAtOnce.{keeps_it, still, from_there, put_at, refused_unfailed}
 use Rattle.recovery.proofs.OtherJobs.{others_with, others_without}
 use Rattle.recovery.proofs.Unwritten.{unwritten_same, unwritten_kept, unwritten_behind, few_none, few_behind}
 use Rattle.recovery.proofs.store.Store.put_document.Goals as goal
@@ -18,37 +19,38 @@ returns-in-Err-clause-any_moment g c = still c.milestone_job.ensures.device c.mi
 pub returns-in-Err-compose_job-clause-any_moment : goal.returns-in-Err-compose_job-clause-any_moment
 returns-in-Err-compose_job-clause-any_moment g c = still c.milestone_job.ensures.device c.milestone_job.ensures.failed c.milestone_job.ensures.open
 
--- a store that had failed hands out no job
-pub returns-in-Err-put_milestone-clause-failed_before : goal.returns-in-Err-put_milestone-clause-failed_before
-returns-in-Err-put_milestone-clause-failed_before g c failed = absurd (ok≢err c.in-Ok.job Fault (c.in-Ok.ensures.failed_before failed).0)
+-- a fault is told where the job or the put told it
+pub returns-in-Err-clause-faults : goal.returns-in-Err-clause-faults
+returns-in-Err-clause-faults g c = faults_told c.in-Err.refusal c.in-Err.ensures.faults
 
-pub returns-clause-failed_before : goal.returns-clause-failed_before
-returns-clause-failed_before g c failed = absurd (ok≢err c.in-Ok.job Fault (c.in-Ok.ensures.failed_before failed).0)
+pub returns-in-Err-compose_job-clause-faults : goal.returns-in-Err-compose_job-clause-faults
+returns-in-Err-compose_job-clause-faults g c =
+    let refusal = c.in-Err-compose_job.back.refusal in
+    let other : ¬ IsErrOf {T = Unit {0}} {E = Refusal} (Err refusal) Fault =
+    λ told. let same : NoMemory ≡ Fault = sym c.in-Err-compose_job.ensures.only ∙ ap (refusal_or {T = Unit {0}} Fault) told in cc in
+    faults_on c.in-Ok.job (Err refusal) c.in-Ok.ensures.faults (faults_none c.milestone_job.new.self (Err refusal) c.in-Ok.ensures.faults.works other)
+
+pub returns-in-Err-put_milestone-clause-faults : goal.returns-in-Err-put_milestone-clause-faults
+returns-in-Err-put_milestone-clause-faults g c = faults_on c.in-Ok.job (Err c.in-Err-put_milestone.refusal) c.in-Ok.ensures.faults c.in-Err-put_milestone.ensures.faults
+
+pub returns-clause-faults : goal.returns-clause-faults
+returns-clause-faults g c = faults_on c.in-Ok.job (Ok c.in_default.field-0) c.in-Ok.ensures.faults c.in_default.ensures.faults
 
 -- the job that was handed out is kept, so what comes of it is no stranger
 pub returns-in-Err-put_milestone-clause-only : goal.returns-in-Err-put_milestone-clause-only
 returns-in-Err-put_milestone-clause-only g c =
     let store = c.args.self.now in
     let mid = c.milestone_job.new.self in
-    let works : has_failed mid ≡ false = c.milestone_job.ensures.failed ∙ had_not_failed c.in-Ok.job c.in-Ok.ensures.failed_before in
     ⊎_elim
-    (λ stranger. absurd ((c.in-Err-put_milestone.ensures.stranger works).0 (ap (λ (r : Refusal). Err r) stranger)
+    (λ stranger. absurd ((c.in-Err-put_milestone.ensures.stranger c.in-Ok.ensures.faults.works).0 (ap (λ (r : Refusal). Err r) stranger)
     (keeps_it c.in-Ok.job c.in-Ok-compose_job.composed (kept_jobs store) (kept_jobs mid) c.in-Ok.ensures.keeps c.in-Ok-compose_job.ensures.done)))
     (λ other. inr other) c.in-Err-put_milestone.ensures.only
-
-pub returns-in-Err-put_milestone-clause-no_fault : goal.returns-in-Err-put_milestone-clause-no_fault
-returns-in-Err-put_milestone-clause-no_fault g c other = c.in-Err-put_milestone.ensures.no_fault other ∙ ap g.D.Disk.faults c.milestone_job.ensures.device
 
 pub returns-in-Err-put_milestone-clause-kept : goal.returns-in-Err-put_milestone-clause-kept
 returns-in-Err-put_milestone-clause-kept g c other is_open = c.in-Err-put_milestone.ensures.kept other (c.milestone_job.ensures.open is_open)
 
 pub returns-clause-done : goal.returns-clause-done
 returns-clause-done g c is_open = (c.in_default.ensures.done (c.milestone_job.ensures.open is_open)).goes_on
-
-pub returns-clause-works : goal.returns-clause-works
-returns-clause-works g c =
-    has_not_failed c.milestone_job.new.self c.put_milestone.new.self c.in_default.field-0 c.in_default.ensures.fails
-    (c.milestone_job.ensures.failed ∙ had_not_failed c.in-Ok.job c.in-Ok.ensures.failed_before)
 
 -- a crash within the put leaves the state
 pub returns-in-Err-put_milestone-clause-any_moment : goal.returns-in-Err-put_milestone-clause-any_moment
@@ -71,7 +73,7 @@ returns-clause-put g c is_open =
 -- why the job was refused; the put itself has no such reason
 pub returns-in-Err-clause-refused : goal.returns-in-Err-clause-refused
 returns-in-Err-clause-refused g c memory fault =
-    c.in-Err.ensures.refusal memory (refused_unfailed {A = Job} c.args.self.now c.milestone_job.new.self c.in-Err.refusal c.in-Err.ensures.failed_before fault)
+    c.in-Err.ensures.refusal memory (refused_unfailed {A = Job} c.args.self.now c.milestone_job.new.self c.in-Err.refusal c.in-Err.ensures.faults.failed_before fault)
 
 pub returns-in-Err-compose_job-clause-refused : goal.returns-in-Err-compose_job-clause-refused
 returns-in-Err-compose_job-clause-refused g c memory fault = absurd (memory c.in-Err-compose_job.ensures.only)
@@ -80,9 +82,8 @@ pub returns-in-Err-put_milestone-clause-refused : goal.returns-in-Err-put_milest
 returns-in-Err-put_milestone-clause-refused g c memory fault =
     let store = c.args.self.now in
     let mid = c.milestone_job.new.self in
-    let works : has_failed mid ≡ false = c.milestone_job.ensures.failed ∙ had_not_failed c.in-Ok.job c.in-Ok.ensures.failed_before in
     ⊎_elim
-    (λ stranger. absurd ((c.in-Err-put_milestone.ensures.stranger works).0 (ap (λ (r : Refusal). Err r) stranger)
+    (λ stranger. absurd ((c.in-Err-put_milestone.ensures.stranger c.in-Ok.ensures.faults.works).0 (ap (λ (r : Refusal). Err r) stranger)
     (keeps_it c.in-Ok.job c.in-Ok-compose_job.composed (kept_jobs store) (kept_jobs mid) c.in-Ok.ensures.keeps c.in-Ok-compose_job.ensures.done)))
     (⊎_elim (λ is. absurd (memory is)) (λ is. absurd (fault is))) c.in-Err-put_milestone.ensures.only
 
@@ -94,9 +95,8 @@ pub returns-in-Err-put_milestone-clause-refused_by : goal.returns-in-Err-put_mil
 returns-in-Err-put_milestone-clause-refused_by g c memory fault =
     let store = c.args.self.now in
     let mid = c.milestone_job.new.self in
-    let works : has_failed mid ≡ false = c.milestone_job.ensures.failed ∙ had_not_failed c.in-Ok.job c.in-Ok.ensures.failed_before in
     ⊎_elim
-    (λ stranger. absurd ((c.in-Err-put_milestone.ensures.stranger works).0 (ap (λ (r : Refusal). Err r) stranger)
+    (λ stranger. absurd ((c.in-Err-put_milestone.ensures.stranger c.in-Ok.ensures.faults.works).0 (ap (λ (r : Refusal). Err r) stranger)
     (keeps_it c.in-Ok.job c.in-Ok-compose_job.composed (kept_jobs store) (kept_jobs mid) c.in-Ok.ensures.keeps c.in-Ok-compose_job.ensures.done)))
     (⊎_elim (λ is. absurd (memory is)) (λ is. absurd (fault is))) c.in-Err-put_milestone.ensures.only
 
@@ -129,9 +129,8 @@ pub returns-in-Err-put_milestone-clause-untouched : goal.returns-in-Err-put_mile
 returns-in-Err-put_milestone-clause-untouched g c memory fault =
     let store = c.args.self.now in
     let mid = c.milestone_job.new.self in
-    let works : has_failed mid ≡ false = c.milestone_job.ensures.failed ∙ had_not_failed c.in-Ok.job c.in-Ok.ensures.failed_before in
     ⊎_elim
-    (λ stranger. absurd ((c.in-Err-put_milestone.ensures.stranger works).0 (ap (λ (r : Refusal). Err r) stranger)
+    (λ stranger. absurd ((c.in-Err-put_milestone.ensures.stranger c.in-Ok.ensures.faults.works).0 (ap (λ (r : Refusal). Err r) stranger)
     (keeps_it c.in-Ok.job c.in-Ok-compose_job.composed (kept_jobs store) (kept_jobs mid) c.in-Ok.ensures.keeps c.in-Ok-compose_job.ensures.done)))
     (⊎_elim (λ is. absurd (memory is)) (λ is. absurd (fault is))) c.in-Err-put_milestone.ensures.only
 

@@ -1,6 +1,5 @@
-use Rattle.std.proofs.Common.{◌≡◌, ◌∙◌, Some, None, sym, ap, subst, rules, arith}
+use Rattle.std.proofs.Common.{◌≡◌, ◌∙◌, true, Some, None, sym, ap, rules, arith}
 use Rattle.std.specs.Prelude.{Ok, Err, List, length, slice_get}
-use Rattle.disk.specs.Device.{Rose}
 use Rattle.refusal.specs.declared.Refusal.{Refusal}
 use Rattle.refusal.specs.declared.Refusal.TheVariants.{NoMemory, Fault}
 use Rattle.recovery.specs.declared.marks.Mark.{Mark}
@@ -9,8 +8,8 @@ use Rattle.recovery.specs.Due.{due_for}
 use Rattle.recovery.proofs.Refusals.{refusal_or}
 use Rattle.recovery.proofs.HandedOut.{none≢some}
 use Rattle.recovery.proofs.Retirement.{known_highest}
-use Rattle.recovery.proofs.Going.{goes_nowhere, goes_call, goes_same}
-use Rattle.recovery.proofs.Faults.{works_still, works_now}
+use Rattle.recovery.proofs.Going.{goes_nowhere, goes_same}
+use Rattle.recovery.proofs.Faults.{faults_on, faults_ok, faults_told, works_still, goes_by}
 use Rattle.recovery.proofs.Freed.{only_memory, due_put}
 use Rattle.recovery.proofs.store.Store.put_due.Goals as goal
 
@@ -34,14 +33,17 @@ returns-in-Err-clause-only g c =
 
 pub returns-in-Err-clause-goes : goal.returns-in-Err-clause-goes
 returns-in-Err-clause-goes g c =
-    goes_call (Err c.in-Err.refusal) c.in-Err.ensures.failed_before c.in-Err.ensures.fails c.put_document.ensures.any_moment tt c.in-Err.ensures.kept
+    goes_by (Err c.in-Err.refusal) c.in-Err.ensures.faults c.put_document.ensures.any_moment tt c.in-Err.ensures.kept
+
+pub returns-in-Err-clause-faults : goal.returns-in-Err-clause-faults
+returns-in-Err-clause-faults g c = faults_told c.in-Err.refusal c.in-Err.ensures.faults
 
 -- it was put, and the device failed behind it
 pub returns-in-Err-retire_covered-clause-goes : goal.returns-in-Err-retire_covered-clause-goes
 returns-in-Err-retire_covered-clause-goes g c =
     goes_same c.put_document.ensures.state
-    (goes_call (Ok c.in_default-put_document.field-0) c.in_default-put_document.ensures.failed_before c.in_default-put_document.ensures.fails c.put_document.ensures.any_moment
-    c.in_default-put_document.ensures.done tt) c.retire_covered.ensures.goes
+    (goes_by (Ok c.in_default-put_document.field-0) c.in_default-put_document.ensures.faults c.put_document.ensures.any_moment c.in_default-put_document.ensures.done tt)
+    c.retire_covered.ensures.goes
 
 pub returns-in-Err-retire_covered-clause-any_moment : goal.returns-in-Err-retire_covered-clause-any_moment
 unfolding returns-in-Err-retire_covered-clause-goes
@@ -49,12 +51,12 @@ returns-in-Err-retire_covered-clause-any_moment g c = (returns-in-Err-retire_cov
 
 pub returns-in-Err-retire_covered-clause-kept : goal.returns-in-Err-retire_covered-clause-kept
 returns-in-Err-retire_covered-clause-kept g c other =
-    (returns-in-Err-retire_covered-clause-goes g c).opens (works_still {A = Unit {0}} c.retire_covered.new.self c.in-Err-retire_covered.refusal c.in-Err-retire_covered.ensures.fails other)
+    (returns-in-Err-retire_covered-clause-goes g c).opens (works_still c.in-Err-retire_covered.refusal c.in-Err-retire_covered.ensures.faults other)
 
-pub returns-in-Err-retire_covered-clause-fault : goal.returns-in-Err-retire_covered-clause-fault
-returns-in-Err-retire_covered-clause-fault g c told works =
-    subst (λ n. Rose n (g.D.Disk.faults c.retire_covered.new.self.device)) c.in_default-put_document.ensures.good
-    (c.in-Err-retire_covered.ensures.faults.failed (ap (λ (r : Refusal). Err r) (ap (refusal_or Fault) told)))
+pub returns-in-Err-retire_covered-clause-faults : goal.returns-in-Err-retire_covered-clause-faults
+returns-in-Err-retire_covered-clause-faults g c =
+    faults_on c.in_default-put_document.field-0 (Err c.in-Err-retire_covered.refusal) c.in_default-put_document.ensures.faults
+    (faults_told c.in-Err-retire_covered.refusal c.in-Err-retire_covered.ensures.faults)
 
 -- it was put
 pub returns-clause-put : goal.returns-clause-put
@@ -67,15 +69,20 @@ returns-clause-put g c told is_open =
 pub returns-clause-goes : goal.returns-clause-goes
 returns-clause-goes g c =
     goes_same c.put_document.ensures.state
-    (goes_call (Ok c.in_default-put_document.field-0) c.in_default-put_document.ensures.failed_before c.in_default-put_document.ensures.fails c.put_document.ensures.any_moment
-    c.in_default-put_document.ensures.done tt) c.retire_covered.ensures.goes
+    (goes_by (Ok c.in_default-put_document.field-0) c.in_default-put_document.ensures.faults c.put_document.ensures.any_moment c.in_default-put_document.ensures.done tt)
+    c.retire_covered.ensures.goes
+
+pub returns-clause-faults : goal.returns-clause-faults
+returns-clause-faults g c =
+    faults_on c.in_default-put_document.field-0 (Ok true) c.in_default-put_document.ensures.faults
+    (faults_ok c.in_default-retire_covered.field-0 true c.in_default-retire_covered.ensures.faults)
 
 pub returns-clause-any_moment : goal.returns-clause-any_moment
 unfolding returns-clause-goes
 returns-clause-any_moment g c = (returns-clause-goes g c).any_moment
 
 pub returns-clause-done : goal.returns-clause-done
-returns-clause-done g c = (returns-clause-goes g c).opens (works_now c.retire_covered.new.self c.in_default-retire_covered.field-0 c.in_default-retire_covered.ensures.fails)
+returns-clause-done g c = (returns-clause-goes g c).opens c.in_default-retire_covered.ensures.faults.works
 
 -- nothing was put
 pub returns-in-Err-clause-memory : goal.returns-in-Err-clause-memory

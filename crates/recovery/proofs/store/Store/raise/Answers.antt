@@ -1,14 +1,13 @@
 use Rattle.std.proofs.Common.{◌≡◌, ◌≤◌, ◌∙◌, ⊎_elim, inl, refl, None, sym, ap, subst, arith, rules}
 use Rattle.std.specs.Prelude.{Err, slice_get}
-use Rattle.refusal.specs.declared.Refusal.{Refusal}
 use Rattle.refusal.specs.declared.Refusal.TheVariants.{StillNeeded, Fault}
 use Rattle.recovery.specs.Cells.{highest_known}
 use Rattle.recovery.specs.Jobs.{no_job_for}
 use Rattle.recovery.specs.Run.{IsPutAt}
 use Rattle.recovery.specs.Unwritten.{MayKeepJob}
 use Rattle.recovery.proofs.Refusals.{refusal_or}
-use Rattle.recovery.proofs.Going.{goes_nowhere, goes_call}
-use Rattle.recovery.proofs.Faults.{counted_as}
+use Rattle.recovery.proofs.Going.{goes_nowhere}
+use Rattle.recovery.proofs.Faults.{faults_as, goes_by}
 use Rattle.recovery.proofs.HandedOut.{none≢some}
 use Rattle.recovery.proofs.Reaching.{cells_reached}
 use Rattle.recovery.proofs.Raising.{none_against}
@@ -41,12 +40,11 @@ pub returns-in-Err-clause-faults : goal.returns-in-Err-clause-faults
 returns-in-Err-clause-faults g c =
     let there : c.in-Err.refusal ≡ Fault → c.or_needed.result ≡ Fault = search rules in
     let back : c.or_needed.result ≡ Fault → c.in-Err.refusal ≡ Fault = search rules in
-    counted_as c.args.self.now c.put_document.new.self c.in-Err.refusal c.or_needed.result c.requires.working
-    (λ is. c.in-Err.ensures.fault (ap (λ (r : Refusal). Err r) is)) c.in-Err.ensures.no_fault back there
+    faults_as c.in-Err.refusal c.or_needed.result back there c.in-Err.ensures.faults
 
 pub returns-in-Err-clause-goes : goal.returns-in-Err-clause-goes
 returns-in-Err-clause-goes g c =
-    goes_call (Err c.in-Err.refusal) c.in-Err.ensures.failed_before c.in-Err.ensures.fails c.put_document.ensures.any_moment tt c.in-Err.ensures.kept
+    goes_by (Err c.in-Err.refusal) c.in-Err.ensures.faults c.put_document.ensures.any_moment tt c.in-Err.ensures.kept
 
 -- a refusal but for the device's leaves the device as it was
 pub returns-in-Err-clause-unwritten : goal.returns-in-Err-clause-unwritten

@@ -99,9 +99,9 @@ loop-at-preserved g c =
           ∙ sym (at_drop_more (state_after now) steps at step c.loop-at-test.true) ∙ c.loop-at.invariant.rest;
       limits = ap (λ (s : State). s.limits) state ∙ fold-limits now (batch_of step) ∙ c.loop-at.invariant.limits;
       so_far = so_far;
-      faults = c.in_default.ensures.good ∙ c.loop-at.invariant.faults;
-      unfailed = λ unfailed. c.in_default.ensures.works;
-      honest = (λ h. c.loop-at.invariant.honest.0 (c.take_step.ensures.honest.0 h), λ h. c.take_step.ensures.honest.1 (c.loop-at.invariant.honest.1 h));
+      faults = c.in_default.ensures.faults.good ∙ c.loop-at.invariant.faults;
+      unfailed = λ unfailed. c.in_default.ensures.faults.works;
+      honest = (λ h. c.loop-at.invariant.honest.0 (c.take_step.ensures.faults.honest.0 h), λ h. c.take_step.ensures.faults.honest.1 (c.loop-at.invariant.honest.1 h));
       taken = taken;
       jobs = c.in_default.ensures.jobs ∙ ap (jobs_behind step) c.loop-at.invariant.jobs
           ∙ sym (jobs_after-more steps at step (kept_jobs start) c.loop-at-test.true c.index-steps-at.is);
@@ -109,7 +109,7 @@ loop-at-preserved g c =
       is_open = λ is_open. c.in_default.ensures.done (c.loop-at.invariant.is_open is_open);
       failed_before = λ failed.
           let before = (c.loop-at.invariant.failed_before failed).1 in
-          absurd (false≢true (sym c.in_default.ensures.works ∙ (c.take_step.ensures.failed_before (before.failed ∙ failed)).1.failed ∙ before.failed ∙ failed));
+          absurd (false≢true (sym c.in_default.ensures.faults.works ∙ (c.take_step.ensures.faults.failed_before (before.failed ∙ failed)).1.failed ∙ before.failed ∙ failed));
       moments = moments;
       since = λ unfailed is_open.
           kept_more steps start c.loop-at.self new at (c.loop-at.invariant.since unfailed is_open) (within unfailed is_open)
@@ -128,7 +128,7 @@ returns-clause-acknowledged g c unfailed is_open content left =
 pub returns-in-Err-clause-failed_before : goal.returns-in-Err-clause-failed_before
 returns-in-Err-clause-failed_before g c failed =
     let before = c.loop-at.invariant.failed_before failed in
-    let now = c.take_step.ensures.failed_before (before.1.failed ∙ failed) in
+    let now = c.take_step.ensures.faults.failed_before (before.1.failed ∙ failed) in
     (tt, (before.0, ap (refusal_or Fault) (sym c.in-Err.is ∙ now.0)), unchanged_twice before.1 now.1)
 
 pub returns-clause-taken : goal.returns-clause-taken

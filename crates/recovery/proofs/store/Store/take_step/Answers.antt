@@ -7,6 +7,7 @@ use Rattle.recovery.specs.Open.{kept_jobs}
 use Rattle.recovery.specs.Begun.{IsLeftBy, jobs_behind}
 use Rattle.recovery.specs.Run.{IsTaken, IsWhy}
 use Rattle.recovery.proofs.HandedOut.{on_ok}
+use Rattle.recovery.proofs.Faults.{faults_ok, faults_told}
 use Rattle.recovery.proofs.Begun.{left_commit, left_milestone, left_retire}
 use Rattle.recovery.proofs.PutAtOnce.{committed_by, put_taken, given_up, retire_why, goes_on_retired, goes_on_needed}
 use Rattle.recovery.proofs.store.Store.take_step.Goals as goal
@@ -24,23 +25,30 @@ returns-in-Retire-clause-done g c = goes_on_retired c.args.self.now c.retire.new
 pub returns-in-Retire-clause-kept : goal.returns-in-Retire-clause-kept
 returns-in-Retire-clause-kept g c = goes_on_needed c.args.self.now c.retire.new.self c.retire.result c.retire.ensures.only c.retire.ensures.untouched
 
+-- a commit has a receipt for its answer, and a step has none
+pub returns-in-Err-clause-faults : goal.returns-in-Err-clause-faults
+returns-in-Err-clause-faults g c = faults_told c.in-Err.refusal c.in-Err.ensures.faults
+
+pub returns-in_default-clause-faults : goal.returns-in_default-clause-faults
+returns-in_default-clause-faults g c = faults_ok c.in_default.field-0 tt c.in_default.ensures.faults
+
 -- what the step was
 pub returns-in_default-clause-taken : goal.returns-in_default-clause-taken
 returns-in_default-clause-taken g c =
     let done = c.in_default.ensures in
     subst (λ (s : StoreStep). IsTaken s c.args.self.now c.commit.new.self) (sym c.in-Commit.is)
-    (committed_by c.args.self.now c.commit.new.self c.deref.result.now c.in-Commit.batch.items c.deref.ensures.value done.works done.grow done.state done.committed done.room)
+    (committed_by c.args.self.now c.commit.new.self c.deref.result.now c.in-Commit.batch.items c.deref.ensures.value done.faults.works done.grow done.state done.committed done.room)
 
 pub returns-in-Milestone-clause-taken : goal.returns-in-Milestone-clause-taken
 returns-in-Milestone-clause-taken g c =
     subst (λ (s : StoreStep). OnOk c.put_document.result (IsTaken s c.args.self.now c.put_document.new.self)) (sym c.in-Milestone.is)
-    (put_taken c.args.self.now c.put_document.new.self c.in-Milestone.document c.in-Milestone.revision c.put_document.result c.put_document.ensures.works c.put_document.ensures.state
+    (put_taken c.args.self.now c.put_document.new.self c.in-Milestone.document c.in-Milestone.revision c.put_document.result c.put_document.ensures.faults.works c.put_document.ensures.state
     c.put_document.ensures.put)
 
 pub returns-in-Retire-clause-taken : goal.returns-in-Retire-clause-taken
 returns-in-Retire-clause-taken g c =
     subst (λ (s : StoreStep). OnOk c.retire.result (IsTaken s c.args.self.now c.retire.new.self)) (sym c.in-Retire.is)
-    (given_up c.args.self.now c.retire.new.self c.retire.result c.retire.ensures.failed_before c.retire.ensures.fails c.retire.ensures.state
+    (given_up c.args.self.now c.retire.new.self c.retire.result c.retire.ensures.faults.failed_before c.retire.ensures.faults.fails c.retire.ensures.state
     c.retire.ensures.not_needed c.retire.ensures.done)
 
 -- why it was refused
