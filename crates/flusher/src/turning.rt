@@ -49,7 +49,7 @@ pub fn turn<D: Disk, J: Site, R: Wait>(
     let run = board.take(alloc, flusher.cap())?;
     let count = run.len();
     if count == 0 {
-        run.nothing();
+        let _nothing = run.nothing();
         return Ok(0);
     }
     flusher.hold(run);

@@ -1,7 +1,7 @@
 //! A batch that was written and isn't settled yet.
 ghost use Rattle.std.specs.Prelude.{◌≡◌, IfOk, IfErr};
 
-use hub::{Failed, Hub, Settled};
+use hub::{Failed, Hub, Settled, Writer};
 use published::{Site, Told};
 use recovery::Receipt;
 use refusal::Refusal;
@@ -31,14 +31,15 @@ impl<D, J: Site> Written<D, J> {
         self,
         rt: &R,
         hub: &Hub<D, J>,
+        writer: &mut Writer<J>,
     ) -> Result<(Receipt<D>, Settled<J>), Failed<J>>
         ensures receipt { IfOk result (λ done. done.0 ≡ self.0) }
         ensures only { IfErr result (λ failed. failed ≡ Refusal.Stranger) }
     {
         let Written { receipt, told } = self;
-        match hub.settle(rt, &receipt, told) {
+        match hub.settle(rt, writer, &receipt, told) {
             Ok(settled) => Ok((receipt, settled)),
-            Err(refusal) => Err(hub.fail(rt, refusal)),
+            Err(_unsettled) => Err(hub.fail(rt, writer, Refusal::Stranger)),
         }
     }
 

@@ -13,7 +13,7 @@ ghost use Rattle.flusher.specs.Run.{standing};
 
 use disk::Disk;
 use flusher::{Call, Driven, Flusher, OpenGate, drive};
-use hub::{Board, Failed, Hub, Idle, Seat};
+use hub::{Board, Failed, Hub, Idle, Seat, Writer};
 use published::Site;
 use revision::Command;
 use std::alloc::Global;
@@ -50,11 +50,12 @@ pub fn flush_to_the_end<D: Disk, J: Site, R: Wait>(
     alloc: Global,
     flusher: &mut Flusher<D, J>,
     hub: &Hub<D, J>,
+    writer: &mut Writer<J>,
 ) -> Result<Idle<J>, Failed<J>>
     ensures stays { (more : List (List Taken)) × (told_of flusher.new ≡ told_of flusher.old ++ more) }
     ensures holds { OnOk result (state_of (store_of flusher.new) ≡ fold J.start (commands_of (told_of flusher.new))) }
 {
-    let ended = flush_all(rt, alloc, flusher, hub, 0, &mut OpenGate);
+    let ended = flush_all(rt, alloc, flusher, hub, writer, 0, &mut OpenGate);
     flusher.kept();
     ended
 }

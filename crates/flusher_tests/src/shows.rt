@@ -6,7 +6,7 @@ ghost use Rattle.flusher.specs.Holding.{committed_of, waiting_of};
 use crate::made::{command, new_store};
 use disk::MemDisk;
 use flusher::{Flusher, Gate, Moment, start};
-use hub::{Hub, Seat};
+use hub::{Hub, Seat, Writer};
 use published::{Opened, Site};
 use recovery::Store;
 use refusal::Refusal;
@@ -49,10 +49,11 @@ fn hold_next<J: Site, R: Wait + Abort + AllocGlobal>(
     rt: &R,
     flusher: &mut Flusher<MemDisk, J>,
     hub: &Hub<MemDisk, J>,
+    writer: &mut Writer<J>,
 )
     requires nothing { (committed_of flusher.old ≡ []) × (waiting_of flusher.old ≡ []) }
 {
-    let run = match hub.take(rt, rt.alloc(), flusher.cap()) {
+    let run = match hub.take(rt, rt.alloc(), writer, flusher.cap()) {
         Ok(run) => run,
         Err(refusal) => panic!(rt; "{refusal}"),
     };
@@ -65,6 +66,7 @@ fn is_shown<J: Site, R: Wait + Abort + AllocGlobal>(
     rt: &R,
     flusher: &mut Flusher<MemDisk, J>,
     hub: &Hub<MemDisk, J>,
+    writer: &mut Writer<J>,
     seat: &mut Seat<J>,
     gate: &mut Looks<J>,
     number: u64,
@@ -75,10 +77,10 @@ fn is_shown<J: Site, R: Wait + Abort + AllocGlobal>(
     let alloc = rt.alloc();
     let next = command(rt, number, 1);
     let ticket = hub.submit(rt, alloc, seat, &next).expect(rt, "taken");
-    hold_next(rt, flusher, hub);
+    hold_next(rt, flusher, hub, writer);
     let written = flusher.write(rt, alloc, gate).expect(rt, "written");
     let batch = written.expect(rt, "a batch");
-    assert!(rt; batch.settle(rt, hub).is_ok());
+    assert!(rt; batch.settle(rt, hub, writer).is_ok());
     let told = hub.wait_ack(rt, &ticket).expect(rt, "acknowledged");
     assert!(rt; told.len() == number);
     assert!(rt; gate.before == Ok(number.saturating_sub(1)) && gate.after == gate.before);
@@ -102,14 +104,14 @@ fn two_batches<J: Site, R: Wait + Abort + AllocGlobal>(
         Err(fault) => panic!(rt; "{}", fault.refusal),
     };
     let mut seat = board.seat().expect(rt, "a seat");
-    let hub = Hub::new(board);
+    let (hub, mut writer, _closer) = Hub::new(board);
     let mut gate = Looks {
         viewer: flusher.viewer().expect(rt, "a place"),
         before: Ok(0),
         after: Ok(0),
     };
-    is_shown(rt, &mut flusher, &hub, &mut seat, &mut gate, 1);
-    is_shown(rt, &mut flusher, &hub, &mut seat, &mut gate, 2);
+    is_shown(rt, &mut flusher, &hub, &mut writer, &mut seat, &mut gate, 1);
+    is_shown(rt, &mut flusher, &hub, &mut writer, &mut seat, &mut gate, 2);
     let _store = flusher.end(rt);
 }
 

@@ -5,7 +5,7 @@ ghost use Rattle.recovery.specs.Open.{state_of};
 use crate::made::{command, new_store};
 use disk::MemDisk;
 use flusher::{Flusher, Gate, Moment, start};
-use hub::{Board, Hub, Seat};
+use hub::{Board, Closer, Hub, Seat, Writer};
 use published::{Opened, Site};
 use recovery::Store;
 use refusal::Refusal;
@@ -81,12 +81,13 @@ fn submitted<J: Site, R: Wait + Abort + AllocGlobal>(
 fn submitted_all<J: Site, R: Wait + Abort + AllocGlobal>(
     rt: &R,
     hub: &Hub<MemDisk, J>,
+    closer: &mut Closer<J>,
     one: &mut Seat<J>,
     other: &mut Seat<J>,
     reached: &AtomicBool,
 ) -> u64 {
     let held = submitted(rt, hub, one, other, reached);
-    hub.end(rt);
+    hub.end(rt, closer);
     held
 }
 
@@ -97,6 +98,7 @@ fn flushed<J: Site, R: Wait>(
     alloc: Global,
     flusher: &mut Flusher<MemDisk, J>,
     hub: &Hub<MemDisk, J>,
+    writer: &mut Writer<J>,
     reached: &AtomicBool,
 ) -> Result<bool, Refusal> {
     let mut gate = UntilSecond {
@@ -105,7 +107,7 @@ fn flushed<J: Site, R: Wait>(
         reached,
         saw: false,
     };
-    match flush_all(rt, alloc, flusher, hub, 1, &mut gate) {
+    match flush_all(rt, alloc, flusher, hub, writer, 1, &mut gate) {
         Ok(_idle) => Ok(gate.saw),
         Err(failed) => Err(failed.refusal()),
     }
@@ -145,12 +147,12 @@ fn beside<J: Site + Send + Sync, R: Threads + Wait + Abort + AllocGlobal + Sync>
     let (mut flusher, mut board) = started::<J, R>(rt, store, opened, blank);
     let mut one = board.seat().expect(rt, "a seat");
     let mut other = board.seat().expect(rt, "a seat");
-    let hub = Hub::new(board);
+    let (hub, mut writer, mut closer) = Hub::new(board);
     let reached = AtomicBool::new(false);
     let (held, saw) = join(
         rt,
-        || submitted_all(rt, &hub, &mut one, &mut other, &reached),
-        || flushed(rt, alloc, &mut flusher, &hub, &reached),
+        || submitted_all(rt, &hub, &mut closer, &mut one, &mut other, &reached),
+        || flushed(rt, alloc, &mut flusher, &hub, &mut writer, &reached),
     );
     let store = flusher.end(rt);
     assert_eq!(rt; held, 2);

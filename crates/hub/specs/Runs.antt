@@ -21,6 +21,13 @@ pub record Run : Type 0 where
 abbrev pub untaken : Board Entry → List Taken
 untaken board = takens (drop board.taken board.order)
 
+-- What was asked of a board that can't be done: its value then, the batch that was to be settled, and the batches that were told to be
+-- published.
+pub record Unsettled : Type 0 where
+  pub board : Board Entry
+  pub batch : List Taken
+  pub told : List (List Taken)
+
 -- A batch may be settled: it is the next part of the order after what is settled, all of it is taken off, and what was told to be
 -- published ends with it.
 pub record MaySettle (board : Board Entry) (batch : List Taken) (told : ℕ) : Type 0 where

@@ -12,13 +12,15 @@ ghost use Rattle.hub.specs.Waiting.{AreWoken, nobody};
 use crate::board::Board;
 use crate::run::Run;
 use crate::seat::{PLACES, Seat, Ticket};
-use crate::tokens::{Failed, Idle, Settled};
+use crate::tokens::{Closer, Failed, Idle, Settled, Writer};
+use crate::unsettled::Unsettled;
 use published::{Site, Told};
 use recovery::Receipt;
 use refusal::Refusal;
 use revision::Command;
 use std::alloc::Global;
 use std::array;
+use std::snapshot::Snapshot;
 use std::sync::{Condvar, Mutex, Wait};
 
 // What lies under the lock: the board; for each place the least length of the order that a thread waits there to be settled, the
@@ -79,23 +81,28 @@ impl<D, J: Site> Kept<D, J> {
         self.board.submit(alloc, seat, command)
     }
 
-    // settles a batch, and gives the places where somebody waits for what is settled now
+    // settles a batch, and gives the places where somebody waits for what is settled now; or what shows that it can't be settled
     fn settle(
         &mut self,
         receipt: &Receipt<D>,
         told: Told<D, J>,
-    ) -> (Result<(), Refusal>, [bool; 64])
+    ) -> (Result<(), Unsettled<D, J>>, [bool; 64])
         ensures board { OnOk result.0 (self.new.board
             ≡ record self.old.board { board = settled_more self.old.board.board (length receipt.now); told = told }) }
         ensures others { self.new.ended ≡ self.old.ended }
         ensures wakes { OnOk result.0
             (AreWoken self.new.board.board.settled self.old.awaited self.new.awaited result.1) }
         ensures stranger { MaySettle self.old.board.board receipt.now (length (commands_of told)) → IsOk result.0 }
-        ensures only { IfErr result.0 (λ e. e ≡ Refusal.Stranger) }
+        ensures asked { IfErr result.0 (λ e. e
+            ≡ record { board = self.old.board.board; batch = receipt.now; told = told }) }
         ensures unchanged { OnErr result.0 (self.new ≡ self.old) }
     {
-        if let Err(refusal) = self.board.settle(receipt, told) {
-            return (Err(refusal), [false; 64]);
+        let shown = Snapshot::of(&told);
+        if self.board.settle(receipt, told).is_err() {
+            return (
+                Err(Unsettled::by_board(&self.board, receipt, shown)),
+                [false; 64],
+            );
         }
         let settled = self.board.settled();
         (Ok(()), woken(&mut self.awaited, settled))
@@ -128,7 +135,8 @@ fn woken(awaited: &mut [usize; 64], settled: usize) -> [bool; 64]
 }
 
 /// A board that threads share, behind one lock. A session's threads submit and wait; the flusher's thread takes, settles and waits
-/// for work. Where a ticket's length is settled only the threads at its place are woken, after the lock was let go. All calls by
+/// for work, and says where the store has failed: these calls ask for the hub's `Writer`, which that thread alone has. Who ends the hub
+/// has its `Closer`. Where a ticket's length is settled only the threads at its place are woken, after the lock was let go. All calls by
 /// `&self` may wait. What a call does to the board under the lock is the board's own contract; here stands what the caller is told.
 #[derive(Drop)]
 pub struct Hub<D, J: Site> {
@@ -138,13 +146,14 @@ pub struct Hub<D, J: Site> {
 }
 
 impl<D, J: Site> Hub<D, J> {
-    /// A hub of a board. It takes no memory.
-    pub fn new(board: Board<D, J>) -> Hub<D, J> {
-        Hub {
+    /// A hub of a board, the only right to write what it orders, and the only right to end it. It takes no memory.
+    pub fn new(board: Board<D, J>) -> (Hub<D, J>, Writer<J>, Closer<J>) {
+        let hub = Hub {
             kept: Mutex::new(Kept::new(board)),
             moved: array::from_fn(|_| Condvar::new()),
             work: Condvar::new(),
-        }
+        };
+        (hub, Writer::by_hub(), Closer::by_hub())
     }
 
     /// Submits a command to the board, and wakes the flusher. The ticket is of this command, and the seat counts it just where the
@@ -168,23 +177,34 @@ impl<D, J: Site> Hub<D, J> {
     }
 
     /// Takes the next run off the board, as `Board::take` does: it fits `cap` bytes as one batch, or is empty. Refused for want of memory alone.
-    pub fn take<R: Wait>(&self, rt: &R, alloc: Global, cap: u32) -> Result<Run<D, J>, Refusal>
+    pub fn take<R: Wait>(
+        &self,
+        rt: &R,
+        alloc: Global,
+        writer: &mut Writer<J>,
+        cap: u32,
+    ) -> Result<Run<D, J>, Refusal>
         ensures fits { IfOk result (λ run. (run.commands ≡ []) ⊎ (batch_width run.commands ≤ cap)) }
         ensures cap { IfOk result (λ run. run.cap ≡ cap) }
         ensures only { IfErr result (λ e. e ≡ Refusal.NoMemory) }
     {
+        let _ = writer;
         self.kept.lock(rt).board.take(alloc, cap)
     }
 
-    /// Settles a batch by its receipt and the token of its publish, as `Board::settle` does, and wakes those who wait for it. Refused with `Stranger` alone.
+    /// Settles a batch by its receipt and the token of its publish, as `Board::settle` does, and wakes those who wait for it. A refusal
+    /// shows a moment of the hub's board at which just this batch can't be settled by just this token.
     pub fn settle<R: Wait>(
         &self,
         rt: &R,
+        writer: &mut Writer<J>,
         receipt: &Receipt<D>,
         told: Told<D, J>,
-    ) -> Result<Settled<J>, Refusal>
-        ensures { IfErr result (λ e. e ≡ Refusal.Stranger) }
+    ) -> Result<Settled<J>, Unsettled<D, J>>
+        ensures batch { IfErr result (λ unsettled. unsettled.batch ≡ receipt.now) }
+        ensures told { IfErr result (λ unsettled. unsettled.told ≡ told) }
     {
+        let _ = writer;
         let (answer, covered) = self.kept.lock(rt).settle(receipt, told);
         for (condition, wakes) in self.moved.iter().zip(covered.iter()) {
             if *wakes {
@@ -193,14 +213,15 @@ impl<D, J: Site> Hub<D, J> {
         }
         match answer {
             Ok(()) => Ok(Settled::by_hub()),
-            Err(refusal) => Err(refusal),
+            Err(unsettled) => Err(unsettled),
         }
     }
 
     /// Notes that the store has failed, for this reason, and wakes all who wait.
-    pub fn fail<R: Wait>(&self, rt: &R, why: Refusal) -> Failed<J>
+    pub fn fail<R: Wait>(&self, rt: &R, writer: &mut Writer<J>, why: Refusal) -> Failed<J>
         ensures { result ≡ why }
     {
+        let _ = writer;
         self.kept.lock(rt).board.fail();
         for condition in self.moved.iter() {
             condition.notify_all();
@@ -238,7 +259,8 @@ impl<D, J: Site> Hub<D, J> {
     }
 
     /// Waits until a command of the order isn't taken off, and answers `None`; a token where the end was called and all are.
-    pub fn wait_work<R: Wait>(&self, rt: &R) -> Option<Idle<J>> {
+    pub fn wait_work<R: Wait>(&self, rt: &R, writer: &mut Writer<J>) -> Option<Idle<J>> {
+        let _ = writer;
         let mut kept = self.kept.lock(rt);
         for _ in rt.forever() {
             if !kept.board.is_idle() {
@@ -254,7 +276,8 @@ impl<D, J: Site> Hub<D, J> {
 
     /// Tells the flusher that nothing more will be submitted. From then on `submit` is refused with `StoreFailed`, so that nobody waits
     /// for a turn that doesn't come.
-    pub fn end<R: Wait>(&self, rt: &R) {
+    pub fn end<R: Wait>(&self, rt: &R, closer: &mut Closer<J>) {
+        let _ = closer;
         self.kept.lock(rt).end();
         self.work.notify_all();
     }

@@ -10,8 +10,12 @@
 //! What `take` takes off is a `Run`, which nothing else makes and nobody can change: so a flusher can only hold what a board took off. It
 //! isn't `Drop`, so no path lets one go: it ends by the receipt of its commit, or with its store.
 //!
-//! Some answers of a hub are tokens that it alone makes: `Settled` where a batch was settled, `Failed` where the hub was told of a failure,
-//! `Idle` where it was ended and nothing is left to take. A function that answers with one has called it.
+//! What is the flusher's, to take, to settle, to wait for work and to fail, asks for a hub's `Writer`, and to end it for its `Closer`:
+//! `Hub::new` gives one of each, which can't be copied, so that no session's desk can do any of it.
+//!
+//! Some answers are tokens that nothing else makes: `Settled` where a batch was settled, `Failed` where the hub was told of a failure,
+//! `Idle` where it was ended and nothing is left to take, `Nothing` where a run was taken off empty. A function that answers with one has
+//! called it. `Unsettled`, by which a hub refuses to settle a batch, shows a moment of its board at which that batch can't be settled.
 //!
 //! A `Hub` is shared by threads: sessions submit and wait for their acknowledgements, and one flusher takes batches, writes them with
 //! the board unlocked, and settles them. After it has let the lock go, `settle` wakes the seats whose tickets are covered
@@ -64,9 +68,11 @@ mod hub;
 mod run;
 mod seat;
 mod tokens;
+mod unsettled;
 
 pub use board::Board;
 pub use hub::Hub;
 pub use run::Run;
 pub use seat::{Seat, Ticket};
-pub use tokens::{Failed, Idle, Settled};
+pub use tokens::{Closer, Failed, Idle, Nothing, Settled, Writer};
+pub use unsettled::Unsettled;

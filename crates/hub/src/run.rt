@@ -3,6 +3,7 @@ ghost use Rattle.std.specs.Prelude.{◌≡◌, ◌↔◌, ◌≤◌, true, lengt
 ghost use Rattle.world.specs.World.{takens};
 ghost use Rattle.hub.specs.Runs.{IsLongest};
 
+use crate::tokens::Nothing;
 use disk::Disk;
 use published::Site;
 use recovery::{Receipt, Store};
@@ -67,8 +68,8 @@ impl<D, J: Site> Run<D, J> {
         let _ = receipt;
     }
 
-    /// Ends a run that has no command.
-    pub fn nothing(self)
+    /// Ends a run that has no command, and gives the token that there was none to take off.
+    pub fn nothing(self) -> Nothing<J>
         requires { length self.commands ≡ 0 }
     {
         let Run {
@@ -76,6 +77,7 @@ impl<D, J: Site> Run<D, J> {
             cap: _,
             of: _,
         } = self;
+        Nothing::by_run()
     }
 
     /// Gives a run up, which isn't written any more: by whoever has the store itself, and gets it back.

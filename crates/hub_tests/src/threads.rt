@@ -3,7 +3,7 @@ ghost use Rattle.std.specs.Prelude.{◌≡◌};
 
 use crate::made::{CAP, SHAPE, command, commit, new_store};
 use disk::MemDisk;
-use hub::{Board, Hub, Seat};
+use hub::{Board, Closer, Hub, Seat, Writer};
 use published::{Log, Opened, Site, Told};
 use recovery::Store;
 use refusal::Refusal;
@@ -46,11 +46,12 @@ fn submitted_all<J: Site, R: Wait>(
     rt: &R,
     alloc: Global,
     hub: &Hub<MemDisk, J>,
+    closer: &mut Closer<J>,
     seat: &mut Seat<J>,
     edits: &[(u64, u32)],
 ) -> Result<u64, Refusal> {
     let answer = submitted(rt, alloc, hub, seat, edits);
-    hub.end(rt);
+    hub.end(rt, closer);
     answer
 }
 
@@ -59,6 +60,7 @@ fn written<J: Site, R: Wait>(
     rt: &R,
     alloc: Global,
     hub: &Hub<MemDisk, J>,
+    writer: &mut Writer<J>,
     store: Store<MemDisk>,
     log: &Log<MemDisk, J>,
     start: &Told<MemDisk, J>,
@@ -67,10 +69,10 @@ fn written<J: Site, R: Wait>(
     let mut told = start.copy();
     let mut batches: u64 = 0;
     for _ in rt.forever() {
-        if let Some(_idle) = hub.wait_work(rt) {
+        if let Some(_idle) = hub.wait_work(rt, writer) {
             return Ok(batches);
         }
-        let run = hub.take(rt, alloc, CAP)?;
+        let run = hub.take(rt, alloc, writer, CAP)?;
         let receipt = match commit(alloc, &mut store, run.commands()) {
             Ok(receipt) => receipt,
             Err(refusal) => {
@@ -83,7 +85,9 @@ fn written<J: Site, R: Wait>(
             Ok(more) => more,
             Err(_) => return Err(Refusal::Stranger),
         };
-        let _settled = hub.settle(rt, &receipt, told.copy())?;
+        if hub.settle(rt, writer, &receipt, told.copy()).is_err() {
+            return Err(Refusal::Stranger);
+        }
         batches = batches.saturating_add(1);
     }
     unreachable!()
@@ -94,13 +98,14 @@ fn written_or_failed<J: Site, R: Wait>(
     rt: &R,
     alloc: Global,
     hub: &Hub<MemDisk, J>,
+    writer: &mut Writer<J>,
     store: Store<MemDisk>,
     log: &Log<MemDisk, J>,
     start: &Told<MemDisk, J>,
 ) -> Result<u64, Refusal> {
-    match written(rt, alloc, hub, store, log, start) {
+    match written(rt, alloc, hub, writer, store, log, start) {
         Ok(batches) => Ok(batches),
-        Err(refusal) => Err(hub.fail(rt, refusal).refusal()),
+        Err(refusal) => Err(hub.fail(rt, writer, refusal).refusal()),
     }
 }
 
@@ -123,11 +128,11 @@ fn both<J: Site + Send + Sync, R: Threads + Wait + Abort + AllocGlobal + Sync>(
     let (log, told) = opened.named::<_, J>();
     let mut board = Board::new(alloc, state, told.copy(), blank, 64);
     let mut seat = board.seat().expect(rt, "a seat");
-    let hub = Hub::new(board);
+    let (hub, mut writer, mut closer) = Hub::new(board);
     join(
         rt,
-        || submitted_all(rt, alloc, &hub, &mut seat, edits),
-        || written_or_failed(rt, alloc, &hub, store, &log, &told),
+        || submitted_all(rt, alloc, &hub, &mut closer, &mut seat, edits),
+        || written_or_failed(rt, alloc, &hub, &mut writer, store, &log, &told),
     )
 }
 

@@ -7,7 +7,7 @@ ghost use Rattle.listening.specs.Served.{IsStarted, WasServed, WasShown};
 
 use disk::Disk;
 use flusher::{Flusher, OpenGate, StartFault, start};
-use hub::{Board, Hub, Seat};
+use hub::{Board, Closer, Hub, Seat, Writer};
 use hub_desk::HubDesk;
 use published::{Opened, Site};
 use recovery::Store;
@@ -134,7 +134,7 @@ fn serve_seats<
     ensures fails { has_failed (store_of flusher) ≡ false
         → (has_failed result.0 ≡ true ↔ IsErrOf result.1 Refusal.Fault) }
 {
-    let hub = Hub::new(board);
+    let (hub, writer, closer) = Hub::new(board);
     match desks_at(rt, alloc, &flusher, &hub, seats) {
         Ok(desks) => {
             let shared = Shared {
@@ -144,7 +144,7 @@ fn serve_seats<
                 listener,
                 every,
             };
-            serve_at(&shared, flusher, desks)
+            serve_at(&shared, flusher, writer, closer, desks)
         }
         Err(refusal) => (flusher.end(rt), Err(refusal)),
     }
@@ -170,6 +170,8 @@ fn serve_at<
 >(
     shared: &Shared<'_, D, J, R, N>,
     flusher: Flusher<D, J>,
+    writer: Writer<J>,
+    closer: Closer<J>,
     desks: Vec<HubDesk<'_, D, J, R>>,
 ) -> (Store<D>, Result<(), Refusal>)
     requires started { IsStarted flusher }
@@ -179,8 +181,10 @@ fn serve_at<
         → (has_failed result.0 ≡ true ↔ IsErrOf result.1 Refusal.Fault) }
 {
     let mut flusher = flusher;
+    let mut writer = writer;
+    let mut closer = closer;
     flusher.kept();
-    let served = serve_hub(shared, desks, &mut flusher);
+    let served = serve_hub(shared, desks, &mut closer, &mut flusher, &mut writer);
     flusher.kept();
     (flusher.end(shared.rt), served)
 }
@@ -205,7 +209,9 @@ fn serve_hub<
 >(
     shared: &Shared<'_, D, J, R, N>,
     desks: Vec<HubDesk<'_, D, J, R>>,
+    closer: &mut Closer<J>,
     flusher: &mut Flusher<D, J>,
+    writer: &mut Writer<J>,
 ) -> Result<(), Refusal>
     ensures writes { Writes J.start flusher.old flusher.new }
     ensures nothing { OnOk result ((committed_of flusher.new ≡ []) × (waiting_of flusher.new ≡ [])) }
@@ -216,10 +222,10 @@ fn serve_hub<
     let (served, flushed) = thread::join_mut(
         shared.rt,
         &mut || match desks.take() {
-            Some(desks) => serve_all(shared, desks),
+            Some(desks) => serve_all(shared, desks, closer),
             None => Ok(()),
         },
-        &mut || write_all(shared, flusher),
+        &mut || write_all(shared, flusher, writer),
     );
     flushed?;
     served
@@ -229,6 +235,7 @@ fn serve_hub<
 fn write_all<J: Site, R: Wait, N, D: Disk>(
     shared: &Shared<'_, D, J, R, N>,
     flusher: &mut Flusher<D, J>,
+    writer: &mut Writer<J>,
 ) -> Result<(), Refusal>
     ensures writes { Writes J.start flusher.old flusher.new }
     ensures nothing { OnOk result ((committed_of flusher.new ≡ []) × (waiting_of flusher.new ≡ [])) }
@@ -240,6 +247,7 @@ fn write_all<J: Site, R: Wait, N, D: Disk>(
         shared.alloc,
         flusher,
         shared.hub,
+        writer,
         shared.every,
         &mut OpenGate,
     ) {
@@ -254,11 +262,15 @@ fn serve_all<
     R: Threads + Wait + Sync,
     N: OpenListener<Stream = TcpStream> + Sync,
     D: Send + Drop,
->(shared: &Shared<'_, D, J, R, N>, desks: Vec<HubDesk<'_, D, J, R>>) -> Result<(), Refusal>
+>(
+    shared: &Shared<'_, D, J, R, N>,
+    desks: Vec<HubDesk<'_, D, J, R>>,
+    closer: &mut Closer<J>,
+) -> Result<(), Refusal>
     ensures only { IsOkUnless result Refusal.NoMemory }
 {
     let served = serve_desks(shared.rt, shared.alloc, desks, shared.listener);
-    shared.hub.end(shared.rt);
+    shared.hub.end(shared.rt, closer);
     Ok(served?)
 }
 

@@ -18,6 +18,9 @@ use Rattle.flusher.specs.Flushers.{IsUsedUp, IsWritten}
 use Rattle.flusher.specs.Holding.{IsLost, IsUncommitted, store_of, told_of, committed_of, waiting_of}
 use Rattle.flusher.proofs.CallerLemmas.{commands-append, fewer, longer, within_write}
 use Rattle.turns.specs.Writing.{IsKeptUp, IsFullFor, IsOneMore, IsTurnFailed, given_to, told_count, Writes}
+use Rattle.turns.specs.Turning.{HasTurned}
+use Rattle.turns.specs.declared.turned.Turned.{Turned}
+use Rattle.turns.specs.declared.turned.Turned.TheVariants.{Settled, Nothing}
 
 -- what the store of a flusher holds
 abbrev Kept : State → State → List (List Taken) → List (List Taken) → Type 0
@@ -290,22 +293,18 @@ module _ {D J : Type 0} {disk : Ghosts D} where
   failed_before old mid new refusal first works same (inr (inl (is, inr one))) = inr (inl (is, inr (one_before old mid new same one)))
   failed_before old mid new refusal first works same (inr (inr lost)) = inr (inr lost)
 
+  turned_before : (answer : Turned J) (old mid new : Flusher D J disk) → told_of mid ≡ told_of old → HasTurned mid answer new → HasTurned old answer new
+  turned_before (Settled token) old mid new same one = one_before old mid new same one
+  turned_before (Nothing token) old mid new same none = none ∙ same
+
   -- what a write answered, told of the flusher before it was kept up
-  pub one_after : {A E : Type 0} (result : Result (Option A) E) (old mid new : Flusher D J disk) → told_of mid ≡ told_of old
-      → IfOk result (λ answer. IfSome answer (λ settled. IsOneMore mid new)) → IfOk result (λ answer. IfSome answer (λ settled. IsOneMore old new))
-  one_after (Ok (Some settled)) old mid new same one = one_before old mid new same one
-  one_after (Ok None) old mid new same one = tt
-  one_after (Err refusal) old mid new same one = tt
+  pub turned_after : {E : Type 0} (result : Result (Turned J) E) (old mid new : Flusher D J disk) → told_of mid ≡ told_of old
+      → IfOk result (λ answer. HasTurned mid answer new) → IfOk result (λ answer. HasTurned old answer new)
+  turned_after (Ok answer) old mid new same turned = turned_before answer old mid new same turned
+  turned_after (Err refusal) old mid new same turned = tt
 
   pub causes_after : {A : Type 0} (result : Result A Refusal) (old mid new : Flusher D J disk) → IsKeptUp (store_of old) (store_of mid)
       → (has_failed (store_of old) ≡ false → has_failed (store_of mid) ≡ false) → told_of mid ≡ told_of old
       → IfErr result (λ e. e ≢ NoMemory → e ≢ Fault → IsTurnFailed mid e new) → IfErr result (λ e. e ≢ NoMemory → e ≢ Fault → IsTurnFailed old e new)
   causes_after (Ok answer) old mid new first works same causes = tt
   causes_after (Err refusal) old mid new first works same causes = λ no_memory no_fault. failed_before old mid new refusal first works same (causes no_memory no_fault)
-
-  -- where one is held, a write doesn't answer that none was
-  pub none_after : {A E : Type 0} (result : Result (Option A) E) (old mid new : Flusher D J disk) → committed_of mid ++ waiting_of mid ≢ []
-      → IfOk result (λ answer. IfNone answer (committed_of mid ++ waiting_of mid ≡ [])) → IfOk result (λ answer. IfNone answer (told_of new ≡ told_of old))
-  none_after (Ok (Some settled)) old mid new held none = tt
-  none_after (Ok None) old mid new held none = absurd (held none)
-  none_after (Err refusal) old mid new held none = tt

@@ -22,7 +22,7 @@
 //!
 //! use disk::Disk;
 //! use flusher::{Flusher, OpenGate};
-//! use hub::{Failed, Hub, Idle};
+//! use hub::{Failed, Hub, Idle, Writer};
 //! use published::Site;
 //! use std::alloc::Global;
 //! use std::sync::Wait;
@@ -35,11 +35,12 @@
 //!     alloc: Global,
 //!     flusher: &mut Flusher<D, J>,
 //!     hub: &Hub<D, J>,
+//!     writer: &mut Writer<J>,
 //! ) -> Result<Idle<J>, Failed<J>>
 //!     ensures stays { (more : List (List Taken)) × (told_of flusher.new ≡ told_of flusher.old ++ more) }
 //!     ensures holds { OnOk result (state_of (store_of flusher.new) ≡ fold J.start (commands_of (told_of flusher.new))) }
 //! {
-//!     let ended = flush_all(rt, alloc, flusher, hub, 0, &mut OpenGate);
+//!     let ended = flush_all(rt, alloc, flusher, hub, writer, 0, &mut OpenGate);
 //!     flusher.kept();
 //!     ended
 //! }
@@ -48,8 +49,10 @@
 
 mod stop;
 mod turn;
+mod turned;
 mod upkeep;
 
 pub use stop::Stop;
 pub use turn::{flush_all, flush_turn};
+pub use turned::Turned;
 pub use upkeep::Upkeep;

@@ -1,7 +1,7 @@
 //! What stops a turn.
 ghost use Rattle.std.specs.Prelude.{◌≡◌, ◌≢◌, IfSome, IfNone};
 
-use hub::{Failed, Hub};
+use hub::{Failed, Hub, Writer};
 use published::Site;
 use refusal::Refusal;
 use std::marker::Model;
@@ -37,13 +37,18 @@ impl<J: Site> Stop<J> {
 }
 
 // Stops for a refusal. Each but for want of memory fails the board.
-pub(crate) fn stopped<D, J: Site, R: Wait>(rt: &R, hub: &Hub<D, J>, refusal: Refusal) -> Stop<J>
+pub(crate) fn stopped<D, J: Site, R: Wait>(
+    rt: &R,
+    hub: &Hub<D, J>,
+    writer: &mut Writer<J>,
+    refusal: Refusal,
+) -> Stop<J>
     ensures { result ≡ refusal }
 {
     if refusal == Refusal::NoMemory {
         return Stop { failed: None };
     }
     Stop {
-        failed: Some(hub.fail(rt, refusal)),
+        failed: Some(hub.fail(rt, writer, refusal)),
     }
 }

@@ -3,13 +3,15 @@ ghost use Rattle.std.specs.Prelude.{◌≡◌, ◌≢◌, ◌↔◌, ◌≤◌, 
 ghost use Rattle.journal.specs.BatchSpelling.{batch_width};
 ghost use Rattle.recovery.specs.Open.{has_failed};
 ghost use Rattle.flusher.specs.Holding.{store_of, told_of, committed_of, waiting_of};
-ghost use Rattle.turns.specs.Writing.{Writes, IsOneMore, IsTurnFailed, IsEndedBy};
+ghost use Rattle.turns.specs.Writing.{Writes, IsTurnFailed, IsEndedBy};
+ghost use Rattle.turns.specs.Turning.{HasTurned};
 
 use crate::stop::{Stop, stopped};
+use crate::turned::Turned;
 use crate::upkeep::Upkeep;
 use disk::Disk;
 use flusher::{Flusher, Gate};
-use hub::{Failed, Hub, Idle, Run, Settled};
+use hub::{Failed, Hub, Idle, Nothing, Run, Writer};
 use published::Site;
 use refusal::Refusal;
 use std::alloc::Global;
@@ -17,8 +19,8 @@ use std::sync::Wait;
 use std::thread;
 
 /// Puts the milestones that are due of the documents of the batch before, as `upkeep` knows them. Then takes the longest run of the next
-/// commands that makes one batch, writes it while the board is unlocked, and settles it. It answers with the hub's token of that: `None`
-/// where nothing was to be taken.
+/// commands that makes one batch, writes it while the board is unlocked, and settles it. It answers with the hub's token of that, or with the
+/// one that nothing was to be taken.
 ///
 /// Refused with `NoMemory` where memory was wanted for a batch, and then the next turn goes on with the same batch, or with its
 /// publishing; where it was wanted for a milestone, the next turn looks for it again. Each other refusal fails the board, and has the
@@ -28,13 +30,13 @@ pub fn flush_turn<D: Disk, J: Site, R: Wait, G: Gate>(
     alloc: Global,
     flusher: &mut Flusher<D, J>,
     hub: &Hub<D, J>,
+    writer: &mut Writer<J>,
     upkeep: &mut Upkeep<D>,
     gate: &mut G,
-) -> Result<Option<Settled<J>>, Stop<J>>
+) -> Result<Turned<J>, Stop<J>>
     // What a crash leaves, and what is published and held after it.
     ensures writes { Writes J.start flusher.old flusher.new }
-    ensures one { IfOk result (λ answer. IfSome answer (λ settled. IsOneMore flusher.old flusher.new)) }
-    ensures none { IfOk result (λ answer. IfNone answer (told_of flusher.new ≡ told_of flusher.old)) }
+    ensures turned { IfOk result (λ answer. HasTurned flusher.old answer flusher.new) }
     ensures nothing { OnOk result ((committed_of flusher.new ≡ []) × (waiting_of flusher.new ≡ [])) }
 
     // When each refusal comes: a failure of the device is told as such, and nothing else is.
@@ -43,9 +45,9 @@ pub fn flush_turn<D: Disk, J: Site, R: Wait, G: Gate>(
     ensures causes { IfErr result (λ e. e ≢ Refusal.NoMemory → e ≢ Refusal.Fault
         → IsTurnFailed flusher.old e flusher.new) }
 {
-    match turn_made(rt, alloc, flusher, hub, upkeep, gate) {
-        Ok(settled) => Ok(settled),
-        Err(refusal) => Err(stopped(rt, hub, refusal)),
+    match turn_made(rt, alloc, flusher, hub, writer, upkeep, gate) {
+        Ok(turned) => Ok(turned),
+        Err(refusal) => Err(stopped(rt, hub, writer, refusal)),
     }
 }
 
@@ -55,12 +57,12 @@ fn turn_made<D: Disk, J: Site, R: Wait, G: Gate>(
     alloc: Global,
     flusher: &mut Flusher<D, J>,
     hub: &Hub<D, J>,
+    writer: &mut Writer<J>,
     upkeep: &mut Upkeep<D>,
     gate: &mut G,
-) -> Result<Option<Settled<J>>, Refusal>
+) -> Result<Turned<J>, Refusal>
     ensures writes { Writes J.start flusher.old flusher.new }
-    ensures one { IfOk result (λ answer. IfSome answer (λ settled. IsOneMore flusher.old flusher.new)) }
-    ensures none { IfOk result (λ answer. IfNone answer (told_of flusher.new ≡ told_of flusher.old)) }
+    ensures turned { IfOk result (λ answer. HasTurned flusher.old answer flusher.new) }
     ensures nothing { OnOk result ((committed_of flusher.new ≡ []) × (waiting_of flusher.new ≡ [])) }
     ensures fails { has_failed (store_of flusher.old) ≡ false
         → (has_failed (store_of flusher.new) ≡ true ↔ IsErrOf result Refusal.Fault) }
@@ -71,70 +73,72 @@ fn turn_made<D: Disk, J: Site, R: Wait, G: Gate>(
     if let Err(refusal) = upkeep.put_due(alloc, flusher) {
         return Err(refusal);
     }
-    let held = match hold_next(rt, alloc, flusher, hub) {
-        Ok(held) => held,
+    let answer = match hold_next(rt, alloc, flusher, hub, writer) {
+        Ok(answer) => answer,
         Err(refusal) => return Err(refusal),
     };
-    if !held {
-        return Ok(None);
+    match answer {
+        None => write_held(rt, alloc, flusher, hub, writer, upkeep, gate),
+        Some(nothing) => Ok(Turned::Nothing(nothing)),
     }
-    write_held(rt, alloc, flusher, hub, upkeep, gate)
 }
 
-// Takes the next batch and holds it, where none is held; whether one is held then. Refused for want of memory alone.
+// Takes the next batch and holds it, where none is held. It answers with the token that there was none to take, unless one is held then.
+// Refused for want of memory alone.
 #[tactic(auto, using(crate::proofs::Fitting::fits_slot))]
 fn hold_next<D: Disk, J: Site, R: Wait>(
     rt: &R,
     alloc: Global,
     flusher: &mut Flusher<D, J>,
     hub: &Hub<D, J>,
-) -> Result<bool, Refusal>
+    writer: &mut Writer<J>,
+) -> Result<Option<Nothing<J>>, Refusal>
     ensures writes { Writes J.start flusher.old flusher.new }
-    ensures held { IfOk result (λ held. held ≡ true → committed_of flusher.new ++ waiting_of flusher.new ≢ []) }
-    ensures nothing { IfOk result (λ held. held ≡ false → (committed_of flusher.new ≡ [])
-        × (waiting_of flusher.new ≡ [])) }
+    ensures held { IfOk result (λ answer. IfNone answer (committed_of flusher.new ++ waiting_of flusher.new ≢ [])) }
+    ensures nothing { IfOk result (λ answer. IfSome answer (λ token. (committed_of flusher.new ≡ [])
+        × (waiting_of flusher.new ≡ []))) }
     ensures store { store_of flusher.new ≡ store_of flusher.old }
     ensures told { told_of flusher.new ≡ told_of flusher.old }
     ensures only { IfErr result (λ e. e ≡ Refusal.NoMemory) }
 {
     flusher.kept();
     if flusher.holds() {
-        return Ok(true);
+        return Ok(None);
     }
-    let taken = match take_some(rt, alloc, flusher.cap(), hub) {
+    let taken = match take_some(rt, alloc, flusher.cap(), hub, writer) {
         Ok(taken) => taken,
         Err(refusal) => return Err(refusal),
     };
     match taken {
-        None => Ok(false),
-        Some(run) => {
+        Err(nothing) => Ok(Some(nothing)),
+        Ok(run) => {
             flusher.hold(run);
-            Ok(true)
+            Ok(None)
         }
     }
 }
 
-// The next run whose batch has at most so many bytes, where there is one.
+// The next run whose batch has at most so many bytes, or the token that there is none.
 fn take_some<D: Disk, J: Site, R: Wait>(
     rt: &R,
     alloc: Global,
     cap: u32,
     hub: &Hub<D, J>,
-) -> Result<Option<Run<D, J>>, Refusal>
-    ensures fits { IfOk result (λ taken. IfSome taken (λ run. (1 ≤ length run.commands)
+    writer: &mut Writer<J>,
+) -> Result<Result<Run<D, J>, Nothing<J>>, Refusal>
+    ensures fits { IfOk result (λ taken. IfOk taken (λ run. (1 ≤ length run.commands)
         × (batch_width run.commands ≤ cap))) }
-    ensures cap { IfOk result (λ taken. IfSome taken (λ run. run.cap ≡ cap)) }
+    ensures cap { IfOk result (λ taken. IfOk taken (λ run. run.cap ≡ cap)) }
     ensures only { IfErr result (λ e. e ≡ Refusal.NoMemory) }
 {
-    let run = match hub.take(rt, alloc, cap) {
+    let run = match hub.take(rt, alloc, writer, cap) {
         Ok(run) => run,
         Err(refusal) => return Err(refusal),
     };
     if run.len() == 0 {
-        run.nothing();
-        return Ok(None);
+        return Ok(Err(run.nothing()));
     }
-    Ok(Some(run))
+    Ok(Ok(run))
 }
 
 // Writes the batch that is held, settles it, and notes it for the next turn's milestones.
@@ -143,12 +147,13 @@ fn write_held<D: Disk, J: Site, R: Wait, G: Gate>(
     alloc: Global,
     flusher: &mut Flusher<D, J>,
     hub: &Hub<D, J>,
+    writer: &mut Writer<J>,
     upkeep: &mut Upkeep<D>,
     gate: &mut G,
-) -> Result<Option<Settled<J>>, Refusal>
+) -> Result<Turned<J>, Refusal>
+    requires held { committed_of flusher.old ++ waiting_of flusher.old ≢ [] }
     ensures writes { Writes J.start flusher.old flusher.new }
-    ensures one { IfOk result (λ answer. IfSome answer (λ settled. IsOneMore flusher.old flusher.new)) }
-    ensures none { IfOk result (λ answer. IfNone answer (committed_of flusher.old ++ waiting_of flusher.old ≡ [])) }
+    ensures turned { IfOk result (λ answer. HasTurned flusher.old answer flusher.new) }
     ensures nothing { OnOk result ((committed_of flusher.new ≡ []) × (waiting_of flusher.new ≡ [])) }
     ensures fails { has_failed (store_of flusher.old) ≡ false
         → (has_failed (store_of flusher.new) ≡ true ↔ IsErrOf result Refusal.Fault) }
@@ -161,13 +166,13 @@ fn write_held<D: Disk, J: Site, R: Wait, G: Gate>(
         Err(refusal) => return Err(refusal),
     };
     match written {
-        None => Ok(None),
+        None => unreachable!(),
         Some(both) => {
             flusher.kept();
-            match both.settle(rt, hub) {
+            match both.settle(rt, hub, writer) {
                 Ok((receipt, settled)) => {
                     upkeep.note(receipt);
-                    Ok(Some(settled))
+                    Ok(Turned::Settled(settled))
                 }
                 Err(failed) => Err(failed.refusal()),
             }
@@ -187,6 +192,7 @@ pub fn flush_all<D: Disk, J: Site, R: Wait, G: Gate>(
     alloc: Global,
     flusher: &mut Flusher<D, J>,
     hub: &Hub<D, J>,
+    writer: &mut Writer<J>,
     every: u32,
     gate: &mut G,
 ) -> Result<Idle<J>, Failed<J>>
@@ -200,11 +206,11 @@ pub fn flush_all<D: Disk, J: Site, R: Wait, G: Gate>(
     let mut upkeep = Upkeep::new(every);
     for _ in rt.forever() {
         if !flusher.holds() {
-            if let Some(idle) = hub.wait_work(rt) {
+            if let Some(idle) = hub.wait_work(rt, writer) {
                 return Ok(idle);
             }
         }
-        if let Err(stop) = flush_turn(rt, alloc, flusher, hub, &mut upkeep, gate) {
+        if let Err(stop) = flush_turn(rt, alloc, flusher, hub, writer, &mut upkeep, gate) {
             if let Some(failed) = stop.into_failed() {
                 return Err(failed);
             }

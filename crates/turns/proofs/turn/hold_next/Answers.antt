@@ -8,11 +8,11 @@ returns-then-holds-clause-writes g c = writes_none g.J.Site.start c.args.flusher
 pub returns-in-Err-clause-writes : goal.returns-in-Err-clause-writes
 returns-in-Err-clause-writes g c = writes_none g.J.Site.start c.args.flusher.now c.kept.ensures
 
-pub returns-in-None-clause-writes : goal.returns-in-None-clause-writes
-returns-in-None-clause-writes g c = writes_none g.J.Site.start c.args.flusher.now c.kept.ensures
+pub returns-in-Err-taken-clause-writes : goal.returns-in-Err-taken-clause-writes
+returns-in-Err-taken-clause-writes g c = writes_none g.J.Site.start c.args.flusher.now c.kept.ensures
 
-pub returns-in-Some-clause-writes : goal.returns-in-Some-clause-writes
-returns-in-Some-clause-writes g c =
+pub returns-in-Ok-taken-clause-writes : goal.returns-in-Ok-taken-clause-writes
+returns-in-Ok-taken-clause-writes g c =
     let none : c.holds.result ≡ false = search rules in
     let e = c.hold.ensures in
-    writes_held g.J.Site.start c.args.flusher.now c.hold.new.self c.in-Some.run'.commands c.kept.ensures e.store e.told e.committed (c.holds.ensures.held none).1 e.waiting
+    writes_held g.J.Site.start c.args.flusher.now c.hold.new.self c.in-Ok-taken.run'.commands c.kept.ensures e.store e.told e.committed (c.holds.ensures.held none).1 e.waiting

@@ -1,8 +1,8 @@
-use Rattle.std.proofs.Common.{◌≡◌, ◌∙◌, ap, true, rules}
-use Rattle.std.specs.Prelude.{None}
+use Rattle.std.proofs.Common.{◌≡◌, ◌∙◌, ap}
 use Rattle.recovery.specs.Open.{has_failed}
 use Rattle.flusher.specs.Holding.{store_of}
-use Rattle.turns.proofs.Writing.{kept_up_same, writes_kept_up, writes_on, works_after, fails_ok, fails_err, fails_not, memory_not_fault, one_after, none_after, causes_after}
+use Rattle.turns.proofs.Writing.{kept_up_same, writes_kept_up, writes_on, works_after, fails_ok, fails_err, fails_not, memory_not_fault, turned_after, causes_after}
+use Rattle.turns.specs.declared.turned.Turned.TheVariants.{Nothing}
 use Rattle.turns.proofs.turn.turn_made.Goals as goal
 
 -- the device failed at a milestone
@@ -36,22 +36,25 @@ pub returns-in-Err-hold_next-clause-causes : goal.returns-in-Err-hold_next-claus
 returns-in-Err-hold_next-clause-causes g c = λ no_memory no_fault. absurd (no_memory c.in-Err-hold_next.ensures.only)
 
 -- there is no run
-pub returns-then-not-held-clause-writes : goal.returns-then-not-held-clause-writes
-returns-then-not-held-clause-writes g c =
+pub returns-in-Some-clause-writes : goal.returns-in-Some-clause-writes
+returns-in-Some-clause-writes g c =
     let e = c.put_due.ensures in
     let first = writes_kept_up g.J.Site.start c.args.flusher.now c.put_due.new.flusher c.kept.ensures e.kept_up e.told e.committed e.waiting in
     let works = works_after c.in_default.field-0 (has_failed (store_of c.args.flusher.now)) (has_failed (store_of c.put_due.new.flusher)) c.in_default.ensures.fails in
     writes_on g.J.Site.start c.args.flusher.now c.put_due.new.flusher c.hold_next.new.flusher first works c.hold_next.ensures.writes
 
-pub returns-then-not-held-clause-fails : goal.returns-then-not-held-clause-fails
-returns-then-not-held-clause-fails g c =
+pub returns-in-Some-clause-turned : goal.returns-in-Some-clause-turned
+returns-in-Some-clause-turned g c = c.hold_next.ensures.told ∙ c.put_due.ensures.told
+
+pub returns-in-Some-clause-fails : goal.returns-in-Some-clause-fails
+returns-in-Some-clause-fails g c =
     let old = has_failed (store_of c.args.flusher.now) in
     let works = works_after c.in_default.field-0 old (has_failed (store_of c.put_due.new.flusher)) c.in_default.ensures.fails in
-    fails_ok None old (has_failed (store_of c.hold_next.new.flusher)) (λ worked. ap has_failed c.hold_next.ensures.store ∙ works worked)
+    fails_ok (Nothing c.in-Some.nothing) old (has_failed (store_of c.hold_next.new.flusher)) (λ worked. ap has_failed c.hold_next.ensures.store ∙ works worked)
 
 -- it is written
-pub returns-clause-writes : goal.returns-clause-writes
-returns-clause-writes g c =
+pub returns-in-None-clause-writes : goal.returns-in-None-clause-writes
+returns-in-None-clause-writes g c =
     let e = c.put_due.ensures in
     let first = writes_kept_up g.J.Site.start c.args.flusher.now c.put_due.new.flusher c.kept.ensures e.kept_up e.told e.committed e.waiting in
     let works = works_after c.in_default.field-0 (has_failed (store_of c.args.flusher.now)) (has_failed (store_of c.put_due.new.flusher)) c.in_default.ensures.fails in
@@ -59,22 +62,20 @@ returns-clause-writes g c =
     writes_on g.J.Site.start c.args.flusher.now c.hold_next.new.flusher c.write_held.new.flusher held (λ worked. ap has_failed c.hold_next.ensures.store ∙ works worked)
     c.write_held.ensures.writes
 
-pub returns-clause-one : goal.returns-clause-one
-returns-clause-one g c =
-    one_after c.write_held.result c.args.flusher.now c.hold_next.new.flusher c.write_held.new.flusher (c.hold_next.ensures.told ∙ c.put_due.ensures.told) c.write_held.ensures.one
+pub returns-in-None-clause-turned : goal.returns-in-None-clause-turned
+returns-in-None-clause-turned g c =
+    turned_after c.write_held.result c.args.flusher.now c.hold_next.new.flusher c.write_held.new.flusher (c.hold_next.ensures.told ∙ c.put_due.ensures.told) c.write_held.ensures.turned
 
-pub returns-clause-none : goal.returns-clause-none
-returns-clause-none g c =
-    let held : c.in-Ok.held ≡ true = search rules in
-    none_after c.write_held.result c.args.flusher.now c.hold_next.new.flusher c.write_held.new.flusher (c.in-Ok.ensures.held held) c.write_held.ensures.none
+pub write_held-requires-clause-held : goal.write_held-requires-clause-held
+write_held-requires-clause-held g c = rw c.in-None.is at c.in-Ok.ensures.held
 
-pub returns-clause-fails : goal.returns-clause-fails
-returns-clause-fails g c worked =
+pub returns-in-None-clause-fails : goal.returns-in-None-clause-fails
+returns-in-None-clause-fails g c worked =
     let works = works_after c.in_default.field-0 (has_failed (store_of c.args.flusher.now)) (has_failed (store_of c.put_due.new.flusher)) c.in_default.ensures.fails in
     c.write_held.ensures.fails (ap has_failed c.hold_next.ensures.store ∙ works worked)
 
-pub returns-clause-causes : goal.returns-clause-causes
-returns-clause-causes g c =
+pub returns-in-None-clause-causes : goal.returns-in-None-clause-causes
+returns-in-None-clause-causes g c =
     let works = works_after c.in_default.field-0 (has_failed (store_of c.args.flusher.now)) (has_failed (store_of c.put_due.new.flusher)) c.in_default.ensures.fails in
     causes_after c.write_held.result c.args.flusher.now c.hold_next.new.flusher c.write_held.new.flusher
     (kept_up_same (store_of c.args.flusher.now) (store_of c.put_due.new.flusher) (store_of c.hold_next.new.flusher) c.put_due.ensures.kept_up c.hold_next.ensures.store)

@@ -1,9 +1,10 @@
 use Rattle.std.proofs.Common.{⊎_elim, inl, inr, ap, ◌∙◌}
 use Rattle.refusal.specs.declared.Refusal.{Refusal}
-use Rattle.std.specs.Prelude.{Err, Some, None}
+use Rattle.std.specs.Prelude.{Err}
 use Rattle.recovery.specs.Open.{has_failed}
 use Rattle.flusher.specs.Holding.{store_of}
-use Rattle.turns.proofs.Writing.{writes_refused, writes_nothing, writes_written, one_written, turn_failed, turn_unsettled, works_after, fails_ok, fails_err, fails_not, stranger_not_fault}
+use Rattle.turns.proofs.Writing.{writes_refused, writes_written, one_written, turn_failed, turn_unsettled, works_after, fails_ok, fails_err, fails_not, stranger_not_fault}
+use Rattle.turns.specs.declared.turned.Turned.TheVariants.{Settled}
 use Rattle.turns.proofs.turn.write_held.Goals as goal
 
 -- the write is refused
@@ -22,18 +23,9 @@ returns-in-Err-clause-causes g c =
     (λ told. e.never_full (⊎_elim (λ full. inl (ap (λ (r : Refusal). Err r) full)) (λ needed. inr (ap (λ (r : Refusal). Err r) needed)) told))
     (λ is. e.stranger (ap (λ (r : Refusal). Err r) is)) (λ is. e.lost (ap (λ (r : Refusal). Err r) is)) e.uncommitted e.only
 
--- nothing was held
-pub returns-in-None-clause-writes : goal.returns-in-None-clause-writes
-returns-in-None-clause-writes g c =
-    let e = c.in-Ok.ensures in
-    let none = rw c.in-None.is at e.none in
-    writes_nothing g.J.Site.start c.args.flusher.now c.write.new.self c.kept.ensures c.write.ensures.goes none.1 none.0 e.done.0 e.done.1
-
-pub returns-in-None-clause-fails : goal.returns-in-None-clause-fails
-returns-in-None-clause-fails g c =
-    let old = has_failed (store_of c.args.flusher.now) in
-    let new = has_failed (store_of c.write.new.self) in
-    fails_ok None old new (works_after c.in-Ok.written old new c.in-Ok.ensures.fails)
+-- a batch is held, so the write doesn't answer that none was
+pub unreachable-in-None : goal.unreachable-in-None
+unreachable-in-None g c = c.requires (rw c.in-None.is at c.in-Ok.ensures.none).0
 
 -- it is written, and the board doesn't settle it
 pub returns-in-Err-settle-clause-writes : goal.returns-in-Err-settle-clause-writes
@@ -61,12 +53,12 @@ returns-in-Ok-settle-clause-writes g c =
     writes_written g.J.Site.start c.args.flusher.now c.write.new.self c.in-Some.both.0 c.in-Some.both.1 c.kept.ensures c.kept-in-Some.ensures c.write.ensures.goes
     (works_after c.in-Ok.written (has_failed (store_of c.args.flusher.now)) (has_failed (store_of c.write.new.self)) e.fails) (rw c.in-Some.is at e.some) e.done.0 e.done.1
 
-pub returns-in-Ok-settle-clause-one : goal.returns-in-Ok-settle-clause-one
-returns-in-Ok-settle-clause-one g c =
+pub returns-in-Ok-settle-clause-turned : goal.returns-in-Ok-settle-clause-turned
+returns-in-Ok-settle-clause-turned g c =
     one_written c.args.flusher.now c.write.new.self c.in-Some.both.0 c.in-Some.both.1 (rw c.in-Some.is at c.in-Ok.ensures.some)
 
 pub returns-in-Ok-settle-clause-fails : goal.returns-in-Ok-settle-clause-fails
 returns-in-Ok-settle-clause-fails g c =
     let old = has_failed (store_of c.args.flusher.now) in
     let new = has_failed (store_of c.write.new.self) in
-    fails_ok (Some _) old new (works_after c.in-Ok.written old new c.in-Ok.ensures.fails)
+    fails_ok (Settled _) old new (works_after c.in-Ok.written old new c.in-Ok.ensures.fails)

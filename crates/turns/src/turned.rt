@@ -1,0 +1,12 @@
+//! What a turn comes to.
+use hub::{Nothing, Settled};
+use published::Site;
+
+/// What a turn comes to where nothing stops it.
+#[derive(Drop)]
+pub enum Turned<J: Site> {
+    /// A batch was written, and the hub settled it.
+    Settled(Settled<J>),
+    /// The hub's board had nothing to take off.
+    Nothing(Nothing<J>),
+}
