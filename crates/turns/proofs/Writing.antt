@@ -1,6 +1,6 @@
 -- How what the flusher's thread does goes on from call to call.
 use Rattle.std.proofs.Common.{◌≡◌, ◌≢◌, ◌↔◌, ◌⊎◌, ◌≤◌, ◌+◌, inl, inr, ℕ, Bool, true, false, List, [], ◌∷◌, ◌++◌, length, refl, sym, ◌∙◌, ap, subst, arith, append_assoc, append-nil, length-append}
-use Rattle.std.specs.Prelude.{Result, Ok, Err, Option, Some, None, IfOk, IfErr, IfSome, IfNone, IsErrOf}
+use Rattle.std.specs.Prelude.{Result, Ok, Err, IfOk, IfErr, IsErrOf}
 use Rattle.std.proofs.lemmas.Bool.{false≢true}
 use Rattle.disk.specs.declared.device.Disk.{Ghosts}
 use Rattle.refusal.specs.declared.Refusal.{Refusal}
@@ -234,13 +234,6 @@ module _ {D J : Type 0} {disk : Ghosts D} where
       → IsWritten (told_of old) (committed_of old ++ waiting_of old) (told_of new) receipt token → IsOneMore old new
   one_written old new receipt token written =
       record { batch = receipt; told = written.published ∙ ap (λ (l : List (List Taken)). told_of old ++ l) written.batch }
-
-  -- a write of nothing
-  pub writes_nothing : (start : State) (old new : Flusher D J disk) → Kept start (state_of (store_of old)) (told_of old) (committed_of old)
-      → Goes (IsWithOrWithout (state_of (store_of old)) (commands_of (waiting_of old))) (store_of old) (store_of new)
-      → told_of new ≡ told_of old → committed_of old ++ waiting_of old ≡ [] → committed_of new ≡ [] → waiting_of new ≡ [] → Writes start old new
-  writes_nothing start old new kept goes tells none committed waiting =
-      writes_refused start old new kept goes tells (ap (λ (l : List (List Taken)). l ++ waiting_of new) committed ∙ waiting ∙ sym none)
 
   -- why a turn fails whose write is refused
   pub turn_failed : (old new : Flusher D J disk) (refusal : Refusal)
