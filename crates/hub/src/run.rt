@@ -68,16 +68,17 @@ impl<D, J: Site> Run<D, J> {
         let _ = receipt;
     }
 
-    /// Ends a run that has no command, and gives the token that there was none to take off.
+    /// Ends a run that has no command, and gives the token that there was none to take off for so many bytes.
     pub fn nothing(self) -> Nothing<J>
         requires { length self.commands ≡ 0 }
+        ensures { result ≡ self.cap }
     {
         let Run {
             commands: _commands,
-            cap: _,
+            cap,
             of: _,
         } = self;
-        Nothing::by_run()
+        Nothing::by_run(cap)
     }
 
     /// Gives a run up, which isn't written any more: by whoever has the store itself, and gets it back.

@@ -32,16 +32,31 @@ impl<J: Site> Closer<J> {
     }
 }
 
-/// That a board had no command to take off that fits. Only a run that was taken off empty gives one, by `Run::nothing`.
+/// That a board had no command to take off whose batch has at most so many bytes. Only a run that was taken off empty gives one, by
+/// `Run::nothing`. Contracts see it as how many bytes that run's batch could have.
 #[derive(Drop)]
 pub struct Nothing<J: Site> {
+    cap: u32,
     of: PhantomData<J>,
 }
 
+impl<J: Site> Model for Nothing<J> {
+    ghost use Rattle.std.specs.Prelude.{ℕ};
+
+    ghost Value = { ℕ };
+
+    ghost view = { λ n. n.cap };
+}
+
 impl<J: Site> Nothing<J> {
-    // An empty run was taken off.
-    pub(crate) fn by_run() -> Nothing<J> {
-        Nothing { of: PhantomData }
+    // A run for so many bytes was taken off empty.
+    pub(crate) fn by_run(cap: u32) -> Nothing<J>
+        ensures { result ≡ cap }
+    {
+        Nothing {
+            cap,
+            of: PhantomData,
+        }
     }
 }
 

@@ -288,7 +288,7 @@ module _ {D J : Type 0} {disk : Ghosts D} where
 
   turned_before : (answer : Turned J) (old mid new : Flusher D J disk) → told_of mid ≡ told_of old → HasTurned mid answer new → HasTurned old answer new
   turned_before (Settled token) old mid new same one = one_before old mid new same one
-  turned_before (Nothing token) old mid new same none = none ∙ same
+  turned_before (Nothing token) old mid new same none = (none.0 ∙ same, none.1)
 
   -- what a write answered, told of the flusher before it was kept up
   pub turned_after : {E : Type 0} (result : Result (Turned J) E) (old mid new : Flusher D J disk) → told_of mid ≡ told_of old

@@ -2,13 +2,16 @@
 use Rattle.std.specs.Prelude.{◌≡◌}
 use Rattle.disk.specs.declared.device.Disk.{Ghosts}
 use Rattle.flusher.specs.declared.flusher.Flusher.{Flusher}
-use Rattle.flusher.specs.Holding.{told_of}
+use Rattle.recovery.specs.Open.{state_of}
+use Rattle.flusher.specs.Flushers.{cap_of}
+use Rattle.flusher.specs.Holding.{store_of, told_of}
 use Rattle.turns.specs.Writing.{IsOneMore}
 use Rattle.turns.specs.declared.turned.Turned.{Turned}
 use Rattle.turns.specs.declared.turned.Turned.TheVariants.{Settled, Nothing}
 
 module _ {D J : Type 0} {disk : Ghosts D} where
-  -- One batch was published, where the hub settled one; and where nothing was to be taken, none was.
+  -- One batch was published, where the hub settled one. Where nothing was to be taken none was, and a run as long as a slot takes was asked
+  -- for.
   abbrev pub HasTurned : Flusher D J disk → Turned J → Flusher D J disk → Type 0
   HasTurned old (Settled token) new = IsOneMore old new
-  HasTurned old (Nothing token) new = told_of new ≡ told_of old
+  HasTurned old (Nothing token) new = (told_of new ≡ told_of old) × (token ≡ cap_of (state_of (store_of new)))

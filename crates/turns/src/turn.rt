@@ -1,7 +1,8 @@
 //! One turn, and all of them.
 ghost use Rattle.std.specs.Prelude.{◌≡◌, ◌≢◌, ◌↔◌, ◌≤◌, [], ◌++◌, true, false, length, OnOk, IfOk, IfErr, IfSome, IfNone, IsErrOf};
 ghost use Rattle.journal.specs.BatchSpelling.{batch_width};
-ghost use Rattle.recovery.specs.Open.{has_failed};
+ghost use Rattle.recovery.specs.Open.{state_of, has_failed};
+ghost use Rattle.flusher.specs.Flushers.{cap_of};
 ghost use Rattle.flusher.specs.Holding.{store_of, told_of, committed_of, waiting_of};
 ghost use Rattle.turns.specs.Writing.{Writes, IsTurnFailed, IsEndedBy};
 ghost use Rattle.turns.specs.Turning.{HasTurned};
@@ -97,6 +98,8 @@ fn hold_next<D: Disk, J: Site, R: Wait>(
     ensures held { IfOk result (λ answer. IfNone answer (committed_of flusher.new ++ waiting_of flusher.new ≢ [])) }
     ensures nothing { IfOk result (λ answer. IfSome answer (λ token. (committed_of flusher.new ≡ [])
         × (waiting_of flusher.new ≡ []))) }
+    ensures whole { IfOk result (λ answer. IfSome answer (λ token. token
+        ≡ cap_of (state_of (store_of flusher.new)))) }
     ensures store { store_of flusher.new ≡ store_of flusher.old }
     ensures told { told_of flusher.new ≡ told_of flusher.old }
     ensures only { IfErr result (λ e. e ≡ Refusal.NoMemory) }
@@ -129,6 +132,7 @@ fn take_some<D: Disk, J: Site, R: Wait>(
     ensures fits { IfOk result (λ taken. IfOk taken (λ run. (1 ≤ length run.commands)
         × (batch_width run.commands ≤ cap))) }
     ensures cap { IfOk result (λ taken. IfOk taken (λ run. run.cap ≡ cap)) }
+    ensures none { IfOk result (λ taken. IfErr taken (λ nothing. nothing ≡ cap)) }
     ensures only { IfErr result (λ e. e ≡ Refusal.NoMemory) }
 {
     let run = match hub.take(rt, alloc, writer, cap) {

@@ -7,6 +7,6 @@ use published::Site;
 pub enum Turned<J: Site> {
     /// A batch was written, and the hub settled it.
     Settled(Settled<J>),
-    /// The hub's board had nothing to take off.
+    /// Nothing was to be taken off the hub's board for a slot.
     Nothing(Nothing<J>),
 }

@@ -44,7 +44,7 @@ returns-in-Some-clause-writes g c =
     writes_on g.J.Site.start c.args.flusher.now c.put_due.new.flusher c.hold_next.new.flusher first works c.hold_next.ensures.writes
 
 pub returns-in-Some-clause-turned : goal.returns-in-Some-clause-turned
-returns-in-Some-clause-turned g c = c.hold_next.ensures.told ∙ c.put_due.ensures.told
+returns-in-Some-clause-turned g c = (c.hold_next.ensures.told ∙ c.put_due.ensures.told, rw c.in-Some.is at c.in-Ok.ensures.whole)
 
 pub returns-in-Some-clause-fails : goal.returns-in-Some-clause-fails
 returns-in-Some-clause-fails g c =
@@ -66,8 +66,8 @@ pub returns-in-None-clause-turned : goal.returns-in-None-clause-turned
 returns-in-None-clause-turned g c =
     turned_after c.write_held.result c.args.flusher.now c.hold_next.new.flusher c.write_held.new.flusher (c.hold_next.ensures.told ∙ c.put_due.ensures.told) c.write_held.ensures.turned
 
-pub write_held-requires-clause-held : goal.write_held-requires-clause-held
-write_held-requires-clause-held g c = rw c.in-None.is at c.in-Ok.ensures.held
+pub write_held-requires : goal.write_held-requires
+write_held-requires g c = record { held = rw c.in-None.is at c.in-Ok.ensures.held }
 
 pub returns-in-None-clause-fails : goal.returns-in-None-clause-fails
 returns-in-None-clause-fails g c worked =

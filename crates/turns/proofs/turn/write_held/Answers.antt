@@ -24,8 +24,8 @@ returns-in-Err-clause-causes g c =
     (λ is. e.stranger (ap (λ (r : Refusal). Err r) is)) (λ is. e.lost (ap (λ (r : Refusal). Err r) is)) e.uncommitted e.only
 
 -- a batch is held, so the write doesn't answer that none was
-pub unreachable-in-None : goal.unreachable-in-None
-unreachable-in-None g c = c.requires (rw c.in-None.is at c.in-Ok.ensures.none).0
+pub unreachable-requires : goal.unreachable-requires
+unreachable-requires g c = c.requires.held (rw c.in-None.is at c.in-Ok.ensures.none).0
 
 -- it is written, and the board doesn't settle it
 pub returns-in-Err-settle-clause-writes : goal.returns-in-Err-settle-clause-writes
