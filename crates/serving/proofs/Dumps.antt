@@ -4,10 +4,11 @@ use Rattle.std.proofs.lemmas.Grind.{flat_map-append}
 use Rattle.std.proofs.lemmas.List.{map-append, map_push, take-append-drop, take_more}
 use Rattle.std.specs.Io.KnownBytes.{Appends}
 use Rattle.session.specs.Output.{AppendsFront}
-use Rattle.session.proofs.Writes.{appends-both, front-of, front-behind, front-longer}
+use Rattle.session.proofs.CallerLemmas.{appends-both}
 use Rattle.revision.specs.State.{DocumentRecord}
 use Rattle.revision.specs.Pending.{PendingDocument, record_of}
 use Rattle.serving.specs.Dump.{document_line, dump_of}
+use Rattle.serving.proofs.Fronts.{front-of, front-behind, front-longer}
 
 dump_of-last : (documents : List DocumentRecord) (last : DocumentRecord) → dump_of (documents ++ last ∷ []) ≡ dump_of documents ++ document_line last
 dump_of-last documents last =

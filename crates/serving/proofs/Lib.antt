@@ -1,3 +1,4 @@
+mod Fronts
 mod Dumps
 mod Streams
 mod Asking

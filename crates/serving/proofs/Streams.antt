@@ -1,11 +1,12 @@
 -- Pieces of the input, as they are read.
-use Rattle.std.proofs.Common.{◌++◌, ℕ, List, [], ◌∷◌, Option, Some, None, Bool, true, false, ◌≡◌, ◌≢◌, refl, sym, ap, subst, ◌∙◌, append_assoc, append-nil}
+use Rattle.std.proofs.Common.{◌++◌, ◌+◌, ◌<◌, ℕ, List, [], ◌∷◌, length, take, drop, get_or, Option, Some, None, ◌≡◌, ◌≢◌, refl, sym, ap, subst, ◌∙◌, append_assoc, append-nil}
+use Rattle.std.proofs.lemmas.List.{take-append-drop, take_more}
 use Rattle.std.specs.Io.KnownBytes.{Appends, Consumes, Keeps}
 use Rattle.session.specs.Session.{Session}
 use Rattle.session.specs.Exchange.{Exchange, Shown}
-use Rattle.session.specs.Replies.{Feeds, Stops}
+use Rattle.session.specs.Replies.{Asks, Feeds, Stops}
 use Rattle.session.specs.Calls.{Call, Fed, OfPiece, TellsNews, StopsNews}
-use Rattle.serving.specs.Serving.{AreServedBy, no_bytes, within_line, line_end, ServesBytes, Serves, WasAsked}
+use Rattle.serving.specs.Serving.{AreServedBy, no_bytes, within_line, line_end, ServesBytes, Serves, StopsAt, AtOnce, InReplies, InNews, StopsBytes, StopsServing}
 use Rattle.session.proofs.CallerLemmas.{asks-joined, appends-both, calls-joined, calls-one}
 
 pub keeps-same : (a : Option (List ℕ)) → Keeps a a
@@ -135,41 +136,122 @@ module _ {D : Type 0} (does : D → Exchange → D → Type 0) where
     serves = bytes-joined first.bytes second.bytes old mid new d e f o p q first.serves second.serves;
   }
 
-  -- what was asked, however it ended
-  pub asked-nothing : (d : D) → WasAsked does d d
-  asked-nothing d = ([], refl)
+  -- what was taken where nothing was
+  pub serves-kept : (s : Session) (d : D) (i j o : Option (List ℕ)) → Keeps i j → Serves does s s d d i j o o
+  serves-kept s d i j o kept = record { bytes = []; consumed = keeps-consumes i j j [] kept (consumes-nothing j); serves = bytes-nothing s d o }
 
-  pub asked-joined : (d e f : D) → WasAsked does d e → WasAsked does e f → WasAsked does d f
-  asked-joined d e f first second = (first.0 ++ second.0, asks-joined does first.0 second.0 d e f first.1 second.1)
+  -- a stream fails behind bytes that were served, within others, and in front of others
+  pub stops-served : (bytes : List ℕ) (old new : Session) (d e : D) (o p : Option (List ℕ)) → ServesBytes does old bytes new d e o p
+      → StopsBytes does old bytes d e o p
+  stops-served bytes old new d e o p serves = record {
+    front = bytes;
+    rest = [];
+    whole = sym (append-nil bytes);
+    mid = new;
+    desk_mid = e;
+    output_mid = p;
+    served = serves;
+    stopped = AtOnce [] p (keeps-same p);
+  }
 
-  by_end : (old : Session) (piece : List ℕ) (new : Session) (d e : D) (o p : Option (List ℕ)) (ended : Bool) → old.ended ≡ ended → (old.ended ≡ true → e ≡ d)
-      → (old.ended ≡ false → Stops does old piece new d e o p) → WasAsked does d e
-  by_end old piece new d e o p true is idle stops = ([], idle is)
-  by_end old piece new d e o p false is idle stops =
-      let stopped = stops is in
-      asked-joined d stopped.desk_mid e (stopped.fed.asked, stopped.fed.asks) (stopped.asked, stopped.asks)
+  pub stops-behind : (front back : List ℕ) (old mid : Session) (d e f : D) (o p q : Option (List ℕ))
+      → ServesBytes does old front mid d e o p → StopsBytes does mid back e f p q → StopsBytes does old (front ++ back) d f o q
+  stops-behind front back old mid d e f o p q first second = record {
+    front = front ++ second.front;
+    rest = second.rest;
+    whole = ap (λ (l : List ℕ). front ++ l) second.whole ∙ sym (append_assoc front second.front second.rest);
+    mid = second.mid;
+    desk_mid = second.desk_mid;
+    output_mid = second.output_mid;
+    served = bytes-joined front second.front old mid second.mid d e second.desk_mid o p second.output_mid first second.served;
+    stopped = second.stopped;
+  }
 
-  -- a piece whose feeding failed, in a session that had ended or not
-  pub asked-stopped : (old : Session) (piece : List ℕ) (new : Session) (d e : D) (o p : Option (List ℕ)) → (old.ended ≡ true → e ≡ d)
-      → (old.ended ≡ false → Stops does old piece new d e o p) → WasAsked does d e
-  asked-stopped old piece new d e o p idle stops = by_end old piece new d e o p old.ended refl idle stops
+  stops-at-before : (more rest : List ℕ) (old : Session) (d e : D) (o p : Option (List ℕ)) → StopsAt does old d o rest e p → StopsAt does old d o (rest ++ more) e p
+  stops-at-before more rest old d e o p (AtOnce others q kept) = AtOnce (others ++ more) q kept
+  stops-at-before more rest old d e o p (InReplies byte others new f q stopped) = InReplies byte (others ++ more) new f q stopped
+  stops-at-before more rest old d e o p (InNews others mid new between f replied q fed stopped) =
+      InNews (others ++ more) mid new between f replied q fed stopped
 
-  -- and news that failed
-  news_by_end : (old new : Session) (d e : D) (o p : Option (List ℕ)) (ended : Bool) → old.ended ≡ ended → (old.ended ≡ true → e ≡ d)
-      → (old.ended ≡ false → StopsNews does old new d e o p) → WasAsked does d e
-  news_by_end old new d e o p true is idle stops = ([], idle is)
-  news_by_end old new d e o p false is idle stops = let stopped = stops is in (Shown stopped.shown ∷ [], (e, stopped.shows, refl))
+  pub stops-before : (bytes more : List ℕ) (old : Session) (d e : D) (o p : Option (List ℕ)) → StopsBytes does old bytes d e o p
+      → StopsBytes does old (bytes ++ more) d e o p
+  stops-before bytes more old d e o p stops = record {
+    front = stops.front;
+    rest = stops.rest ++ more;
+    whole = ap (λ (l : List ℕ). l ++ more) stops.whole ∙ append_assoc stops.front stops.rest more;
+    mid = stops.mid;
+    desk_mid = stops.desk_mid;
+    output_mid = stops.output_mid;
+    served = stops.served;
+    stopped = stops-at-before more stops.rest stops.mid stops.desk_mid e stops.output_mid p stops.stopped;
+  }
 
-  pub asked-news-stopped : (old new : Session) (d e : D) (o p : Option (List ℕ)) → (old.ended ≡ true → e ≡ d)
-      → (old.ended ≡ false → StopsNews does old new d e o p) → WasAsked does d e
-  asked-news-stopped old new d e o p idle stops = news_by_end old new d e o p old.ended refl idle stops
+  -- and in a piece behind a first part of it
+  pub stops-within : (piece : List ℕ) (i : ℕ) (old mid : Session) (d e f : D) (o p q : Option (List ℕ)) → i < length piece
+      → ServesBytes does old (take i piece) mid d e o p → StopsBytes does mid (get_or piece i 0 ∷ []) e f p q → StopsBytes does old piece d f o q
+  stops-within piece i old mid d e f o p q within first second =
+      subst (λ (l : List ℕ). StopsBytes does old l d f o q)
+      (ap (λ (l : List ℕ). l ++ drop (i + 1) piece) (sym (take_more piece i 0 within)) ∙ take-append-drop (i + 1) piece)
+      (stops-before (take i piece ++ get_or piece i 0 ∷ []) (drop (i + 1) piece) old d f o q
+      (stops-behind (take i piece) (get_or piece i 0 ∷ []) old mid d e f o p q first second))
 
-  -- a piece that was fed, and news that were told
-  pub asked-fed : (old : Session) (piece : List ℕ) (new : Session) (d e : D) (o p : Option (List ℕ)) → Feeds does old piece new d e o p → WasAsked does d e
-  asked-fed old piece new d e o p fed = (fed.asked, fed.asks)
+  -- it fails in the replies to a byte, or in the news behind it
+  pub stops-replying : (byte : ℕ) (old new : Session) (d e : D) (o p : Option (List ℕ)) → Stops does old (byte ∷ []) new d e o p
+      → StopsBytes does old (byte ∷ []) d e o p
+  stops-replying byte old new d e o p stops = record {
+    front = [];
+    rest = byte ∷ [];
+    whole = refl;
+    mid = old;
+    desk_mid = d;
+    output_mid = o;
+    served = bytes-nothing old d o;
+    stopped = InReplies byte [] new e p stops;
+  }
 
-  pub asked-served : (old : Session) (bytes : List ℕ) (new : Session) (d e : D) (o p : Option (List ℕ)) → ServesBytes does old bytes new d e o p → WasAsked does d e
-  asked-served old bytes new d e o p serves = (serves.asked, serves.asks)
+  pub stops-telling : (byte : ℕ) (old mid new : Session) (d e f : D) (o p q : Option (List ℕ)) → byte ≡ 10 → Feeds does old (byte ∷ []) mid d e o p
+      → StopsNews does mid new e f p q → StopsBytes does old (byte ∷ []) d f o q
+  stops-telling byte old mid new d e f o p q is fed stops =
+      subst (λ (b : ℕ). StopsBytes does old (b ∷ []) d f o q) (sym is)
+      (record {
+        front = [];
+        rest = 10 ∷ [];
+        whole = refl;
+        mid = old;
+        desk_mid = d;
+        output_mid = o;
+        served = bytes-nothing old d o;
+        stopped = InNews [] mid new e f p q (subst (λ (b : ℕ). Feeds does old (b ∷ []) mid d e o p) is fed) stops;
+      })
 
-  pub asked-told : (old new : Session) (d e : D) (o p : Option (List ℕ)) → TellsNews does old new d e o p → WasAsked does d e
-  asked-told old new d e o p (call, for_news, told) = (told.asked, told.asks)
+  -- it fails behind pieces that were served
+  pub stops-behind-pieces : (old mid : Session) (d e f : D) (i j k o p q : Option (List ℕ))
+      → Serves does old mid d e i j o p → StopsServing does mid e f j k p q → StopsServing does old d f i k o q
+  stops-behind-pieces old mid d e f i j k o p q first second = record {
+    bytes = first.bytes ++ second.bytes;
+    consumed = consumes-both i j k first.bytes second.bytes first.consumed second.consumed;
+    stops = stops-behind first.bytes second.bytes old mid d e f o p q first.serves second.stops;
+  }
+
+  pub stops-served-pieces : (old new : Session) (d e : D) (i j o p : Option (List ℕ)) → Serves does old new d e i j o p → StopsServing does old d e i j o p
+  stops-served-pieces old new d e i j o p serves = record {
+    bytes = serves.bytes;
+    consumed = serves.consumed;
+    stops = stops-served serves.bytes old new d e o p serves.serves;
+  }
+
+  -- what was asked by then
+  asked-at : (rest : List ℕ) (old : Session) (d e : D) (o p : Option (List ℕ)) → StopsAt does old d o rest e p → (asked : List Exchange) × Asks does d asked e
+  asked-at rest old d e o p (AtOnce others q kept) = ([], refl)
+  asked-at rest old d e o p (InReplies byte others new f q stopped) =
+      (stopped.fed.asked ++ stopped.asked, asks-joined does stopped.fed.asked stopped.asked d stopped.desk_mid f stopped.fed.asks stopped.asks)
+  asked-at rest old d e o p (InNews others mid new between f replied q fed stopped) = (
+    fed.asked ++ Shown stopped.shown ∷ [],
+    asks-joined does fed.asked (Shown stopped.shown ∷ []) d between f fed.asks (f, stopped.shows, refl),
+  )
+
+  pub asked-stopped : (old : Session) (d e : D) (i j o p : Option (List ℕ)) → StopsServing does old d e i j o p → (asked : List Exchange) × Asks does d asked e
+  asked-stopped old d e i j o p stopped =
+      let stops = stopped.stops in
+      let last = asked-at stops.rest stops.mid stops.desk_mid e stops.output_mid p stops.stopped in
+      (stops.served.asked ++ last.0, asks-joined does stops.served.asked last.0 d stops.desk_mid e stops.served.asks last.1)

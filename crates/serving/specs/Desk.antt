@@ -15,8 +15,10 @@ use Rattle.history.specs.Cell.{cells_at}
 use Rattle.recovery.specs.Due.{due_for, IsPutDue}
 use Rattle.recovery.specs.Found.{FoundAs}
 use Rattle.recovery.specs.Goes.{Goes}
-use Rattle.recovery.specs.Jobs.{highest}
-use Rattle.recovery.specs.Open.{IsOpen, IsUnchanged, IsWithOrWithout, device_of, ring_of, state_of, has_room, has_failed as store_has_failed}
+use Rattle.recovery.specs.Cells.{highest_known}
+use Rattle.recovery.specs.Jobs.{highest, without_job}
+use Rattle.recovery.specs.Open.{IsOpen, IsUnchanged, IsCommittedNow, IsCommittedBehind, IsFreedNow, IsHalfFreed, IsWithOrWithout, device_of, ring_of, state_of, known_cells, kept_jobs, has_room, has_failed as store_has_failed}
+use Rattle.recovery.specs.Unwritten.{IsUnwritten}
 use Rattle.session.specs.declared.reply.Reply.{Reply}
 use Rattle.session.specs.declared.reply.Reply.TheVariants as reply
 use Rattle.session.specs.Exchange.{Exchange, Answered, Shown}
@@ -57,18 +59,35 @@ module _ {D : Type 0} {disk : Ghosts D} where
     pub no_room : has_room store (taken ∷ []) ≡ false
     pub last : open_count (known_numbers (ring_of store)) < 2
 
-  -- A document's milestones are up to date: one was due, and was put, or none was, and nothing was done.
+  -- A document's milestones are up to date: one was due, and was put, and no job of the document is kept, or none was, and nothing was done.
   abbrev pub IsUpToDate : (every document : ℕ) (old : Store D disk) → IsOpen old → Store D disk → Type 0
   IsUpToDate every document old is_open new =
-      IsPutDue every document old is_open new
+      (IsPutDue every document old is_open new × (kept_jobs new ≡ without_job document (kept_jobs old)))
       ⊎ ((due_for every (slice_get (state_of old).documents document) (highest (cells_at is_open.cells document)) ≡ None) × IsUnchanged old new)
 
-  -- What was due of the document that was committed last has been put, or the device or memory failed at that. The documents are as
-  -- they were, and a crash at any moment of it leaves them.
+  -- One was due and is put off, for want of memory: nothing is put or retired, and all is as it was but for the job of the document, which may be
+  -- kept.
+  pub record IsPutOff (every document : ℕ) (old new : Store D disk) : Type 0 where
+    pub revision : ℕ
+    pub due : due_for every (slice_get (state_of old).documents document) (highest_known (known_cells old) document) ≡ Some revision
+    pub unwritten : IsUnwritten document revision old new
+
+  -- What is due of a document is seen to: its milestones are up to date, and nothing of it is due any more; or it is put off, and stays due; or the
+  -- desk fails.
+  abbrev pub IsSeenTo : ℕ → StoreDesk D disk → StoreDesk D disk → Type 0
+  IsSeenTo document old new =
+      ((has_failed new ≡ false) × (due_of new ≡ None)
+      × ((is_open : IsOpen (store_of old)) → IsUpToDate (spacing_of old) document (store_of old) is_open (store_of new)))
+      ⊎ (((has_failed new ≡ false) × (due_of new ≡ Some document) × IsPutOff (spacing_of old) document (store_of old) (store_of new))
+      ⊎ ((has_failed new ≡ true) × (due_of new ≡ Some document)))
+
+  -- What was due of the document that was committed last was seen to, and nothing else was done. The documents are as they were, and a crash at
+  -- any moment of it leaves them.
   pub record IsKeptUp (old new : StoreDesk D disk) : Type 0 where
-    -- it is put, or stays due
-    pub done : (due_of new ≡ due_of old)
-        ⊎ ((document : ℕ) → due_of old ≡ Some document → (is_open : IsOpen (store_of old)) → IsUpToDate (spacing_of old) document (store_of old) is_open (store_of new))
+    -- once it has failed it is left as it is, and so it is where nothing is due
+    pub rests : has_failed old ≡ true → new ≡ old
+    pub idle : due_of old ≡ None → new ≡ old
+    pub done : (document : ℕ) → has_failed old ≡ false → due_of old ≡ Some document → IsSeenTo document old new
     pub spacing : spacing_of new ≡ spacing_of old
     pub state : state_of (store_of new) ≡ state_of (store_of old)
     pub goes : Goes (λ content. FoundAs content (state_of (store_of old))) (store_of old) (store_of new)
@@ -76,8 +95,6 @@ module _ {D : Type 0} {disk : Ghosts D} where
     pub store_works : has_failed new ≡ false → store_has_failed (store_of old) ≡ false → store_has_failed (store_of new) ≡ false
     pub cause : has_failed new ≡ true → has_failed old ≡ false → store_has_failed (store_of old) ≡ false
         → Rose (disk.faults (device_of (store_of old))) (disk.faults (device_of (store_of new)))
-    -- once it has failed it is left as it is
-    pub rests : has_failed old ≡ true → new ≡ old
     pub honest : disk.honest (device_of (store_of new)) ↔ disk.honest (device_of (store_of old))
 
   -- A command doesn't fit behind what is there, and no slot can be opened behind the newest one, which has the highest number there
@@ -109,6 +126,7 @@ module _ {D : Type 0} {disk : Ghosts D} where
     pub works : OnOk result (store_has_failed (store_of new) ≡ false)
     -- what is due of its document is put before the next command
     pub due : OnOk result (due_of new ≡ Some taken.document)
+    pub same_due : OnErr result (due_of new ≡ due_of old)
     pub spacing : spacing_of new ≡ spacing_of old
     -- as long as the desk works, so does its store
     pub store_works : has_failed new ≡ false → store_has_failed (store_of old) ≡ false → store_has_failed (store_of new) ≡ false
@@ -122,6 +140,15 @@ module _ {D : Type 0} {disk : Ghosts D} where
     pub any_moment : store_has_failed (store_of old) ≡ false → IsOpen (store_of old)
         → LeavesOnly disk (IsWithOrWithout (state_of (store_of old)) (taken ∷ []))
         (device_of (store_of old)) (device_of (store_of new))
+    -- Where the command has room nothing is written but itself, and else the oldest segment is freed for it.
+    pub committed : OnOk result (has_room (store_of old) (taken ∷ []) ≡ true → (is_open : IsOpen (store_of old))
+        → IsCommittedNow (taken ∷ []) (store_of old) is_open (store_of new))
+    pub committed_behind : OnOk result (has_room (store_of old) (taken ∷ []) ≡ false → (is_open : IsOpen (store_of old))
+        → IsCommittedBehind (taken ∷ []) (store_of old) is_open (store_of new))
+    -- Where memory runs out all is as it was, but for what was freed where it has no room.
+    pub given_up : result ≡ Err NoMemory → has_room (store_of old) (taken ∷ []) ≡ true → IsUnchanged (store_of old) (store_of new)
+    pub given_up_behind : result ≡ Err NoMemory → has_room (store_of old) (taken ∷ []) ≡ false → (is_open : IsOpen (store_of old))
+        → IsHalfFreed (store_of old) is_open (store_of new) ⊎ IsFreedNow (store_of old) is_open (store_of new)
     pub done : OnOk result (IsOpen (store_of old) → IsOpen (store_of new))
     pub kept : result ≡ Err NoMemory → IsOpen (store_of old) → IsOpen (store_of new)
     pub honest : disk.honest (device_of (store_of new)) ↔ disk.honest (device_of (store_of old))

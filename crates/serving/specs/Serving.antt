@@ -1,10 +1,10 @@
 -- Serving a session over a pair of streams.
-use Rattle.std.specs.Prelude.{◌≢◌, ℕ, List, [], ◌∷◌, false, Option, Some, None}
-use Rattle.std.specs.Io.KnownBytes.{Appends, Consumes, IsAtEnd}
+use Rattle.std.specs.Prelude.{◌≡◌, ◌≢◌, ℕ, List, [], ◌∷◌, ◌++◌, false, Option, Some, None}
+use Rattle.std.specs.Io.KnownBytes.{Appends, Consumes, IsAtEnd, Keeps}
 use Rattle.session.specs.Session.{Session}
 use Rattle.session.specs.Exchange.{Exchange}
-use Rattle.session.specs.Calls.{Call, Fed, IsForNews, Calls}
-use Rattle.session.specs.Replies.{Asks}
+use Rattle.session.specs.Calls.{Call, Fed, IsForNews, Calls, StopsNews}
+use Rattle.session.specs.Replies.{Asks, Feeds, Stops}
 
 -- a session at its beginning
 abbrev pub beginning : Session
@@ -19,10 +19,6 @@ pub data AreServedBy : List ℕ → List Call → Type 0 where
       → AreServedBy (10 ∷ bytes) (Fed (10 ∷ []) ∷ news ∷ calls)
 
 module _ {D : Type 0} (does : D → Exchange → D → Type 0) where
-  -- the desk was asked commands, one after another
-  abbrev pub WasAsked : D → D → Type 0
-  WasAsked desk desk' = (asked : List Exchange) × Asks does desk asked desk'
-
   -- Bytes of the input were served, and what comes of the calls was written to the output.
   pub record ServesBytes (old : Session) (bytes : List ℕ) (new : Session) (desk desk' : D) (output output' : Option (List ℕ)) : Type 0 where
     pub calls : List Call
@@ -44,3 +40,34 @@ module _ {D : Type 0} (does : D → Exchange → D → Type 0) where
     pub last : Session
     pub served : Serves beginning last desk desk' input input' output output'
     pub at_end : IsAtEnd input'
+
+  -- A stream failed where all that is due was written, and these bytes were to be served next. It failed at once, and what is held back wasn't
+  -- sent on; or a beginning of the replies to the next byte was written; or its replies, and a beginning of the news behind it. What comes of
+  -- the other bytes wasn't asked.
+  pub data StopsAt (old : Session) (desk : D) (output : Option (List ℕ)) : List ℕ → D → Option (List ℕ) → Type 0 where
+    AtOnce : (others : List ℕ) (output' : Option (List ℕ)) → Keeps output output' → StopsAt old desk output others desk output'
+    InReplies : (byte : ℕ) (others : List ℕ) (new : Session) (desk' : D) (output' : Option (List ℕ)) → Stops does old (byte ∷ []) new desk desk' output output'
+        → StopsAt old desk output (byte ∷ others) desk' output'
+    InNews : (others : List ℕ) (mid new : Session) (between desk' : D) (replied output' : Option (List ℕ)) → Feeds does old (10 ∷ []) mid desk between output replied
+        → StopsNews does mid new between desk' replied output' → StopsAt old desk output (10 ∷ others) desk' output'
+
+  -- A stream failed while bytes of the input were served: what comes of a first part of them was written, and then it failed.
+  pub record StopsBytes (old : Session) (bytes : List ℕ) (desk desk' : D) (output output' : Option (List ℕ)) : Type 0 where
+    pub front : List ℕ
+    pub rest : List ℕ
+    pub whole : bytes ≡ front ++ rest
+    pub mid : Session
+    pub desk_mid : D
+    pub output_mid : Option (List ℕ)
+    pub served : ServesBytes old front mid desk desk_mid output output_mid
+    pub stopped : StopsAt mid desk_mid output_mid rest desk' output'
+
+  -- Bytes of the input were taken, and a stream failed while they were served, or behind them.
+  pub record StopsServing (old : Session) (desk desk' : D) (input input' output output' : Option (List ℕ)) : Type 0 where
+    pub bytes : List ℕ
+    pub consumed : Consumes input input' bytes
+    pub stops : StopsBytes old bytes desk desk' output output'
+
+  -- All that is due of what was taken of the input is written.
+  abbrev pub IsServedSoFar : D → D → (input input' output output' : Option (List ℕ)) → Type 0
+  IsServedSoFar desk desk' input input' output output' = (last : Session) × Serves beginning last desk desk' input input' output output'

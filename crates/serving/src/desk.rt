@@ -31,9 +31,9 @@ impl<D: Disk> StoreDesk<D> {
     ghost use Rattle.recovery.specs.Found.{FoundAs};
     ghost use Rattle.recovery.specs.Goes.{Goes};
     ghost use Rattle.revision.specs.State.{grows, fold};
-    ghost use Rattle.recovery.specs.Open.{IsOpen, IsWithOrWithout, device_of, state_of, has_failed as store_has_failed};
+    ghost use Rattle.recovery.specs.Open.{IsOpen, IsUnchanged, IsCommittedNow, IsCommittedBehind, IsFreedNow, IsHalfFreed, IsWithOrWithout, device_of, state_of, has_room, has_failed as store_has_failed};
     ghost use Rattle.session.specs.Shelf.{IsLater};
-    ghost use Rattle.serving.specs.Desk.{AnswersNow, IsToldOf, IsFullFor, IsUpToDate, FailsCommit, store_of, has_failed, due_of, spacing_of};
+    ghost use Rattle.serving.specs.Desk.{AnswersNow, IsToldOf, IsFullFor, IsSeenTo, FailsCommit, store_of, has_failed, due_of, spacing_of};
 
     /// A desk of an opened store. It puts a milestone of a document where a command took it to a multiple of `every` revisions, or
     /// past one. 0 counts as 1.
@@ -71,11 +71,13 @@ impl<D: Disk> StoreDesk<D> {
         store
     }
 
-    // Puts what is due of the document that was committed last. Where memory runs out it stays due; a fault fails the desk.
+    // Puts what is due of the document that was committed last, and does nothing else. Where memory runs out it stays due; a fault fails
+    // the desk.
     fn keep_up(&mut self, alloc: Global)
-        ensures done { (due_of self.new ≡ due_of self.old)
-            ⊎ ((document : ℕ) → due_of self.old ≡ Some document → (is_open : IsOpen (store_of self.old))
-            → IsUpToDate (spacing_of self.old) document (store_of self.old) is_open (store_of self.new)) }
+        ensures rests { has_failed self.old ≡ true → self.new ≡ self.old }
+        ensures idle { due_of self.old ≡ None → self.new ≡ self.old }
+        ensures done { (document : ℕ) → has_failed self.old ≡ false → due_of self.old ≡ Some document
+            → IsSeenTo document self.old self.new }
         ensures spacing { spacing_of self.new ≡ spacing_of self.old }
         ensures state { state_of (store_of self.new) ≡ state_of (store_of self.old) }
         ensures goes { Goes (λ content. FoundAs content (state_of (store_of self.old))) (store_of self.old)
@@ -85,7 +87,6 @@ impl<D: Disk> StoreDesk<D> {
         ensures cause { has_failed self.new ≡ true → has_failed self.old ≡ false
             → store_has_failed (store_of self.old) ≡ false
             → Rose (D.faults (device_of (store_of self.old))) (D.faults (device_of (store_of self.new))) }
-        ensures rests { has_failed self.old ≡ true → self.new ≡ self.old }
         ensures honest { D.honest (device_of (store_of self.new)) ↔ D.honest (device_of (store_of self.old)) }
     {
         if self.failed {
@@ -127,6 +128,7 @@ impl<D: Disk> StoreDesk<D> {
         ensures same_state { OnErr result (state_of (store_of self.new) ≡ state_of (store_of self.old)) }
         ensures works { OnOk result (store_has_failed (store_of self.new) ≡ false) }
         ensures due { OnOk result (due_of self.new ≡ Some taken.document) }
+        ensures same_due { OnErr result (due_of self.new ≡ due_of self.old) }
         ensures spacing { spacing_of self.new ≡ spacing_of self.old }
         ensures store_works { has_failed self.new ≡ false → store_has_failed (store_of self.old) ≡ false
             → store_has_failed (store_of self.new) ≡ false }
@@ -137,6 +139,18 @@ impl<D: Disk> StoreDesk<D> {
         ensures any_moment { store_has_failed (store_of self.old) ≡ false → IsOpen (store_of self.old)
             → LeavesOnly ⟦<D as Disk>⟧ (IsWithOrWithout (state_of (store_of self.old)) (taken ∷ []))
             (device_of (store_of self.old)) (device_of (store_of self.new)) }
+        // Where the command has room nothing is written but itself, and else the oldest segment is freed for it.
+        ensures committed { OnOk result (has_room (store_of self.old) (taken ∷ []) ≡ true
+            → (is_open : IsOpen (store_of self.old))
+            → IsCommittedNow (taken ∷ []) (store_of self.old) is_open (store_of self.new)) }
+        ensures committed_behind { OnOk result (has_room (store_of self.old) (taken ∷ []) ≡ false
+            → (is_open : IsOpen (store_of self.old))
+            → IsCommittedBehind (taken ∷ []) (store_of self.old) is_open (store_of self.new)) }
+        ensures given_up { result ≡ Err Refusal.NoMemory → has_room (store_of self.old) (taken ∷ []) ≡ true
+            → IsUnchanged (store_of self.old) (store_of self.new) }
+        ensures given_up_behind { result ≡ Err Refusal.NoMemory → has_room (store_of self.old) (taken ∷ []) ≡ false
+            → (is_open : IsOpen (store_of self.old)) → IsHalfFreed (store_of self.old) is_open (store_of self.new)
+            ⊎ IsFreedNow (store_of self.old) is_open (store_of self.new) }
         ensures done { OnOk result (IsOpen (store_of self.old) → IsOpen (store_of self.new)) }
         ensures kept { result ≡ Err Refusal.NoMemory → IsOpen (store_of self.old) → IsOpen (store_of self.new) }
         ensures honest { D.honest (device_of (store_of self.new)) ↔ D.honest (device_of (store_of self.old)) }

@@ -7,7 +7,7 @@ ghost use Rattle.serving.specs.Desk.{PassesAtStore, store_of, has_failed};
 ghost use Rattle.session.specs.Exchange.{Exchange};
 ghost use Rattle.session.specs.Replies.{Asks};
 ghost use Rattle.session.specs.Shelf.{Fits};
-ghost use Rattle.serving.specs.Serving.{Serves, ServesBytes, IsServed, WasAsked};
+ghost use Rattle.serving.specs.Serving.{Serves, ServesBytes, StopsBytes, StopsServing, IsServed, IsServedSoFar, beginning};
 
 use crate::desk::StoreDesk;
 use crate::failure::Failure;
@@ -37,6 +37,14 @@ pub fn serve<D: Disk, I: Read, O: Output>(
         → IsOpen (store_of desk.old)
         → (asked : List Exchange) × Asks PassesAtStore desk.old asked desk.new
         × KeepsAll ⟦<D as Disk>⟧ desk.old desk.new asked }
+    // Where a stream fails: what was written is what comes of a first part of the input that was taken, and a beginning of what comes of the
+    // next byte; nothing behind that was asked. Where the output hasn't failed, all that comes of what was taken is written.
+    ensures stopped { IsErrOf result Failure.Stream → StopsServing PassesAtStore beginning desk.old desk.new
+        (I.remaining input.old) (I.remaining input.new) (O.contents output.old) (O.contents output.new) }
+    ensures cause { IsErrOf result Failure.Stream → (O.has_failed output.new ≡ true)
+        ⊎ (IsServedSoFar PassesAtStore desk.old desk.new (I.remaining input.old) (I.remaining input.new)
+        (O.contents output.old) (O.contents output.new)) }
+    ensures sent { OnOk result (O.has_failed output.new ≡ false) }
     ensures works { OnOk result (has_failed desk.new ≡ false) }
     ensures failed { IsErrOf result (Failure.Refused Refusal.StoreFailed) → (has_failed desk.new ≡ true)
         × IsServed PassesAtStore desk.old desk.new
@@ -65,11 +73,17 @@ fn serve_all<K: Desk, I: Read, O: Output>(
     output: &mut O,
 ) -> Result<(), Failure>
     requires fits { Fits (K.reached desk.old) shelf.old }
+    requires works { session.old.ended ≡ false }
     ensures fits { Fits (K.reached desk.new) shelf.new }
     ensures served { OnOk result (Serves K.does session.old session.new desk.old desk.new
         (I.remaining input.old) (I.remaining input.new) (O.contents output.old) (O.contents output.new)) }
     ensures at_end { OnOk result (IsAtEnd (I.remaining input.new)) }
-    ensures asked { WasAsked K.does desk.old desk.new }
+    ensures stopped { OnErr result (StopsServing K.does session.old desk.old desk.new
+        (I.remaining input.old) (I.remaining input.new) (O.contents output.old) (O.contents output.new)) }
+    ensures cause { OnErr result ((O.has_failed output.new ≡ true)
+        ⊎ Serves K.does session.old session.new desk.old desk.new
+        (I.remaining input.old) (I.remaining input.new) (O.contents output.old) (O.contents output.new)) }
+    ensures sent { OnOk result (O.has_failed output.new ≡ false) }
     ensures only { IfErr result (λ e. e ≡ Failure.Stream) }
 {
     'pieces: for _ in 0..u64::MAX {
@@ -90,11 +104,18 @@ fn serve_piece<K: Desk, I: Read, O: Output>(
     output: &mut O,
 ) -> Result<bool, Failure>
     requires fits { Fits (K.reached desk.old) shelf.old }
+    requires works { session.old.ended ≡ false }
     ensures fits { Fits (K.reached desk.new) shelf.new }
     ensures served { OnOk result (Serves K.does session.old session.new desk.old desk.new
         (I.remaining input.old) (I.remaining input.new) (O.contents output.old) (O.contents output.new)) }
     ensures at_end { IfOk result (λ went_on. went_on ≡ false → IsAtEnd (I.remaining input.new)) }
-    ensures asked { WasAsked K.does desk.old desk.new }
+    ensures stopped { OnErr result (StopsServing K.does session.old desk.old desk.new
+        (I.remaining input.old) (I.remaining input.new) (O.contents output.old) (O.contents output.new)) }
+    ensures cause { OnErr result ((O.has_failed output.new ≡ true)
+        ⊎ Serves K.does session.old session.new desk.old desk.new
+        (I.remaining input.old) (I.remaining input.new) (O.contents output.old) (O.contents output.new)) }
+    ensures works { OnOk result (session.new.ended ≡ false) }
+    ensures sent { OnOk result (O.has_failed output.new ≡ false) }
     ensures only { IfErr result (λ e. e ≡ Failure.Stream) }
 {
     let mut piece = [0; PIECE];
@@ -110,6 +131,7 @@ fn read_some<I: Read>(input: &mut I, piece: &mut [u8]) -> Result<usize, Failure>
     ensures within { IfOk result (λ n. n ≤ length piece.new) }
     ensures given { IfOk result (λ n. Consumes (I.remaining input.old) (I.remaining input.new) (take n piece.new)) }
     ensures at_end { IfOk result (λ n. n ≡ 0 → IsAtEnd (I.remaining input.new)) }
+    ensures kept { OnErr result (Keeps (I.remaining input.old) (I.remaining input.new)) }
     ensures only { IfErr result (λ e. e ≡ Failure.Stream) }
 {
     'tries: for _ in 0..u64::MAX {
@@ -132,10 +154,14 @@ fn feed_all<K: Desk, O: Output>(
     output: &mut O,
 ) -> Result<(), Failure>
     requires fits { Fits (K.reached desk.old) shelf.old }
+    requires works { session.old.ended ≡ false }
     ensures fits { Fits (K.reached desk.new) shelf.new }
     ensures served { OnOk result (ServesBytes K.does session.old piece.now session.new desk.old desk.new
         (O.contents output.old) (O.contents output.new)) }
-    ensures asked { WasAsked K.does desk.old desk.new }
+    ensures stopped { OnErr result (StopsBytes K.does session.old piece.now desk.old desk.new
+        (O.contents output.old) (O.contents output.new)) }
+    ensures cause { OnErr result (O.has_failed output.new ≡ true) }
+    ensures works { OnOk result (session.new.ended ≡ false) }
     ensures only { IfErr result (λ e. e ≡ Failure.Stream) }
 {
     for byte in piece {
@@ -153,10 +179,14 @@ fn feed_byte<K: Desk, O: Output>(
     output: &mut O,
 ) -> Result<(), Failure>
     requires fits { Fits (K.reached desk.old) shelf.old }
+    requires works { session.old.ended ≡ false }
     ensures fits { Fits (K.reached desk.new) shelf.new }
     ensures served { OnOk result (ServesBytes K.does session.old (byte ∷ []) session.new desk.old desk.new
         (O.contents output.old) (O.contents output.new)) }
-    ensures asked { WasAsked K.does desk.old desk.new }
+    ensures stopped { OnErr result (StopsBytes K.does session.old (byte ∷ []) desk.old desk.new
+        (O.contents output.old) (O.contents output.new)) }
+    ensures cause { OnErr result (O.has_failed output.new ≡ true) }
+    ensures works { OnOk result (session.new.ended ≡ false) }
     ensures only { IfErr result (λ e. e ≡ Failure.Stream) }
 {
     let Ok(()) = session.feed(alloc, &[byte], output, desk, shelf) else {
@@ -174,6 +204,8 @@ fn feed_byte<K: Desk, O: Output>(
 
 fn flush<O: Output>(output: &mut O) -> Result<(), Failure>
     ensures kept { Keeps (O.contents output.old) (O.contents output.new) }
+    ensures works { OnOk result (O.has_failed output.new ≡ false) }
+    ensures failed { OnErr result (O.has_failed output.new ≡ true) }
     ensures only { IfErr result (λ e. e ≡ Failure.Stream) }
 {
     let Ok(()) = output.flush() else {

@@ -1,3 +1,4 @@
+mod ahead;
 mod reads;
 mod shelf;
 mod subscriptions;

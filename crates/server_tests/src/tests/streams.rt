@@ -1,4 +1,4 @@
-use super::{HELLO, format_small, path};
+use super::{CREATE, HELLO, format_small, path};
 use server::run;
 use std::fs::{self, File};
 use std::io::{self, ErrorKind, Read, Write};
@@ -27,6 +27,51 @@ impl Write for Broken {
     fn flush(&mut self) -> io::Result<()> {
         Ok(())
     }
+}
+
+/// An output that holds back what it is given, and sends it on where it is flushed, with a mark behind it.
+#[derive(Drop)]
+struct Held {
+    held: Vec<u8>,
+    sent: Vec<u8>,
+}
+
+impl Write for Held {
+    fn write(&mut self, buf: &[u8]) -> io::Result<usize> {
+        self.held.extend_from_slice(buf)?;
+        Ok(buf.len())
+    }
+
+    fn flush(&mut self) -> io::Result<()> {
+        if !self.held.is_empty() {
+            self.sent.extend_from_slice(self.held.as_slice())?;
+            self.sent.extend_from_slice(b"|")?;
+            self.held.clear();
+        }
+        Ok(())
+    }
+}
+
+/// A run over this input sends on these texts, one by one, with a mark behind each.
+fn sends<
+    R: Files<File = File>
+        + AllocGlobal
+        + Net<Listener = TcpListener, Stream = TcpStream>
+        + Threads
+        + Wait
+        + Sync
+        + Abort,
+>(rt: &R, words: &[&str], input: &str, wanted: &str) -> Result<(), Fail> {
+    let mut output = Held {
+        held: Vec::new(rt.alloc()),
+        sent: Vec::new(rt.alloc()),
+    };
+    let mut errors = Vec::new(rt.alloc());
+    let status = run(rt, words, &mut input.as_bytes(), &mut output, &mut errors);
+    assert_eq!(rt; status, 0);
+    assert!(rt; output.held.is_empty());
+    assert_eq!(rt; String::from_utf8(output.sent)?.as_str(), wanted);
+    Ok(())
 }
 
 /// A run over these streams ends with status 1, and writes nothing to the last one.
@@ -62,6 +107,20 @@ fn a_stream_that_fails_is_status_1(rt: HostRuntime) -> Result<(), Fail> {
         1
     );
     assert!(rt; output.is_empty());
+    fs::remove_file(&rt, path)?;
+    Ok(())
+}
+
+#[test]
+fn each_reply_is_sent_on_before_the_next_line(rt: HostRuntime) -> Result<(), Fail> {
+    let path = path(&rt, "sent")?;
+    let path = path.as_str();
+    format_small(&rt, path)?;
+    let input = format!(in rt.alloc(); "{HELLO}{CREATE}")?;
+    let replies = "{\"ok\":\"hello\"}\n|{\"doc\":\"d\",\"n\":1,\"ok\":\"taken\",\"rev\":1}\n|";
+    sends(&rt, &["richd", "serve", path], input.as_str(), replies)?;
+    let dumped = "d 1 0 {\"ops\":[{\"insert\":\"z\"}]}\n|";
+    sends(&rt, &["richd", "dump", path], "", dumped)?;
     fs::remove_file(&rt, path)?;
     Ok(())
 }

@@ -1,7 +1,8 @@
 use Rattle.std.proofs.Common.{◌≡◌, ◌<◌, ◌∙◌, sym, length, get_or, rules}
 use Rattle.revision.specs.Pending.{record_of}
-use Rattle.session.proofs.Writes.{appends-kept, on_err}
 use Rattle.serving.specs.Dump.{document_line}
+use Rattle.serving.proofs.Fronts.{on_err}
+use Rattle.serving.proofs.Streams.{appends-kept}
 use Rattle.serving.proofs.Dumps.{front-dumped, front-within, dumped-next}
 use Rattle.serving.proofs.dump.dump.Goals as goal
 

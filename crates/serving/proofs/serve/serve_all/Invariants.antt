@@ -1,12 +1,14 @@
+use Rattle.std.proofs.Common.{◌≡◌, false}
 use Rattle.serving.specs.Serving.{Serves}
 use Rattle.session.specs.Shelf.{Fits}
 use Rattle.serving.proofs.serve.serve_all.Given as goal
 
--- what comes of the pieces so far is written, and the shelf fits
+-- what comes of the pieces so far is written, the shelf fits, and no write has failed
 abbrev pub invariant-pieces : goal.invariant-pieces
 invariant-pieces g l =
     record {
       fits : Fits (g.K.Desk.reached l.desk) l.shelf;
+      works : l.session.ended ≡ false;
       served : Serves g.K.Desk.does l.fn.session l.session l.fn.desk l.desk (g.I.Read.remaining l.fn.input) (g.I.Read.remaining l.input)
           (g.O.Output.contents l.fn.output) (g.O.Output.contents l.output);
     }

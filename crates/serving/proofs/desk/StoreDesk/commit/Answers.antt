@@ -12,3 +12,8 @@ pub returns-then-eq-clause-kept : goal.returns-then-eq-clause-kept
 returns-then-eq-clause-kept g c no_memory =
     let is : c.in-Err.refusal ≡ NoMemory = search rules in
     c.in-Err.ensures.kept (λ (fault : c.in-Err.refusal ≡ Fault). cc)
+
+pub returns-then-eq-clause-given_up_behind : goal.returns-then-eq-clause-given_up_behind
+returns-then-eq-clause-given_up_behind g c no_memory no_room is_open =
+    let is : c.in-Err.refusal ≡ NoMemory = search rules in
+    c.in-Err.ensures.memory_behind is no_room is_open

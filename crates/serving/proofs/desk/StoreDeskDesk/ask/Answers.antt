@@ -9,7 +9,7 @@ pub returns-clause-answered : goal.returns-clause-answered
 returns-clause-answered g c =
     let e = c.keep_up.ensures in (
       c.keep_up.new.self,
-      record { done = e.done; spacing = e.spacing; state = e.state; goes = e.goes; store_works = e.store_works; cause = e.cause; rests = e.rests; honest = e.honest },
+      record { rests = e.rests; idle = e.idle; done = e.done; spacing = e.spacing; state = e.state; goes = e.goes; store_works = e.store_works; cause = e.cause; honest = e.honest },
       c.answer.ensures.answered,
     )
 
