@@ -4,6 +4,7 @@
 //! `callers` has the callers that open `lib.rt` of refusal, words and serving, proved, and `running` the one of server.
 #![tactic(auto)]
 
+#[cfg(test)]
 pub mod callers;
 #[cfg(test)]
 pub mod running;

@@ -1,6 +1,4 @@
-use super::runs;
-use std::io;
-use std::test::Fail;
+use super::call_without_input;
 
 /// Words, the status, and what is written to standard output and to standard error.
 const ANSWERS: [(&str, u8, &str, &str); 8] = [
@@ -50,10 +48,12 @@ const ANSWERS: [(&str, u8, &str, &str); 8] = [
 ];
 
 #[test]
-fn deltas_are_composed_transformed_inverted_and_applied(rt: HostRuntime) -> Result<(), Fail> {
+fn deltas_are_composed_transformed_inverted_and_applied(rt: HostRuntime) {
     for (words, status, output, errors) in &ANSWERS {
-        let words: Vec<&str> = words.split(' ').collect(rt.alloc())?;
-        runs(&rt, &words, &mut io::empty(), (*status, *output, *errors))?;
+        let ended = call_without_input(&rt, *words);
+        assert_eq!(&rt;
+            (ended.status, ended.output.as_str(), ended.errors.as_str()),
+            (*status, *output, *errors)
+        );
     }
-    Ok(())
 }

@@ -1,250 +1,312 @@
-use super::{GREETED, path, runs};
-use std::fs::{self, File};
-use std::io;
+use super::{format_sized, is_served, path, prints, remove};
+use std::fs::File;
 use std::net::{Net, TcpListener, TcpStream};
 use std::process::Abort;
 use std::rt::Files;
 use std::sync::Wait;
-use std::test::Fail;
 use std::thread::Threads;
 
-/// A source, what it says, and the reply.
-type Said = (&'static str, &'static str, &'static str);
-
-const TAKEN_1: &str = r#"{"doc":"d","n":1,"ok":"taken","rev":1}"#;
-
-const TAKEN_2: &str = r#"{"doc":"d","n":2,"ok":"taken","rev":2}"#;
+/// A source, the lines that it says, their replies, and what the store prints then.
+struct Said {
+    source: &'static str,
+    lines: &'static str,
+    replies: &'static str,
+    dump: &'static str,
+}
 
 /// A late edit is made late past each delta in turn: past the one delta for both it would give "xy".
-const LATE: [Said; 5] = [
-    (
-        "ann",
-        r#"{"do":"create","doc":"d","n":1,"ops":[{"insert":"z"}]}"#,
-        TAKEN_1,
-    ),
-    (
-        "ann",
-        r#"{"base":1,"do":"edit","doc":"d","n":2,"ops":[{"retain":1},{"insert":"x"}]}"#,
-        TAKEN_2,
-    ),
-    (
-        "ann",
-        r#"{"base":2,"do":"edit","doc":"d","n":3,"ops":[{"delete":1}]}"#,
-        r#"{"doc":"d","n":3,"ok":"taken","rev":3}"#,
-    ),
-    (
-        "bob",
-        r#"{"base":1,"do":"edit","doc":"d","n":1,"ops":[{"insert":"y"}]}"#,
-        r#"{"doc":"d","n":1,"ok":"taken","rev":4}"#,
-    ),
-    (
-        "bob",
-        r#"{"do":"fetch","doc":"d"}"#,
-        r#"{"doc":"d","ok":"doc","ops":[{"insert":"yx"}],"rev":4}"#,
-    ),
+const LATE: [Said; 2] = [
+    Said {
+        source: "ann",
+        lines: r#"{"do":"create","doc":"d","n":1,"ops":[{"insert":"z"}]}
+{"base":1,"do":"edit","doc":"d","n":2,"ops":[{"retain":1},{"insert":"x"}]}
+{"base":2,"do":"edit","doc":"d","n":3,"ops":[{"delete":1}]}
+"#,
+        replies: r#"{"doc":"d","n":1,"ok":"taken","rev":1}
+{"doc":"d","n":2,"ok":"taken","rev":2}
+{"doc":"d","n":3,"ok":"taken","rev":3}
+"#,
+        dump: r#"d 3 1 {"ops":[{"insert":"x"}]}
+"#,
+    },
+    Said {
+        source: "bob",
+        lines: r#"{"base":1,"do":"edit","doc":"d","n":1,"ops":[{"insert":"y"}]}
+{"do":"fetch","doc":"d"}
+"#,
+        replies: r#"{"doc":"d","n":1,"ok":"taken","rev":4}
+{"doc":"d","ok":"doc","ops":[{"insert":"yx"}],"rev":4}
+"#,
+        dump: r#"d 4 2 {"ops":[{"insert":"yx"}]}
+"#,
+    },
 ];
 
 /// What was taken first keeps its attributes.
-const ATTRIBUTES: [Said; 4] = [
-    (
-        "ann",
-        r#"{"do":"create","doc":"d","n":1,"ops":[{"insert":"a"}]}"#,
-        TAKEN_1,
-    ),
-    (
-        "ann",
-        r#"{"base":1,"do":"edit","doc":"d","n":2,"ops":[{"retain":1,"attributes":{"bold":true}}]}"#,
-        TAKEN_2,
-    ),
-    (
-        "bob",
-        r#"{"base":1,"do":"edit","doc":"d","n":1,"ops":[{"retain":1,"attributes":{"bold":null,"italic":true}}]}"#,
-        r#"{"doc":"d","n":1,"ok":"taken","rev":3}"#,
-    ),
-    (
-        "bob",
-        r#"{"do":"fetch","doc":"d"}"#,
-        r#"{"doc":"d","ok":"doc","ops":[{"attributes":{"bold":true,"italic":true},"insert":"a"}],"rev":3}"#,
-    ),
+const ATTRIBUTES: [Said; 2] = [
+    Said {
+        source: "ann",
+        lines: r#"{"do":"create","doc":"d","n":1,"ops":[{"insert":"a"}]}
+{"base":1,"do":"edit","doc":"d","n":2,"ops":[{"retain":1,"attributes":{"bold":true}}]}
+"#,
+        replies: r#"{"doc":"d","n":1,"ok":"taken","rev":1}
+{"doc":"d","n":2,"ok":"taken","rev":2}
+"#,
+        dump: r#"d 2 0 {"ops":[{"attributes":{"bold":true},"insert":"a"}]}
+"#,
+    },
+    Said {
+        source: "bob",
+        lines: r#"{"base":1,"do":"edit","doc":"d","n":1,"ops":[{"retain":1,"attributes":{"bold":null,"italic":true}}]}
+{"do":"fetch","doc":"d"}
+"#,
+        replies: r#"{"doc":"d","n":1,"ok":"taken","rev":3}
+{"doc":"d","ok":"doc","ops":[{"attributes":{"bold":true,"italic":true},"insert":"a"}],"rev":3}
+"#,
+        dump: r#"d 3 1 {"ops":[{"attributes":{"bold":true,"italic":true},"insert":"a"}]}
+"#,
+    },
 ];
 
 /// An edit without effect is taken, and one past the end is not.
-const PAST_END: [Said; 3] = [
-    (
-        "ann",
-        r#"{"do":"create","doc":"d","n":1,"ops":[{"insert":"abcd"}]}"#,
-        TAKEN_1,
-    ),
-    (
-        "ann",
-        r#"{"base":1,"do":"edit","doc":"d","n":2,"ops":[{"retain":5}]}"#,
-        TAKEN_2,
-    ),
-    (
-        "ann",
-        r#"{"base":2,"do":"edit","doc":"d","n":3,"ops":[{"retain":5},{"insert":"x"}]}"#,
-        r#"{"code":14,"error":"PastEnd"}"#,
-    ),
-];
+const PAST_END: [Said; 1] = [Said {
+    source: "ann",
+    lines: r#"{"do":"create","doc":"d","n":1,"ops":[{"insert":"abcd"}]}
+{"base":1,"do":"edit","doc":"d","n":2,"ops":[{"retain":5}]}
+{"base":2,"do":"edit","doc":"d","n":3,"ops":[{"retain":5},{"insert":"x"}]}
+"#,
+    replies: r#"{"doc":"d","n":1,"ok":"taken","rev":1}
+{"doc":"d","n":2,"ok":"taken","rev":2}
+{"code":14,"error":"PastEnd"}
+"#,
+    dump: r#"d 2 0 {"ops":[{"insert":"abcd"}]}
+"#,
+}];
 
 /// The number alone tells a retry.
-const NUMBERS: [Said; 5] = [
-    (
-        "ann",
-        r#"{"do":"create","doc":"d","n":1,"ops":[{"insert":"a"}]}"#,
-        TAKEN_1,
-    ),
-    (
-        "ann",
-        r#"{"base":1,"do":"edit","doc":"d","n":2,"ops":[{"insert":"b"}]}"#,
-        TAKEN_2,
-    ),
-    (
-        "ann",
-        r#"{"base":1,"do":"edit","doc":"d","n":2,"ops":[{"insert":"c"}]}"#,
-        r#"{"doc":"d","n":2,"ok":"again","rev":2}"#,
-    ),
-    (
-        "ann",
-        r#"{"base":2,"do":"edit","doc":"d","n":1,"ops":[]}"#,
-        r#"{"code":10,"error":"OldNumber"}"#,
-    ),
-    (
-        "ann",
-        r#"{"base":2,"do":"edit","doc":"d","n":4,"ops":[]}"#,
-        r#"{"code":9,"error":"Gap"}"#,
-    ),
+const NUMBERS: [Said; 1] = [Said {
+    source: "ann",
+    lines: r#"{"do":"create","doc":"d","n":1,"ops":[{"insert":"a"}]}
+{"base":1,"do":"edit","doc":"d","n":2,"ops":[{"insert":"b"}]}
+{"base":1,"do":"edit","doc":"d","n":2,"ops":[{"insert":"c"}]}
+{"base":2,"do":"edit","doc":"d","n":1,"ops":[]}
+{"base":2,"do":"edit","doc":"d","n":4,"ops":[]}
+"#,
+    replies: r#"{"doc":"d","n":1,"ok":"taken","rev":1}
+{"doc":"d","n":2,"ok":"taken","rev":2}
+{"doc":"d","n":2,"ok":"again","rev":2}
+{"code":10,"error":"OldNumber"}
+{"code":9,"error":"Gap"}
+"#,
+    dump: r#"d 2 0 {"ops":[{"insert":"ba"}]}
+"#,
+}];
+
+/// A creation is a retry where its source's last number there is 1, and another source's is none.
+const CREATED: [Said; 2] = [
+    Said {
+        source: "ann",
+        lines: r#"{"do":"create","doc":"d","n":1,"ops":[{"insert":"a"}]}
+{"do":"create","doc":"d","n":1,"ops":[{"insert":"b"}]}
+"#,
+        replies: r#"{"doc":"d","n":1,"ok":"taken","rev":1}
+{"doc":"d","n":1,"ok":"again","rev":1}
+"#,
+        dump: r#"d 1 0 {"ops":[{"insert":"a"}]}
+"#,
+    },
+    Said {
+        source: "bob",
+        lines: r#"{"do":"create","doc":"d","n":1,"ops":[{"insert":"a"}]}
+"#,
+        replies: r#"{"code":7,"error":"Exists"}
+"#,
+        dump: r#"d 1 0 {"ops":[{"insert":"a"}]}
+"#,
+    },
 ];
 
 /// Two revisions below the newest one are kept.
-const BASES: [Said; 7] = [
-    (
-        "ann",
-        r#"{"do":"create","doc":"d","n":1,"ops":[]}"#,
-        TAKEN_1,
-    ),
-    (
-        "ann",
-        r#"{"base":1,"do":"edit","doc":"d","n":2,"ops":[{"insert":"a"}]}"#,
-        TAKEN_2,
-    ),
-    (
-        "ann",
-        r#"{"base":2,"do":"edit","doc":"d","n":3,"ops":[{"insert":"b"}]}"#,
-        r#"{"doc":"d","n":3,"ok":"taken","rev":3}"#,
-    ),
-    (
-        "ann",
-        r#"{"base":3,"do":"edit","doc":"d","n":4,"ops":[{"insert":"c"}]}"#,
-        r#"{"doc":"d","n":4,"ok":"taken","rev":4}"#,
-    ),
-    (
-        "ann",
-        r#"{"base":5,"do":"edit","doc":"d","n":5,"ops":[{"insert":"d"}]}"#,
-        r#"{"code":12,"error":"Future"}"#,
-    ),
-    (
-        "ann",
-        r#"{"base":1,"do":"edit","doc":"d","n":5,"ops":[{"insert":"d"}]}"#,
-        r#"{"code":13,"error":"TooOld"}"#,
-    ),
-    (
-        "ann",
-        r#"{"base":2,"do":"edit","doc":"d","n":5,"ops":[{"insert":"d"}]}"#,
-        r#"{"doc":"d","n":5,"ok":"taken","rev":5}"#,
-    ),
-];
+const BASES: [Said; 1] = [Said {
+    source: "ann",
+    lines: r#"{"do":"create","doc":"d","n":1,"ops":[]}
+{"base":1,"do":"edit","doc":"d","n":2,"ops":[{"insert":"a"}]}
+{"base":2,"do":"edit","doc":"d","n":3,"ops":[{"insert":"b"}]}
+{"base":3,"do":"edit","doc":"d","n":4,"ops":[{"insert":"c"}]}
+{"base":5,"do":"edit","doc":"d","n":5,"ops":[{"insert":"d"}]}
+{"base":1,"do":"edit","doc":"d","n":5,"ops":[{"insert":"d"}]}
+{"base":2,"do":"edit","doc":"d","n":5,"ops":[{"insert":"d"}]}
+"#,
+    replies: r#"{"doc":"d","n":1,"ok":"taken","rev":1}
+{"doc":"d","n":2,"ok":"taken","rev":2}
+{"doc":"d","n":3,"ok":"taken","rev":3}
+{"doc":"d","n":4,"ok":"taken","rev":4}
+{"code":12,"error":"Future"}
+{"code":13,"error":"TooOld"}
+{"doc":"d","n":5,"ok":"taken","rev":5}
+"#,
+    dump: r#"d 5 3 {"ops":[{"insert":"cbda"}]}
+"#,
+}];
 
 /// Each undoes its own last change, past what others did since.
-const UNDONE: [Said; 8] = [
-    (
-        "ann",
-        r#"{"do":"create","doc":"d","n":1,"ops":[{"insert":"ab"}]}"#,
-        TAKEN_1,
-    ),
-    (
-        "ann",
-        r#"{"base":1,"do":"edit","doc":"d","n":2,"ops":[{"retain":1},{"delete":1}]}"#,
-        TAKEN_2,
-    ),
-    (
-        "bob",
-        r#"{"base":2,"do":"edit","doc":"d","n":1,"ops":[{"insert":"q"}]}"#,
-        r#"{"doc":"d","n":1,"ok":"taken","rev":3}"#,
-    ),
-    (
-        "ann",
-        r#"{"do":"undo","doc":"d","n":3}"#,
-        r#"{"doc":"d","n":3,"ok":"taken","rev":4}"#,
-    ),
-    (
-        "carl",
-        r#"{"do":"fetch","doc":"d"}"#,
-        r#"{"doc":"d","ok":"doc","ops":[{"insert":"qab"}],"rev":4}"#,
-    ),
-    (
-        "ann",
-        r#"{"do":"undo","doc":"d","n":4}"#,
-        r#"{"doc":"d","n":4,"ok":"taken","rev":5}"#,
-    ),
-    (
-        "carl",
-        r#"{"do":"fetch","doc":"d"}"#,
-        r#"{"doc":"d","ok":"doc","ops":[{"insert":"qa"}],"rev":5}"#,
-    ),
-    (
-        "carl",
-        r#"{"do":"undo","doc":"d","n":1}"#,
-        r#"{"code":19,"error":"NothingToUndo"}"#,
-    ),
+const UNDONE: [Said; 6] = [
+    Said {
+        source: "ann",
+        lines: r#"{"do":"create","doc":"d","n":1,"ops":[{"insert":"ab"}]}
+{"base":1,"do":"edit","doc":"d","n":2,"ops":[{"retain":1},{"delete":1}]}
+"#,
+        replies: r#"{"doc":"d","n":1,"ok":"taken","rev":1}
+{"doc":"d","n":2,"ok":"taken","rev":2}
+"#,
+        dump: r#"d 2 0 {"ops":[{"insert":"a"}]}
+"#,
+    },
+    Said {
+        source: "bob",
+        lines: r#"{"base":2,"do":"edit","doc":"d","n":1,"ops":[{"insert":"q"}]}
+"#,
+        replies: r#"{"doc":"d","n":1,"ok":"taken","rev":3}
+"#,
+        dump: r#"d 3 1 {"ops":[{"insert":"qa"}]}
+"#,
+    },
+    Said {
+        source: "ann",
+        lines: r#"{"do":"undo","doc":"d","n":3}
+"#,
+        replies: r#"{"doc":"d","n":3,"ok":"taken","rev":4}
+"#,
+        dump: r#"d 4 2 {"ops":[{"insert":"qab"}]}
+"#,
+    },
+    Said {
+        source: "carl",
+        lines: r#"{"do":"fetch","doc":"d"}
+"#,
+        replies: r#"{"doc":"d","ok":"doc","ops":[{"insert":"qab"}],"rev":4}
+"#,
+        dump: r#"d 4 2 {"ops":[{"insert":"qab"}]}
+"#,
+    },
+    Said {
+        source: "ann",
+        lines: r#"{"do":"undo","doc":"d","n":4}
+"#,
+        replies: r#"{"doc":"d","n":4,"ok":"taken","rev":5}
+"#,
+        dump: r#"d 5 3 {"ops":[{"insert":"qa"}]}
+"#,
+    },
+    Said {
+        source: "carl",
+        lines: r#"{"do":"fetch","doc":"d"}
+{"do":"undo","doc":"d","n":1}
+"#,
+        replies: r#"{"doc":"d","ok":"doc","ops":[{"insert":"qa"}],"rev":5}
+{"code":19,"error":"NothingToUndo"}
+"#,
+        dump: r#"d 5 3 {"ops":[{"insert":"qa"}]}
+"#,
+    },
 ];
 
 /// What isn't there, a source too many, and whose a creation was.
-const STRANGERS: [Said; 8] = [
-    (
-        "ann",
-        r#"{"do":"fetch","doc":"d"}"#,
-        r#"{"code":6,"error":"NoDocument"}"#,
-    ),
-    (
-        "ann",
-        r#"{"do":"undo","doc":"d","n":1}"#,
-        r#"{"code":6,"error":"NoDocument"}"#,
-    ),
-    (
-        "ann",
-        r#"{"base":0,"do":"edit","doc":"d","n":1,"ops":[]}"#,
-        r#"{"code":6,"error":"NoDocument"}"#,
-    ),
-    (
-        "ann",
-        r#"{"do":"create","doc":"d","n":1,"ops":[{"insert":"Hi"}]}"#,
-        TAKEN_1,
-    ),
-    (
-        "ann",
-        r#"{"base":1,"do":"edit","doc":"d","n":2,"ops":[{"retain":2},{"insert":"!","attributes":{"bold":true}}]}"#,
-        TAKEN_2,
-    ),
-    (
-        "bob",
-        r#"{"do":"create","doc":"d","n":1,"ops":[{"insert":"Hi"}]}"#,
-        r#"{"code":7,"error":"Exists"}"#,
-    ),
-    (
-        "bob",
-        r#"{"base":9,"do":"edit","doc":"d","n":1,"ops":[]}"#,
-        r#"{"code":11,"error":"TooManySources"}"#,
-    ),
-    (
-        "ann",
-        r#"{"do":"fetch","doc":"d"}"#,
-        r#"{"doc":"d","ok":"doc","ops":[{"insert":"Hi"},{"attributes":{"bold":true},"insert":"!"}],"rev":2}"#,
-    ),
+const STRANGERS: [Said; 3] = [
+    Said {
+        source: "ann",
+        lines: r#"{"do":"fetch","doc":"d"}
+{"do":"undo","doc":"d","n":1}
+{"base":0,"do":"edit","doc":"d","n":1,"ops":[]}
+{"do":"create","doc":"d","n":1,"ops":[{"insert":"Hi"}]}
+{"base":1,"do":"edit","doc":"d","n":2,"ops":[{"retain":2},{"insert":"!","attributes":{"bold":true}}]}
+"#,
+        replies: r#"{"code":6,"error":"NoDocument"}
+{"code":6,"error":"NoDocument"}
+{"code":6,"error":"NoDocument"}
+{"doc":"d","n":1,"ok":"taken","rev":1}
+{"doc":"d","n":2,"ok":"taken","rev":2}
+"#,
+        dump: r#"d 2 0 {"ops":[{"insert":"Hi"},{"attributes":{"bold":true},"insert":"!"}]}
+"#,
+    },
+    Said {
+        source: "bob",
+        lines: r#"{"do":"create","doc":"d","n":1,"ops":[{"insert":"Hi"}]}
+{"base":9,"do":"edit","doc":"d","n":1,"ops":[]}
+"#,
+        replies: r#"{"code":7,"error":"Exists"}
+{"code":11,"error":"TooManySources"}
+"#,
+        dump: r#"d 2 0 {"ops":[{"insert":"Hi"},{"attributes":{"bold":true},"insert":"!"}]}
+"#,
+    },
+    Said {
+        source: "ann",
+        lines: r#"{"do":"fetch","doc":"d"}
+{"do":"fetch","doc":"d","rev":1}
+{"do":"fetch","doc":"d","rev":3}
+{"do":"since","doc":"d","rev":1}
+"#,
+        replies: r#"{"doc":"d","ok":"doc","ops":[{"insert":"Hi"},{"attributes":{"bold":true},"insert":"!"}],"rev":2}
+{"doc":"d","ok":"doc","ops":[{"insert":"Hi"}],"rev":1}
+{"code":12,"error":"Future"}
+{"deltas":[[{"retain":2},{"attributes":{"bold":true},"insert":"!"}]],"doc":"d","ok":"since","rev":2}
+"#,
+        dump: r#"d 2 0 {"ops":[{"insert":"Hi"},{"attributes":{"bold":true},"insert":"!"}]}
+"#,
+    },
 ];
 
-/// Says it in a run of its own over the store.
-fn say<
+/// An entry of 238 bytes is too wide; one of 237 fills the second slot, and the next one finds the journal full.
+pub const FULL_LINES: &str = r#"{"do":"create","doc":"d","n":1,"ops":[{"insert":"z"}]}
+{"base":1,"do":"edit","doc":"d","n":2,"ops":[{"attributes":{"n000000001":null,"n000000002":null,"n000000003":null,"n000000004":null,"n000000005":null,"n000000006":null,"n000000007":null,"n000000008":null,"n000000009":null,"n000000010":null,"n000000011":null,"n000000012":null,"n000000013":null,"n000000014":null,"n00000000150":null},"retain":1}]}
+{"base":1,"do":"edit","doc":"d","n":2,"ops":[{"attributes":{"n000000001":null,"n000000002":null,"n000000003":null,"n000000004":null,"n000000005":null,"n000000006":null,"n000000007":null,"n000000008":null,"n000000009":null,"n000000010":null,"n000000011":null,"n000000012":null,"n000000013":null,"n000000014":null,"n0000000015":null},"retain":1}]}
+{"do":"undo","doc":"d","n":3}
+{"do":"create","doc":"d","n":1,"ops":[]}
+{"do":"fetch","doc":"d"}
+"#;
+
+/// The first slot is freed, and takes it: both milestones are put at revision 2, so the floor stands there.
+const FULL: [Said; 1] = [Said {
+    source: "a",
+    lines: FULL_LINES,
+    replies: r#"{"doc":"d","n":1,"ok":"taken","rev":1}
+{"code":17,"error":"TooWide"}
+{"doc":"d","n":2,"ok":"taken","rev":2}
+{"doc":"d","n":3,"ok":"taken","rev":3}
+{"code":7,"error":"Exists"}
+{"doc":"d","ok":"doc","ops":[{"insert":"z"}],"rev":3}
+"#,
+    dump: r#"d 3 2 {"ops":[{"insert":"z"}]}
+"#,
+}];
+
+/// Sixteen removals of names of ten bytes make an entry of 249 bytes, which is too wide, and fifteen one of 236. A document of six
+/// letters by one source is too heavy, and one of five is not: its creation finds the journal full, and the first slot is freed.
+const WIDE: [Said; 1] = [Said {
+    source: "a",
+    lines: r#"{"do":"create","doc":"d","n":1,"ops":[{"insert":"z"}]}
+{"base":1,"do":"edit","doc":"d","n":2,"ops":[{"attributes":{"n000000001":null,"n000000002":null,"n000000003":null,"n000000004":null,"n000000005":null,"n000000006":null,"n000000007":null,"n000000008":null,"n000000009":null,"n000000010":null,"n000000011":null,"n000000012":null,"n000000013":null,"n000000014":null,"n000000015":null,"n000000016":null},"retain":1}]}
+{"base":1,"do":"edit","doc":"d","n":2,"ops":[{"attributes":{"n000000001":null,"n000000002":null,"n000000003":null,"n000000004":null,"n000000005":null,"n000000006":null,"n000000007":null,"n000000008":null,"n000000009":null,"n000000010":null,"n000000011":null,"n000000012":null,"n000000013":null,"n000000014":null,"n000000015":null},"retain":1}]}
+{"do":"create","doc":"e","n":1,"ops":[{"insert":"abcdef"}]}
+{"do":"create","doc":"e","n":1,"ops":[{"insert":"abcde"}]}
+{"do":"fetch","doc":"e"}
+"#,
+    replies: r#"{"doc":"d","n":1,"ok":"taken","rev":1}
+{"code":17,"error":"TooWide"}
+{"doc":"d","n":2,"ok":"taken","rev":2}
+{"code":16,"error":"TooHeavy"}
+{"doc":"e","n":1,"ok":"taken","rev":1}
+{"doc":"e","ok":"doc","ops":[{"insert":"abcde"}],"rev":1}
+"#,
+    dump: r#"d 2 2 {"ops":[{"insert":"z"}]}
+e 1 0 {"ops":[{"insert":"abcde"}]}
+"#,
+}];
+
+/// The source says its lines in one run.
+fn say_at_once<
     R: Files<File = File>
         + AllocGlobal
         + Net<Listener = TcpListener, Stream = TcpStream>
@@ -252,21 +314,32 @@ fn say<
         + Wait
         + Sync
         + Abort,
->(rt: &R, path: &str, said: &Said) -> Result<(), Fail> {
-    let (source, line, reply) = *said;
-    let hello = r#"{"do":"hello","source":""#;
-    let input = format!(in rt.alloc(); "{hello}{source}\"}}\n{line}\n")?;
-    let wanted = format!(in rt.alloc(); "{GREETED}{reply}\n")?;
-    runs(
-        rt,
-        &["richd", "serve", path],
-        &mut input.as_bytes(),
-        (0, wanted.as_str(), ""),
-    )
+>(rt: &R, path: &str, said: &Said) {
+    let serve = ["richd", "serve", path];
+    is_served(rt, &serve, said.source, said.lines, said.replies);
+    prints(rt, path, said.dump);
 }
 
-/// A new store that keeps two revisions, of so many sources, is said all of it, each in a run of its own, and then prints
-/// this.
+/// The source says each line in a run of its own.
+fn say_apart<
+    R: Files<File = File>
+        + AllocGlobal
+        + Net<Listener = TcpListener, Stream = TcpStream>
+        + Threads
+        + Wait
+        + Sync
+        + Abort,
+>(rt: &R, path: &str, said: &Said) {
+    let serve = ["richd", "serve", path];
+    let lines = said.lines.split_inclusive('\n');
+    for (line, reply) in lines.zip(said.replies.split_inclusive('\n')) {
+        is_served(rt, &serve, said.source, line, reply);
+    }
+    prints(rt, path, said.dump);
+}
+
+/// Two new stores, with slots and cells of so many bytes and so many sources, are said all of it: one with a restart before each
+/// line, and one with restarts only where another source speaks.
 fn talk<
     R: Files<File = File>
         + AllocGlobal
@@ -275,111 +348,75 @@ fn talk<
         + Wait
         + Sync
         + Abort,
->(rt: &R, path: &str, sources: &str, rows: &[Said], dump: &str) -> Result<(), Fail> {
-    let words = [
-        "richd",
-        "format",
-        path,
-        "--slots",
-        "2",
-        "--slot",
-        "4096",
-        "--docs",
-        "2",
-        "--cell",
-        "4096",
-        "--sources",
-        sources,
-        "--keep",
-        "2",
-    ];
-    runs(rt, &words, &mut io::empty(), (0, "", ""))?;
+>(rt: &R, path: &str, size: &str, sources: &str, rows: &[Said]) {
+    format_sized(rt, path, size, sources);
     for said in rows {
-        say(rt, path, said)?;
+        say_apart(rt, path, said);
     }
-    runs(
-        rt,
-        &["richd", "dump", path],
-        &mut io::empty(),
-        (0, dump, ""),
-    )?;
-    fs::remove_file(rt, path)?;
-    Ok(())
+    remove(rt, path);
+    format_sized(rt, path, size, sources);
+    for said in rows {
+        say_at_once(rt, path, said);
+    }
+    remove(rt, path);
 }
 
 #[test]
-fn a_late_edit_is_taken(rt: HostRuntime) -> Result<(), Fail> {
-    let dump = "d 4 2 {\"ops\":[{\"insert\":\"yx\"}]}\n";
-    talk(
-        &rt,
-        path(&rt, "late")?.as_str(),
-        "4",
-        &LATE[..3],
-        "d 3 1 {\"ops\":[{\"insert\":\"x\"}]}\n",
-    )?;
-    talk(&rt, path(&rt, "later")?.as_str(), "4", &LATE, dump)
+fn a_late_edit_is_taken(rt: HostRuntime) {
+    let path = path(&rt, "late").expect(&rt, "a path");
+    talk(&rt, path.as_str(), "4096", "4", &LATE);
 }
 
 #[test]
-fn the_first_keeps_its_attributes(rt: HostRuntime) -> Result<(), Fail> {
-    let dump =
-        "d 3 1 {\"ops\":[{\"attributes\":{\"bold\":true,\"italic\":true},\"insert\":\"a\"}]}\n";
-    talk(
-        &rt,
-        path(&rt, "attributes")?.as_str(),
-        "4",
-        &ATTRIBUTES,
-        dump,
-    )
+fn the_first_keeps_its_attributes(rt: HostRuntime) {
+    let path = path(&rt, "attributes").expect(&rt, "a path");
+    talk(&rt, path.as_str(), "4096", "4", &ATTRIBUTES);
 }
 
 #[test]
-fn nothing_is_kept_past_the_end(rt: HostRuntime) -> Result<(), Fail> {
-    talk(
-        &rt,
-        path(&rt, "past")?.as_str(),
-        "4",
-        &PAST_END,
-        "d 2 0 {\"ops\":[{\"insert\":\"abcd\"}]}\n",
-    )
+fn nothing_is_kept_past_the_end(rt: HostRuntime) {
+    let path = path(&rt, "past").expect(&rt, "a path");
+    talk(&rt, path.as_str(), "4096", "4", &PAST_END);
 }
 
 #[test]
-fn the_number_tells_a_retry(rt: HostRuntime) -> Result<(), Fail> {
-    talk(
-        &rt,
-        path(&rt, "numbers")?.as_str(),
-        "4",
-        &NUMBERS,
-        "d 2 0 {\"ops\":[{\"insert\":\"ba\"}]}\n",
-    )
+fn the_number_tells_a_retry(rt: HostRuntime) {
+    let path = path(&rt, "numbers").expect(&rt, "a path");
+    talk(&rt, path.as_str(), "4096", "4", &NUMBERS);
 }
 
 #[test]
-fn two_revisions_are_kept(rt: HostRuntime) -> Result<(), Fail> {
-    talk(
-        &rt,
-        path(&rt, "bases")?.as_str(),
-        "4",
-        &BASES,
-        "d 5 3 {\"ops\":[{\"insert\":\"cbda\"}]}\n",
-    )
+fn a_creation_is_its_source_s(rt: HostRuntime) {
+    let path = path(&rt, "created").expect(&rt, "a path");
+    talk(&rt, path.as_str(), "4096", "4", &CREATED);
 }
 
 #[test]
-fn a_source_undoes_its_own(rt: HostRuntime) -> Result<(), Fail> {
-    talk(
-        &rt,
-        path(&rt, "undone")?.as_str(),
-        "4",
-        &UNDONE,
-        "d 5 3 {\"ops\":[{\"insert\":\"qa\"}]}\n",
-    )
+fn two_revisions_are_kept(rt: HostRuntime) {
+    let path = path(&rt, "bases").expect(&rt, "a path");
+    talk(&rt, path.as_str(), "4096", "4", &BASES);
 }
 
 #[test]
-fn strangers_are_refused(rt: HostRuntime) -> Result<(), Fail> {
-    let dump =
-        "d 2 0 {\"ops\":[{\"insert\":\"Hi\"},{\"attributes\":{\"bold\":true},\"insert\":\"!\"}]}\n";
-    talk(&rt, path(&rt, "strangers")?.as_str(), "1", &STRANGERS, dump)
+fn a_source_undoes_its_own(rt: HostRuntime) {
+    let path = path(&rt, "undone").expect(&rt, "a path");
+    talk(&rt, path.as_str(), "4096", "4", &UNDONE);
+}
+
+#[test]
+fn strangers_are_refused(rt: HostRuntime) {
+    let path = path(&rt, "strangers").expect(&rt, "a path");
+    talk(&rt, path.as_str(), "4096", "1", &STRANGERS);
+}
+
+#[test]
+fn a_full_journal_is_freed(rt: HostRuntime) {
+    let path = path(&rt, "full").expect(&rt, "a path");
+    talk(&rt, path.as_str(), "256", "4", &FULL);
+}
+
+#[test]
+fn the_widest_and_the_heaviest_are_taken(rt: HostRuntime) {
+    let path = path(&rt, "wide").expect(&rt, "a path");
+    talk(&rt, path.as_str(), "256", "4", &WIDE);
 }

@@ -1,11 +1,10 @@
-use super::{GREETED, HELLO, format_small, path};
-use server::run;
-use std::fs::{self, File};
+use super::{call, format_small, is_served, path, remove, runs};
+use std::fs::File;
+use std::io;
 use std::net::{Net, TcpListener, TcpStream};
 use std::process::Abort;
 use std::rt::Files;
 use std::sync::Wait;
-use std::test::Fail;
 use std::thread::Threads;
 
 /// The two slots of a small store hold some nine edits of this kind.
@@ -54,42 +53,6 @@ fn taken(rt: &(impl Abort + AllocGlobal), above: u64, last: u64) -> String {
     lines
 }
 
-/// What a run of the program that ends well writes.
-fn printed<
-    R: Files<File = File>
-        + AllocGlobal
-        + Net<Listener = TcpListener, Stream = TcpStream>
-        + Threads
-        + Wait
-        + Sync
-        + Abort,
->(rt: &R, words: &[&str], input: &str) -> String {
-    let mut output = Vec::new(rt.alloc());
-    let mut errors = Vec::new(rt.alloc());
-    let status = run(rt, words, &mut input.as_bytes(), &mut output, &mut errors);
-    assert_eq!(rt; status, 0);
-    assert!(rt; errors.is_empty());
-    String::from_utf8(output).expect(rt, "a text")
-}
-
-/// Serves these lines behind hello, and nothing but these replies comes.
-fn is_served<
-    R: Files<File = File>
-        + AllocGlobal
-        + Net<Listener = TcpListener, Stream = TcpStream>
-        + Threads
-        + Wait
-        + Sync
-        + Abort,
->(rt: &R, words: &[&str], lines: &str, replies: &str) {
-    let input = format!(in rt.alloc(); "{HELLO}{lines}").expect(rt, "memory");
-    let wanted = format!(in rt.alloc(); "{GREETED}{replies}").expect(rt, "memory");
-    assert_eq!(rt;
-        printed(rt, words, input.as_str()).as_str(),
-        wanted.as_str()
-    );
-}
-
 /// Serves the edits that make the revisions above the first number up to the second one, and each is acknowledged.
 fn are_taken<
     R: Files<File = File>
@@ -101,7 +64,8 @@ fn are_taken<
         + Abort,
 >(rt: &R, words: &[&str], above: u64, last: u64) {
     let lines = edits(rt, above, last);
-    is_served(rt, words, lines.as_str(), taken(rt, above, last).as_str());
+    let replies = taken(rt, above, last);
+    is_served(rt, words, "a", lines.as_str(), replies.as_str());
 }
 
 /// Both documents as they are printed after all edits, with these floors: the second one has the letters of its last four edits.
@@ -116,6 +80,22 @@ fn is_printed(rt: &(impl Abort + AllocGlobal), dumped: &str, floor: u64, other: 
     dumped == wanted.expect(rt, "memory").as_str()
 }
 
+/// What a store prints by a pick of the milestones.
+fn dumped<
+    R: Files<File = File>
+        + AllocGlobal
+        + Net<Listener = TcpListener, Stream = TcpStream>
+        + Threads
+        + Wait
+        + Sync
+        + Abort,
+>(rt: &R, path: &str, pick: &str) -> String {
+    let words = ["richd", "dump", path, "--pick", pick];
+    let ended = call(rt, &words, &mut io::empty());
+    assert_eq!(rt; (ended.status, ended.errors.as_str()), (0, ""));
+    ended.output
+}
+
 /// By a pick of the milestones a store holds both documents. A floor is that of the milestone, or two revisions back.
 fn is_held<
     R: Files<File = File>
@@ -126,7 +106,7 @@ fn is_held<
         + Sync
         + Abort,
 >(rt: &R, path: &str, pick: &str) {
-    let dumped = printed(rt, &["richd", "dump", path, "--pick", pick], "");
+    let dumped = dumped(rt, path, pick);
     let mut found = false;
     for floor in EDITS - 2..=EDITS {
         for other in 0..=1 {
@@ -147,7 +127,7 @@ fn goes_on<
         + Abort,
 >(rt: &R, path: &str, every: &str, parted: u64) {
     let words = ["richd", "serve", path, "--every", every];
-    is_served(rt, &words, CREATES, CREATED);
+    is_served(rt, &words, "a", CREATES, CREATED);
     are_taken(rt, &words, 1, parted);
     are_taken(rt, &words, parted, EDITS);
     is_held(rt, path, "newer");
@@ -155,25 +135,23 @@ fn goes_on<
 }
 
 #[test]
-fn a_store_outlives_its_journal(rt: HostRuntime) -> Result<(), Fail> {
-    let path = path(&rt, "outlives")?;
+fn a_store_outlives_its_journal(rt: HostRuntime) {
+    let path = path(&rt, "outlives").expect(&rt, "a path");
     for parted in [2, 101, EDITS] {
-        format_small(&rt, path.as_str())?;
+        format_small(&rt, path.as_str());
         goes_on(&rt, path.as_str(), "256", parted);
-        fs::remove_file(&rt, path.as_str())?;
+        remove(&rt, path.as_str());
     }
-    Ok(())
 }
 
 #[test]
-fn and_with_milestones_that_lie_elsewhere(rt: HostRuntime) -> Result<(), Fail> {
-    let path = path(&rt, "elsewhere")?;
+fn and_with_milestones_that_lie_elsewhere(rt: HostRuntime) {
+    let path = path(&rt, "elsewhere").expect(&rt, "a path");
     for (every, parted) in [("1", EDITS), ("2", 100), ("65536", 199)] {
-        format_small(&rt, path.as_str())?;
+        format_small(&rt, path.as_str());
         goes_on(&rt, path.as_str(), every, parted);
-        fs::remove_file(&rt, path.as_str())?;
+        remove(&rt, path.as_str());
     }
-    Ok(())
 }
 
 /// How far milestones lie apart, and the floors of a document at revision 10 as its reading begins with its newer or its older
@@ -190,7 +168,7 @@ fn has_floor<
         + Sync
         + Abort,
 >(rt: &R, path: &str, pick: &str, floor: &str) {
-    let dumped = printed(rt, &["richd", "dump", path, "--pick", pick], "");
+    let dumped = dumped(rt, path, pick);
     let wanted = format!(in rt.alloc(); "\nd 10 {floor} ").expect(rt, "memory");
     assert!(rt; dumped.as_str().contains(wanted.as_str()), "{dumped}");
 }
@@ -206,7 +184,7 @@ fn format_wide<
         + Abort,
 >(rt: &R, path: &str) {
     let words = ["richd", "format", path, "--slots", "2", "--docs", "2"];
-    assert_eq!(rt; printed(rt, &words, "").as_str(), "");
+    runs(rt, &words, &mut io::empty(), (0, "", ""));
 }
 
 /// Ten revisions with milestones that lie so far apart give these floors.
@@ -220,19 +198,18 @@ fn lie_apart<
         + Abort,
 >(rt: &R, path: &str, every: &str, newer: &str, older: &str) {
     let words = ["richd", "serve", path, "--every", every];
-    is_served(rt, &words, CREATES, CREATED);
+    is_served(rt, &words, "a", CREATES, CREATED);
     are_taken(rt, &words, 1, 10);
     has_floor(rt, path, "newer", newer);
     has_floor(rt, path, "older", older);
 }
 
 #[test]
-fn milestones_lie_so_far_apart(rt: HostRuntime) -> Result<(), Fail> {
-    let path = path(&rt, "apart")?;
+fn milestones_lie_so_far_apart(rt: HostRuntime) {
+    let path = path(&rt, "apart").expect(&rt, "a path");
     for (every, newer, older) in &FLOORS {
         format_wide(&rt, path.as_str());
         lie_apart(&rt, path.as_str(), *every, *newer, *older);
-        fs::remove_file(&rt, path.as_str())?;
+        remove(&rt, path.as_str());
     }
-    Ok(())
 }

@@ -1,11 +1,10 @@
-use super::{GREETED, HELLO, call, format_small, path};
-use std::fs::{self, File};
+use super::{GREETED, format_small, is_served_small, path, remove, runs};
+use std::fs::File;
 use std::io::{self, Read};
 use std::net::{Net, TcpListener, TcpStream};
 use std::process::Abort;
 use std::rt::Files;
 use std::sync::Wait;
-use std::test::Fail;
 use std::thread::Threads;
 
 /// An input that is read in pieces of one size.
@@ -205,8 +204,8 @@ const BAD_NAME: &str = "{\"code\":8,\"error\":\"BadName\"}\n";
 
 const BAD_OPS: &str = "{\"code\":3,\"error\":\"BadOps\"}\n";
 
-/// What a session over a new store writes. It ends well.
-fn replies<
+/// An input is replied this over a new store, in pieces of this size, and the session ends well.
+fn is_replied<
     R: Files<File = File>
         + AllocGlobal
         + Net<Listener = TcpListener, Stream = TcpStream>
@@ -214,17 +213,14 @@ fn replies<
         + Wait
         + Sync
         + Abort,
-    I: Read,
->(rt: &R, path: &str, input: &mut I) -> Result<String, Fail> {
-    format_small(rt, path)?;
-    let ended = call(rt, &["richd", "serve", path], input)?;
-    assert_eq!(rt; (ended.status, ended.errors.as_str()), (0, ""));
-    fs::remove_file(rt, path)?;
-    Ok(ended.output)
+>(rt: &R, path: &str, mut input: Pieces<'_>, wanted: &str) {
+    format_small(rt, path);
+    runs(rt, &["richd", "serve", path], &mut input, (0, wanted, ""));
+    remove(rt, path);
 }
 
 /// An input is replied this, in whatever pieces it is read.
-fn replied<
+fn is_replied_in_pieces<
     R: Files<File = File>
         + AllocGlobal
         + Net<Listener = TcpListener, Stream = TcpStream>
@@ -232,59 +228,55 @@ fn replied<
         + Wait
         + Sync
         + Abort,
->(rt: &R, path: &str, input: &[u8], wanted: &str) -> Result<(), Fail> {
+>(rt: &R, path: &str, input: &[u8], wanted: &str) {
     for size in [1, 7, 100_000] {
-        let written = replies(rt, path, &mut Pieces { rest: input, size })?;
-        assert_eq!(rt; written.as_str(), wanted);
+        is_replied(rt, path, Pieces { rest: input, size }, wanted);
     }
-    Ok(())
 }
 
-fn input_of(rt: &HostRuntime, row: &Row) -> Result<Vec<u8>, Fail> {
-    let mut input = row.front.to_vec(rt.alloc())?;
-    for _ in 0..row.count {
-        input.extend_from_slice(row.middle)?;
+/// Puts bytes behind others so many times.
+fn extend(rt: &(impl Abort + AllocGlobal), bytes: &mut Vec<u8>, more: &[u8], count: usize) {
+    for _ in 0..count {
+        bytes.extend_from_slice(more).expect(rt, "memory");
     }
-    input.extend_from_slice(row.back)?;
-    Ok(input)
 }
 
-fn nested(rt: &HostRuntime, depth: usize) -> Result<Vec<u8>, Fail> {
-    let mut line = vec![in rt.alloc(); b'['; depth]?;
-    for _ in 0..depth {
-        line.push(b']')?;
-    }
-    line.push(b'\n')?;
-    Ok(line)
+fn input_of(rt: &(impl Abort + AllocGlobal), row: &Row) -> Vec<u8> {
+    let mut input = Vec::new(rt.alloc());
+    extend(rt, &mut input, row.front, 1);
+    extend(rt, &mut input, row.middle, row.count);
+    extend(rt, &mut input, row.back, 1);
+    input
+}
+
+fn nested(rt: &(impl Abort + AllocGlobal), depth: usize) -> Vec<u8> {
+    let mut line = Vec::new(rt.alloc());
+    extend(rt, &mut line, b"[", depth);
+    extend(rt, &mut line, b"]", depth);
+    extend(rt, &mut line, b"\n", 1);
+    line
 }
 
 #[test]
-fn each_line_has_its_reply(rt: HostRuntime) -> Result<(), Fail> {
-    let path = path(&rt, "rows")?;
+fn each_line_has_its_reply(rt: HostRuntime) {
+    let path = path(&rt, "rows").expect(&rt, "a path");
     for row in &ROWS {
-        let input = input_of(&rt, row)?;
-        replied(&rt, path.as_str(), &input, row.replies)?;
+        is_replied_in_pieces(&rt, path.as_str(), &input_of(&rt, row), row.replies);
     }
-    Ok(())
 }
 
 #[test]
-fn arrays_nest_127_deep(rt: HostRuntime) -> Result<(), Fail> {
-    let path = path(&rt, "nested")?;
+fn arrays_nest_127_deep(rt: HostRuntime) {
+    let path = path(&rt, "nested").expect(&rt, "a path");
     for (depth, reply) in &NESTED {
-        let input = nested(&rt, *depth)?;
-        replied(&rt, path.as_str(), &input, *reply)?;
+        is_replied_in_pieces(&rt, path.as_str(), &nested(&rt, *depth), *reply);
     }
-    Ok(())
 }
 
 #[test]
-fn the_first_refusal_that_holds_decides(rt: HostRuntime) -> Result<(), Fail> {
-    let path = path(&rt, "refused")?;
+fn the_first_refusal_that_holds_decides(rt: HostRuntime) {
+    let path = path(&rt, "refused").expect(&rt, "a path");
     for (line, reply) in &REFUSED {
-        let input = format!(in rt.alloc(); "{HELLO}{line}")?;
-        let written = replies(&rt, path.as_str(), &mut input.as_bytes())?;
-        assert_eq!(rt; written.as_str().strip_prefix(GREETED), Some(*reply));
+        is_served_small(&rt, path.as_str(), *line, *reply);
     }
-    Ok(())
 }

@@ -1,6 +1,4 @@
-use super::{GREETED, HELLO, format_small, path, runs};
-use std::fs;
-use std::test::Fail;
+use super::{is_served_small, path};
 
 const INPUT: &str = concat!(
     "{\"do\":\"create\",\"doc\":\"d\",\"n\":1,\"ops\":[{\"insert\":\"Hi\"}]}\n",
@@ -21,19 +19,7 @@ const OUTPUT: &str = concat!(
 );
 
 #[test]
-fn the_news_follow_each_line(rt: HostRuntime) -> Result<(), Fail> {
-    let path = path(&rt, "news")?;
-    let path = path.as_str();
-    format_small(&rt, path)?;
-    let input = format!(in rt.alloc(); "{HELLO}{INPUT}")?;
-    let output = format!(in rt.alloc(); "{GREETED}{OUTPUT}")?;
-    let mut rest = input.as_bytes();
-    runs(
-        &rt,
-        &["richd", "serve", path],
-        &mut rest,
-        (0, output.as_str(), ""),
-    )?;
-    fs::remove_file(&rt, path)?;
-    Ok(())
+fn the_news_follow_each_line(rt: HostRuntime) {
+    let path = path(&rt, "news").expect(&rt, "a path");
+    is_served_small(&rt, path.as_str(), INPUT, OUTPUT);
 }

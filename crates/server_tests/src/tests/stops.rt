@@ -8,7 +8,6 @@ use serving::dump::dump;
 use serving::serve::serve;
 use session::Stream;
 use std::process::Abort;
-use std::test::Fail;
 
 /// The device has 1,600 bytes, and the first record's gate is byte 1,097.
 const SMALL: Shape = Shape {
@@ -105,18 +104,37 @@ fn dumped<D: Disk>(rt: &(impl Abort + AllocGlobal), store: &Store<D>) -> String 
     String::from_utf8(output.into_writer()).expect(rt, "a text")
 }
 
-#[test]
-fn a_create_stopped_while_its_gate_opens_is_lost_or_kept(rt: HostRuntime) -> Result<(), Fail> {
-    let gate = gate_call(&rt);
+/// A stop while the gate opens leaves this of it; then these are the documents, and this is the reply to the same create.
+fn is_lost_or_kept(
+    rt: &(impl Abort + AllocGlobal),
+    plan: FaultPlan,
+    documents: &str,
+    replies: &str,
+) {
     let failed = "{\"ok\":\"hello\"}\n{\"code\":21,\"error\":\"StoreFailed\"}\n";
+    let stopped = served(rt, formatted(rt), plan, failed);
+    holds(rt, after_crash(rt, &stopped), documents);
+    served(rt, after_crash(rt, &stopped), never(), replies);
+}
+
+/// What a crash leaves of a device.
+fn after_crash(rt: &(impl Abort + AllocGlobal), disk: &FaultDisk) -> MemDisk {
+    disk.after_crash(rt.alloc()).expect(rt, "memory")
+}
+
+/// The store over a device has these documents.
+fn holds(rt: &(impl Abort + AllocGlobal), disk: MemDisk, documents: &str) {
+    let store = opened(rt, disk).expect(rt, "a store");
+    assert_eq!(rt; dumped(rt, &store).as_str(), documents);
+}
+
+#[test]
+fn a_create_stopped_while_its_gate_opens_is_lost_or_kept(rt: HostRuntime) {
+    let gate = gate_call(&rt);
     for (left, documents, replies) in &STOPS {
         let plan = FaultPlan::stop(gate, Left::Byte(*left));
-        let stopped = served(&rt, formatted(&rt), plan, failed);
-        let store = opened(&rt, stopped.after_crash(rt.alloc())?)?;
-        assert_eq!(&rt; dumped(&rt, &store).as_str(), *documents);
-        served(&rt, stopped.after_crash(rt.alloc())?, never(), *replies);
+        is_lost_or_kept(&rt, plan, *documents, *replies);
     }
-    Ok(())
 }
 
 /// The journal of the small store is freed a few times on the way to this revision.
@@ -170,22 +188,25 @@ fn holds_taken(rt: &(impl Abort + AllocGlobal), disk: MemDisk, taken: u64) {
 fn outlives(rt: &(impl Abort + AllocGlobal), lines: &str, plan: FaultPlan) {
     if let Ok(store) = opened(rt, FaultDisk::new(formatted(rt), plan)) {
         let (stopped, written) = ended(rt, store, lines);
-        let after = stopped.after_crash(rt.alloc()).expect(rt, "memory");
-        holds_taken(rt, after, taken_in(written.as_str()));
+        holds_taken(rt, after_crash(rt, &stopped), taken_in(written.as_str()));
     }
 }
 
+/// How many calls are made where nothing goes wrong, and each line is answered as taken.
+fn calls_of(rt: &(impl Abort + AllocGlobal), lines: &str) -> u64 {
+    let store = opened(rt, FaultDisk::new(formatted(rt), never())).expect(rt, "a store");
+    let (whole, written) = ended(rt, store, lines);
+    assert_eq!(rt; taken_in(written.as_str()), LAST);
+    whole.disk().calls().len() as u64
+}
+
 #[test]
-fn what_was_taken_outlives_a_stop_at_any_call(rt: HostRuntime) -> Result<(), Fail> {
+fn what_was_taken_outlives_a_stop_at_any_call(rt: HostRuntime) {
     let edits = edits(&rt, 1, LAST);
-    let lines = format!(in rt.alloc(); "{HELLO}{CREATE}{edits}")?;
-    let store = opened(&rt, FaultDisk::new(formatted(&rt), never()))?;
-    let (whole, written) = ended(&rt, store, lines.as_str());
-    assert_eq!(&rt; taken_in(written.as_str()), LAST);
-    for call in 0..whole.disk().calls().len() as u64 {
+    let lines = format!(in rt.alloc(); "{HELLO}{CREATE}{edits}").expect(&rt, "memory");
+    for call in 0..calls_of(&rt, lines.as_str()) {
         for left in LEFTS {
             outlives(&rt, lines.as_str(), FaultPlan::stop(call, left));
         }
     }
-    Ok(())
 }

@@ -1,12 +1,11 @@
-use super::{CREATE, HELLO, format_small, path};
+use super::{CREATE, HELLO, format_small, path, remove};
 use server::run;
-use std::fs::{self, File};
+use std::fs::File;
 use std::io::{self, ErrorKind, Read, Write};
 use std::net::{Net, TcpListener, TcpStream};
 use std::process::Abort;
 use std::rt::Files;
 use std::sync::Wait;
-use std::test::Fail;
 use std::thread::Threads;
 
 /// A stream that fails.
@@ -85,30 +84,46 @@ fn fails<
         + Abort,
     I: Read,
     O: Write,
->(rt: &R, words: &[&str], input: &mut I, output: &mut O) -> Result<(), Fail> {
+>(rt: &R, words: &[&str], input: &mut I, output: &mut O) {
     let mut errors = Vec::new(rt.alloc());
     assert_eq!(rt; run(rt, words, input, output, &mut errors), 1);
     assert!(rt; errors.is_empty());
-    Ok(())
+}
+
+/// A session whose input or output fails.
+fn fails_in_a_session<
+    R: Files<File = File>
+        + AllocGlobal
+        + Net<Listener = TcpListener, Stream = TcpStream>
+        + Threads
+        + Wait
+        + Sync
+        + Abort,
+>(rt: &R, path: &str) {
+    let serve = ["richd", "serve", path];
+    let mut output = Vec::new(rt.alloc());
+    fails(rt, &serve, &mut Broken, &mut output);
+    assert!(rt; output.is_empty());
+    fails(rt, &serve, &mut HELLO.as_bytes(), &mut Broken);
 }
 
 #[test]
-fn a_stream_that_fails_is_status_1(rt: HostRuntime) -> Result<(), Fail> {
-    let path = path(&rt, "streams")?;
-    let path = path.as_str();
-    format_small(&rt, path)?;
-    let serve = ["richd", "serve", path];
+fn a_session_whose_stream_fails_is_status_1(rt: HostRuntime) {
+    let path = path(&rt, "streams").expect(&rt, "a path");
+    format_small(&rt, path.as_str());
+    fails_in_a_session(&rt, path.as_str());
+    remove(&rt, path.as_str());
+}
+
+#[test]
+fn a_text_that_cannot_be_written_is_status_1(rt: HostRuntime) {
+    fails(&rt, &["richd", "--help"], &mut io::empty(), &mut Broken);
     let mut output = Vec::new(rt.alloc());
-    fails(&rt, &serve, &mut Broken, &mut output)?;
-    fails(&rt, &serve, &mut HELLO.as_bytes(), &mut Broken)?;
-    fails(&rt, &["richd", "--help"], &mut io::empty(), &mut Broken)?;
     assert_eq!(rt;
         run(&rt, &["richd"], &mut io::empty(), &mut output, &mut Broken),
         1
     );
     assert!(rt; output.is_empty());
-    fs::remove_file(&rt, path)?;
-    Ok(())
 }
 
 #[test]
@@ -121,6 +136,6 @@ fn each_reply_is_sent_on_before_the_next_line(rt: HostRuntime) -> Result<(), Fai
     sends(&rt, &["richd", "serve", path], input.as_str(), replies)?;
     let dumped = "d 1 0 {\"ops\":[{\"insert\":\"z\"}]}\n|";
     sends(&rt, &["richd", "dump", path], "", dumped)?;
-    fs::remove_file(&rt, path)?;
+    remove(&rt, path);
     Ok(())
 }

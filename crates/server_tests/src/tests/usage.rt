@@ -1,6 +1,5 @@
-use super::{call, runs};
+use super::{call_without_input, runs};
 use std::io;
-use std::test::Fail;
 
 /// Words that can't be used, and what the errors name.
 const FAULTS: [(&str, &str); 13] = [
@@ -30,41 +29,37 @@ const HELP: [(&str, &str); 3] = [
 ];
 
 #[test]
-fn usage_faults_name_the_usage(rt: HostRuntime) -> Result<(), Fail> {
+fn usage_faults_name_the_usage(rt: HostRuntime) {
     for (words, named) in &FAULTS {
-        let words: Vec<&str> = words.split(' ').collect(rt.alloc())?;
-        let ended = call(&rt, &words, &mut io::empty())?;
-        assert_eq!(rt;
+        let ended = call_without_input(&rt, *words);
+        assert_eq!(&rt;
             (ended.status, ended.output.as_str()),
             (2, ""),
-            "at {words:?}"
+            "at {words}"
         );
-        assert!(rt; ended.errors.as_str().contains(*named), "at {words:?}");
+        assert!(&rt; ended.errors.as_str().contains(*named), "at {words}");
     }
-    Ok(())
 }
 
 #[test]
-fn help_names_the_usage(rt: HostRuntime) -> Result<(), Fail> {
+fn help_names_the_usage(rt: HostRuntime) {
     for (words, named) in &HELP {
-        let words: Vec<&str> = words.split(' ').collect(rt.alloc())?;
-        let shown = call(&rt, &words, &mut io::empty())?;
-        assert_eq!(rt;
+        let shown = call_without_input(&rt, *words);
+        assert_eq!(&rt;
             (shown.status, shown.errors.as_str()),
             (0, ""),
-            "at {words:?}"
+            "at {words}"
         );
-        assert!(rt; shown.output.as_str().contains(*named), "at {words:?}");
+        assert!(&rt; shown.output.as_str().contains(*named), "at {words}");
     }
-    Ok(())
 }
 
 #[test]
-fn the_version_is_printed(rt: HostRuntime) -> Result<(), Fail> {
+fn the_version_is_printed(rt: HostRuntime) {
     runs(
         &rt,
         &["richd", "--version"],
         &mut io::empty(),
         (0, "richd 0.1.0\n", ""),
-    )
+    );
 }
