@@ -59,9 +59,11 @@ const ATTRIBUTES: [Said; 2] = [
         source: "bob",
         lines: r#"{"base":1,"do":"edit","doc":"d","n":1,"ops":[{"retain":1,"attributes":{"bold":null,"italic":true}}]}
 {"do":"fetch","doc":"d"}
+{"do":"since","doc":"d","rev":1}
 "#,
         replies: r#"{"doc":"d","n":1,"ok":"taken","rev":3}
 {"doc":"d","ok":"doc","ops":[{"attributes":{"bold":true,"italic":true},"insert":"a"}],"rev":3}
+{"deltas":[[{"attributes":{"bold":true},"retain":1}],[{"attributes":{"italic":true},"retain":1}]],"doc":"d","ok":"since","rev":3}
 "#,
         dump: r#"d 3 1 {"ops":[{"attributes":{"bold":true,"italic":true},"insert":"a"}]}
 "#,
@@ -74,10 +76,12 @@ const PAST_END: [Said; 1] = [Said {
     lines: r#"{"do":"create","doc":"d","n":1,"ops":[{"insert":"abcd"}]}
 {"base":1,"do":"edit","doc":"d","n":2,"ops":[{"retain":5}]}
 {"base":2,"do":"edit","doc":"d","n":3,"ops":[{"retain":5},{"insert":"x"}]}
+{"do":"since","doc":"d","rev":1}
 "#,
     replies: r#"{"doc":"d","n":1,"ok":"taken","rev":1}
 {"doc":"d","n":2,"ok":"taken","rev":2}
 {"code":14,"error":"PastEnd"}
+{"deltas":[[]],"doc":"d","ok":"since","rev":2}
 "#,
     dump: r#"d 2 0 {"ops":[{"insert":"abcd"}]}
 "#,
