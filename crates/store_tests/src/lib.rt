@@ -4,6 +4,7 @@
 
 #[cfg(test)]
 mod batches;
+#[cfg(test)]
 pub mod callers;
 #[cfg(test)]
 mod cells;
