@@ -12,6 +12,30 @@ use std::marker::Brand;
 use std::process::Abort;
 use std::sync::ledger::Blank;
 
+// A board of one seat and without commands, its seat, the log of its site, and the token of its start.
+fn begun<J: Site, R: Abort + AllocGlobal>(
+    rt: &R,
+    opened: Opened,
+    blank: Blank,
+    state: State,
+) -> (
+    Board<MemDisk, J>,
+    Seat<J>,
+    Log<MemDisk, J>,
+    Told<MemDisk, J>,
+)
+    requires book { opened ≡ J.book }
+    requires name { blank.name ≡ J.name }
+    requires parts { blank.parts ≡ J.parts }
+    requires seats { blank.parts ≡ 2 }
+    requires start { state ≡ J.start }
+{
+    let (log, told) = opened.named::<MemDisk, J>();
+    let mut board = Board::new(rt.alloc(), state, told.copy(), blank, 1);
+    let seat = board.seat().expect(rt, "a seat");
+    (board, seat, log, told)
+}
+
 // a command is ordered, as this revision, and ends the order at this length
 fn is_ordered<J: Site, R: Abort + AllocGlobal>(
     rt: &R,
@@ -99,19 +123,47 @@ fn is_acknowledged<J: Site, R: Abort>(rt: &R, board: &Board<MemDisk, J>, ticket:
     }
 }
 
+// a batch is settled, or is not the next part
+fn is_settled<J: Site, R: Abort>(
+    rt: &R,
+    board: &mut Board<MemDisk, J>,
+    receipt: &Receipt<MemDisk>,
+    told: &Told<MemDisk, J>,
+    wanted: Result<(), Refusal>,
+) {
+    assert_eq!(rt; board.settle(receipt, told.copy()), wanted);
+}
+
 // Only the next part is settled, and only where what is published ends with it.
 fn settled_in_order<J: Site, R: Abort>(
     rt: &R,
     board: &mut Board<MemDisk, J>,
-    one: &Receipt<MemDisk>,
-    two: &Receipt<MemDisk>,
+    receipts: &(Receipt<MemDisk>, Receipt<MemDisk>),
     told: &Told<MemDisk, J>,
     last: &Told<MemDisk, J>,
 ) {
-    assert_eq!(rt; board.settle(two, last.copy()), Err(Refusal::Stranger));
-    assert_eq!(rt; board.settle(one, last.copy()), Err(Refusal::Stranger));
-    assert_eq!(rt; board.settle(one, told.copy()), Ok(()));
-    assert_eq!(rt; board.settle(one, told.copy()), Err(Refusal::Stranger));
+    let stranger = Err(Refusal::Stranger);
+    is_settled(rt, board, &receipts.1, last, stranger);
+    is_settled(rt, board, &receipts.0, last, stranger);
+    is_settled(rt, board, &receipts.0, told, Ok(()));
+    is_settled(rt, board, &receipts.0, told, stranger);
+}
+
+// Two batches are published one after another, and the ticket of the last command is acknowledged once both are settled.
+fn published_in_order<J: Site, R: Abort>(
+    rt: &R,
+    board: &mut Board<MemDisk, J>,
+    log: &Log<MemDisk, J>,
+    start: &Told<MemDisk, J>,
+    receipts: &(Receipt<MemDisk>, Receipt<MemDisk>),
+    ticket: &Ticket,
+) {
+    let told = told_more(rt, start, log, &receipts.0);
+    let last = told_more(rt, &told, log, &receipts.1);
+    settled_in_order(rt, board, receipts, &told, &last);
+    waits(rt, board, ticket);
+    is_settled(rt, board, &receipts.1, &last, Ok(()));
+    is_acknowledged(rt, board, ticket);
 }
 
 // the one document stands at this revision, with so many letters
@@ -121,6 +173,43 @@ fn stands_at<R: Abort>(rt: &R, state: &State, revision: u64, letters: u64) {
     assert!(rt; state.documents()[0].document().len16() == letters);
 }
 
+// it does so too once it is opened again
+fn is_opened_at<R: Abort + AllocGlobal>(
+    rt: &R,
+    store: Store<MemDisk>,
+    revision: u64,
+    letters: u64,
+) {
+    let again = open_store(rt, store.close());
+    stands_at(rt, again.state(), revision, letters);
+}
+
+// All that is ordered is committed in two batches, of two commands and of one.
+fn committed_in_two<J: Site, R: Abort + AllocGlobal>(
+    rt: &R,
+    board: &mut Board<MemDisk, J>,
+    store: &mut Store<MemDisk>,
+) -> (Receipt<MemDisk>, Receipt<MemDisk>) {
+    let one = receipt_of(rt, board, store, 2);
+    let two = receipt_of(rt, board, store, 1);
+    is_idle(rt, board);
+    (one, two)
+}
+
+// They are committed to a new store, and published; the ticket is that of the last command.
+fn written_in_two<J: Site, R: Abort + AllocGlobal>(
+    rt: &R,
+    board: &mut Board<MemDisk, J>,
+    log: &Log<MemDisk, J>,
+    start: &Told<MemDisk, J>,
+    ticket: &Ticket,
+) {
+    let mut store = new_store(rt, 2);
+    let receipts = committed_in_two(rt, board, &mut store);
+    published_in_order(rt, board, log, start, &receipts, ticket);
+    is_opened_at(rt, store, 3, 214);
+}
+
 fn batches_fit<J: Site, R: Abort + AllocGlobal>(rt: &R, opened: Opened, blank: Blank, state: State)
     requires book { opened ≡ J.book }
     requires name { blank.name ≡ J.name }
@@ -128,25 +217,13 @@ fn batches_fit<J: Site, R: Abort + AllocGlobal>(rt: &R, opened: Opened, blank: B
     requires seats { blank.parts ≡ 2 }
     requires start { state ≡ J.start }
 {
-    let (log, told) = opened.named::<MemDisk, J>();
-    let mut board = Board::new(rt.alloc(), state, told.copy(), blank, 1);
-    let mut seat = board.seat().expect(rt, "a seat");
+    let (mut board, mut seat, log, told) = begun::<J, R>(rt, opened, blank, state);
     is_ordered(rt, &mut board, &mut seat, 1, 1);
     is_ordered(rt, &mut board, &mut seat, 2, 14);
     is_ordered(rt, &mut board, &mut seat, 3, 199);
     let again = is_again(rt, &mut board, &mut seat, 3, 199);
-    let mut store = new_store(rt, 2);
-    let one = receipt_of(rt, &mut board, &mut store, 2);
-    let two = receipt_of(rt, &mut board, &mut store, 1);
-    is_idle(rt, &mut board);
-    let told = told_more(rt, &told, &log, &one);
-    let last = told_more(rt, &told, &log, &two);
-    settled_in_order(rt, &mut board, &one, &two, &told, &last);
-    waits(rt, &board, &again);
-    assert_eq!(rt; board.settle(&two, last), Ok(()));
-    is_acknowledged(rt, &board, &again);
+    written_in_two(rt, &mut board, &log, &told, &again);
     stands_at(rt, board.state(), 3, 214);
-    stands_at(rt, open_store(rt, store.close()).state(), 3, 214);
 }
 
 // The entries have 41, 51 and 236 bytes, and a batch has 4 more. The store that is opened again has what the board's order makes.
@@ -160,6 +237,19 @@ fn batches_fit_their_slots(rt: HostRuntime) {
 const WIDTHS: [(u32, usize); 2] = [(159, 2), (160, 1)];
 
 // Two commands are taken off and committed in one batch, or in two of one.
+fn are_taken_off<J: Site, R: Abort + AllocGlobal>(
+    rt: &R,
+    board: &mut Board<MemDisk, J>,
+    first: usize,
+) {
+    let mut store = new_store(rt, 2);
+    let _ = receipt_of(rt, board, &mut store, first);
+    if first == 1 {
+        let _ = receipt_of(rt, board, &mut store, 1);
+    }
+    is_idle(rt, board);
+}
+
 fn taken_off<J: Site, R: Abort + AllocGlobal>(
     rt: &R,
     opened: Opened,
@@ -173,18 +263,10 @@ fn taken_off<J: Site, R: Abort + AllocGlobal>(
     requires seats { blank.parts ≡ 2 }
     requires start { state ≡ J.start }
 {
-    let (count, first) = *row;
-    let (_, told) = opened.named::<MemDisk, J>();
-    let mut board = Board::new(rt.alloc(), state, told, blank, 1);
-    let mut seat = board.seat().expect(rt, "a seat");
+    let (mut board, mut seat, _log, _told) = begun::<J, R>(rt, opened, blank, state);
     is_ordered(rt, &mut board, &mut seat, 1, 1);
-    is_ordered(rt, &mut board, &mut seat, 2, count);
-    let mut store = new_store(rt, 2);
-    let _ = receipt_of(rt, &mut board, &mut store, first);
-    if first == 1 {
-        let _ = receipt_of(rt, &mut board, &mut store, 1);
-    }
-    is_idle(rt, &mut board);
+    is_ordered(rt, &mut board, &mut seat, 2, row.0);
+    are_taken_off(rt, &mut board, row.1);
 }
 
 // The create's entry has 41 bytes, the edit's 37 and one a letter, and a batch 4 more: 241 bytes are one batch, and 242 are two.
@@ -194,6 +276,19 @@ fn a_batch_has_241_bytes_at_most(rt: HostRuntime) {
         let state = State::new(rt.alloc(), SHAPE.limits());
         taken_off::<Brand, _>(&rt, Opened::new(), Blank::new(2), state, row);
     }
+}
+
+// The one command that is ordered is committed to a new store, published and settled.
+fn written_in_one<J: Site, R: Abort + AllocGlobal>(
+    rt: &R,
+    board: &mut Board<MemDisk, J>,
+    log: &Log<MemDisk, J>,
+    start: &Told<MemDisk, J>,
+) {
+    let mut store = new_store(rt, 2);
+    let one = receipt_of(rt, board, &mut store, 1);
+    let told = told_more(rt, start, log, &one);
+    is_settled(rt, board, &one, &told, Ok(()));
 }
 
 fn settled_before_a_failure<J: Site, R: Abort + AllocGlobal>(
@@ -208,17 +303,10 @@ fn settled_before_a_failure<J: Site, R: Abort + AllocGlobal>(
     requires seats { blank.parts ≡ 2 }
     requires start { state ≡ J.start }
 {
-    let (log, told) = opened.named::<MemDisk, J>();
-    let mut board = Board::new(rt.alloc(), state, told.copy(), blank, 1);
-    let mut seat = board.seat().expect(rt, "a seat");
+    let (mut board, mut seat, log, told) = begun::<J, R>(rt, opened, blank, state);
     is_ordered(rt, &mut board, &mut seat, 1, 1);
     let create = is_again(rt, &mut board, &mut seat, 1, 1);
-    let mut store = new_store(rt, 2);
-    let one = receipt_of(rt, &mut board, &mut store, 1);
-    assert_eq!(rt;
-        board.settle(&one, told_more(rt, &told, &log, &one)),
-        Ok(())
-    );
+    written_in_one(rt, &mut board, &log, &told);
     is_ordered(rt, &mut board, &mut seat, 2, 14);
     let edit = is_again(rt, &mut board, &mut seat, 2, 14);
     board.fail();

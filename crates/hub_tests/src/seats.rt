@@ -3,13 +3,23 @@ ghost use Rattle.std.specs.Prelude.{◌≡◌};
 
 use crate::made::SHAPE;
 use disk::MemDisk;
-use hub::Board;
+use hub::{Board, Seat};
 use published::{Opened, Site};
 use refusal::Refusal;
 use revision::State;
 use std::marker::Brand;
 use std::process::Abort;
 use std::sync::ledger::Blank;
+
+// a seat of the board
+fn seat_of<J: Site, R: Abort>(rt: &R, board: &mut Board<MemDisk, J>) -> Seat<J> {
+    board.seat().expect(rt, "a seat")
+}
+
+// none is left to give
+fn none_is_left<J: Site, R: Abort>(rt: &R, board: &mut Board<MemDisk, J>) {
+    assert!(rt; matches!(board.seat(), Err(Refusal::NoSeat)));
+}
 
 fn two_seats<J: Site, R: Abort + AllocGlobal>(rt: &R, opened: Opened, blank: Blank, state: State)
     requires book { opened ≡ J.book }
@@ -20,12 +30,12 @@ fn two_seats<J: Site, R: Abort + AllocGlobal>(rt: &R, opened: Opened, blank: Bla
 {
     let (_, told) = opened.named::<MemDisk, J>();
     let mut board = Board::new(rt.alloc(), state, told, blank, 2);
-    let one = board.seat().expect(rt, "a seat");
-    let _ = board.seat().expect(rt, "a seat");
-    assert!(rt; matches!(board.seat(), Err(Refusal::NoSeat)));
+    let one = seat_of(rt, &mut board);
+    let _ = seat_of(rt, &mut board);
+    none_is_left(rt, &mut board);
     board.give_back(one);
-    let _ = board.seat().expect(rt, "a seat");
-    assert!(rt; matches!(board.seat(), Err(Refusal::NoSeat)));
+    let _ = seat_of(rt, &mut board);
+    none_is_left(rt, &mut board);
 }
 
 #[test]

@@ -24,6 +24,11 @@ fn shows<J: Site, R: Abort>(rt: &R, viewer: &mut Viewer<MemDisk, J>, revision: u
     assert!(rt; viewer.read(newest) == Ok(revision), "revision {revision}");
 }
 
+// the view has ended
+fn is_over<J: Site, R: Abort>(rt: &R, viewer: &mut Viewer<MemDisk, J>) {
+    assert!(rt; viewer.read(newest) == Err(Refusal::StoreFailed));
+}
+
 // publishes what was given, and gives the token that ends with it
 fn published<J: Site, R: Abort + AllocGlobal + Wait>(
     rt: &R,
@@ -43,17 +48,70 @@ fn published<J: Site, R: Abort + AllocGlobal + Wait>(
     }
 }
 
+// the name of a document
+fn name_of(rt: &(impl Abort + AllocGlobal), name: &str) -> Name {
+    Name::doc(rt.alloc(), name).expect(rt, "a name")
+}
+
+// the document z has so many units at a revision
+fn has_units<J: Site, R: Abort + AllocGlobal>(
+    rt: &R,
+    viewer: &mut Viewer<MemDisk, J>,
+    revision: u64,
+    units: u64,
+) {
+    let document = viewer.at(rt.alloc(), &name_of(rt, "z"), revision);
+    assert!(rt; document.expect(rt, "held").len16() == units);
+}
+
+// so many deltas of it were taken since a revision
+fn has_deltas<J: Site, R: Abort + AllocGlobal>(
+    rt: &R,
+    viewer: &mut Viewer<MemDisk, J>,
+    revision: u64,
+    count: usize,
+) {
+    let deltas = viewer.since(rt.alloc(), &name_of(rt, "z"), revision);
+    assert!(rt; deltas.expect(rt, "held").len() == count);
+}
+
+// a document has no such revision
+fn has_no_revision<J: Site, R: Abort + AllocGlobal>(
+    rt: &R,
+    viewer: &mut Viewer<MemDisk, J>,
+    name: &str,
+    revision: u64,
+    refusal: Refusal,
+) {
+    let name = name_of(rt, name);
+    match viewer.at(rt.alloc(), &name, revision) {
+        Ok(_) => panic!(rt; "it is there"),
+        Err(found) => assert_eq!(rt; found, refusal),
+    }
+}
+
+// none were taken since one that isn't there
+fn has_no_deltas<J: Site, R: Abort + AllocGlobal>(
+    rt: &R,
+    viewer: &mut Viewer<MemDisk, J>,
+    revision: u64,
+    refusal: Refusal,
+) {
+    match viewer.since(rt.alloc(), &name_of(rt, "z"), revision) {
+        Ok(_) => panic!(rt; "it is there"),
+        Err(found) => assert_eq!(rt; found, refusal),
+    }
+}
+
 // what stands at the revisions, and what was taken since
 fn reads_back<J: Site, R: Abort + AllocGlobal>(rt: &R, viewer: &mut Viewer<MemDisk, J>) {
-    let z = Name::doc(rt.alloc(), "z").expect(rt, "a name");
-    let y = Name::doc(rt.alloc(), "y").expect(rt, "a name");
-    assert!(rt; viewer.at(rt.alloc(), &z, 1).expect(rt, "held").len16() == 3);
-    assert!(rt; viewer.at(rt.alloc(), &z, 2).expect(rt, "held").len16() == 5);
-    assert!(rt; viewer.since(rt.alloc(), &z, 1).expect(rt, "held").len() == 1);
-    assert!(rt; viewer.since(rt.alloc(), &z, 0).expect(rt, "held").len() == 2);
-    assert!(rt; matches!(viewer.at(rt.alloc(), &z, 3), Err(Refusal::Future)));
-    assert!(rt; matches!(viewer.since(rt.alloc(), &z, 3), Err(Refusal::Future)));
-    assert!(rt; matches!(viewer.at(rt.alloc(), &y, 1), Err(Refusal::NoDocument)));
+    has_units(rt, viewer, 1, 3);
+    has_units(rt, viewer, 2, 5);
+    has_deltas(rt, viewer, 1, 1);
+    has_deltas(rt, viewer, 0, 2);
+    has_no_revision(rt, viewer, "z", 3, Refusal::Future);
+    has_no_revision(rt, viewer, "y", 1, Refusal::NoDocument);
+    has_no_deltas(rt, viewer, 3, Refusal::Future);
 }
 
 // The first batch is shown once it is published.
@@ -103,26 +161,73 @@ fn catches_up<J: Site, R: Abort + AllocGlobal>(
     assert_eq!(rt; late.told().len(), 2);
 }
 
+// A publisher of nothing yet, and a viewer.
+fn begun<J: Site, R: Abort + AllocGlobal>(
+    rt: &R,
+    opened: Opened,
+    state: State,
+) -> (Publisher<MemDisk, J>, Viewer<MemDisk, J>)
+    requires book { opened ≡ J.book }
+    requires start { state ≡ J.start }
+    ensures { result.0.held ≡ [] }
+{
+    let made = Publisher::<MemDisk, J>::new(rt.alloc(), opened, &state);
+    let (publisher, start) = made.expect(rt, "memory");
+    assert_eq!(rt; start.len(), 0);
+    let viewer = publisher.viewer().expect(rt, "a place");
+    (publisher, viewer)
+}
+
+// Where nothing was given, nothing is published.
+fn nothing_is_published<J: Site, R: Abort + AllocGlobal + Wait>(
+    rt: &R,
+    publisher: &mut Publisher<MemDisk, J>,
+)
+    ensures { publisher.new.held ≡ [] }
+{
+    match publisher.publish(rt, rt.alloc()) {
+        Ok(None) => {}
+        _ => panic!(rt; "something is published"),
+    }
+}
+
+// The second batch is published, and the late viewer is told of both.
+fn second_batch<J: Site, R: Abort + AllocGlobal + Wait>(
+    rt: &R,
+    publisher: &mut Publisher<MemDisk, J>,
+    late: &mut Viewer<MemDisk, J>,
+    first: &Told<MemDisk, J>,
+) {
+    let second = published(rt, publisher, 2);
+    assert!(rt; !publisher.holds());
+    catches_up(rt, late, first, &second);
+}
+
+// Both are shown.
+fn both_batches<J: Site, R: Abort + AllocGlobal + Wait>(
+    rt: &R,
+    publisher: &mut Publisher<MemDisk, J>,
+    viewer: &mut Viewer<MemDisk, J>,
+)
+    requires { publisher.old.held ≡ [] }
+{
+    let mut store = new_store(rt);
+    let first = first_batch(rt, &mut store, publisher, viewer);
+    let mut late = late_viewer(rt, &mut store, publisher, viewer);
+    second_batch(rt, publisher, &mut late, &first);
+}
+
 // Two batches, with a viewer from the start, one that comes later, and one that is told.
 fn two_batches<J: Site, R: Abort + AllocGlobal + Wait>(rt: &R, opened: Opened, state: State)
     requires book { opened ≡ J.book }
     requires start { state ≡ J.start }
 {
-    let mut store = new_store(rt);
-    let (mut publisher, start) = Publisher::<MemDisk, J>::new(rt.alloc(), opened, &state).expect(
-        rt, "memory",
-    );
-    assert_eq!(rt; start.len(), 0);
-    let mut viewer = publisher.viewer().expect(rt, "a place");
+    let (mut publisher, mut viewer) = begun::<J, R>(rt, opened, state);
     shows(rt, &mut viewer, 0);
-    assert!(rt; matches!(publisher.publish(rt, rt.alloc()), Ok(None)));
-    let first = first_batch(rt, &mut store, &mut publisher, &mut viewer);
-    let mut late = late_viewer(rt, &mut store, &mut publisher, &mut viewer);
-    let second = published(rt, &mut publisher, 2);
-    assert!(rt; !publisher.holds());
-    catches_up(rt, &mut late, &first, &second);
+    nothing_is_published(rt, &mut publisher);
+    both_batches(rt, &mut publisher, &mut viewer);
     publisher.end(rt);
-    assert!(rt; viewer.read(newest) == Err(Refusal::StoreFailed));
+    is_over(rt, &mut viewer);
 }
 
 #[test]
@@ -144,20 +249,56 @@ fn added<J: Site, R: Abort>(
     }
 }
 
-// Of two tokens the longer is kept, and only the end of the log is added to.
+// a batch isn't put behind an older token
+fn is_behind<J: Site, R: Abort>(
+    rt: &R,
+    told: &Told<MemDisk, J>,
+    log: &Log<MemDisk, J>,
+    receipt: &Receipt<MemDisk>,
+) {
+    assert!(rt; matches!(told.add(log, receipt), Err(NotAdded::Behind(_))));
+}
+
+// one token is a beginning of another, or isn't
+fn begins<J: Site, R: Abort>(rt: &R, one: &Told<MemDisk, J>, two: &Told<MemDisk, J>, wanted: bool) {
+    assert!(rt; one.begins(two) == wanted);
+}
+
+// Of two tokens the longer is kept.
+fn are_beginnings<J: Site, R: Abort>(
+    rt: &R,
+    start: &Told<MemDisk, J>,
+    one: &Told<MemDisk, J>,
+    two: &Told<MemDisk, J>,
+) {
+    begins(rt, start, two, true);
+    begins(rt, one, two, true);
+    begins(rt, two, two, true);
+    begins(rt, two, one, false);
+    assert_eq!(rt; two.longer(one).len(), 2);
+    assert_eq!(rt; one.longer(two).len(), 2);
+}
+
+// Only the end of the log is added to.
+fn added_at_the_end<J: Site, R: Abort + AllocGlobal>(
+    rt: &R,
+    log: &Log<MemDisk, J>,
+    start: &Told<MemDisk, J>,
+    one: &Told<MemDisk, J>,
+    next: &Receipt<MemDisk>,
+) {
+    is_behind(rt, start, log, next);
+    let two = added(rt, one, log, next);
+    are_beginnings(rt, start, one, &two);
+}
+
 fn tokens<J: Site, R: Abort + AllocGlobal>(rt: &R, opened: Opened)
     requires { opened ≡ J.book }
 {
-    let mut store = new_store(rt);
     let (log, start) = opened.named::<MemDisk, J>();
-    let first = write(rt, &mut store, 1, 3);
-    let one = added(rt, &start, &log, &first);
-    let next = write(rt, &mut store, 2, 2);
-    assert!(rt; matches!(start.add(&log, &next), Err(NotAdded::Behind(_))));
-    let two = added(rt, &one, &log, &next);
-    assert!(rt; start.begins(&two) && one.begins(&two) && two.begins(&two) && !two.begins(&one));
-    assert_eq!(rt; two.longer(&one).len(), 2);
-    assert_eq!(rt; one.longer(&two).len(), 2);
+    let mut store = new_store(rt);
+    let one = added(rt, &start, &log, &write(rt, &mut store, 1, 3));
+    added_at_the_end(rt, &log, &start, &one, &write(rt, &mut store, 2, 2));
 }
 
 #[test]
