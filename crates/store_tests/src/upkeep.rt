@@ -231,6 +231,39 @@ fn a_run_stops_at_a_milestone_that_is_refused(rt: HostRuntime) {
     is_refused(&rt, 0, 0, Refusal::TooOld);
 }
 
+// A run that puts milestones at revisions 1 and 3, and asks for one between them.
+fn stops_between_cells<D: Disk>(rt: &(impl Abort + AllocGlobal), store: &mut Store<D>) {
+    let steps = [
+        step(rt, store, part(rt, &SLOT, 14, 45)),
+        step(rt, store, &EDIT),
+        step(rt, store, &DELETION),
+        StoreStep::Milestone(0, 1),
+        StoreStep::Milestone(0, 3),
+        StoreStep::Milestone(0, 2),
+    ];
+    let refusal = Refusal::TooOld;
+    is_run(
+        rt,
+        run_steps(rt, store, &steps),
+        Err(Stop { at: 5, refusal }),
+    );
+}
+
+// The older of two open cells is still the one at revision 1.
+#[test]
+fn no_milestone_is_put_between_the_open_cells(rt: HostRuntime) {
+    let mut store = open_store(&rt, small_device(&rt));
+    stops_between_cells(&rt, &mut store);
+    assert!(rt; !store.has_failed());
+    let kept = store.close();
+    let again = open_by(&rt, device_of(&rt, kept.bytes()), Pick::Older);
+    match again.state().documents() {
+        [record] => assert!(rt; record.floor() == 1),
+        _ => panic!(rt; "one document"),
+    }
+    is_opened_as(&rt, kept.bytes(), "d 3 x\n");
+}
+
 // A run in which slot 0 is retired while one cell alone is open, at the revision of its last batch.
 fn retires_by_one_cell<D: Disk>(rt: &(impl Abort + AllocGlobal), store: &mut Store<D>) {
     let steps = [
