@@ -3,7 +3,7 @@ use Rattle.std.proofs.Common.{◌≡◌, ◌≢◌, ◌++◌, ℕ, zero, suc, �
 use Rattle.std.specs.Prelude.{slice_get, slice_set}
 use Rattle.std.proofs.lemmas.List.{at_drop_more}
 use Rattle.std.proofs.lemmas.Option.{none-some, same_Some}
-use Rattle.revision.specs.ChangedAt.{changed_at, changed_at_all, IsAmong}
+use Rattle.revision.specs.steps.ChangedAt.{changed_at, changed_at_all, IsAmong}
 
 -- one item set to what it was, changed
 pub set-changed : {X : Type 0} (change : X → X) (xs : List X) (i : ℕ) (x y : X) → i < length xs → x ≡ get_or xs i x → y ≡ change x

@@ -3,8 +3,8 @@ use Rattle.std.proofs.Common.{◌≡◌, ℕ, zero, suc, ◌+◌, ◌<◌, ◌�
 use Rattle.std.specs.Prelude.{bytes_eq, is_none, is_some, not}
 use Rattle.std.proofs.lemmas.Option.{none-some, same_Some}
 use Rattle.std.proofs.lemmas.Slice.Eq.{bytes_eq-Decides}
-use Rattle.revision.specs.Index.{number_of, NoneTwice, IsIndex}
-use Rattle.revision.specs.DocumentsView.{names_of}
+use Rattle.revision.specs.steps.Index.{number_of, NoneTwice, IsIndex}
+use Rattle.revision.specs.steps.DocumentsView.{names_of}
 use Rattle.revision.specs.Pending.{PendingDocument, record_of, with_prepared}
 use Rattle.revision.specs.State.{find}
 

@@ -4,14 +4,14 @@ use Rattle.std.specs.Prelude.{slice_get}
 use Rattle.std.proofs.lemmas.List.{take-map, at_drop_more, map-append}
 use Rattle.std.proofs.lemmas.Bool.{and_parts}
 use Rattle.std.proofs.lemmas.Bool.Decides.{Decides-eqb, Decides-ltb}
-use Rattle.revision.specs.DocumentsView.{names_of}
-use Rattle.revision.specs.Index.{number_of}
+use Rattle.revision.specs.steps.DocumentsView.{names_of}
+use Rattle.revision.specs.steps.Index.{number_of}
 use Rattle.revision.proofs.Indexed.{number-found, none_from_test, room_parts}
-use Rattle.revision.specs.ChangedAt.{changed_at}
+use Rattle.revision.specs.steps.ChangedAt.{changed_at}
 use Rattle.revision.specs.Command.{Taken}
 use Rattle.revision.specs.Past.{Change, Past, with_change, with_changes}
 use Rattle.revision.specs.Pending.{PendingDocument, record_of, with_prepared}
-use Rattle.revision.specs.Preparing.{with_next, begun}
+use Rattle.revision.specs.steps.Preparing.{with_next, begun}
 use Rattle.revision.specs.State.{Limits, DocumentRecord, State, change_of, record_by_name, set_document, has_room, begins, continues_by_name, grows, grown, all_grow, first_grows, fold}
 use Rattle.revision.proofs.ChangedAt.{map-changed_at}
 

@@ -2,11 +2,11 @@
 use Rattle.std.proofs.Common.{◌≡◌, ◌≢◌, ℕ, zero, suc, ◌⊎◌, inl, inr, List, [], ◌∷◌, ◌++◌, length, map, take, Some, refl, sym, ap, ap₂, subst, ◌∙◌}
 use Rattle.std.specs.Prelude.{slice_get}
 use Rattle.std.proofs.lemmas.Option.{none-some, same_Some}
-use Rattle.revision.specs.ChangedAt.{changed_at, changed_at_all, IsAmong}
+use Rattle.revision.specs.steps.ChangedAt.{changed_at, changed_at_all, IsAmong}
 use Rattle.revision.specs.Past.{Change, with_changes}
 use Rattle.revision.specs.Pending.{PendingDocument, record_of, with_prepared}
 use Rattle.revision.specs.State.{DocumentRecord}
-use Rattle.revision.specs.DocumentsView.{UntouchedRest}
+use Rattle.revision.specs.steps.DocumentsView.{UntouchedRest}
 use Rattle.revision.proofs.ChangedAt.{ReadOfChanged, read_of_changed, among-more, among-last}
 
 -- nothing is prepared of any document

@@ -2,7 +2,7 @@
 ghost use Rattle.std.specs.Prelude.{◌≡◌, ◌<◌, ◌≤◌, ◌^◌, ◌↔◌, true, IsErrOf, IfErr, IfOk, IsOkUnless};
 ghost use Rattle.revision.specs.Name.{is_source_name};
 ghost use Rattle.revision.specs.Command.{Create, Edit, Undo, IsShort, IsShortDelta};
-ghost use Rattle.revision.specs.Actions.{action_of};
+ghost use Rattle.revision.specs.steps.Actions.{action_of};
 
 use crate::name::Name;
 use delta::Delta;
@@ -59,7 +59,7 @@ impl Model for Command {
 
     ghost Value = { spec.Command };
 
-    ghost use Rattle.revision.specs.Actions.{action_of};
+    ghost use Rattle.revision.specs.steps.Actions.{action_of};
 
     ghost view = { λ c. record { name = c.name; source = c.source; number = c.number; action = action_of c.action } };
 

@@ -1,13 +1,13 @@
 //! Documents with what is prepared to follow.
 ghost use Rattle.std.specs.Prelude.{◌≡◌, ◌↔◌, ◌⊎◌, ◌≤◌, ◌<◌, ◌∷◌, ◌++◌, [], true, false, None, Some, ℕ, List, length, map, take, slice_get, bytes_eq, ◌==◌, ◌&&◌, nat_lt, is_none, cond, option_map, IfOk, IfErr, OnOk, OnErr, IsErrOf, IsOkUnless};
 ghost use Rattle.std.specs.BTreeMap.{get_by_text};
-ghost use Rattle.revision.specs.ChangedAt.{changed_at, changed_at_all};
+ghost use Rattle.revision.specs.steps.ChangedAt.{changed_at, changed_at_all};
 ghost use Rattle.revision.specs.Documents.{unprepared};
-ghost use Rattle.revision.specs.DocumentsView.{names_of};
-ghost use Rattle.revision.specs.Index.{IsIndex, NoneTwice};
+ghost use Rattle.revision.specs.steps.DocumentsView.{names_of};
+ghost use Rattle.revision.specs.steps.Index.{IsIndex, NoneTwice};
 ghost use Rattle.revision.specs.Invariants.{IsLimits};
 ghost use Rattle.revision.specs.Pending.{record_of, with_prepared};
-ghost use Rattle.revision.specs.Preparing.{accepted, forgotten, with_next, begun};
+ghost use Rattle.revision.specs.steps.Preparing.{accepted, forgotten, with_next, begun};
 ghost use Rattle.revision.specs.State.{begins as spec_begins, has_room, change_of, continues_by_name, grows, grown, all_grow, first_grows, fold, find};
 
 use crate::doc_state::{DocState, begins};
@@ -37,7 +37,7 @@ impl Model for Documents {
 
     ghost coded = { spec.prepared_state_code };
 
-    ghost use Rattle.revision.specs.DocumentsView as inner;
+    ghost use Rattle.revision.specs.steps.DocumentsView as inner;
 
     ghost view = { λ d. inner.states_of d };
 

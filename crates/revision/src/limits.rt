@@ -17,7 +17,7 @@ pub struct Limits {
 impl Model for Limits {
     ghost use Rattle.revision.specs.State as spec;
     ghost use Rattle.revision.specs.Invariants.{IsLimits};
-    ghost use Rattle.revision.specs.LimitsView.{limits_of, limits_from};
+    ghost use Rattle.revision.specs.steps.LimitsView.{limits_of, limits_from};
 
     ghost Value = { spec.Limits };
 

@@ -57,7 +57,7 @@ impl Model for Past {
 
     ghost coded = { spec.prepared_code };
 
-    ghost use Rattle.revision.specs.PastView.{parts_of};
+    ghost use Rattle.revision.specs.steps.PastView.{parts_of};
 
     ghost view = { λ p. spec.seen (parts_of p) };
 

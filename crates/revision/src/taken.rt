@@ -27,7 +27,7 @@ impl Model for Taken {
 
     ghost Value = { spec.Taken };
 
-    ghost use Rattle.revision.specs.TakenView.{taken_of};
+    ghost use Rattle.revision.specs.steps.TakenView.{taken_of};
 
     ghost view = { taken_of };
 

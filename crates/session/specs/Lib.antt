@@ -1,6 +1,5 @@
 pub mod Line
 pub mod Message
-pub mod MessageView
 pub mod Request
 pub mod Reply
 pub mod Reads
@@ -16,3 +15,4 @@ pub mod Calls
 pub mod Alone
 pub mod Shelf
 pub mod Laws
+pub mod steps

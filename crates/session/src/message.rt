@@ -2,7 +2,7 @@
 ghost use Rattle.std.specs.Prelude.{◌≡◌, ◌≤◌, ◌<◌, ◌^◌, IfSome, option_map};
 ghost use Rattle.serde_json.specs.View.{view, items_view};
 ghost use Rattle.session.specs.Message.{message_of, hello_of, create_of, edit_of, undo_of, fetch_newest_of, read_at, fetch_of, since_of, subscribe_of, unsubscribe_of, text_at, number_at, revision_at, array_at, IsNumbered};
-ghost use Rattle.session.specs.MessageView.{message_view};
+ghost use Rattle.session.specs.steps.MessageView.{message_view};
 ghost use Rattle.session.specs.declared.question.Question.TheVariants.{At};
 
 use crate::question::Question;

@@ -5,7 +5,7 @@ ghost use Rattle.serde_json.specs.View.{items_view};
 ghost use Rattle.revision.specs.Name.{is_source_name};
 ghost use Rattle.optext.specs.Answer.{IsAnswer};
 ghost use Rattle.session.specs.Message.{Create, Edit, Undo, IsNumbered};
-ghost use Rattle.session.specs.MessageView.{message_view};
+ghost use Rattle.session.specs.steps.MessageView.{message_view};
 ghost use Rattle.session.specs.Request as spec;
 
 use crate::message::Message;

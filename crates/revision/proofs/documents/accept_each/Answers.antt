@@ -1,5 +1,5 @@
 use Rattle.std.proofs.Common.{◌∙◌}
-use Rattle.revision.specs.Preparing.{accepted}
+use Rattle.revision.specs.steps.Preparing.{accepted}
 use Rattle.revision.proofs.ChangedAt.{changed_at_all-step}
 use Rattle.revision.proofs.documents.accept_each.Goals as goal
 

@@ -1,5 +1,5 @@
 use Rattle.std.proofs.Common.{arith}
-use Rattle.revision.specs.Preparing.{accepted}
+use Rattle.revision.specs.steps.Preparing.{accepted}
 use Rattle.revision.proofs.ChangedAt.{set-changed, changed_at-past}
 use Rattle.revision.proofs.documents.accept_one.Goals as goal
 

@@ -1,7 +1,7 @@
 use Rattle.std.proofs.Common.{◌<◌, length, map, ap, ◌∙◌, arith}
-use Rattle.revision.specs.ChangedAt.{changed_at}
+use Rattle.revision.specs.steps.ChangedAt.{changed_at}
 use Rattle.revision.specs.Pending.{with_prepared}
-use Rattle.revision.specs.Preparing.{with_next}
+use Rattle.revision.specs.steps.Preparing.{with_next}
 use Rattle.revision.specs.State.{change_of}
 use Rattle.revision.proofs.ChangedAt.{set-changed}
 use Rattle.revision.proofs.OneMore.{continued-within, same_length}

@@ -2,8 +2,8 @@ use Rattle.std.proofs.Common.{◌≡◌, ◌∷◌, [], ◌++◌, None, take, sy
 use Rattle.std.specs.Str.{bytes_eq}
 use Rattle.std.specs.BTreeMap.{get_by_text}
 use Rattle.std.proofs.lemmas.List.{take_all, map-append}
-use Rattle.revision.specs.DocumentsView.{names_of}
-use Rattle.revision.specs.Index.{number_of, NoneTwice}
+use Rattle.revision.specs.steps.DocumentsView.{names_of}
+use Rattle.revision.specs.steps.Index.{number_of, NoneTwice}
 use Rattle.revision.specs.Pending.{PendingDocument}
 use Rattle.revision.proofs.Indexed.{index-less, last_is_new, take_init}
 use Rattle.revision.proofs.documents.drop_creations.Goals as goal

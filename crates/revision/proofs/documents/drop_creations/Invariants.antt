@@ -1,7 +1,7 @@
 use Rattle.std.proofs.Common.{◌≡◌, ◌≤◌, length, take}
 use Rattle.std.specs.BTreeMap.{get_by_text}
-use Rattle.revision.specs.DocumentsView.{names_of}
-use Rattle.revision.specs.Index.{IsIndex, NoneTwice}
+use Rattle.revision.specs.steps.DocumentsView.{names_of}
+use Rattle.revision.specs.steps.Index.{IsIndex, NoneTwice}
 use Rattle.revision.proofs.documents.drop_creations.Given as goal
 
 abbrev pub invariant-loop-documents : goal.invariant-loop-documents

@@ -1,6 +1,6 @@
 use Rattle.std.proofs.Common.{◌≡◌, drop}
-use Rattle.revision.specs.ChangedAt.{changed_at_all}
-use Rattle.revision.specs.Preparing.{forgotten}
+use Rattle.revision.specs.steps.ChangedAt.{changed_at_all}
+use Rattle.revision.specs.steps.Preparing.{forgotten}
 use Rattle.revision.proofs.documents.forget_each.Given as goal
 
 abbrev pub invariant-loop-number : goal.invariant-loop-number

@@ -1,5 +1,5 @@
 use Rattle.std.proofs.Common.{arith}
-use Rattle.revision.specs.Preparing.{forgotten}
+use Rattle.revision.specs.steps.Preparing.{forgotten}
 use Rattle.revision.proofs.ChangedAt.{set-changed, changed_at-past}
 use Rattle.revision.proofs.documents.forget_one.Goals as goal
 

@@ -1,10 +1,10 @@
 use Rattle.std.proofs.Common.{◌≡◌, List, map, take, refl, sym, ap, ap₂, ◌∙◌, arith}
 use Rattle.std.proofs.lemmas.List.{take_all}
 use Rattle.revision.specs.Documents.{PreparedState, unprepared}
-use Rattle.revision.specs.DocumentsView.{names_of}
-use Rattle.revision.specs.Index.{number_of}
+use Rattle.revision.specs.steps.DocumentsView.{names_of}
+use Rattle.revision.specs.steps.Index.{number_of}
 use Rattle.revision.specs.Pending.{PendingDocument, record_of, with_prepared}
-use Rattle.revision.specs.Preparing.{accepted}
+use Rattle.revision.specs.steps.Preparing.{accepted}
 use Rattle.revision.specs.State.{DocumentRecord}
 use Rattle.revision.proofs.ChangedAt.{map-changed_at_all, length-changed_at_all}
 use Rattle.revision.proofs.Untouched.{NothingPrepared, nothing_left, rest-none, record_of-with_prepared}

@@ -1,11 +1,11 @@
 use Rattle.std.proofs.Common.{◌≡◌, List, [], ◌∷◌, ◌++◌, length, map, take, refl, sym, ap, ap₂, ◌∙◌, arith}
 use Rattle.std.specs.Prelude.{slice_get}
-use Rattle.revision.specs.ChangedAt.{IsAmong}
+use Rattle.revision.specs.steps.ChangedAt.{IsAmong}
 use Rattle.revision.specs.Documents.{PreparedState}
-use Rattle.revision.specs.DocumentsView.{names_of}
-use Rattle.revision.specs.Index.{number_of}
+use Rattle.revision.specs.steps.DocumentsView.{names_of}
+use Rattle.revision.specs.steps.Index.{number_of}
 use Rattle.revision.specs.Pending.{PendingDocument, record_of, with_prepared}
-use Rattle.revision.specs.Preparing.{with_next}
+use Rattle.revision.specs.steps.Preparing.{with_next}
 use Rattle.revision.specs.State.{DocumentRecord, change_of, record_by_name, set_document, grown}
 use Rattle.revision.proofs.ChangedAt.{map-changed_at, length-changed_at, among-last}
 use Rattle.revision.proofs.Untouched.{rest-touch, rest-changed}

@@ -3,8 +3,8 @@ use Rattle.std.specs.Str.{bytes_eq}
 use Rattle.std.specs.BTreeMap.{get_by_text}
 use Rattle.std.proofs.lemmas.List.{map-append, length-append}
 use Rattle.revision.specs.Documents.{PreparedState}
-use Rattle.revision.specs.DocumentsView.{names_of}
-use Rattle.revision.specs.Index.{number_of}
+use Rattle.revision.specs.steps.DocumentsView.{names_of}
+use Rattle.revision.specs.steps.Index.{number_of}
 use Rattle.revision.specs.Pending.{PendingDocument, record_of, with_prepared}
 use Rattle.revision.specs.State.{DocumentRecord, has_room, grows, grown}
 use Rattle.revision.proofs.Indexed.{index-more, none_twice-more, take_init, names_length}

@@ -1,11 +1,11 @@
 use Rattle.std.proofs.Common.{◌≡◌, List, length, map, take, refl, sym, ap, ap₂, ◌∙◌, arith}
 use Rattle.std.proofs.lemmas.List.{take_all, length-take-le}
 use Rattle.revision.specs.Documents.{PreparedState, unprepared}
-use Rattle.revision.specs.ChangedAt.{changed_at_all}
-use Rattle.revision.specs.DocumentsView.{names_of}
-use Rattle.revision.specs.Index.{number_of}
+use Rattle.revision.specs.steps.ChangedAt.{changed_at_all}
+use Rattle.revision.specs.steps.DocumentsView.{names_of}
+use Rattle.revision.specs.steps.Index.{number_of}
 use Rattle.revision.specs.Pending.{PendingDocument, record_of}
-use Rattle.revision.specs.Preparing.{forgotten}
+use Rattle.revision.specs.steps.Preparing.{forgotten}
 use Rattle.revision.specs.State.{DocumentRecord}
 use Rattle.revision.proofs.ChangedAt.{map-changed_at_all, length-changed_at_all}
 use Rattle.revision.proofs.Untouched.{NothingPrepared, nothing_left, rest-none, rest-take, record_of-with_prepared}

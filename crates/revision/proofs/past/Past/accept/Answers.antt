@@ -1,6 +1,6 @@
 use Rattle.std.proofs.Common.{[], ◌≡◌, ℕ, ◌+◌, ◌-◌, max, length, sym, ap, ◌∙◌, arith}
 use Rattle.revision.specs.Past.{Parts, Prepared, seen, with_changes}
-use Rattle.revision.specs.PastView.{parts_of}
+use Rattle.revision.specs.steps.PastView.{parts_of}
 use Rattle.revision.proofs.Parts.{accept_is, nothing_prepared}
 use Rattle.revision.proofs.past.Past.accept.Goals as goal
 

@@ -4,7 +4,7 @@ use Rattle.delta.specs.Operation.{Operation}
 use Rattle.revision.specs.Sources.{Sources}
 use Rattle.revision.specs.declared.taker.Taker.{Taker}
 use Rattle.revision.specs.Past.{Parts, Prepared, AreParts, seen}
-use Rattle.revision.specs.PastView.{parts_of}
+use Rattle.revision.specs.steps.PastView.{parts_of}
 use Rattle.revision.proofs.Parts.{forget_is, forget_are}
 use Rattle.revision.proofs.past.Past.copy_held.Goals as goal
 

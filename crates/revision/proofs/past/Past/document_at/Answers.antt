@@ -1,6 +1,6 @@
 use Rattle.std.proofs.Common.{◌≡◌, subst}
 use Rattle.std.specs.Prelude.{IfOk}
-use Rattle.revision.specs.PastView.{parts_of}
+use Rattle.revision.specs.steps.PastView.{parts_of}
 use Rattle.revision.proofs.Parts.{document_is}
 use Rattle.revision.proofs.past.Past.document_at.Goals as goal
 

@@ -5,7 +5,7 @@ use Rattle.delta.specs.Operation.{Operation}
 use Rattle.compose.specs.Many.{applied}
 use Rattle.revision.specs.declared.taker.Taker.{Taker}
 use Rattle.revision.specs.Past.{Parts, AreParts, StandInTurn, seen, sources_after, changes_by}
-use Rattle.revision.specs.PastView.{parts_of}
+use Rattle.revision.specs.steps.PastView.{parts_of}
 use Rattle.revision.proofs.Replays.{stand-take}
 use Rattle.revision.proofs.LettingGo.{later_parts, later_are, later_is}
 use Rattle.revision.proofs.past.Past.let_go.Goals as goal

@@ -4,7 +4,7 @@ use Rattle.delta.specs.Gaps.{counted, apply}
 use Rattle.document.specs.Outcome.{IsAccepted}
 use Rattle.revision.specs.declared.taker.Taker.{Taker}
 use Rattle.revision.specs.Past.{Parts, Prepared, Change, AreParts, seen, prepared_units, prepared_revision}
-use Rattle.revision.specs.PastView.{parts_of}
+use Rattle.revision.specs.steps.PastView.{parts_of}
 use Rattle.revision.proofs.Parts.{prepare_is, prepare_are}
 use Rattle.revision.proofs.past.Past.prepare.Goals as goal
 

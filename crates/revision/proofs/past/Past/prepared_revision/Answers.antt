@@ -1,6 +1,6 @@
 use Rattle.std.proofs.Common.{ap, arith}
 use Rattle.revision.specs.Past.{prepared_revision}
-use Rattle.revision.specs.PastView.{parts_of}
+use Rattle.revision.specs.steps.PastView.{parts_of}
 use Rattle.revision.proofs.Parts.{prepared-revision}
 use Rattle.revision.proofs.past.Past.prepared_revision.Goals as goal
 

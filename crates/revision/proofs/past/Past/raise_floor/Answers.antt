@@ -2,7 +2,7 @@ use Rattle.std.proofs.Common.{◌≡◌, ◌+◌, max, ap, ◌∙◌, arith}
 use Rattle.std.specs.Prelude.{min}
 use Rattle.revision.specs.Floors.{raised}
 use Rattle.revision.specs.Past.{Prepared}
-use Rattle.revision.specs.PastView.{parts_of}
+use Rattle.revision.specs.steps.PastView.{parts_of}
 use Rattle.revision.proofs.Raising.{raise_is}
 use Rattle.revision.proofs.past.Past.raise_floor.Goals as goal
 

@@ -1,6 +1,6 @@
 use Rattle.std.proofs.Common.{◌≤◌, ◌^◌, List, length, sym, subst}
 use Rattle.delta.specs.Element.{Element}
-use Rattle.revision.specs.PastView.{parts_of}
+use Rattle.revision.specs.steps.PastView.{parts_of}
 use Rattle.revision.proofs.Replaying.{short_there}
 use Rattle.revision.proofs.past.Past.replay_at.Goals as goal
 

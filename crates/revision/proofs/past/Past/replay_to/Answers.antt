@@ -6,7 +6,7 @@ use Rattle.delta.specs.Normal.{nf}
 use Rattle.compose.specs.Many.{applied}
 use Rattle.revision.specs.declared.taker.Taker.{Taker}
 use Rattle.revision.specs.Past.{StandInTurn, sources_after, changes_by}
-use Rattle.revision.specs.PastView.{parts_of}
+use Rattle.revision.specs.steps.PastView.{parts_of}
 use Rattle.revision.proofs.Replaying.{replay_sources}
 use Rattle.revision.proofs.FromFloor.{slice-from, floor_held, floor_there, content_there, floor_deltas, floor_stand, floor_short, floor_applied}
 use Rattle.revision.proofs.past.Past.replay_to.Goals as goal

@@ -1,6 +1,6 @@
 use Rattle.std.proofs.Common.{sym, ap, ◌∙◌}
 use Rattle.revision.specs.Past.{Prepared, newest}
-use Rattle.revision.specs.PastView.{parts_of}
+use Rattle.revision.specs.steps.PastView.{parts_of}
 use Rattle.revision.proofs.Parts.{seen-newest}
 use Rattle.revision.proofs.past.Past.revision.Goals as goal
 

@@ -1,6 +1,6 @@
 use Rattle.std.proofs.Common.{subst, sym}
 use Rattle.revision.specs.Late.{HasCommandRoom}
-use Rattle.revision.specs.PastView.{parts_of}
+use Rattle.revision.specs.steps.PastView.{parts_of}
 use Rattle.revision.proofs.Parts.{since_is, late_room}
 use Rattle.revision.proofs.past.Past.since.Goals as goal
 

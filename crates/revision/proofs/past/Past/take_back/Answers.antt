@@ -2,7 +2,7 @@ use Rattle.std.proofs.Common.{◌≡◌, ◌<◌, ◌≤◌, ◌-◌, List, leng
 use Rattle.delta.specs.Operation.{Operation}
 use Rattle.revision.specs.declared.taker.Taker.{Taker}
 use Rattle.revision.specs.Past.{Parts, Prepared, AreParts, seen, without_last}
-use Rattle.revision.specs.PastView.{parts_of}
+use Rattle.revision.specs.steps.PastView.{parts_of}
 use Rattle.revision.proofs.Parts.{cut_are, last_dropped, none_dropped}
 use Rattle.revision.proofs.past.Past.take_back.Goals as goal
 

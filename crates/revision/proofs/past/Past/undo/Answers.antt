@@ -3,7 +3,7 @@ use Rattle.std.specs.Prelude.{IfOk}
 use Rattle.compose.specs.Many.{applied}
 use Rattle.revision.specs.Late.{all_inserted}
 use Rattle.revision.specs.Past.{StandInTurn, way_back_late}
-use Rattle.revision.specs.PastView.{parts_of}
+use Rattle.revision.specs.steps.PastView.{parts_of}
 use Rattle.revision.proofs.Replays.{stand-take}
 use Rattle.revision.proofs.Parts.{undo_room, undo_is}
 use Rattle.revision.proofs.past.Past.undo.Goals as goal

@@ -2,9 +2,9 @@
 use Rattle.std.specs.Prelude.{◌≡◌, ◌⊎◌, ◌≤◌, ℕ, List, [], Some, length, take, map, slice_get}
 use Rattle.std.specs.BTreeMap.{get_by_text}
 use Rattle.revision.specs.declared.documents.Documents.TheInside.{Inside}
-use Rattle.revision.specs.ChangedAt.{IsAmong}
+use Rattle.revision.specs.steps.ChangedAt.{IsAmong}
 use Rattle.revision.specs.Documents.{PreparedState}
-use Rattle.revision.specs.Index.{IsIndex, NoneTwice}
+use Rattle.revision.specs.steps.Index.{IsIndex, NoneTwice}
 use Rattle.revision.specs.Invariants.{IsLimits}
 use Rattle.revision.specs.Pending.{PendingDocument, record_of, with_prepared}
 

@@ -1,0 +1,10 @@
+-- What stands in memory as what it stands for, and what the contracts of single steps cite: for a reader of a body, beside the
+-- definitions of the subject.
+pub mod Actions
+pub mod TakenView
+pub mod LimitsView
+pub mod PastView
+pub mod Preparing
+pub mod Index
+pub mod ChangedAt
+pub mod DocumentsView
