@@ -13,9 +13,9 @@ use Rattle.recovery.specs.Faults.{FailsAtFaults}
 use Rattle.recovery.specs.Found.{commands_of, FoundAs}
 use Rattle.milestone.specs.Job.{Job}
 use Rattle.recovery.specs.Open.{IsOpen, IsUnchanged, IsPutNow, IsRetiredNow, IsWithOrWithout, device_of, state_of, has_failed}
-use Rattle.recovery.specs.declared.run.StoreStep.TheVariants.{Milestone as PutsMilestone, Retire as Retires}
+use Rattle.recovery.specs.declared.run.StoreStep.TheVariants.{Retire as Retires}
 use Rattle.recovery.specs.Marked.{MayRetire}
-use Rattle.recovery.specs.Run.{IsPutAt, IsTaken, IsWhy}
+use Rattle.recovery.specs.Run.{IsTaken, IsWhy}
 use Rattle.recovery.specs.Goes.{Goes}
 use Rattle.recovery.proofs.CallerLemmas.{goes_none, goes_call, open_unchanged, found_as, found_open}
 use Rattle.view.specs.Published.{Published}
@@ -87,12 +87,6 @@ module _ {D : Type 0} {disk : Ghosts D} (old new : Store D disk) where
   retire_why (Ok answer) only needed = tt
   retire_why (Err refusal) (inl is) needed = λ no_fault. (is, needed (ap (λ (e : Refusal). Err e) is))
   retire_why (Err refusal) (inr fault) needed = λ no_fault. absurd (no_fault fault)
-
-  -- a milestone was put
-  pub put_now : (document revision : ℕ) (result : Result (Unit {0}) Refusal) → OnOk result (has_failed new ≡ false) → state_of new ≡ state_of old
-      → OnOk result ((is_open : IsOpen old) → IsPutAt document revision old is_open new) → OnOk result (IsTaken (PutsMilestone document revision) old new)
-  put_now document revision (Ok answer) works state put = (works, state, put)
-  put_now document revision (Err refusal) works state put = tt
 
   -- what a milestone of a job leaves
   put_done : (job : Job) (result : Result (Unit {0}) Refusal) → OnOk result ((is_open : IsOpen old) → IsPutNow is_open.cells is_open.table job new) → OnOk result (IsOpen old → IsOpen new)

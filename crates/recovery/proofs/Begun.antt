@@ -14,10 +14,9 @@ use Rattle.recovery.specs.declared.run.StoreStep.TheVariants.{Commit, Milestone,
 use Rattle.recovery.specs.declared.store.Store.{Store}
 use Rattle.recovery.specs.Found.{FoundAs}
 use Rattle.recovery.specs.Jobs.{without_job}
-use Rattle.recovery.specs.Unwritten.{IsUnwritten}
 use Rattle.recovery.specs.Open.{IsOpen, IsUnchanged, IsWithOrWithout, device_of, state_of, known_marks, kept_jobs, has_failed}
 use Rattle.recovery.specs.declared.run.StoreStep.{StoreStep}
-use Rattle.recovery.specs.Begun.{IsLeftBy, jobs_behind, jobs_after}
+use Rattle.recovery.specs.Begun.{IsLeftBy, IsLeftByMemory, jobs_behind, jobs_after}
 
 module _ {D : Type 0} {disk : Ghosts D} (old new : Store D disk) where
   pub left_commit : {A : Type 0} (batch : Vec Taken Global) (commands : List Taken) → commands ≡ batch.items → (refusal : Refusal) → state_of new ≡ state_of old → known_marks new ≡ known_marks old
@@ -36,7 +35,7 @@ module _ {D : Type 0} {disk : Ghosts D} (old new : Store D disk) where
   pub left_milestone : {A : Type 0} (document revision : ℕ) (result : Result A Refusal) → state_of new ≡ state_of old → known_marks new ≡ known_marks old
       → without_job document (kept_jobs new) ≡ without_job document (kept_jobs old) → length (disk.past (device_of new)) ≤ length (disk.past (device_of old)) + 6
       → (has_failed old ≡ false → IsOpen old → LeavesOnly disk (λ content. FoundAs content (state_of old)) (device_of old) (device_of new))
-      → (IsErrOf result NoMemory → IsUnwritten document revision old new) → IfErr result (λ r. IsLeftBy (Milestone document revision) r old new)
+      → (IsErrOf result NoMemory → IsLeftByMemory (Milestone document revision) old new) → IfErr result (λ r. IsLeftBy (Milestone document revision) r old new)
   left_milestone document revision (Ok answer) state marks jobs calls any_moment memory = tt
   left_milestone document revision (Err refusal) state marks jobs calls any_moment memory = record {
     state = state;

@@ -1,26 +1,28 @@
 -- A step of a run that commits no batch: a milestone, whose job is handed out, composed and put at once, and a retirement.
-use Rattle.std.proofs.Common.{◌≡◌, ◌≢◌, ◌⊎◌, ◌↔◌, inl, inr, ℕ, ◌+◌, ◌<◌, Bool, true, false, Option, List, [], ◌∷◌, ◌++◌, length, take, get_or, refl, sym, ap, subst}
-use Rattle.std.specs.Prelude.{Result, Ok, Err, Contains, OnOk, IfErr, IsErrOf}
+use Rattle.std.proofs.Common.{◌≡◌, ◌≢◌, ◌⊎◌, ◌↔◌, inl, inr, ℕ, ◌+◌, ◌<◌, Bool, true, false, Option, Some, None, List, [], ◌∷◌, ◌++◌, ◌∙◌, length, take, get_or, refl, sym, ap, subst}
+use Rattle.std.specs.Prelude.{Result, Ok, Err, Contains, OnOk, IfErr, IsErrOf, ◌==◌, ◌||◌, nat_lt, if◌then◌else◌, slice_get}
 use Rattle.std.proofs.lemmas.List.{take_more}
 use Rattle.std.proofs.lemmas.List.Elements.{Contains-push}
 use Rattle.disk.specs.declared.device.Disk.{Ghosts}
 use Rattle.disk.specs.Crash.{LeavesOnly}
 use Rattle.refusal.specs.declared.Refusal.{Refusal}
-use Rattle.refusal.specs.declared.Refusal.TheVariants.{StillNeeded, NoMemory, Fault}
+use Rattle.refusal.specs.declared.Refusal.TheVariants.{NoDocument, Future, TooOld, StillNeeded, NoMemory, Fault}
 use Rattle.revision.specs.Command.{Taken}
-use Rattle.revision.specs.State.{State, fold, all_grow}
+use Rattle.revision.specs.State.{DocumentRecord, State, fold, all_grow, revision_of}
 use Rattle.history.specs.Cell.{Pair}
 use Rattle.milestone.specs.Job.{Job}
 use Rattle.segments.specs.Slot.{Segment}
 use Rattle.recovery.specs.declared.run.StoreStep.{StoreStep}
-use Rattle.recovery.specs.declared.run.StoreStep.TheVariants.{Milestone, Retire}
+use Rattle.recovery.specs.declared.run.StoreStep.TheVariants.{Retire}
 use Rattle.recovery.specs.declared.store.Store.{Store}
+use Rattle.recovery.specs.Cells.{highest_known}
 use Rattle.recovery.specs.Found.{FoundAs}
-use Rattle.recovery.specs.Jobs.{with_job, without_job, IsJobTo}
+use Rattle.recovery.specs.Jobs.{with_job, without_job, IsJobTo, no_job_for}
 use Rattle.recovery.specs.Marked.{MayRetire}
-use Rattle.recovery.specs.Open.{IsOpen, IsUnchanged, IsCommittedNow, IsRetiredNow, IsPutNow, device_of, state_of, has_failed, has_room}
-use Rattle.recovery.specs.Run.{IsPutAt, IsTaken, AreTaken, IsWhy}
+use Rattle.recovery.specs.Open.{IsOpen, IsUnchanged, IsCommittedNow, IsRetiredNow, IsPutNow, device_of, state_of, known_cells, has_failed, has_room}
+use Rattle.recovery.specs.Run.{IsPutAt, IsTaken, AreTaken, IsWhy, MayPut}
 use Rattle.recovery.proofs.Refusals.{refusal_or, ok≢err}
+use Rattle.recovery.proofs.HandedOut.{none≢some, same_some}
 use Rattle.recovery.proofs.Runs.{found_as, found_open}
 use Rattle.recovery.proofs.Going.{goes_still, open_unchanged}
 
@@ -28,6 +30,22 @@ use Rattle.recovery.proofs.Going.{goes_still, open_unchanged}
 pub is_false : (b : Bool) → (b ≡ true → ⊥) → b ≡ false
 is_false true not_true = absurd (not_true refl)
 is_false false not_true = refl
+
+-- what is nothing
+none_of : {A : Type 0} (one : Option A) → ((a : A) → one ≡ Some a → ⊥) → one ≡ None
+none_of None nothing = refl
+none_of (Some a) nothing = absurd (nothing a refl)
+
+-- want of memory speaks against no milestone
+never_memory : (found : Option DocumentRecord) (high revision : ℕ) → no_job_for found high revision ≡ Some NoMemory → ⊥
+never_memory None high revision is = let same : NoDocument ≡ NoMemory = same_some _ _ is in cc
+never_memory (Some found) high revision is =
+    by_case (nat_lt (revision_of found) revision) ((revision == 0) || (nat_lt revision found.past.floor || nat_lt revision high)) is
+  where
+    by_case : (a b : Bool) → (if a then Some Future else if b then Some TooOld else None) ≡ Some NoMemory → ⊥
+    by_case true b told = let same : Future ≡ NoMemory = same_some _ _ told in cc
+    by_case false true told = let same : TooOld ≡ NoMemory = same_some _ _ told in cc
+    by_case false false told = none≢some told
 
 -- the job that was kept last is kept
 pub keeps_it : (job composed : Job) (before after : List Job) → after ≡ with_job job before → composed ≡ job → Contains after composed
@@ -83,12 +101,17 @@ module _ {D : Type 0} {disk : Ghosts D} where
         (subst (λ (t : List (Option Segment)). IsPutNow cells t job new) same_table (subst (λ (j : Job). IsPutNow cells table j new) is put));
   }
 
-  -- a milestone that was Ok
-  pub put_taken : {A : Type 0} (old new : Store D disk) (document revision : ℕ) (result : Result A Refusal) → OnOk result (has_failed new ≡ false)
-      → state_of new ≡ state_of old → OnOk result ((is_open : IsOpen old) → IsPutAt document revision old is_open new)
-      → OnOk result (IsTaken (Milestone document revision) old new)
-  put_taken old new document revision (Ok answer) works state put = (works, state, put)
-  put_taken old new document revision (Err refusal) works state put = tt
+  -- what speaks against a milestone is told of its job: nothing does where the job was given, and nothing where memory ran out for it
+  pub may_put : {A : Type 0} (old : Store D disk) (document revision : ℕ) (answer : A)
+      → ((why : Refusal) → no_job_for (slice_get (state_of old).documents document) (highest_known (known_cells old) document) revision ≡ Some why
+      → IsErrOf {T = A} {E = Refusal} (Ok answer) why) → MayPut document revision old
+  may_put old document revision answer due = none_of _ (λ why is. ok≢err answer why (due why is))
+
+  pub may_put_still : {A : Type 0} (old : Store D disk) (document revision : ℕ) (refusal : Refusal) → refusal ≡ NoMemory
+      → ((why : Refusal) → no_job_for (slice_get (state_of old).documents document) (highest_known (known_cells old) document) revision ≡ Some why
+      → IsErrOf {T = A} {E = Refusal} (Err refusal) why) → MayPut document revision old
+  may_put_still {A} old document revision refusal memory due =
+      none_of _ (λ why is. never_memory _ _ _ (is ∙ ap (λ (r : Refusal). Some r) (sym (ap (refusal_or {T = A} why) (due why is)) ∙ memory)))
 
   -- a retirement that was Ok
   pub given_up : {A : Type 0} (old new : Store D disk) (result : Result A Refusal)

@@ -19,7 +19,8 @@ use Rattle.segments.specs.Ring.{HoldsInRing, IsLeftByRetiring, known_numbers}
 use Rattle.segments.proofs.CallerLemmas.{retired_bodies}
 use Rattle.recovery.specs.declared.store.Store.{Store}
 use Rattle.recovery.specs.Found.{FoundAs, HoldsParts, commands_of}
-use Rattle.recovery.specs.Open.{IsOpen}
+use Rattle.recovery.specs.Open.{IsOpen, IsSpared}
+use Rattle.recovery.specs.Run.{MayGiveUp}
 use Rattle.recovery.specs.Cells.{lowest_known, highest_known}
 use Rattle.recovery.specs.Marks.{marks_of, greatest_marked}
 use Rattle.recovery.specs.Jobs.{highest}
@@ -33,6 +34,15 @@ use Rattle.recovery.proofs.Splitting.{Split, split}
 pub held_there : (x : Option Segment) (n : ℕ) → number_of x ≡ Some n → (segment : Segment) × (x ≡ Some segment) × (segment.number ≡ n)
 held_there None n is = absurd cc
 held_there (Some segment) n is = let same : segment.number ≡ n = cc in (segment, refl, same)
+
+-- nothing speaks against retiring the oldest segment, where two slots are open and no mark of it is above its document's cells
+pub known_covered : {D : Type 0} {disk : Ghosts D} (store : Store D disk) (number : ℕ) → (slot : ℕ) × IsOldest (known_numbers store.ring) slot number
+    → 2 ≤ open_count (known_numbers store.ring) → ((document : ℕ) → IsSpared number document store) → MayGiveUp store
+known_covered store number oldest two low = record {
+  two = two;
+  spared = λ slot segment is document.
+      subst (λ n. IsSpared n document store) (one_oldest (known_numbers store.ring) oldest.0 slot number segment oldest.1 is) (low document);
+}
 
 module _ {D : Type 0} {disk : Ghosts D} (store : Store D disk) (is_open : IsOpen store) where
   abbrev old : List ℕ

@@ -10,7 +10,7 @@ use Rattle.recovery.specs.declared.run.StoreStep.{StoreStep}
 use Rattle.recovery.specs.declared.run.StoreStep.TheVariants.{Commit, Milestone, Retire}
 use Rattle.recovery.specs.Jobs.{without_job}
 use Rattle.recovery.specs.Open.{IsOpen, IsUnchanged, IsWithOrWithout, device_of, state_of, known_marks, kept_jobs, has_failed}
-use Rattle.recovery.specs.Run.{AreTaken, batch_of}
+use Rattle.recovery.specs.Run.{AreTaken, MayPut, batch_of}
 use Rattle.recovery.specs.Unwritten.{IsUnwritten}
 
 -- the jobs that are kept behind a step: a milestone that is put drops the job of its document
@@ -25,11 +25,11 @@ jobs_after [] jobs = jobs
 jobs_after (step ∷ steps) jobs = jobs_after steps (jobs_behind step jobs)
 
 module _ {D : Type 0} {disk : Ghosts D} where
-  -- What a step leaves for which memory ran out: a commit leaves all as it was, and a milestone at most its job. A retirement takes no
-  -- memory.
+  -- What a step leaves for which memory ran out: a commit leaves all as it was, and a milestone at most its job. Nothing spoke against the
+  -- milestone: what does is told before. A retirement takes no memory.
   abbrev pub IsLeftByMemory : StoreStep → Store D disk → Store D disk → Type 0
   IsLeftByMemory (Commit batch) old new = IsUnchanged old new
-  IsLeftByMemory (Milestone document revision) old new = IsUnwritten document revision old new
+  IsLeftByMemory (Milestone document revision) old new = MayPut document revision old × IsUnwritten document revision old new
   IsLeftByMemory Retire old new = ⊥
 
   -- What a refused step leaves, whatever refused it: the state, the marks and the jobs of other documents stay, and a crash at any moment

@@ -1,5 +1,5 @@
 -- Runs of steps, and what a crash within one leaves.
-use Rattle.std.specs.Prelude.{◌≡◌, ◌≢◌, ◌⊎◌, true, false, Some, slice_get, ◌≤◌, ◌<◌, ◌^◌, ℕ, List, [], ◌∷◌, length, take, map, get_or}
+use Rattle.std.specs.Prelude.{◌≡◌, ◌≢◌, ◌⊎◌, true, false, Some, None, slice_get, ◌≤◌, ◌<◌, ◌^◌, ℕ, List, [], ◌∷◌, length, take, map, get_or}
 use Rattle.disk.specs.declared.device.Disk.{Ghosts}
 use Rattle.disk.specs.Crash.{LeavesOnly}
 use Rattle.refusal.specs.declared.Refusal.{Refusal}
@@ -8,13 +8,16 @@ use Rattle.revision.specs.Command.{Taken}
 use Rattle.revision.specs.State.{State, fold, all_grow}
 use Rattle.history.specs.Cell.{cells_at}
 use Rattle.milestone.specs.Job.{Job}
+use Rattle.segments.specs.Numbers.{open_count, IsOldest}
+use Rattle.segments.specs.Ring.{known_numbers}
 use Rattle.recovery.specs.declared.store.Store.{Store}
 use Rattle.recovery.specs.declared.run.StoreStep.{StoreStep}
 use Rattle.recovery.specs.declared.run.StoreStep.TheVariants.{Commit, Milestone, Retire}
+use Rattle.recovery.specs.Cells.{highest_known}
 use Rattle.recovery.specs.Found.{FoundAs}
 use Rattle.recovery.specs.Jobs.{IsJobTo, no_job_for, highest}
 use Rattle.recovery.specs.Marked.{MayRetire}
-use Rattle.recovery.specs.Open.{FitsSlot, IsOpen, IsCommittedNow, IsPutNow, IsRetiredNow, IsUnchanged, device_of, state_of, has_failed, has_room}
+use Rattle.recovery.specs.Open.{FitsSlot, IsOpen, IsCommittedNow, IsPutNow, IsRetiredNow, IsSpared, IsUnchanged, device_of, ring_of, state_of, known_cells, has_failed, has_room}
 
 -- the batch of a step, empty where it commits none
 abbrev pub batch_of : StoreStep → List Taken
@@ -57,6 +60,18 @@ IsOfStep e =
     ((e ≡ JournalFull) ⊎ (e ≡ Stranger)) ⊎ (((e ≡ NoDocument) ⊎ ((e ≡ Future) ⊎ (e ≡ TooOld))) ⊎ ((e ≡ StillNeeded) ⊎ ((e ≡ NoMemory) ⊎ (e ≡ Fault))))
 
 module _ {D : Type 0} {disk : Ghosts D} where
+  -- Nothing speaks against a milestone of a document at a revision, by the cells that are known in memory: the document is there and has
+  -- reached the revision, which is neither 0 nor below its floor nor below an open cell of it.
+  abbrev pub MayPut : ℕ → ℕ → Store D disk → Type 0
+  MayPut document revision store =
+      no_job_for (slice_get (state_of store).documents document) (highest_known (known_cells store) document) revision ≡ None
+
+  -- Nothing speaks against retiring the oldest segment, by what is known in memory: two slots or more are open, and no mark of that segment
+  -- is above the lowest open cell of its document.
+  pub record MayGiveUp (store : Store D disk) : Type 0 where
+    pub two : 2 ≤ open_count (known_numbers (ring_of store))
+    pub spared : (slot segment : ℕ) → IsOldest (known_numbers (ring_of store)) slot segment → (document : ℕ) → IsSpared segment document store
+
   -- A milestone of a document at a revision was put: the cell that comes of a job to that revision is open.
   pub record IsPutAt (document revision : ℕ) (old : Store D disk) (is_open : IsOpen old) (new : Store D disk) : Type 0 where
     pub job : Job
@@ -68,13 +83,14 @@ module _ {D : Type 0} {disk : Ghosts D} where
     pub may : MayRetire is_open.table is_open.cells
     pub retired : IsRetiredNow is_open.cells is_open.table new
 
-  -- A step was taken, by a store that goes on: its batch was committed, or its milestone put, or the oldest segment retired.
+  -- A step was taken, by a store that goes on: its batch was committed, or its milestone may be put and was, or the oldest segment retired.
   abbrev pub IsTaken : StoreStep → Store D disk → Store D disk → Type 0
   IsTaken (Commit batch) old new =
       (has_failed new ≡ false) × (all_grow (state_of old) batch.items ≡ true) × (state_of new ≡ fold (state_of old) batch.items)
       × ((is_open : IsOpen old) → IsCommittedNow batch.items old is_open new) × (has_room old batch.items ≡ true)
   IsTaken (Milestone document revision) old new =
-      (has_failed new ≡ false) × (state_of new ≡ state_of old) × ((is_open : IsOpen old) → IsPutAt document revision old is_open new)
+      (has_failed new ≡ false) × (state_of new ≡ state_of old) × MayPut document revision old
+      × ((is_open : IsOpen old) → IsPutAt document revision old is_open new)
   IsTaken Retire old new =
       (has_failed new ≡ false) × (state_of new ≡ state_of old) × ((is_open : IsOpen old) → IsGivenUp old is_open new)
 

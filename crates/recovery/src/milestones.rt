@@ -8,8 +8,10 @@ ghost use Rattle.recovery.specs.Faults.{FailsAtFaults};
 ghost use Rattle.recovery.specs.Found.{FoundAs};
 ghost use Rattle.recovery.specs.Jobs.{highest, no_job_for, without_job};
 ghost use Rattle.recovery.specs.Open.{IsOpen, IsUnchanged, IsPutNow, device_of, ring_of, state_of, known_cells, known_marks, has_failed, kept_jobs};
-ghost use Rattle.recovery.specs.Run.{IsPutAt};
-ghost use Rattle.recovery.specs.Unwritten.{IsUnwritten, MayKeepJob};
+ghost use Rattle.recovery.specs.Run.{IsTaken};
+ghost use Rattle.recovery.specs.Begun.{IsLeftByMemory};
+ghost use Rattle.recovery.specs.declared.run.StoreStep.TheVariants.{Milestone};
+ghost use Rattle.recovery.specs.Unwritten.{MayKeepJob};
 
 use crate::store::Store;
 use disk::Disk;
@@ -101,7 +103,8 @@ impl<D: Disk> Store<D> {
         ensures untouched { IfErr result (λ e. e ≢ Refusal.NoMemory → e ≢ Refusal.Fault
             → IsUnchanged self.old self.new) }
         ensures unwritten { IfErr result (λ e. e ≢ Refusal.Fault → device_of self.new ≡ device_of self.old) }
-        ensures memory { IsErrOf result Refusal.NoMemory → IsUnwritten document revision self.old self.new }
+        ensures memory { IsErrOf result Refusal.NoMemory
+            → IsLeftByMemory (Milestone document revision) self.old self.new }
         ensures job { OnErr result (MayKeepJob document revision self.old self.new) }
         ensures dropped { OnOk result (kept_jobs self.new ≡ without_job document (kept_jobs self.old)) }
 
@@ -111,11 +114,12 @@ impl<D: Disk> Store<D> {
         ensures marks { known_marks self.new ≡ known_marks self.old }
         ensures others { without_job document (kept_jobs self.new) ≡ without_job document (kept_jobs self.old) }
 
-        // A crash at any moment leaves the state; once it is Ok, the cell of the document at the revision is open.
+        // A crash at any moment leaves the state; once it is Ok, nothing spoke against the milestone, and the cell of the document at
+        // the revision is open.
         ensures any_moment { has_failed self.old ≡ false → IsOpen self.old
             → LeavesOnly ⟦<D as Disk>⟧ (λ content. FoundAs content (state_of self.old)) (device_of self.old)
             (device_of self.new) }
-        ensures put { OnOk result ((is_open : IsOpen self.old) → IsPutAt document revision self.old is_open self.new) }
+        ensures taken { OnOk result (IsTaken (Milestone document revision) self.old self.new) }
         ensures done { OnOk result (IsOpen self.old → IsOpen self.new) }
         ensures kept { IfErr result (λ e. e ≢ Refusal.Fault → IsOpen self.old → IsOpen self.new) }
 

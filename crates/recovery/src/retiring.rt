@@ -8,6 +8,7 @@ ghost use Rattle.recovery.specs.Found.{FoundAs};
 ghost use Rattle.recovery.specs.Marks.{greatest_marked, without_segment};
 ghost use Rattle.recovery.specs.Marked.{MayRetire};
 ghost use Rattle.recovery.specs.Cells.{lowest_known};
+ghost use Rattle.recovery.specs.Run.{MayGiveUp};
 ghost use Rattle.recovery.specs.Open.{IsOpen, IsUnchanged, IsRetiredNow, device_of, ring_of, state_of, has_failed, kept_jobs, known_cells, known_marks};
 
 use crate::marks::Mark;
@@ -29,6 +30,7 @@ impl<D: Disk> Store<D> {
         ensures not_needed { OnOk result ((is_open : IsOpen self.old) → MayRetire is_open.table is_open.cells) }
         ensures exact { has_failed self.old ≡ false → (is_open : IsOpen self.old)
             → (IsErrOf result Refusal.StillNeeded ↔ (¬ MayRetire is_open.table is_open.cells)) }
+        ensures known { has_failed self.old ≡ false → (IsErrOf result Refusal.StillNeeded ↔ (¬ MayGiveUp self.old)) }
         ensures only { IfErr result (λ e. (e ≡ Refusal.StillNeeded) ⊎ (e ≡ Refusal.Fault)) }
 
         // What each answer leaves. Once it is Ok, the marks of the segment are gone.

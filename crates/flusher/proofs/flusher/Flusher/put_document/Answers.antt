@@ -1,7 +1,6 @@
 use Rattle.std.proofs.Common.{sym, subst, ◌∙◌}
 use Rattle.recovery.proofs.CallerLemmas.{goes_call}
 use Rattle.flusher.specs.Flushers.{MayCommit}
-use Rattle.flusher.proofs.Holdings.{put_now}
 use Rattle.flusher.proofs.flusher.Flusher.put_document.Goals as goal
 
 pub returns-clause-goes : goal.returns-clause-goes
@@ -11,8 +10,7 @@ returns-clause-goes g c =
 
 pub returns-clause-put : goal.returns-clause-put
 returns-clause-put g c =
-    let e = c.put_document.ensures in
-    put_now c.args.self.now.store c.put_document.new.self c.args.document c.args.revision c.put_document.result e.faults.works e.state e.put
+    c.put_document.ensures.taken
 
 pub invariant_of-self : goal.invariant_of-self
 invariant_of-self g c =

@@ -1,13 +1,13 @@
-use Rattle.std.proofs.Common.{◌≡◌, ◌∙◌, ⊎_elim, inl, inr, sym, ap}
+use Rattle.std.proofs.Common.{◌≡◌, ◌≢◌, ◌∙◌, ⊎_elim, inl, inr, sym, ap}
 use Rattle.std.specs.Prelude.{Ok, Err, IsErrOf}
 use Rattle.refusal.specs.declared.Refusal.{Refusal}
 use Rattle.milestone.specs.Job.{Job}
 use Rattle.refusal.specs.declared.Refusal.TheVariants.{NoMemory, Fault}
 use Rattle.recovery.specs.Jobs.{without_job}
-use Rattle.recovery.specs.Open.{kept_jobs}
+use Rattle.recovery.specs.Open.{IsOpen, kept_jobs}
 use Rattle.recovery.proofs.Refusals.{ok≢err, refusal_or}
 use Rattle.recovery.proofs.Faults.{faults_none, faults_on, faults_told}
-use Rattle.recovery.proofs.PutAtOnce.{keeps_it, still, from_there, put_at, refused_unfailed}
+use Rattle.recovery.proofs.PutAtOnce.{keeps_it, had_not_failed, still, from_there, put_at, refused_unfailed, may_put, may_put_still}
 use Rattle.recovery.proofs.OtherJobs.{others_with, others_without}
 use Rattle.recovery.proofs.Unwritten.{unwritten_same, unwritten_kept, unwritten_behind, few_none, few_behind}
 use Rattle.recovery.proofs.store.Store.put_document.Goals as goal
@@ -63,12 +63,18 @@ returns-clause-any_moment g c unfailed is_open =
     from_there c.args.self.now c.milestone_job.new.self c.put_milestone.new.self c.milestone_job.ensures.device c.milestone_job.ensures.state
     (c.put_milestone.ensures.any_moment (c.milestone_job.ensures.failed ∙ unfailed) (c.milestone_job.ensures.open is_open))
 
--- the cell of the job that was handed out is open
-pub returns-clause-put : goal.returns-clause-put
-returns-clause-put g c is_open =
-    let still = c.in-Ok.ensures.stays is_open in
+-- nothing spoke against the job that was handed out, and its cell is open
+pub returns-clause-taken : goal.returns-clause-taken
+returns-clause-taken g c =
+    let opens = λ (is_open : IsOpen c.args.self.now). let still = c.in-Ok.ensures.stays is_open in
     put_at c.args.self.now c.put_milestone.new.self c.args.document c.args.revision is_open c.in-Ok.job c.in-Ok-compose_job.composed still.goes_on.cells still.goes_on.table still.same_cells still.same_table
-    c.in-Ok-compose_job.ensures.done c.in-Ok.ensures.job (c.in_default.ensures.done still.goes_on)
+    c.in-Ok-compose_job.ensures.done c.in-Ok.ensures.job (c.in_default.ensures.done still.goes_on) in
+    let works = had_not_failed c.in-Ok.job c.in-Ok.ensures.faults.failed_before in (
+      c.in_default.ensures.faults.works,
+      c.put_milestone.ensures.state ∙ c.milestone_job.ensures.state,
+      may_put c.args.self.now c.args.document c.args.revision c.in-Ok.job (λ why is. c.in-Ok.ensures.refused_by works why is),
+      opens,
+    )
 
 -- why the job was refused; the put itself has no such reason
 pub returns-in-Err-clause-refused : goal.returns-in-Err-clause-refused
@@ -154,16 +160,28 @@ returns-clause-dropped g c =
 
 -- nothing was put, and the job may be kept
 pub returns-in-Err-clause-memory : goal.returns-in-Err-clause-memory
-returns-in-Err-clause-memory g c told = unwritten_same c.args.document c.args.revision c.in-Err.ensures.untouched
+returns-in-Err-clause-memory g c told =
+    let memory : c.in-Err.refusal ≡ NoMemory = ap (refusal_or NoMemory) told in
+    let no_fault : c.in-Err.refusal ≢ Fault = λ fault. let both : NoMemory ≡ Fault = sym memory ∙ fault in cc in
+    let works = refused_unfailed {A = Job} c.args.self.now c.milestone_job.new.self c.in-Err.refusal c.in-Err.ensures.faults.failed_before no_fault in (
+      may_put_still {A = Job} c.args.self.now c.args.document c.args.revision c.in-Err.refusal memory (λ why is. c.in-Err.ensures.refused_by works why is),
+      unwritten_same c.args.document c.args.revision c.in-Err.ensures.untouched,
+    )
 
 pub returns-in-Err-compose_job-clause-memory : goal.returns-in-Err-compose_job-clause-memory
 returns-in-Err-compose_job-clause-memory g c told =
-    unwritten_kept c.args.document c.args.revision c.in-Ok.job c.milestone_job.ensures.same c.in-Ok.ensures.job c.in-Ok.ensures.made c.in-Ok.ensures.keeps
+    let works = had_not_failed c.in-Ok.job c.in-Ok.ensures.faults.failed_before in (
+      may_put c.args.self.now c.args.document c.args.revision c.in-Ok.job (λ why is. c.in-Ok.ensures.refused_by works why is),
+      unwritten_kept c.args.document c.args.revision c.in-Ok.job c.milestone_job.ensures.same c.in-Ok.ensures.job c.in-Ok.ensures.made c.in-Ok.ensures.keeps,
+    )
 
 pub returns-in-Err-put_milestone-clause-memory : goal.returns-in-Err-put_milestone-clause-memory
 returns-in-Err-put_milestone-clause-memory g c told =
-    unwritten_behind c.args.document c.args.revision c.in-Ok.job c.milestone_job.ensures.same c.in-Ok.ensures.job c.in-Ok.ensures.made c.in-Ok.ensures.keeps
-    (c.in-Err-put_milestone.ensures.untouched (inr told))
+    let works = had_not_failed c.in-Ok.job c.in-Ok.ensures.faults.failed_before in (
+      may_put c.args.self.now c.args.document c.args.revision c.in-Ok.job (λ why is. c.in-Ok.ensures.refused_by works why is),
+      unwritten_behind c.args.document c.args.revision c.in-Ok.job c.milestone_job.ensures.same c.in-Ok.ensures.job c.in-Ok.ensures.made c.in-Ok.ensures.keeps
+          (c.in-Err-put_milestone.ensures.untouched (inr told)),
+    )
 
 pub returns-in-Err-clause-job : goal.returns-in-Err-clause-job
 returns-in-Err-clause-job g c = inl c.in-Err.ensures.untouched.jobs

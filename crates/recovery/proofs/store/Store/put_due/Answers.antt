@@ -63,7 +63,7 @@ pub returns-clause-put : goal.returns-clause-put
 returns-clause-put g c told is_open =
     let store = c.args.self.now in
     let due : due_for c.args.every (slice_get store.state.documents c.args.document) (highest_known store.cells.items c.args.document) ≡ Some c.in-Some.revision = search rules in
-    due_put store c.put_document.new.self c.retire_covered.new.self c.args.every c.args.document c.in-Some.revision is_open due (c.in_default-put_document.ensures.put is_open)
+    due_put store c.put_document.new.self c.retire_covered.new.self c.args.every c.args.document c.in-Some.revision is_open due (c.in_default-put_document.ensures.taken.3 is_open)
     c.in_default-retire_covered.ensures.slots
 
 pub returns-clause-goes : goal.returns-clause-goes
@@ -89,7 +89,7 @@ pub returns-in-Err-clause-memory : goal.returns-in-Err-clause-memory
 returns-in-Err-clause-memory g c told =
     let store = c.args.self.now in
     let due : due_for c.args.every (slice_get store.state.documents c.args.document) (highest_known store.cells.items c.args.document) ≡ Some c.in-Some.revision = search rules in
-    (c.in-Some.revision, due, c.in-Err.ensures.memory (ap (λ (r : Refusal). Err r) (ap (refusal_or NoMemory) told)))
+    (c.in-Some.revision, due, (c.in-Err.ensures.memory (ap (λ (r : Refusal). Err r) (ap (refusal_or NoMemory) told))).1)
 
 -- behind it the device alone is in the way
 pub returns-in-Err-retire_covered-clause-memory : goal.returns-in-Err-retire_covered-clause-memory

@@ -53,4 +53,4 @@ returns-in-Err-clause-unwritten g c other = ⊎_elim (λ away. c.in-Err.ensures.
 -- the milestone is put
 pub returns-clause-put : goal.returns-clause-put
 returns-clause-put g c is_open =
-    subst (λ n. IsPutAt c.args.document n c.args.self.now is_open c.put_document.new.self) c.newest_of-newest.ensures (c.in_default.ensures.put is_open)
+    subst (λ n. IsPutAt c.args.document n c.args.self.now is_open c.put_document.new.self) c.newest_of-newest.ensures (c.in_default.ensures.taken.3 is_open)

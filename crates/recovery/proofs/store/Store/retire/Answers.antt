@@ -12,7 +12,7 @@ use Rattle.recovery.proofs.Commits.{found_before, held_now}
 use Rattle.recovery.proofs.Marked.{one_oldest, marked_retired}
 use Rattle.recovery.proofs.Marking.{fewer_marks}
 use Rattle.recovery.proofs.Refusals.{ok≢err}
-use Rattle.recovery.proofs.Retirement.{parted, too_few, above_cells, same_number, may_retire, runs_on, parts_on, left_retiring}
+use Rattle.recovery.proofs.Retirement.{parted, too_few, above_cells, same_number, may_retire, known_covered, runs_on, parts_on, left_retiring}
 use Rattle.recovery.proofs.Upkeep.{cells_later}
 use Rattle.recovery.proofs.store.Store.retire.Goals as goal
 
@@ -120,6 +120,35 @@ returns-in-Err-clause-exact g c works is_open =
     let two : 2 ≤ open_count (known_numbers store.ring) = search rules in (
       λ told needed. absurd (omega (arith, two, c.in-Err.ensures.needed.0 told)),
       λ needed. absurd (needed (may_retire store is_open oldest.0 c.in-Some.oldest oldest.1 low two)),
+    )
+
+-- the same by what is known
+pub returns-in_default-clause-known : goal.returns-in_default-clause-known
+returns-in_default-clause-known g c works =
+    let few : open_count (known_numbers c.args.self.now.ring) < 2 = search rules in
+    (λ told may. absurd (omega (arith, few, may.two)), λ needed. refl)
+
+pub returns-then-not-are_covered-clause-known : goal.returns-then-not-are_covered-clause-known
+returns-then-not-are_covered-clause-known g c works =
+    let store = c.args.self.now in
+    let oldest = c.in-Some.ensures.oldest in
+    let above : (document : ℕ) × (lowest_known store.cells.items document < greatest_marked c.in-Some.oldest document (marks_of store.marks)) = search rules in
+    (λ told may. absurd (omega (arith, above.1, may.spared oldest.0 c.in-Some.oldest oldest.1 above.0)), λ needed. refl)
+
+pub returns-in-Ok-clause-known : goal.returns-in-Ok-clause-known
+returns-in-Ok-clause-known g c works =
+    let store = c.args.self.now in
+    let low : (document : ℕ) → greatest_marked c.in-Some.oldest document (marks_of store.marks) ≤ lowest_known store.cells.items document = search rules in
+    let two : 2 ≤ open_count (known_numbers store.ring) = search rules in
+    (λ told. absurd (ok≢err _ StillNeeded told), λ needed. absurd (needed (known_covered store c.in-Some.oldest c.in-Some.ensures.oldest two low)))
+
+pub returns-in-Err-clause-known : goal.returns-in-Err-clause-known
+returns-in-Err-clause-known g c works =
+    let store = c.args.self.now in
+    let low : (document : ℕ) → greatest_marked c.in-Some.oldest document (marks_of store.marks) ≤ lowest_known store.cells.items document = search rules in
+    let two : 2 ≤ open_count (known_numbers store.ring) = search rules in (
+      λ told may. absurd (omega (arith, two, c.in-Err.ensures.needed.0 told)),
+      λ needed. absurd (needed (known_covered store c.in-Some.oldest c.in-Some.ensures.oldest two low)),
     )
 
 pub returns-in-Ok-clause-no_more_marks : goal.returns-in-Ok-clause-no_more_marks

@@ -9,7 +9,7 @@ use Rattle.recovery.specs.Run.{IsTaken, IsWhy}
 use Rattle.recovery.proofs.HandedOut.{on_ok}
 use Rattle.recovery.proofs.Faults.{faults_ok, faults_told}
 use Rattle.recovery.proofs.Begun.{left_commit, left_milestone, left_retire}
-use Rattle.recovery.proofs.PutAtOnce.{committed_by, put_taken, given_up, retire_why, goes_on_retired, goes_on_needed}
+use Rattle.recovery.proofs.PutAtOnce.{committed_by, given_up, retire_why, goes_on_retired, goes_on_needed}
 use Rattle.recovery.proofs.store.Store.take_step.Goals as goal
 
 -- without a batch the state stays
@@ -41,9 +41,7 @@ returns-in_default-clause-taken g c =
 
 pub returns-in-Milestone-clause-taken : goal.returns-in-Milestone-clause-taken
 returns-in-Milestone-clause-taken g c =
-    subst (λ (s : StoreStep). OnOk c.put_document.result (IsTaken s c.args.self.now c.put_document.new.self)) (sym c.in-Milestone.is)
-    (put_taken c.args.self.now c.put_document.new.self c.in-Milestone.document c.in-Milestone.revision c.put_document.result c.put_document.ensures.faults.works c.put_document.ensures.state
-    c.put_document.ensures.put)
+    subst (λ (s : StoreStep). OnOk c.put_document.result (IsTaken s c.args.self.now c.put_document.new.self)) (sym c.in-Milestone.is) c.put_document.ensures.taken
 
 pub returns-in-Retire-clause-taken : goal.returns-in-Retire-clause-taken
 returns-in-Retire-clause-taken g c =

@@ -28,9 +28,13 @@ returns-in_default-put_due-clause-done g c document works due =
     let old = store_of c.args.self.now in
     let new = c.put_due.new.self in
     let same : c.in-Some.document ≡ document = search rules in
-    inl (works, refl, λ is_open.
-    subst (λ n. IsUpToDate c.args.self.now.every n old is_open new) same
-    (kept_up c.args.self.now.every c.in-Some.document old new is_open c.in_default-put_due.field-0 e.put e.none e.untouched e.dropped))
+    inl (
+      works,
+      refl,
+      λ is_open.
+          subst (λ n. IsUpToDate c.args.self.now.every n old is_open new) same
+          (kept_up c.args.self.now.every c.in-Some.document old new is_open c.in_default-put_due.field-0 e.put e.none e.untouched e.dropped),
+    )
 
 -- memory ran out
 pub returns-else-ne-clause-done : goal.returns-else-ne-clause-done
@@ -40,8 +44,12 @@ returns-else-ne-clause-done g c document works due =
     let same : c.in-Some.document ≡ document = search rules in
     let no_memory : c.in-Err.refusal ≡ NoMemory = search rules in
     let put_off = c.in-Err.ensures.memory no_memory in
-    inr (inl (works, due, subst (λ n. IsPutOff c.args.self.now.every n old new) same
-    (record { revision = put_off.0; due = put_off.1; unwritten = put_off.2 })))
+    inr (inl (
+      works,
+      due,
+      subst (λ n. IsPutOff c.args.self.now.every n old new) same
+          (record { revision = put_off.0; due = put_off.1; unwritten = put_off.2 }),
+    ))
 
 -- or the device failed
 pub returns-then-ne-clause-done : goal.returns-then-ne-clause-done
