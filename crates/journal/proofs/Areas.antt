@@ -7,14 +7,14 @@ use Rattle.std.proofs.lemmas.List.Concat.{flat_map-append}
 use Rattle.std.proofs.Math.Seq.{take-append-add}
 use Rattle.disk.specs.Device.{overwritten, SameOutside}
 use Rattle.disk.proofs.CallerLemmas.{length_overwritten, take_overwritten, drop_overwritten, overwritten_same_outside, same_outside_wider, same_outside_then}
-use Rattle.journal.specs.Area.{open_gate, frame, entry, entries, IsBody, HoldsBodies, Place, area_bytes, Stands, IsGated, IsLeftByAppend, IsAppended}
+use Rattle.journal.specs.Area.{open_gate, frame, open_record, open_records, IsBody, HoldsBodies, Place, area_bytes, Stands, IsGated, IsLeftByAppend, IsAppended}
 
 pub AllByRecursion-push : {X : Type 0} (P : X → Type 0) (xs : List X) (x : X) → AllByRecursion P xs → P x → AllByRecursion P (xs ++ x ∷ [])
 AllByRecursion-push P [] x all has = (has, tt)
 AllByRecursion-push P (y ∷ xs) x all has = (all.0, AllByRecursion-push P xs x all.1 has)
 
-pub entries-push : (bodies : List (List ℕ)) (body : List ℕ) → entries (bodies ++ body ∷ []) ≡ entries bodies ++ entry body
-entries-push bodies body = flat_map-append entry bodies (body ∷ []) ∙ ap (λ (l : List ℕ). entries bodies ++ l) (append-nil (entry body))
+pub open_records-push : (bodies : List (List ℕ)) (body : List ℕ) → open_records (bodies ++ body ∷ []) ≡ open_records bodies ++ open_record body
+open_records-push bodies body = flat_map-append open_record bodies (body ∷ []) ∙ ap (λ (l : List ℕ). open_records bodies ++ l) (append-nil (open_record body))
 
 pub length-frame : (body : List ℕ) → length (frame body) ≡ 4 + length body
 length-frame body = omega arith
@@ -24,21 +24,21 @@ module _ (old : List ℕ) (place : Place) (bodies : List (List ℕ)) (stands : S
   abbrev gate : ℕ
   gate = place.at + place.next
 
-  long : length (entries bodies) ≡ place.next
+  long : length (open_records bodies) ≡ place.next
   long = sym stands.next
 
-  front : take place.next (drop place.at old) ≡ entries bodies
+  front : take place.next (drop place.at old) ≡ open_records bodies
   front =
       sym (take-take place.next place.size (drop place.at old) (omega arith))
       ∙ ap (λ (l : List ℕ). take place.next l) stands.holds.split
-      ∙ take_at (entries bodies) (stands.holds.gate ∷ stands.holds.behind) place.next long
+      ∙ take_at (open_records bodies) (stands.holds.gate ∷ stands.holds.behind) place.next long
 
   -- up to the gate all is as it was: the open records, and then what stands from the gate on
-  pub area_from : (content : List ℕ) → take gate content ≡ take gate old → area_bytes place content ≡ entries bodies ++ take (place.size - place.next) (drop gate content)
+  pub area_from : (content : List ℕ) → take gate content ≡ take gate old → area_bytes place content ≡ open_records bodies ++ take (place.size - place.next) (drop gate content)
   area_from content same =
       let bytes = drop place.at content in
       let whole : place.next + (place.size - place.next) ≡ place.size = omega arith in
-      let first : take place.next (take place.size bytes) ≡ entries bodies =
+      let first : take place.next (take place.size bytes) ≡ open_records bodies =
       take-take place.next place.size bytes (omega arith) ∙ sym (drop-take place.at place.next content)
       ∙ ap (λ (l : List ℕ). drop place.at l) same ∙ drop-take place.at place.next old ∙ front in
       let second : drop place.next (take place.size bytes) ≡ take (place.size - place.next) (drop gate content) =
@@ -46,15 +46,15 @@ module _ (old : List ℕ) (place : Place) (bodies : List (List ℕ)) (stands : S
       ∙ ap (λ (l : List ℕ). take (place.size - place.next) l) (drop-drop place.next place.at content) in
       sym (take-append-drop place.next (take place.size bytes))
       ∙ ap (λ (l : List ℕ). l ++ drop place.next (take place.size bytes)) first
-      ∙ ap (λ (l : List ℕ). entries bodies ++ l) second
+      ∙ ap (λ (l : List ℕ). open_records bodies ++ l) second
 
   -- the gate is closed before
   pub gate_closed : get_or old gate 0 ≢ open_gate
   gate_closed =
       let rest : take (place.size - place.next) (drop gate old) ≡ stands.holds.gate ∷ stands.holds.behind =
-      sym (drop_at (entries bodies) (take (place.size - place.next) (drop gate old)) place.next long)
+      sym (drop_at (open_records bodies) (take (place.size - place.next) (drop gate old)) place.next long)
       ∙ ap (λ (l : List ℕ). drop place.next l) (sym (area_from old refl) ∙ stands.holds.split)
-      ∙ drop_at (entries bodies) (stands.holds.gate ∷ stands.holds.behind) place.next long in
+      ∙ drop_at (open_records bodies) (stands.holds.gate ∷ stands.holds.behind) place.next long in
       let is : get_or old (gate + 0) 0 ≡ stands.holds.gate =
       sym (get_or-drop gate old 0 0) ∙ sym (get_or-take (place.size - place.next) (drop gate old) 0 0 (omega arith)) ∙ ap (λ (l : List ℕ). get_or l 0 0) rest in
       λ open_there. stands.holds.closed (sym is ∙ ap (λ k. get_or old k 0) (omega arith) ∙ open_there)
@@ -68,8 +68,8 @@ module _ (old : List ℕ) (place : Place) (bodies : List (List ℕ)) (stands : S
         behind = take (place.size - place.next - 1) (drop (gate + 1) content);
         split =
             area_from content same
-            ∙ ap (λ (l : List ℕ). entries bodies ++ take (place.size - place.next) l) (drop_more content gate 0 (omega (arith, len)))
-            ∙ ap (λ k. entries bodies ++ take k (get_or content gate 0 ∷ drop (gate + 1) content)) more;
+            ∙ ap (λ (l : List ℕ). open_records bodies ++ take (place.size - place.next) l) (drop_more content gate 0 (omega (arith, len)))
+            ∙ ap (λ k. open_records bodies ++ take k (get_or content gate 0 ∷ drop (gate + 1) content)) more;
         closed = shut;
         each = stands.holds.each;
       }
@@ -120,20 +120,20 @@ module _ (old : List ℕ) (place : Place) (bodies : List (List ℕ)) (stands : S
     holds_open =
         let rest = drop (gate + 1 + length record_bytes) old in
         let left = place.size - place.next in
-        let parts : open_gate ∷ (record_bytes ++ rest) ≡ (entry body ++ 0 ∷ []) ++ rest = refl in
-        let len : length (entry body ++ 0 ∷ []) ≡ length body + 6 = omega (arith, record_long) in
-        let cut : take left ((entry body ++ 0 ∷ []) ++ rest) ≡ (entry body ++ 0 ∷ []) ++ take (left - (length body + 6)) rest =
-        let sum : left ≡ length (entry body ++ 0 ∷ []) + (left - (length body + 6)) = omega (arith, len) in
-        ap (λ k. take k ((entry body ++ 0 ∷ []) ++ rest)) sum ∙ take-append-add (entry body ++ 0 ∷ []) rest (left - (length body + 6)) in
+        let parts : open_gate ∷ (record_bytes ++ rest) ≡ (open_record body ++ 0 ∷ []) ++ rest = refl in
+        let len : length (open_record body ++ 0 ∷ []) ≡ length body + 6 = omega (arith, record_long) in
+        let cut : take left ((open_record body ++ 0 ∷ []) ++ rest) ≡ (open_record body ++ 0 ∷ []) ++ take (left - (length body + 6)) rest =
+        let sum : left ≡ length (open_record body ++ 0 ∷ []) + (left - (length body + 6)) = omega (arith, len) in
+        ap (λ k. take k ((open_record body ++ 0 ∷ []) ++ rest)) sum ∙ take-append-add (open_record body ++ 0 ∷ []) rest (left - (length body + 6)) in
         record {
           gate = 0;
           behind = take (left - (length body + 6)) rest;
           split =
               area_from (gated open_gate) (gated_front open_gate)
-              ∙ ap (λ (l : List ℕ). entries bodies ++ take left l) (gated_back open_gate ∙ parts)
-              ∙ ap (λ (l : List ℕ). entries bodies ++ l) (cut ∙ append_assoc (entry body) (0 ∷ []) (take (left - (length body + 6)) rest))
-              ∙ sym (append_assoc (entries bodies) (entry body) (0 ∷ take (left - (length body + 6)) rest))
-              ∙ ap (λ (l : List ℕ). l ++ 0 ∷ take (left - (length body + 6)) rest) (sym (entries-push bodies body));
+              ∙ ap (λ (l : List ℕ). open_records bodies ++ take left l) (gated_back open_gate ∙ parts)
+              ∙ ap (λ (l : List ℕ). open_records bodies ++ l) (cut ∙ append_assoc (open_record body) (0 ∷ []) (take (left - (length body + 6)) rest))
+              ∙ sym (append_assoc (open_records bodies) (open_record body) (0 ∷ take (left - (length body + 6)) rest))
+              ∙ ap (λ (l : List ℕ). l ++ 0 ∷ take (left - (length body + 6)) rest) (sym (open_records-push bodies body));
           closed = λ is. absurd (omega arith);
           each = AllByRecursion-push IsBody bodies body stands.holds.each (record { some = some; short = short });
         }
@@ -172,6 +172,6 @@ module _ (old : List ℕ) (place : Place) (bodies : List (List ℕ)) (stands : S
       outside = gated_outside open_gate;
       stands = record {
         holds = holds_open;
-        next = omega (arith, moved, stands.next, ap length (entries-push bodies body), length-append (entries bodies) (entry body), length-frame body);
+        next = omega (arith, moved, stands.next, ap length (open_records-push bodies body), length-append (open_records bodies) (open_record body), length-frame body);
       };
     })

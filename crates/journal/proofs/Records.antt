@@ -4,36 +4,36 @@ use Rattle.std.specs.List.{AllByRecursion}
 use Rattle.std.specs.Int.{w32, from_le_bytes}
 use Rattle.std.proofs.lemmas.Nat.{from_le_bytes-to_le_bytes_4}
 use Rattle.std.proofs.lemmas.List.{take_at, drop_at}
-use Rattle.journal.specs.Area.{open_gate, entry, entries, IsBody, HoldsBodies}
+use Rattle.journal.specs.Area.{open_gate, open_record, open_records, IsBody, HoldsBodies}
 use Rattle.journal.proofs.Areas.{length-frame}
 
 -- the first body, and bytes that hold the others
 pub record HoldsFirst (body : List ℕ) (others : List (List ℕ)) (bytes : List ℕ) : Type 0 where
   pub is_body : IsBody body
   pub rest : List ℕ
-  pub split : bytes ≡ entry body ++ rest
+  pub split : bytes ≡ open_record body ++ rest
   pub holds : HoldsBodies others rest
 
 pub holds_first : (body : List ℕ) (others : List (List ℕ)) (bytes : List ℕ) → HoldsBodies (body ∷ others) bytes → HoldsFirst body others bytes
 holds_first body others bytes holds = record {
   is_body = holds.each.0;
-  rest = entries others ++ holds.gate ∷ holds.behind;
-  split = holds.split ∙ append_assoc (entry body) (entries others) (holds.gate ∷ holds.behind);
+  rest = open_records others ++ holds.gate ∷ holds.behind;
+  split = holds.split ∙ append_assoc (open_record body) (open_records others) (holds.gate ∷ holds.behind);
   holds = record { gate = holds.gate; behind = holds.behind; split = refl; closed = holds.closed; each = holds.each.1 };
 }
 
-pub first_holds : (body : List ℕ) (others : List (List ℕ)) (bytes rest : List ℕ) → IsBody body → bytes ≡ entry body ++ rest → HoldsBodies others rest → HoldsBodies (body ∷ others) bytes
+pub first_holds : (body : List ℕ) (others : List (List ℕ)) (bytes rest : List ℕ) → IsBody body → bytes ≡ open_record body ++ rest → HoldsBodies others rest → HoldsBodies (body ∷ others) bytes
 first_holds body others bytes rest is_body split holds = record {
   gate = holds.gate;
   behind = holds.behind;
-  split = split ∙ ap (λ (l : List ℕ). entry body ++ l) holds.split ∙ sym (append_assoc (entry body) (entries others) (holds.gate ∷ holds.behind));
+  split = split ∙ ap (λ (l : List ℕ). open_record body ++ l) holds.split ∙ sym (append_assoc (open_record body) (open_records others) (holds.gate ∷ holds.behind));
   closed = holds.closed;
   each = (is_body, holds.each);
 }
 
 -- some byte has to be there, for the gate
 pub holds_some : (bodies : List (List ℕ)) (bytes : List ℕ) → HoldsBodies bodies bytes → 0 < length bytes
-holds_some bodies bytes holds = omega (arith, ap length holds.split, length-append (entries bodies) (holds.gate ∷ holds.behind))
+holds_some bodies bytes holds = omega (arith, ap length holds.split, length-append (open_records bodies) (holds.gate ∷ holds.behind))
 
 -- where the gate is open there is a first body
 pub holds_none : (bytes : List ℕ) → get_or bytes 0 0 ≡ open_gate → ¬ HoldsBodies [] bytes
@@ -41,7 +41,7 @@ holds_none bytes is_open holds = holds.closed (sym (ap (λ (l : List ℕ). get_o
 
 -- the four bytes behind the gate are the length of the first body, and then it comes
 length_read : (body rest : List ℕ) (n : ℕ) → IsBody body
-    → n ≡ from_le_bytes w32 (get_or (entry body ++ rest) 1 0 ∷ get_or (entry body ++ rest) 2 0 ∷ get_or (entry body ++ rest) 3 0 ∷ get_or (entry body ++ rest) 4 0 ∷ []) → n ≡ length body
+    → n ≡ from_le_bytes w32 (get_or (open_record body ++ rest) 1 0 ∷ get_or (open_record body ++ rest) 2 0 ∷ get_or (open_record body ++ rest) 3 0 ∷ get_or (open_record body ++ rest) 4 0 ∷ []) → n ≡ length body
 length_read body rest n is_body read = read ∙ from_le_bytes-to_le_bytes_4 (length body) is_body.short
 
 module _ (bytes : List ℕ) (is_open : get_or bytes 0 0 ≡ open_gate) where
@@ -62,10 +62,10 @@ module _ (bytes : List ℕ) (is_open : get_or bytes 0 0 ≡ open_gate) where
   not_short short [] holds = holds_none bytes is_open holds
   not_short short (body ∷ others) holds =
       let first = holds_first body others bytes holds in
-      absurd (omega (arith, short, ap length first.split, length-append (entry body) first.rest, length-frame body))
+      absurd (omega (arith, short, ap length first.split, length-append (open_record body) first.rest, length-frame body))
 
 -- No record begins another.
-pub entry_same : (p b x y : List ℕ) → IsBody p → IsBody b → entry p ++ x ≡ entry b ++ y → (p ≡ b) × (x ≡ y)
+pub entry_same : (p b x y : List ℕ) → IsBody p → IsBody b → open_record p ++ x ≡ open_record b ++ y → (p ≡ b) × (x ≡ y)
 entry_same p b x y is_p is_b same =
     let lens : length p ≡ length b =
     sym (from_le_bytes-to_le_bytes_4 (length p) is_p.short)
@@ -77,12 +77,12 @@ entry_same p b x y is_p is_b same =
     )
 
 -- bytes that hold bodies hold, behind records that stand at their front, bodies too
-pub holds_behind : (front bodies : List (List ℕ)) (rest : List ℕ) → AllByRecursion IsBody front → HoldsBodies bodies (entries front ++ rest) → (others : List (List ℕ)) × HoldsBodies others rest
+pub holds_behind : (front bodies : List (List ℕ)) (rest : List ℕ) → AllByRecursion IsBody front → HoldsBodies bodies (open_records front ++ rest) → (others : List (List ℕ)) × HoldsBodies others rest
 holds_behind [] bodies rest each holds = (bodies, holds)
 holds_behind (p ∷ front) [] rest each holds = absurd (holds_none _ refl holds)
 holds_behind (p ∷ front) (b ∷ bodies) rest each holds =
     let first = holds_first b bodies _ holds in
-    let same = entry_same p b (entries front ++ rest) first.rest each.0 first.is_body (sym (append_assoc (entry p) (entries front) rest) ∙ first.split) in
+    let same = entry_same p b (open_records front ++ rest) first.rest each.0 first.is_body (sym (append_assoc (open_record p) (open_records front) rest) ∙ first.split) in
     holds_behind front bodies rest each.1 (subst (HoldsBodies bodies) (sym same.1) first.holds)
 
 -- Bytes hold one list of bodies at most.

@@ -4,9 +4,9 @@ use Rattle.std.specs.List.{AllByRecursion}
 use Rattle.std.specs.Int.{w32, from_le_bytes}
 use Rattle.std.proofs.lemmas.List.{get_or_append_left, length-take-le}
 use Rattle.std.proofs.Math.Seq.{take-add}
-use Rattle.journal.specs.Area.{open_gate, entry, entries, IsBody, HoldsBodies}
+use Rattle.journal.specs.Area.{open_gate, open_record, open_records, IsBody, HoldsBodies}
 use Rattle.journal.specs.steps.Scanning.{BeginsClosed, IsNoFront}
-use Rattle.journal.proofs.Areas.{entries-push, length-frame}
+use Rattle.journal.proofs.Areas.{open_records-push, length-frame}
 use Rattle.journal.proofs.Records.{holds_behind, not_damaged, not_short}
 
 -- an open record whose length is 0 or passes the end of the area
@@ -28,44 +28,44 @@ ends_early bytes left some is_open short more total bodies holds =
     not_short (bytes ++ more) (get_or_append_left bytes more 0 0 some ∙ is_open) (omega (arith, short, total, length-append bytes more)) bodies holds
 
 -- Bytes from an area's first one on were read up to some place: records of these bodies, and then these bytes, which are pending.
-module _ (bytes : List ℕ) (bodies : List (List ℕ)) (pending : List ℕ) (next : ℕ) (split : take (next + length pending) bytes ≡ entries bodies ++ pending) where
+module _ (bytes : List ℕ) (bodies : List (List ℕ)) (pending : List ℕ) (next : ℕ) (split : take (next + length pending) bytes ≡ open_records bodies ++ pending) where
   -- a record at the front of what is pending is parted
-  pub parted : (body : List ℕ) → pending ≡ entry body ++ drop (5 + length body) pending
-      → take (next + (5 + length body) + length (drop (5 + length body) pending)) bytes ≡ entries (bodies ++ body ∷ []) ++ drop (5 + length body) pending
+  pub parted : (body : List ℕ) → pending ≡ open_record body ++ drop (5 + length body) pending
+      → take (next + (5 + length body) + length (drop (5 + length body) pending)) bytes ≡ open_records (bodies ++ body ∷ []) ++ drop (5 + length body) pending
   parted body front =
       let rest : List ℕ = drop (5 + length body) pending in
-      let long : length pending ≡ 5 + length body + length rest = omega (arith, ap length front, length-append (entry body) rest, length-frame body) in
+      let long : length pending ≡ 5 + length body + length rest = omega (arith, ap length front, length-append (open_record body) rest, length-frame body) in
       let same : next + (5 + length body) + length rest ≡ next + length pending = omega (arith, long) in
-      ap (λ k. take k bytes) same ∙ split ∙ ap (λ (l : List ℕ). entries bodies ++ l) front
-      ∙ sym (append_assoc (entries bodies) (entry body) rest) ∙ ap (λ (l : List ℕ). l ++ rest) (sym (entries-push bodies body))
+      ap (λ k. take k bytes) same ∙ split ∙ ap (λ (l : List ℕ). open_records bodies ++ l) front
+      ∙ sym (append_assoc (open_records bodies) (open_record body) rest) ∙ ap (λ (l : List ℕ). l ++ rest) (sym (open_records-push bodies body))
 
   -- further bytes are read
   pub read_on : (count : ℕ) (more : List ℕ) → length more ≡ length pending + count → more ≡ pending ++ take count (drop (next + length pending) bytes)
-      → take (next + length more) bytes ≡ entries bodies ++ more
+      → take (next + length more) bytes ≡ open_records bodies ++ more
   read_on count more long is =
       let read : ℕ = next + length pending in
       let piece : List ℕ = take count (drop read bytes) in
       let same : next + length more ≡ read + count = omega (arith, long) in
       ap (λ k. take k bytes) same ∙ take-add read count bytes ∙ ap (λ (l : List ℕ). l ++ piece) split
-      ∙ append_assoc (entries bodies) pending piece ∙ ap (λ (l : List ℕ). entries bodies ++ l) (sym is)
+      ∙ append_assoc (open_records bodies) pending piece ∙ ap (λ (l : List ℕ). open_records bodies ++ l) (sym is)
 
   module _ (size : ℕ) (within : next + length pending ≤ size) (each : AllByRecursion IsBody bodies) where
     -- what isn't read yet
     abbrev unread : List ℕ
     unread = take (size - (next + length pending)) (drop (next + length pending) bytes)
 
-    whole : take size bytes ≡ entries bodies ++ (pending ++ unread)
+    whole : take size bytes ≡ open_records bodies ++ (pending ++ unread)
     whole =
         let read : ℕ = next + length pending in
         let all : size ≡ read + (size - read) = omega (arith, within) in
-        ap (λ k. take k bytes) all ∙ take-add read (size - read) bytes ∙ ap (λ (l : List ℕ). l ++ unread) split ∙ append_assoc (entries bodies) pending unread
+        ap (λ k. take k bytes) all ∙ take-add read (size - read) bytes ∙ ap (λ (l : List ℕ). l ++ unread) split ∙ append_assoc (open_records bodies) pending unread
 
     -- a closed gate stands at the front
     pub closed : BeginsClosed pending → HoldsBodies bodies (take size bytes)
     closed front = record {
       gate = front.gate;
       behind = front.behind ++ unread;
-      split = whole ∙ ap (λ (l : List ℕ). entries bodies ++ (l ++ unread)) front.split;
+      split = whole ∙ ap (λ (l : List ℕ). open_records bodies ++ (l ++ unread)) front.split;
       closed = front.closed;
       each = each;
     }

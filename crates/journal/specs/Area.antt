@@ -13,12 +13,12 @@ abbrev pub frame : List ℕ → List ℕ
 frame body = to_le_bytes w32 (length body) ++ body
 
 -- an open record: its gate, the length, the body
-abbrev pub entry : List ℕ → List ℕ
-entry body = open_gate ∷ frame body
+abbrev pub open_record : List ℕ → List ℕ
+open_record body = open_gate ∷ frame body
 
 -- open records of these bodies, one behind another
-abbrev pub entries : List (List ℕ) → List ℕ
-entries bodies = flat_map entry bodies
+abbrev pub open_records : List (List ℕ) → List ℕ
+open_records bodies = flat_map open_record bodies
 
 -- a body has a byte, and its length has four
 pub record IsBody (body : List ℕ) : Type 0 where
@@ -29,7 +29,7 @@ pub record IsBody (body : List ℕ) : Type 0 where
 pub record HoldsBodies (bodies : List (List ℕ)) (bytes : List ℕ) : Type 0 where
   pub gate : ℕ
   pub behind : List ℕ
-  pub split : bytes ≡ entries bodies ++ gate ∷ behind
+  pub split : bytes ≡ open_records bodies ++ gate ∷ behind
   pub closed : gate ≢ open_gate
   pub each : AllByRecursion IsBody bodies
 
@@ -53,7 +53,7 @@ area_bytes place content = take place.size (drop place.at content)
 -- an area that stands for these bodies in a content
 pub record Stands (content : List ℕ) (place : Place) (bodies : List (List ℕ)) : Type 0 where
   pub holds : HoldsBodies bodies (area_bytes place content)
-  pub next : place.next ≡ length (entries bodies)
+  pub next : place.next ≡ length (open_records bodies)
 
 -- The content after an append, or after a crash in it: the area holds the bodies with the new one or without it, and
 -- outside the area nothing has changed.

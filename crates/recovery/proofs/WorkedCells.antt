@@ -14,7 +14,7 @@ use Rattle.revision.specs.Command.{Taken, IsTaken}
 use Rattle.revision.specs.Sources.{with_last}
 use Rattle.revision.specs.Spellable.{IsSpellable, IsOperation, IsPair, IsValue, IsNewValue}
 use Rattle.revision.specs.State.{State, DocumentRecord, all_continue}
-use Rattle.journal.specs.Area.{entry}
+use Rattle.journal.specs.Area.{open_record}
 use Rattle.journal.specs.Spelling.{number, text16, text32}
 use Rattle.journal.specs.DeltaSpelling.{value, new_value, pair, pairs, operation, delta}
 use Rattle.journal.specs.BatchSpelling as batches
@@ -140,10 +140,10 @@ second_is = record {
 }
 
 first_held : HoldsOpenCell 0 (bytes_at 64 256 with_cells) first
-first_held = record { is = first_is; rest = replicate 199 0; split = ap (λ (b : List ℕ). entry b ++ replicate 199 0) (sym first_spelled) }
+first_held = record { is = first_is; rest = replicate 199 0; split = ap (λ (b : List ℕ). open_record b ++ replicate 199 0) (sym first_spelled) }
 
 second_held : HoldsOpenCell 0 (bytes_at 320 256 with_cells) second
-second_held = record { is = second_is; rest = replicate 198 0; split = ap (λ (b : List ℕ). entry b ++ replicate 198 0) (sym second_spelled) }
+second_held = record { is = second_is; rest = replicate 198 0; split = ap (λ (b : List ℕ). open_record b ++ replicate 198 0) (sym second_spelled) }
 
 cells_held : HoldsCells with_cells small cells
 cells_held = record {

@@ -66,7 +66,7 @@ follows_prepared limits d taken =
 
 -- what is kept beside a past whose changes are accepted
 pub accepted_comes : (keep : ℕ) (past : Prepared) (units : List Element) (sources : Sources) → units ≡ prepared_units past → sources ≡ prepared_sources past
-    → ComesOf (record { past = with_changes keep past.past past.next; next = [] }) units None (record { held = sources; prepared = sources })
+    → ComesOf (record { past = with_changes keep past.past past.next; next = [] }) units None (record { accepted = sources; prepared = sources })
 accepted_comes keep past units sources units_are sources_are = record {
   newest = units_are ∙ sym (units-with_changes keep past.past past.next);
   after = refl;

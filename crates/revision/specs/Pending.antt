@@ -35,7 +35,7 @@ AreNextUnits prepared (Some units) = units ≡ prepared_units prepared
 pub record ComesOf (past : Prepared) (units : List Element) (next : Option (List Element)) (sources : Table) : Type 0 where
   pub newest : units ≡ newest_units past.past
   pub after : AreNextUnits past next
-  pub held : sources.held ≡ newest_sources past.past
+  pub held : sources.accepted ≡ newest_sources past.past
   pub prepared : sources.prepared ≡ prepared_sources past
 
 -- how a document is told from another

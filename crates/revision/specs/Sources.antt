@@ -56,13 +56,13 @@ same_sources = same_map_by same_last
 pub same_sources-Decides : (one other : Sources) → Decides (same_sources one other) (one ≡ other)
 same_sources-Decides = same_map_by-Decides same_last same_last-Decides
 
--- the sources that are held, and those after what is prepared
+-- the sources that are accepted, and those after what is prepared
 pub record Table : Type 0 where
-  pub held : Sources
+  pub accepted : Sources
   pub prepared : Sources
 
 abbrev pub table_code : Coded Table
-table_code = code_by (Sources × Sources) (coded× sources_code sources_code) (λ t. (t.held, t.prepared)) (λ p. record { held = p.0; prepared = p.1 }) (λ _. refl)
+table_code = code_by (Sources × Sources) (coded× sources_code sources_code) (λ t. (t.accepted, t.prepared)) (λ p. record { accepted = p.0; prepared = p.1 }) (λ _. refl)
 
 -- the sources with what one has, or without it
 abbrev pub with_entry : List ℕ → Option LastTaken → Sources → Sources

@@ -191,7 +191,7 @@ impl DocState {
         let mut past = self.past.copy_held(alloc)?;
         past.raise_floor(revision);
         let document = self.document.copy(alloc)?;
-        let sources = SourceTable::from_sources(alloc, self.sources.held())?;
+        let sources = SourceTable::from_sources(alloc, self.sources.accepted())?;
         Ok(DocState {
             name,
             past,
@@ -234,7 +234,7 @@ impl DocState {
     pub fn sources(&self) -> &Sources
         ensures { result.now ≡ sources_of (record_of self.now) }
     {
-        self.sources.held()
+        self.sources.accepted()
     }
 
     /// What a source has at the newest revision, 0 and 0 where it isn't there.

@@ -17,14 +17,14 @@ use std::alloc::Global;
 use std::marker::Model;
 use std::mem::swap;
 
-/// The sources that are held, and those after what is prepared.
+/// The sources that are accepted, and those after what is prepared.
 ///
 /// They are kept twice. What is prepared is noted in the second list alone; to accept it the two change places, which takes no
 /// memory. `changed` names the sources in which the two may differ, and before the next change is prepared those alone are made
 /// equal.
 #[derive(Drop)]
 pub struct SourceTable {
-    held: Sources,
+    accepted: Sources,
     ahead: Sources,
     changed: Vec<Name>,
     prepared: bool,
@@ -38,18 +38,18 @@ impl Model for SourceTable {
 
     ghost coded = { spec.table_code };
 
-    ghost view = { λ t. record { held = t.held; prepared = if t.prepared then t.ahead else t.held } };
+    ghost view = { λ t. record { accepted = t.accepted; prepared = if t.prepared then t.ahead else t.accepted } };
 
-    ghost invariant = { λ t. spec.EqualBut t.changed.items t.held t.ahead };
+    ghost invariant = { λ t. spec.EqualBut t.changed.items t.accepted t.ahead };
 }
 
 impl SourceTable {
     /// None. It takes no memory.
     pub fn new(alloc: Global) -> SourceTable
-        ensures { result ≡ record { held = empty; prepared = empty } }
+        ensures { result ≡ record { accepted = empty; prepared = empty } }
     {
         SourceTable {
-            held: Sources::new(alloc),
+            accepted: Sources::new(alloc),
             ahead: Sources::new(alloc),
             changed: Vec::new(alloc),
             prepared: false,
@@ -58,24 +58,24 @@ impl SourceTable {
 
     /// These sources, and nothing prepared. Refused for want of memory alone.
     pub fn from_sources(alloc: Global, sources: &Sources) -> Result<SourceTable, Refusal>
-        ensures ok { IfOk result (λ table. table ≡ record { held = sources.now; prepared = sources.now }) }
+        ensures ok { IfOk result (λ table. table ≡ record { accepted = sources.now; prepared = sources.now }) }
         ensures only { IsOkUnless result Refusal.NoMemory }
     {
-        let held = sources.copy(alloc)?;
+        let accepted = sources.copy(alloc)?;
         let ahead = sources.copy(alloc)?;
         Ok(SourceTable {
-            held,
+            accepted,
             ahead,
             changed: Vec::new(alloc),
             prepared: false,
         })
     }
 
-    /// The sources that are held.
-    pub fn held(&self) -> &Sources
-        ensures { result.now ≡ self.now.held }
+    /// The sources that are accepted.
+    pub fn accepted(&self) -> &Sources
+        ensures { result.now ≡ self.now.accepted }
     {
-        &self.held
+        &self.accepted
     }
 
     /// The sources after what is prepared.
@@ -85,7 +85,7 @@ impl SourceTable {
         if self.prepared {
             &self.ahead
         } else {
-            &self.held
+            &self.accepted
         }
     }
 
@@ -105,11 +105,22 @@ impl SourceTable {
         ensures unchanged { OnErr result (self.new ≡ self.old) }
     {
         if !self.prepared {
-            align_all(alloc, self.changed.as_slice(), &self.held, &mut self.ahead)?;
+            align_all(
+                alloc,
+                self.changed.as_slice(),
+                &self.accepted,
+                &mut self.ahead,
+            )?;
             self.changed.clear();
             self.prepared = true;
         }
-        mark(alloc, &mut self.changed, &self.held, &self.ahead, source)?;
+        mark(
+            alloc,
+            &mut self.changed,
+            &self.accepted,
+            &self.ahead,
+            source,
+        )?;
         self.ahead.note(alloc, source, number, revision)
     }
 
@@ -133,27 +144,38 @@ impl SourceTable {
         ensures document_unchanged { OnErr result (document.new ≡ document.old) }
     {
         if !self.prepared {
-            align_all(alloc, self.changed.as_slice(), &self.held, &mut self.ahead)?;
+            align_all(
+                alloc,
+                self.changed.as_slice(),
+                &self.accepted,
+                &mut self.ahead,
+            )?;
             self.changed.clear();
             self.prepared = true;
         }
-        mark(alloc, &mut self.changed, &self.held, &self.ahead, source)?;
+        mark(
+            alloc,
+            &mut self.changed,
+            &self.accepted,
+            &self.ahead,
+            source,
+        )?;
         note_with(alloc, &mut self.ahead, source, last, delta, document)
     }
 
     /// Accepts what is prepared. It takes no memory, and isn't refused.
     pub fn accept(&mut self)
-        ensures { self.new ≡ record { held = self.old.prepared; prepared = self.old.prepared } }
+        ensures { self.new ≡ record { accepted = self.old.prepared; prepared = self.old.prepared } }
     {
         if self.prepared {
-            swap(&mut self.held, &mut self.ahead);
+            swap(&mut self.accepted, &mut self.ahead);
             self.prepared = false;
         }
     }
 
     /// Drops what is prepared.
     pub fn forget(&mut self)
-        ensures { self.new ≡ record { held = self.old.held; prepared = self.old.held } }
+        ensures { self.new ≡ record { accepted = self.old.accepted; prepared = self.old.accepted } }
     {
         self.prepared = false;
     }
@@ -164,17 +186,17 @@ impl SourceTable {
 fn mark(
     alloc: Global,
     changed: &mut Vec<Name>,
-    held: &Sources,
+    accepted: &Sources,
     ahead: &Sources,
     source: &Name,
 ) -> Result<(), Refusal>
-    requires { EqualBut changed.old.items held.now ahead.now }
+    requires { EqualBut changed.old.items accepted.now ahead.now }
     ensures ok { OnOk result ((name : List ℕ) → is_among name changed.new.items ≡ false
-        → (is_among name (source.now ∷ []) ≡ false) × (get held.now name ≡ get ahead.now name)) }
+        → (is_among name (source.now ∷ []) ≡ false) × (get accepted.now name ≡ get ahead.now name)) }
     ensures unchanged { OnErr result (changed.new.items ≡ changed.old.items) }
     ensures only { IsOkUnless result Refusal.NoMemory }
 {
-    if is_same(held.find(source), ahead.find(source)) {
+    if is_same(accepted.find(source), ahead.find(source)) {
         changed.push(source.copy(alloc)?)?;
     }
     Ok(())
@@ -219,27 +241,32 @@ fn note_with(
 fn align_all(
     alloc: Global,
     names: &[Name],
-    held: &Sources,
+    accepted: &Sources,
     ahead: &mut Sources,
 ) -> Result<(), Refusal>
-    requires { EqualBut names.now held.now ahead.old }
-    ensures ok { OnOk result (ahead.new ≡ held.now) }
-    ensures still { EqualBut names.now held.now ahead.new }
+    requires { EqualBut names.now accepted.now ahead.old }
+    ensures ok { OnOk result (ahead.new ≡ accepted.now) }
+    ensures still { EqualBut names.now accepted.now ahead.new }
     ensures only { IsOkUnless result Refusal.NoMemory }
 {
     for name in names {
-        align(alloc, name, held, ahead)?;
+        align(alloc, name, accepted, ahead)?;
     }
     Ok(())
 }
 
 // Gives a source what it has in other sources. Refused for want of memory alone, and then unchanged.
-fn align(alloc: Global, source: &Name, held: &Sources, ahead: &mut Sources) -> Result<(), Refusal>
-    ensures ok { OnOk result (ahead.new ≡ with_entry source.now (get held.now source.now) ahead.old) }
+fn align(
+    alloc: Global,
+    source: &Name,
+    accepted: &Sources,
+    ahead: &mut Sources,
+) -> Result<(), Refusal>
+    ensures ok { OnOk result (ahead.new ≡ with_entry source.now (get accepted.now source.now) ahead.old) }
     ensures unchanged { OnErr result (ahead.new ≡ ahead.old) }
     ensures only { IsOkUnless result Refusal.NoMemory }
 {
-    match held.find(source) {
+    match accepted.find(source) {
         Some(last) => ahead.set(source.copy(alloc)?, last.number, last.revision),
         None => {
             ahead.remove(source);

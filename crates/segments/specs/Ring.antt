@@ -1,7 +1,7 @@
 -- What a ring knows of its slots, and what its calls leave of them.
 use Rattle.std.specs.Prelude.{◌≡◌, ◌⊎◌, ℕ, ◌+◌, ◌-◌, ◌*◌, nat_le, Bool, true, false, Option, Some, None, List, length, set}
 use Rattle.disk.specs.Device.{SameOutside}
-use Rattle.journal.specs.Area.{Place, entries}
+use Rattle.journal.specs.Area.{Place, open_records}
 use Rattle.segments.specs.declared.ring.Ring.{Ring}
 use Rattle.segments.specs.Slot.{Segment}
 use Rattle.segments.specs.Numbers.{IsNewest, IsNext}
@@ -42,7 +42,7 @@ pub record IsNewestArea (at size : ℕ) (table : List (Option Segment)) (place :
   pub newest : IsNewest (numbers_of table) slot segment.number
   pub begins : place.at ≡ slot_place at size slot + 9
   pub long : place.size ≡ size - 9
-  pub next : place.next ≡ length (entries segment.bodies)
+  pub next : place.next ≡ length (open_records segment.bodies)
 
 -- no area is known where no slot is open
 abbrev pub KnowsNewest : ℕ → ℕ → List (Option Segment) → Option Place → Type 0

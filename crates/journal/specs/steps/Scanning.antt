@@ -1,6 +1,6 @@
 -- What stands at the front of bytes of an area, as the loop over its pieces sees them.
 use Rattle.std.specs.Prelude.{◌≡◌, ◌≢◌, ℕ, ◌+◌, ◌<◌, List, ◌∷◌, ◌++◌, length, drop}
-use Rattle.journal.specs.Area.{open_gate, entry, IsBody, HoldsBodies}
+use Rattle.journal.specs.Area.{open_gate, open_record, IsBody, HoldsBodies}
 use Rattle.journal.specs.declared.scan.Front.{Front}
 use Rattle.journal.specs.declared.scan.Front.TheVariants as front
 
@@ -15,7 +15,7 @@ pub record BeginsClosed (bytes : List ℕ) : Type 0 where
 -- one is missing.
 abbrev pub IsFront : List ℕ → ℕ → Front → Type 0
 IsFront bytes left (front.Record body) =
-    IsBody body.now × (bytes ≡ entry body.now ++ drop (5 + length body.now) bytes) × (5 + length body.now < left)
+    IsBody body.now × (bytes ≡ open_record body.now ++ drop (5 + length body.now) bytes) × (5 + length body.now < left)
 IsFront bytes left front.Closed = BeginsClosed bytes
 IsFront bytes left front.Short = length bytes < left
 

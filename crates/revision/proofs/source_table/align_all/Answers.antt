@@ -6,8 +6,8 @@ use Rattle.revision.proofs.source_table.align_all.Goals as goal
 
 pub returns-in_err-align-clause-still : goal.returns-in_err-align-clause-still
 returns-in_err-align-clause-still c =
-    but-more c.loop-name.name-index c.args.names.now c.args.held.now c.align.new.ahead
-    (subst (EqualBut (drop c.loop-name.name-index c.args.names.now) c.args.held.now) (sym c.in_err-align.ensures.unchanged) c.loop-name.invariant)
+    but-more c.loop-name.name-index c.args.names.now c.args.accepted.now c.align.new.ahead
+    (subst (EqualBut (drop c.loop-name.name-index c.args.names.now) c.args.accepted.now) (sym c.in_err-align.ensures.unchanged) c.loop-name.invariant)
 
 pub loop-name-preserved : goal.loop-name-preserved
 loop-name-preserved c =
@@ -16,10 +16,10 @@ loop-name-preserved c =
     let name = c.name-item.result in
     let here : drop i names ≡ name ∷ drop (i + 1) names =
     at_drop_more (λ l. l) names i name c.loop-name-test.true ∙ ap (λ n. n ∷ drop (i + 1) names) (sym c.name-item.is) in
-    subst (EqualBut (drop (i + 1) names) c.args.held.now) (sym c.in_ok-align.ensures.ok)
-    (but-rest name (drop (i + 1) names) c.args.held.now c.loop-name.ahead (subst (λ l. EqualBut l c.args.held.now c.loop-name.ahead) here c.loop-name.invariant))
+    subst (EqualBut (drop (i + 1) names) c.args.accepted.now) (sym c.in_ok-align.ensures.ok)
+    (but-rest name (drop (i + 1) names) c.args.accepted.now c.loop-name.ahead (subst (λ l. EqualBut l c.args.accepted.now c.loop-name.ahead) here c.loop-name.invariant))
 
 pub returns-clause-ok : goal.returns-clause-ok
 returns-clause-ok c =
     let none = drop_all c.loop-name.name-index c.args.names.now (omega (arith, c.loop-name-test.false)) in
-    but-none c.args.held.now c.loop-name.ahead (subst (λ l. EqualBut l c.args.held.now c.loop-name.ahead) none c.loop-name.invariant)
+    but-none c.args.accepted.now c.loop-name.ahead (subst (λ l. EqualBut l c.args.accepted.now c.loop-name.ahead) none c.loop-name.invariant)

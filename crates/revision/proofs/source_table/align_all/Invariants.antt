@@ -4,4 +4,4 @@ use Rattle.revision.proofs.source_table.align_all.Given as goal
 
 -- the same but for those that are left
 abbrev pub invariant-loop-name : goal.invariant-loop-name
-invariant-loop-name l = EqualBut (drop l.name-index l.names) l.held l.ahead
+invariant-loop-name l = EqualBut (drop l.name-index l.names) l.accepted l.ahead

@@ -2,11 +2,11 @@ use Rattle.std.proofs.Common.{◌≡◌, ◌∙◌, ◌+◌, ◌-◌, ◌∷◌,
 use Rattle.std.proofs.lemmas.List.{drop-drop}
 use Rattle.std.proofs.lemmas.Result.{err_from_is_err_and}
 use Rattle.disk.specs.Device.{History}
-use Rattle.journal.specs.Area.{Place, Stands, IsBody, entry, entries}
+use Rattle.journal.specs.Area.{Place, Stands, IsBody, open_record, open_records}
 use Rattle.journal.specs.Scan.{items_of}
 use Rattle.journal.specs.declared.scan.Front.TheVariants.{Record}
 use Rattle.journal.specs.steps.Scanning.{IsFront, IsNoFront, BeginsClosed}
-use Rattle.journal.proofs.Areas.{AllByRecursion-push, entries-push, length-frame}
+use Rattle.journal.proofs.Areas.{AllByRecursion-push, open_records-push, length-frame}
 use Rattle.journal.proofs.Scanning as scanning
 use Rattle.journal.proofs.area.Area.scan.Goals as goal
 
@@ -36,17 +36,17 @@ loop-bodies-preserved-in-Record g c =
     let at = c.loop-bodies in
     let body : List ℕ = c.in-Record.body.now in
     let front : IsFront c.bytes.result.now (c.args.size - at.next) (Record c.in-Record.body) = search rules in
-    let split : at.pending ≡ entry body ++ drop (5 + length body) at.pending =
-    subst (λ (l : List ℕ). l ≡ entry body ++ drop (5 + length body) l) c.bytes.ensures front.1 in
+    let split : at.pending ≡ open_record body ++ drop (5 + length body) at.pending =
+    subst (λ (l : List ℕ). l ≡ open_record body ++ drop (5 + length body) l) c.bytes.ensures front.1 in
     let passed : c.pass.new.self ≡ drop (5 + length body) at.pending = c.pass.ensures in
     let items : items_of c.push_body.new.bodies.items ≡ items_of at.bodies.items ++ body ∷ [] = c.in_ok-push_body-in-Record.ensures.pushed in
     record {
       split = λ honest. rw (items, passed) (scanning.parted (drop c.args.at (g.D.Disk.seen c.args.disk.now)) (items_of at.bodies.items) at.pending at.next (at.invariant.split honest) body split);
-      next = rw (items, entries-push (items_of at.bodies.items) body)
-          (omega (arith, at.invariant.next, length-append (entries (items_of at.bodies.items)) (entry body), length-frame body));
+      next = rw (items, open_records-push (items_of at.bodies.items) body)
+          (omega (arith, at.invariant.next, length-append (open_records (items_of at.bodies.items)) (open_record body), length-frame body));
       each = rw items (AllByRecursion-push IsBody (items_of at.bodies.items) body at.invariant.each front.0);
       room = omega (arith, front.2);
-      within = rw passed (omega (arith, at.invariant.within, length-drop (5 + length body) at.pending, ap length split, length-append (entry body) (drop (5 + length body) at.pending), length-frame body));
+      within = rw passed (omega (arith, at.invariant.within, length-drop (5 + length body) at.pending, ap length split, length-append (open_record body) (drop (5 + length body) at.pending), length-frame body));
       stays = at.invariant.stays;
       honest = at.invariant.honest;
       good = at.invariant.good;

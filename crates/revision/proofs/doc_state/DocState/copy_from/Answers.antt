@@ -11,11 +11,11 @@ invariant_of-result c =
     let past = c.self.inside.past.past in
     let past_is : c.raise_floor.new.self ≡ record { past = raised c.args.revision past; next = [] } =
     c.raise_floor.ensures ∙ ap (λ (p : Prepared). record p { past = raised c.args.revision p.past }) c.in_ok-past.ensures.same in
-    let held : c.in_ok-sources.sources.held ≡ c.self.inside.sources.held = ap (λ (t : Table). t.held) c.in_ok-sources.ensures.ok ∙ c.held.ensures in
-    let prepared : c.in_ok-sources.sources.prepared ≡ c.self.inside.sources.held = ap (λ (t : Table). t.prepared) c.in_ok-sources.ensures.ok ∙ c.held.ensures in
+    let held : c.in_ok-sources.sources.accepted ≡ c.self.inside.sources.accepted = ap (λ (t : Table). t.accepted) c.in_ok-sources.ensures.ok ∙ c.accepted.ensures in
+    let prepared : c.in_ok-sources.sources.prepared ≡ c.self.inside.sources.accepted = ap (λ (t : Table). t.prepared) c.in_ok-sources.ensures.ok ∙ c.accepted.ensures in
     subst (λ (p : Prepared). ComesOf p c.in_ok-document.document None c.in_ok-sources.sources) (sym past_is) (record {
       newest = c.in_ok-document.ensures.same ∙ (c.self.invariant.newest ∙ sym (raised-units c.args.revision past));
       after = refl;
-      held = held ∙ (c.self.invariant.held ∙ sym (raised-sources c.args.revision past));
-      prepared = prepared ∙ (c.self.invariant.held ∙ sym (raised-sources c.args.revision past));
+      held = held ∙ (c.self.invariant.accepted ∙ sym (raised-sources c.args.revision past));
+      prepared = prepared ∙ (c.self.invariant.accepted ∙ sym (raised-sources c.args.revision past));
     })

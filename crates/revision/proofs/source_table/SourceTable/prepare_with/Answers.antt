@@ -5,5 +5,5 @@ use Rattle.revision.proofs.source_table.SourceTable.prepare_with.Goals as goal
 pub invariant_of-self-2 : goal.invariant_of-self-2
 invariant_of-self-2 c =
     let inside = c.if-not-self.self-inside in
-    but-once_noted c.args.source.now c.args.last c.mark.new.changed.items inside.held inside.ahead c.note_with.new.sources c.note_with.result
+    but-once_noted c.args.source.now c.args.last c.mark.new.changed.items inside.accepted inside.ahead c.note_with.new.sources c.note_with.result
     c.note_with.ensures.sources c.note_with.ensures.unchanged c.in_ok-mark.ensures.ok
