@@ -156,6 +156,14 @@ fn a_stop_in_the_last_put_or_in_the_retirement(rt: HostRuntime) {
     }
 }
 
+// The older cell has been closed, and its milestone isn't written yet.
+#[test]
+fn the_gate_of_a_closed_cell(rt: HostRuntime) {
+    let closed = bytes_after_stop(&rt, 7, 7, Left::All);
+    assert_eq!(rt; byte_at(&rt, &closed, 64), 0);
+    assert_eq!(rt; byte_at(&rt, &closed, 320), 0xa5);
+}
+
 // A stop in the write of a gate leaves it with any value.
 #[test]
 fn a_stop_in_the_write_of_a_gate(rt: HostRuntime) {

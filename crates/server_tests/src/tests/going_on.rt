@@ -1,4 +1,4 @@
-use super::{call, format_small, is_served, path, remove, runs};
+use super::{call, format_small, is_served, path, prints, remove, runs};
 use std::fs::File;
 use std::io;
 use std::net::{Net, TcpListener, TcpStream};
@@ -202,6 +202,8 @@ fn lie_apart<
     are_taken(rt, &words, 1, 10);
     has_floor(rt, path, "newer", newer);
     has_floor(rt, path, "older", older);
+    // without a pick the newer milestones are read
+    prints(rt, path, dumped(rt, path, "newer").as_str());
 }
 
 #[test]
