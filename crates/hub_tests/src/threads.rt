@@ -3,9 +3,9 @@ ghost use Rattle.std.specs.Prelude.{◌≡◌};
 
 use crate::made::{CAP, SHAPE, command, commit, new_store};
 use disk::MemDisk;
-use hub::{Board, Closer, Hub, Seat, Writer};
+use hub::{Board, Closer, Hub, Seat, Ticket, Writer};
 use published::{Log, Opened, Site, Told};
-use recovery::Store;
+use recovery::{Receipt, Store};
 use refusal::Refusal;
 use revision::State;
 use std::alloc::Global;
@@ -14,6 +14,35 @@ use std::process::Abort;
 use std::sync::Wait;
 use std::sync::ledger::Blank;
 use std::thread::{Threads, join};
+
+// Waits until a ticket is acknowledged, and counts the commands that the token holds.
+fn acknowledged<J: Site, R: Wait>(
+    rt: &R,
+    hub: &Hub<MemDisk, J>,
+    ticket: &Ticket,
+) -> Result<u64, Refusal> {
+    let told = hub.wait_ack(rt, ticket)?;
+    if told.len() < ticket.length() as u64 {
+        return Err(Refusal::Stranger);
+    }
+    match hub.ack(rt, ticket)? {
+        Some(told) => Ok(told.len()),
+        None => Err(Refusal::Stranger),
+    }
+}
+
+// Submits a command of this number and length, and waits for it.
+fn submitted_one<J: Site, R: Wait>(
+    rt: &R,
+    alloc: Global,
+    hub: &Hub<MemDisk, J>,
+    seat: &mut Seat<J>,
+    edit: &(u64, u32),
+) -> Result<u64, Refusal> {
+    let command = command(alloc, edit.0, edit.1)?;
+    let ticket = hub.submit(rt, alloc, seat, &command)?;
+    acknowledged(rt, hub, &ticket)
+}
 
 // Submits commands of these numbers and lengths, each after the one before was acknowledged, and counts the commands that the last
 // token holds.
@@ -25,18 +54,8 @@ fn submitted<J: Site, R: Wait>(
     edits: &[(u64, u32)],
 ) -> Result<u64, Refusal> {
     let mut held = 0;
-    for (number, count) in edits {
-        let command = command(alloc, *number, *count)?;
-        let ticket = hub.submit(rt, alloc, seat, &command)?;
-        let told = hub.wait_ack(rt, &ticket)?;
-        held = told.len();
-        if held < ticket.length() as u64 {
-            return Err(Refusal::Stranger);
-        }
-        let Some(told) = hub.ack(rt, &ticket)? else {
-            return Err(Refusal::Stranger);
-        };
-        held = told.len();
+    for edit in edits {
+        held = submitted_one(rt, alloc, hub, seat, edit)?;
     }
     Ok(held)
 }
@@ -55,39 +74,64 @@ fn submitted_all<J: Site, R: Wait>(
     answer
 }
 
+// Commits the next run, and gives the store back with the receipt.
+fn committed<J: Site, R: Wait>(
+    rt: &R,
+    alloc: Global,
+    hub: &Hub<MemDisk, J>,
+    writer: &mut Writer<J>,
+    mut store: Store<MemDisk>,
+) -> Result<(Store<MemDisk>, Receipt<MemDisk>), Refusal> {
+    let run = hub.take(rt, alloc, writer, CAP)?;
+    match commit(alloc, &mut store, run.commands()) {
+        Ok(receipt) => {
+            run.committed(&receipt);
+            Ok((store, receipt))
+        }
+        Err(refusal) => {
+            let _ = run.unwritten(store);
+            Err(refusal)
+        }
+    }
+}
+
+// Puts a batch behind those of the newest token, and settles it.
+fn settled<J: Site, R: Wait>(
+    rt: &R,
+    hub: &Hub<MemDisk, J>,
+    writer: &mut Writer<J>,
+    log: &Log<MemDisk, J>,
+    told: &Told<MemDisk, J>,
+    receipt: &Receipt<MemDisk>,
+) -> Result<Told<MemDisk, J>, Refusal> {
+    match told.add(log, receipt) {
+        Ok(more) => match hub.settle(rt, writer, receipt, more.copy()) {
+            Ok(_settled) => Ok(more),
+            Err(_) => Err(Refusal::Stranger),
+        },
+        Err(_) => Err(Refusal::Stranger),
+    }
+}
+
 // Writes what was ordered until the hub's end, and counts the batches.
 fn written<J: Site, R: Wait>(
     rt: &R,
     alloc: Global,
     hub: &Hub<MemDisk, J>,
     writer: &mut Writer<J>,
-    store: Store<MemDisk>,
+    mut store: Store<MemDisk>,
     log: &Log<MemDisk, J>,
     start: &Told<MemDisk, J>,
 ) -> Result<u64, Refusal> {
-    let mut store = store;
     let mut told = start.copy();
     let mut batches: u64 = 0;
     for _ in rt.forever() {
         if let Some(_idle) = hub.wait_work(rt, writer) {
             return Ok(batches);
         }
-        let run = hub.take(rt, alloc, writer, CAP)?;
-        let receipt = match commit(alloc, &mut store, run.commands()) {
-            Ok(receipt) => receipt,
-            Err(refusal) => {
-                let _ = run.unwritten(store);
-                return Err(refusal);
-            }
-        };
-        run.committed(&receipt);
-        told = match told.add(log, &receipt) {
-            Ok(more) => more,
-            Err(_) => return Err(Refusal::Stranger),
-        };
-        if hub.settle(rt, writer, &receipt, told.copy()).is_err() {
-            return Err(Refusal::Stranger);
-        }
+        let (after, receipt) = committed(rt, alloc, hub, writer, store)?;
+        store = after;
+        told = settled(rt, hub, writer, log, &told, &receipt)?;
         batches = batches.saturating_add(1);
     }
     unreachable!()
