@@ -16,6 +16,6 @@ invariant_of-result c =
     subst (λ (p : Prepared). ComesOf p c.in_ok-document.document None c.in_ok-sources.sources) (sym past_is) (record {
       newest = c.in_ok-document.ensures.same ∙ (c.self.invariant.newest ∙ sym (raised-units c.args.revision past));
       after = refl;
-      held = held ∙ (c.self.invariant.accepted ∙ sym (raised-sources c.args.revision past));
-      prepared = prepared ∙ (c.self.invariant.accepted ∙ sym (raised-sources c.args.revision past));
+      held = held ∙ (c.self.invariant.held ∙ sym (raised-sources c.args.revision past));
+      prepared = prepared ∙ (c.self.invariant.held ∙ sym (raised-sources c.args.revision past));
     })
