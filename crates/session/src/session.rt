@@ -23,7 +23,7 @@ ghost use Rattle.session.specs.Ahead.{commands_of, AreReplies, Settles, IsPut, T
 use crate::desk::Desk;
 use crate::line::{Event, Line};
 use crate::news::News;
-use crate::output::Output;
+use crate::output::{Output, WriteFailed};
 use crate::question::Question;
 use crate::reads::{Told, check_held, read};
 use crate::reply::{
