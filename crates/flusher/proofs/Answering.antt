@@ -232,13 +232,13 @@ module _ {D J : Type 0} {disk : Ghosts D} where
 
   -- what a milestone gives, by its answer
   pub gives_put : (cap : ℕ) (here : Between D disk) (document revision : ℕ) (reply : Answer D J) (store : Store D disk)
-      → ((reply ≡ Put) × IsTaken (PutsMilestone document revision) here.store store) ⊎ ((refusal : Refusal) × (reply ≡ Refused refusal) × IsWhy (PutsMilestone document revision) refusal here.store)
-      → state_of store ≡ state_of here.store
+      → ((reply ≡ Put) × IsTaken (PutsMilestone document revision) here.store store)
+      ⊎ ((refusal : Refusal) × (reply ≡ Refused refusal) × IsUnchanged here.store store × IsWhy (PutsMilestone document revision) refusal here.store)
       → Gives cap here (Milestone document revision) reply (record here { store = store })
-  gives_put cap here document revision reply store (inl put) state =
+  gives_put cap here document revision reply store (inl put) =
       subst (λ (a : Answer D J). Gives cap here (Milestone document revision) a (record here { store = store })) (sym put.0) (refl, refl, put.1)
-  gives_put cap here document revision reply store (inr (refusal, is, why)) state =
-      subst (λ (a : Answer D J). Gives cap here (Milestone document revision) a (record here { store = store })) (sym is) (refl, refl, state, why)
+  gives_put cap here document revision reply store (inr (refusal, is, same, why)) =
+      subst (λ (a : Answer D J). Gives cap here (Milestone document revision) a (record here { store = store })) (sym is) (refl, refl, same, why)
 
   -- and what a retirement gives
   pub gives_retired : (cap : ℕ) (here : Between D disk) (reply : Answer D J) (store : Store D disk)
@@ -253,11 +253,10 @@ module _ {D J : Type 0} {disk : Ghosts D} where
   -- the same of all that they may answer
   pub puts : {E : Type 0} (cap : ℕ) (here : Between D disk) (document revision : ℕ) (result : Result (Answer D J) E) (store : Store D disk)
       → IfOk result (λ reply. ((reply ≡ Put) × IsTaken (PutsMilestone document revision) here.store store)
-      ⊎ ((refusal : Refusal) × (reply ≡ Refused refusal) × IsWhy (PutsMilestone document revision) refusal here.store))
-      → state_of store ≡ state_of here.store
+      ⊎ ((refusal : Refusal) × (reply ≡ Refused refusal) × IsUnchanged here.store store × IsWhy (PutsMilestone document revision) refusal here.store))
       → IfOk result (λ reply. Gives cap here (Milestone document revision) reply (record here { store = store }))
-  puts cap here document revision (Ok reply) store answers state = gives_put cap here document revision reply store answers state
-  puts cap here document revision (Err e) store answers state = tt
+  puts cap here document revision (Ok reply) store answers = gives_put cap here document revision reply store answers
+  puts cap here document revision (Err e) store answers = tt
 
   pub retires : {E : Type 0} (cap : ℕ) (here : Between D disk) (result : Result (Answer D J) E) (store : Store D disk)
       → IfOk result (λ reply. ((reply ≡ Retired) × IsTaken Retires here.store store)

@@ -51,10 +51,11 @@ module _ {D J : Type 0} {disk : Ghosts D} (store : Store D disk) (refusal : Refu
 
 module _ {D J : Type 0} {disk : Ghosts D} (old new : Store D disk) (refusal : Refusal) where
   pub answer_put : (document revision : ℕ) (result : Result (Answer D J) Refusal) → IfOk result (λ reply. (reply ≡ Refused refusal) × (refusal ≢ NoMemory) × (refusal ≢ Fault))
-      → (refusal ≢ NoMemory → refusal ≢ Fault → IsWhy (PutsMilestone document revision) refusal old)
-      → IfOk result (λ reply. ((reply ≡ Put) × IsTaken (PutsMilestone document revision) old new) ⊎ ((r : Refusal) × (reply ≡ Refused r) × IsWhy (PutsMilestone document revision) r old))
-  answer_put document revision (Ok reply) answer why = inr (refusal, answer.0, why answer.1 answer.2)
-  answer_put document revision (Err e) answer why = tt
+      → (refusal ≢ NoMemory → refusal ≢ Fault → IsWhy (PutsMilestone document revision) refusal old) → (refusal ≢ NoMemory → refusal ≢ Fault → IsUnchanged old new)
+      → IfOk result (λ reply. ((reply ≡ Put) × IsTaken (PutsMilestone document revision) old new)
+      ⊎ ((r : Refusal) × (reply ≡ Refused r) × IsUnchanged old new × IsWhy (PutsMilestone document revision) r old))
+  answer_put document revision (Ok reply) answer why untouched = inr (refusal, answer.0, untouched answer.1 answer.2, why answer.1 answer.2)
+  answer_put document revision (Err e) answer why untouched = tt
 
   pub answer_retired : (result : Result (Answer D J) Refusal) → IfOk result (λ reply. (reply ≡ Refused refusal) × (refusal ≢ NoMemory) × (refusal ≢ Fault))
       → (refusal ≢ Fault → IsWhy Retires refusal old) → (IsErrOf {T = Unit {0}} (Err refusal) StillNeeded → IsUnchanged old new)

@@ -63,7 +63,7 @@ module _ {D J : Type 0} {disk : Ghosts D} where
   Gives cap here (Milestone document revision) Put after =
       (after.board ≡ here.board) × (after.tickets ≡ here.tickets) × IsTaken (PutsMilestone document revision) here.store after.store
   Gives cap here (Milestone document revision) (Refused refusal) after =
-      (after.board ≡ here.board) × (after.tickets ≡ here.tickets) × (state_of after.store ≡ state_of here.store)
+      (after.board ≡ here.board) × (after.tickets ≡ here.tickets) × IsUnchanged here.store after.store
       × IsWhy (PutsMilestone document revision) refusal here.store
   Gives cap here Retire Retired after = (after.board ≡ here.board) × (after.tickets ≡ here.tickets) × IsTaken Retires here.store after.store
   Gives cap here Retire (Refused refusal) after =

@@ -117,6 +117,7 @@ fn put_one<D: Disk, J: Site>(
     ensures answer { IfOk result (λ reply. ((reply ≡ Answer.Put)
         × IsTaken (PutsMilestone document revision) (store_of flusher.old) (store_of flusher.new))
         ⊎ ((refusal : Why) × (reply ≡ Answer.Refused refusal)
+        × IsUnchanged (store_of flusher.old) (store_of flusher.new)
         × IsWhy (PutsMilestone document revision) refusal (store_of flusher.old))) }
     ensures fails { has_failed (store_of flusher.new) ≡ true ↔ IsErrOf result Refusal.Fault }
     ensures only { IfErr result (λ e. (e ≡ Refusal.NoMemory) ⊎ (e ≡ Refusal.Fault)) }

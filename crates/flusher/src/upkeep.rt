@@ -1,5 +1,5 @@
 //! What a flusher does for its store between batches: milestones, and the retirement of what nothing needs any more.
-ghost use Rattle.std.specs.Prelude.{◌≡◌, ◌≢◌, ◌⊎◌, ◌↔◌, ◌≤◌, true, false, Some, None, slice_get, Contains, OnOk, OnErr, IfOk, IfErr, IsErrOf};
+ghost use Rattle.std.specs.Prelude.{◌≡◌, ◌≢◌, ◌⊎◌, ◌↔◌, ◌≤◌, ℕ, true, false, Some, None, slice_get, Contains, OnOk, OnErr, IfOk, IfErr, IsErrOf};
 ghost use Rattle.refusal.specs.declared.Refusal.{Refusal as Why};
 ghost use Rattle.refusal.specs.declared.Refusal.TheVariants.{NoDocument, Future, TooOld, StillNeeded, Stranger, NoMemory, Fault};
 ghost use Rattle.history.specs.Cell.{cells_at};
@@ -8,7 +8,9 @@ ghost use Rattle.recovery.specs.Due.{due_for, IsPutDue};
 ghost use Rattle.recovery.specs.Faults.{FailsAtFaults};
 ghost use Rattle.recovery.specs.Found.{FoundAs};
 ghost use Rattle.recovery.specs.Jobs.{IsJobTo, highest, no_job_for, with_job, without_job};
-ghost use Rattle.recovery.specs.Open.{IsOpen, IsPutNow, IsUnchanged, device_of, state_of, has_failed, kept_jobs};
+ghost use Rattle.recovery.specs.Open.{IsOpen, IsPutNow, IsUnchanged, device_of, state_of, has_failed, known_cells, kept_jobs};
+ghost use Rattle.recovery.specs.Cells.{highest_known};
+ghost use Rattle.recovery.specs.Unwritten.{IsUnwritten};
 ghost use Rattle.recovery.specs.Run.{IsTaken, IsWhy};
 ghost use Rattle.recovery.specs.Goes.{Goes};
 ghost use Rattle.flusher.specs.Holding.{store_of, told_of, committed_of, waiting_of};
@@ -35,6 +37,12 @@ impl<D: Disk, J: Site> Flusher<D, J> {
             → due_for every (slice_get (state_of (store_of self.old)).documents document)
             (highest (cells_at is_open.cells document)) ≡ None) }
         ensures untouched { IfOk result (λ put. put ≡ false → IsUnchanged (store_of self.old) (store_of self.new)) }
+        ensures dropped { IfOk result (λ put. put ≡ true
+            → kept_jobs (store_of self.new) ≡ without_job document (kept_jobs (store_of self.old))) }
+        ensures memory { IsErrOf result NoMemory → (revision : ℕ)
+            × (due_for every (slice_get (state_of (store_of self.old)).documents document)
+            (highest_known (known_cells (store_of self.old)) document) ≡ Some revision)
+            × IsUnwritten document revision (store_of self.old) (store_of self.new) }
         ensures only { IfErr result (λ e. (e ≡ NoMemory) ⊎ (e ≡ Fault)) }
         ensures told { told_of self.new ≡ told_of self.old }
         ensures committed { committed_of self.new ≡ committed_of self.old }

@@ -1,9 +1,10 @@
 -- What stands behind the lock at any time that it is free.
-use Rattle.std.specs.Prelude.{◌≡◌, ◌≤◌, ◌+◌, ◌⊎◌, ℕ, Bool, List, [], ◌∷◌, length, Some, Result, Ok, Err}
+use Rattle.std.specs.Prelude.{◌≡◌, ◌≤◌, ◌+◌, ◌⊎◌, ℕ, Bool, true, List, [], ◌∷◌, length, Some, Result, Ok, Err}
 use Rattle.refusal.specs.declared.Refusal.{Refusal}
 use Rattle.refusal.specs.declared.Refusal.TheVariants.{NoMemory, StoreFailed}
 use Rattle.revision.specs.Command.{Taken, Command}
 use Rattle.revision.specs.State.{State, grown, fold}
+use Rattle.revision.specs.Planned.{may_want_memory}
 use Rattle.revision.specs.Acceptance.{Takes, Refuses, Reply, TakenAt, AgainAt, Refused, answer}
 use Rattle.recovery.specs.Found.{commands_of}
 use Rattle.world.specs.Board.{Board as Inner, Ticket, ticket_of}
@@ -51,8 +52,9 @@ pub record WasOrdered (start : State) (count : ℕ) : Type 0 where
   pub ordered : count ≡ length board.order
 
 -- What a board gave for a command at some moment of such a run: the world's ticket, or a refusal of the rule of acceptance, or none for
--- want of memory or since the store had failed.
+-- want of memory, where the answer then rested on what is to be made in memory, or since the store had failed.
 abbrev pub WasGiven : State → Command → Result Ticket Refusal → Type 0
 WasGiven start command (Ok ticket) = (board : Inner Entry) × IsOfRun start board × (Some ticket ≡ ticket_of board command)
-WasGiven start command (Err refusal) = (refusal ≡ NoMemory) ⊎ ((refusal ≡ StoreFailed)
-    ⊎ ((board : Inner Entry) × IsOfRun start board × (answer board.state command ≡ Refuses refusal)))
+WasGiven start command (Err refusal) =
+    ((board : Inner Entry) × IsOfRun start board × (refusal ≡ NoMemory) × (may_want_memory command.action (answer board.state command) ≡ true))
+    ⊎ ((refusal ≡ StoreFailed) ⊎ ((board : Inner Entry) × IsOfRun start board × (answer board.state command ≡ Refuses refusal)))

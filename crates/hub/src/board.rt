@@ -1,6 +1,7 @@
 //! The board.
 ghost use Rattle.std.specs.Prelude.{◌≡◌, ◌⊎◌, ◌↔◌, ◌≤◌, ◌<◌, ◌+◌, ◌-◌, ◌^◌, min, true, false, [], Some, None, Ok, length, IfOk, IfErr, IfSome, OnOk, OnErr, IsTrue, IsOk, IsErrOf};
 ghost use Rattle.revision.specs.Acceptance.{answer, Refuses};
+ghost use Rattle.revision.specs.Planned.{may_want_memory};
 ghost use Rattle.recovery.specs.Found.{commands_of};
 ghost use Rattle.world.specs.Board.{begun_board, submitted, ticket_of, next_run, taken_more, settled_more, can_ack};
 ghost use Rattle.world.specs.World.{entry_of, takens};
@@ -160,6 +161,8 @@ impl<D, J: Site> Board<D, J> {
         ensures failed { self.old.failed ≡ true → IsErrOf result Refusal.StoreFailed }
         ensures refused { self.old.failed ≡ false
             → IfErr result (λ e. (e ≡ Refusal.NoMemory) ⊎ (answer self.old.board.state command.now ≡ Refuses e)) }
+        ensures memory { self.old.failed ≡ false → IsErrOf result Refusal.NoMemory
+            → may_want_memory command.now.action (answer self.old.board.state command.now) ≡ true }
         ensures unchanged { OnErr result (self.new ≡ self.old) }
         ensures uncounted { OnErr result (seat.new ≡ seat.old) }
         ensures start { self.old.board.start ≡ J.start }

@@ -3,7 +3,7 @@ use Rattle.std.proofs.Common.{◌≡◌, ◌≢◌, ℕ, ◌+◌, ◌-◌, ◌^�
 use Rattle.std.specs.Int.{w32, to_le_bytes, from_le_bytes}
 use Rattle.std.proofs.lemmas.Nat.{from_le_bytes-to_le_bytes_4}
 use Rattle.std.proofs.lemmas.List.{take_at, take_all, take-take, drop-take, drop-drop, drop_more, get_or-take}
-use Rattle.journal.specs.Area.{open_gate, entry}
+use Rattle.journal.specs.Area.{open_gate, open_record}
 use Rattle.history.specs.Cell.{Cell}
 use Rattle.milestone.specs.CellSpelling.{cell_body, IsCell}
 use Rattle.milestone.specs.OneCell.{bytes_at, HoldsOpenCell, HoldsCell}
@@ -67,7 +67,7 @@ module _ (q size number : ℕ) (content head : List ℕ) (large : 256 ≤ size) 
       body_found cell is same =
           let whole : drop 5 (bytes_at q size content) ≡ body ++ drop len (drop 5 (bytes_at q size content)) =
           sym (take-append-drop len (drop 5 (bytes_at q size content))) ∙ ap (λ (l : List ℕ). l ++ drop len (drop 5 (bytes_at q size content))) body_there in
-          let framed : head ++ body ≡ entry body = ap (λ (l : List ℕ). l ++ body) (head_is ∙ ap (λ k. open_gate ∷ to_le_bytes w32 k) (sym body_long)) in
+          let framed : head ++ body ≡ open_record body = ap (λ (l : List ℕ). l ++ body) (head_is ∙ ap (λ k. open_gate ∷ to_le_bytes w32 k) (sym body_long)) in
           record {
             is = is;
             rest = drop len (drop 5 (bytes_at q size content));
@@ -76,5 +76,5 @@ module _ (q size number : ℕ) (content head : List ℕ) (large : 256 ≤ size) 
                 ∙ ap (λ (l : List ℕ). l ++ drop 5 (bytes_at q size content)) heads
                 ∙ ap (λ (l : List ℕ). head ++ l) whole
                 ∙ sym (append_assoc head body (drop len (drop 5 (bytes_at q size content))))
-                ∙ ap (λ (l : List ℕ). l ++ drop len (drop 5 (bytes_at q size content))) (framed ∙ ap entry same);
+                ∙ ap (λ (l : List ℕ). l ++ drop len (drop 5 (bytes_at q size content))) (framed ∙ ap open_record same);
           }

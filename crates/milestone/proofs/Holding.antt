@@ -3,7 +3,7 @@ use Rattle.std.proofs.Common.{◌≡◌, ◌⊎◌, ⊎_elim, inl, inr, ℕ, ◌
 use Rattle.std.proofs.lemmas.List.{take-take, drop-take, drop-drop}
 use Rattle.disk.specs.Device.{overwritten, SameOutside}
 use Rattle.disk.proofs.CallerLemmas.{byte_overwritten}
-use Rattle.journal.specs.Area.{open_gate, frame, entry, IsGated}
+use Rattle.journal.specs.Area.{open_gate, frame, open_record, IsGated}
 use Rattle.history.specs.Cell.{Cell, Pair}
 use Rattle.milestone.specs.CellSpelling.{cell_body, IsCell}
 use Rattle.milestone.specs.OneCell.{bytes_at, HoldsOpenCell, HoldsCell, HoldsPair}
@@ -21,7 +21,7 @@ open_there number bytes cell holds = ap (λ (l : List ℕ). get_or l 0 0) holds.
 -- a body that a cell holds fits
 pub fits_there : (q size number : ℕ) (content : List ℕ) (cell : Cell) → HoldsOpenCell number (bytes_at q size content) cell → 5 + length (cell_body number cell) ≤ size
 fits_there q size number content cell holds =
-    omega (arith, ap (length {A = ℕ}) holds.split, length-append (entry (cell_body number cell)) holds.rest, length-take size (drop q content), length-append (frame (cell_body number cell)) holds.rest)
+    omega (arith, ap (length {A = ℕ}) holds.split, length-append (open_record (cell_body number cell)) holds.rest, length-take size (drop q content), length-append (frame (cell_body number cell)) holds.rest)
 
 -- the second cell stays where the first changes, and the first where the second does
 second_stays : (place size : ℕ) (old new : List ℕ) → SameOutside place size old new → bytes_at (place + size) size new ≡ bytes_at (place + size) size old

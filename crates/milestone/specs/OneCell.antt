@@ -1,6 +1,6 @@
 -- What a cell holds by its bytes, and what the two cells of a document hold.
 use Rattle.std.specs.Prelude.{ℕ, ◌≡◌, ◌≢◌, ◌+◌, Option, Some, None, List, ◌++◌, take, drop, slice_index}
-use Rattle.journal.specs.Area.{open_gate, entry}
+use Rattle.journal.specs.Area.{open_gate, open_record}
 use Rattle.history.specs.Cell.{Cell, Pair}
 use Rattle.milestone.specs.CellSpelling.{cell_body, IsCell}
 
@@ -12,7 +12,7 @@ bytes_at place size content = take size (drop place content)
 pub record HoldsOpenCell (number : ℕ) (bytes : List ℕ) (cell : Cell) : Type 0 where
   pub is : IsCell number cell
   pub rest : List ℕ
-  pub split : bytes ≡ entry (cell_body number cell) ++ rest
+  pub split : bytes ≡ open_record (cell_body number cell) ++ rest
 
 -- what a cell of the document of this number holds: nothing where its gate is closed
 abbrev pub HoldsCell : ℕ → ℕ → ℕ → List ℕ → Option Cell → Type 0

@@ -1,6 +1,7 @@
 //! What stands behind the lock: the order of the commands that were taken, the state after them, and how far it is written.
-ghost use Rattle.std.specs.Prelude.{◌≡◌, ◌⊎◌, ◌+◌, ◌≤◌, [], Some, if◌then◌else◌, length, drop, IfOk, IfErr, OnOk, OnErr};
+ghost use Rattle.std.specs.Prelude.{◌≡◌, ◌⊎◌, ◌+◌, ◌≤◌, [], true, Some, if◌then◌else◌, length, drop, IfOk, IfErr, IsErrOf, OnOk, OnErr};
 ghost use Rattle.revision.specs.Acceptance.{answer, Refuses};
+ghost use Rattle.revision.specs.Planned.{may_want_memory};
 ghost use Rattle.world.specs.Board.{begun_board, submitted, ticket_of, can_take, taken_more, can_settle, settled_more, can_ack, reopened};
 ghost use Rattle.world.specs.World.{entry_of};
 
@@ -98,6 +99,8 @@ impl Board {
         ensures ok { OnOk result (self.new ≡ submitted (entry_of command.now) self.old command.now) }
         ensures ticket { IfOk result (λ ticket. Some ticket ≡ ticket_of self.old command.now) }
         ensures refused { IfErr result (λ e. (e ≡ Refusal.NoMemory) ⊎ (answer self.old.state command.now ≡ Refuses e)) }
+        ensures memory { IsErrOf result Refusal.NoMemory
+            → may_want_memory command.now.action (answer self.old.state command.now) ≡ true }
         ensures unchanged { OnErr result (self.new ≡ self.old) }
     {
         let ahead = self.order.len();

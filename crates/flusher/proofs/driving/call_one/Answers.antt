@@ -69,7 +69,7 @@ returns-in-Milestone-clause-gives g c =
     gives_of (cap_of g.J.Site.start) (between c.args.board.now c.args.tickets.now.items c.args.flusher.now) c.args.call.now (Milestone c.in-Milestone.document c.in-Milestone.revision) c.put_one.result
     (between c.args.board.now c.args.tickets.now.items c.put_one.new.flusher) c.in-Milestone.is
     (puts (cap_of g.J.Site.start) (between c.args.board.now c.args.tickets.now.items c.args.flusher.now) c.in-Milestone.document c.in-Milestone.revision c.put_one.result (store_of c.put_one.new.flusher)
-    c.put_one.ensures.answer c.put_one.ensures.state)
+    c.put_one.ensures.answer)
 
 pub returns-in-Retire-clause-goes : goal.returns-in-Retire-clause-goes
 returns-in-Retire-clause-goes g c =
