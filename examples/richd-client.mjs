@@ -34,7 +34,9 @@ function linkTo(server) {
     const at = server[0].lastIndexOf(":");
     const socket = connect(Number(server[0].slice(at + 1)), server[0].slice(0, at));
     socket.setNoDelay(true);
-    return { input: socket, output: socket, closed: once(socket, "close") };
+    // `once` of "node:events" would reject upon an error, which nobody awaits yet
+    const closed = new Promise((resolve) => socket.once("close", resolve));
+    return { input: socket, output: socket, closed };
   }
   const [richd, store] = server;
   const child = spawn(richd, ["serve", store], { stdio: ["pipe", "pipe", "inherit"] });
@@ -61,10 +63,15 @@ class Session {
     this.link.input.write(line + "\n");
   }
 
+  /** The next line, or that there is none any more: the stream has ended, or it broke for this cause. */
+  nextLine() {
+    return this.lines.next().catch((cause) => ({ done: true, cause }));
+  }
+
   /** Receives one line, of any length. It is a reply or news. */
   async receive() {
-    const { value: line, done } = await this.lines.next();
-    if (done) throw new Ended();
+    const { value: line, done, cause } = await this.nextLine();
+    if (done) throw new Ended("the server went away before it replied", { cause });
     console.log(`${this.source} < ${line}`);
     return JSON.parse(line);
   }
@@ -83,7 +90,7 @@ class Session {
   /** Ends the session. What wasn't replied yet is replied, and nobody reads it. */
   async close() {
     this.link.input.end();
-    while (!(await this.lines.next()).done);
+    while (!(await this.nextLine()).done);
     await this.link.closed;
   }
 }
