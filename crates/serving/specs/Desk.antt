@@ -7,6 +7,7 @@ use Rattle.refusal.specs.declared.Refusal.{Refusal}
 use Rattle.refusal.specs.declared.Refusal.TheVariants.{NoMemory, StoreFailed}
 use Rattle.revision.specs.Command.{Command, Taken}
 use Rattle.revision.specs.State.{fold}
+use Rattle.revision.specs.Planned.{may_want_memory}
 use Rattle.revision.specs.Acceptance.{Answer, Takes, Repeats, Refuses, answer}
 use Rattle.recovery.specs.declared.store.Store.{Store}
 use Rattle.segments.specs.Numbers.{newest_number, open_count}
@@ -113,6 +114,8 @@ module _ {D : Type 0} {disk : Ghosts D} where
   -- Nothing is committed, and the desk is as it was.
   pub record Stays (old : StoreDesk D disk) (command : Command) (result : Result Reply Refusal) (new : StoreDesk D disk) : Type 0 where
     pub told : IsToldAtOnce (answer (state_of (store_of old)) command) result
+    -- want of memory is told only in place of what rests on the delta to be taken, and never of a retry or of what names and numbers tell
+    pub memory : result ≡ Err NoMemory → may_want_memory command.action (answer (state_of (store_of old)) command) ≡ true
     pub same : new ≡ old
 
   -- The command is taken, and committed alone.
