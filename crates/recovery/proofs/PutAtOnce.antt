@@ -111,7 +111,9 @@ module _ {D : Type 0} {disk : Ghosts D} where
       → ((why : Refusal) → no_job_for (slice_get (state_of old).documents document) (highest_known (known_cells old) document) revision ≡ Some why
       → IsErrOf {T = A} {E = Refusal} (Err refusal) why) → MayPut document revision old
   may_put_still {A} old document revision refusal memory due =
-      none_of _ (λ why is. never_memory _ _ _ (is ∙ ap (λ (r : Refusal). Some r) (sym (ap (refusal_or {T = A} why) (due why is)) ∙ memory)))
+      let found = slice_get (state_of old).documents document in
+      let high = highest_known (known_cells old) document in
+      none_of (no_job_for found high revision) (λ why is. never_memory found high revision (is ∙ ap (λ (r : Refusal). Some r) (sym (ap (refusal_or {T = A} why) (due why is)) ∙ memory)))
 
   -- a retirement that was Ok
   pub given_up : {A : Type 0} (old new : Store D disk) (result : Result A Refusal)
