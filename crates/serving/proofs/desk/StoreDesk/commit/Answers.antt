@@ -1,4 +1,6 @@
-use Rattle.std.proofs.Common.{◌≡◌, rules}
+use Rattle.std.proofs.Common.{◌≡◌, ap, rules}
+use Rattle.std.specs.Prelude.{Err}
+use Rattle.refusal.specs.declared.Refusal.{Refusal}
 use Rattle.refusal.specs.declared.Refusal.TheVariants.{NoMemory, Fault}
 use Rattle.recovery.specs.Open.{state_of}
 use Rattle.recovery.proofs.CallerLemmas.{one_fits}
@@ -16,4 +18,4 @@ returns-then-eq-clause-kept g c no_memory =
 pub returns-then-eq-clause-given_up_behind : goal.returns-then-eq-clause-given_up_behind
 returns-then-eq-clause-given_up_behind g c no_memory no_room is_open =
     let is : c.in-Err.refusal ≡ NoMemory = search rules in
-    c.in-Err.ensures.memory_behind is no_room is_open
+    c.in-Err.ensures.memory_behind (ap (λ (r : Refusal). Err r) is) no_room is_open

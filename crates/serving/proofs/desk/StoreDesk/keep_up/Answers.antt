@@ -1,4 +1,6 @@
-use Rattle.std.proofs.Common.{◌≡◌, ◌∙◌, inl, inr, refl, rules, subst, sym}
+use Rattle.std.proofs.Common.{◌≡◌, ◌∙◌, inl, inr, refl, rules, ap, subst, sym}
+use Rattle.std.specs.Prelude.{Err}
+use Rattle.refusal.specs.declared.Refusal.{Refusal}
 use Rattle.refusal.specs.declared.Refusal.TheVariants.{NoMemory}
 use Rattle.recovery.specs.declared.store.Store.{Store}
 use Rattle.recovery.specs.Found.{FoundAs}
@@ -43,7 +45,7 @@ returns-else-ne-clause-done g c document works due =
     let new = c.put_due.new.self in
     let same : c.in-Some.document ≡ document = search rules in
     let no_memory : c.in-Err.refusal ≡ NoMemory = search rules in
-    let put_off = c.in-Err.ensures.memory no_memory in
+    let put_off = c.in-Err.ensures.memory (ap (λ (r : Refusal). Err r) no_memory) in
     inr (inl (
       works,
       due,
