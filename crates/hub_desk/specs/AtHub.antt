@@ -2,7 +2,7 @@
 use Rattle.std.specs.Prelude.{◌≡◌, ◌⊎◌, ◌≤◌, ℕ, List, length, Some, None, Ok, Err}
 use mathlib.Core.List.{IsPrefix}
 use Rattle.refusal.specs.declared.Refusal.{Refusal}
-use Rattle.refusal.specs.declared.Refusal.TheVariants.{StoreFailed}
+use Rattle.refusal.specs.declared.Refusal.TheVariants.{NoMemory, StoreFailed}
 use Rattle.revision.specs.Command.{Command, Taken}
 use Rattle.revision.specs.State.{State, fold}
 use Rattle.recovery.specs.Found.{commands_of}
@@ -38,10 +38,12 @@ pub record Acknowledges (start : State) (old : Desk) (command : Command) (reply 
   pub holds : ticket.length ≤ length (commands_of new.told)
   pub stands : StandsIn (fold start (commands_of new.told)) command (rev_of reply)
 
--- It is refused as a board of the run refused it, and leaves the desk as it was; or the store failed before it was settled or shown.
+-- It is refused as a board of the run refused it, or for want of memory at the desk, and leaves the desk as it was; or the store failed
+-- before it was settled or shown.
 abbrev pub Refuses : State → Desk → Command → Refusal → Desk → Type 0
 Refuses start old command refusal new =
-    ((new ≡ old) × WasGiven start command (Err refusal)) ⊎ ((refusal ≡ StoreFailed) × (ticket : Ticket) × Submits start old command ticket new)
+    ((new ≡ old) × ((refusal ≡ NoMemory) ⊎ WasGiven start command (Err refusal)))
+    ⊎ ((refusal ≡ StoreFailed) × (ticket : Ticket) × Submits start old command ticket new)
 
 -- What passes between such a desk and a session, and what that leaves. What is shown is what the published batches make of the
 -- start of the run, with all that the desk was told of before.
