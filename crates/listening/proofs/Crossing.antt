@@ -22,8 +22,8 @@ told_send D T s l a = search (seen.the_send, sendable, crosses) depth 60 fits 20
 pub seat_send : (T : RattleType) (s : site.Ghosts T.Denot) (l : ledger.Ghosts T.Denot) → IsSend T → IsSend (seat.the_row T s l)
 seat_send T s l a = search (share.the_send, sendable, crosses) depth 60 fits 20000
 
-pub closer_send : (T : RattleType) (s : site.Ghosts T.Denot) (l : ledger.Ghosts T.Denot) → IsSend T → IsSend (closer.the_row T s l)
-closer_send T s l a = search (sendable, crosses) depth 60 fits 20000
+pub closer_send : (T : RattleType) → IsSend T → IsSend (closer.the_row T)
+closer_send T a = search (sendable, crosses) depth 60 fits 20000
 
 pub hub_sync : (D T : RattleType) (s : site.Ghosts T.Denot) (l : ledger.Ghosts T.Denot) → IsSend T → IsSync T → IsSync (hub.the_row D T s l)
 hub_sync D T s l a b = search (board_send, book.the_send, share.the_send, seen.the_send, sendable, crosses) depth 60 fits 20000

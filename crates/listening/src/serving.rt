@@ -41,8 +41,8 @@ pub fn serve_on<
     listener: &N,
     every: u32,
 ) -> (Store<D>, Result<(), Refusal>)
-    // The store holds the batches that were written, in one order, whoever sent them. A crash at any moment leaves some first ones of
-    // them, and one after the return no fewer commands than readers were shown; after an `Ok` that is all.
+    // Some list of batches in one order exists, whoever sent them, of which the store holds a first part. A crash at any moment leaves
+    // some first ones of the list. After an `Ok` the store holds all of it, and so does every crash then.
     ensures served { WasServed store result.0 }
     ensures shown { OnOk result.1 (WasShown store result.0) }
     // It fails only with the device.
