@@ -60,7 +60,7 @@ fn sends<
         + Wait
         + Sync
         + Abort,
->(rt: &R, words: &[&str], input: &str, wanted: &str) -> Result<(), Fail> {
+>(rt: &R, words: &[&str], input: &str, wanted: &str) {
     let mut output = Held {
         held: Vec::new(rt.alloc()),
         sent: Vec::new(rt.alloc()),
@@ -69,8 +69,8 @@ fn sends<
     let status = run(rt, words, &mut input.as_bytes(), &mut output, &mut errors);
     assert_eq!(rt; status, 0);
     assert!(rt; output.held.is_empty());
-    assert_eq!(rt; String::from_utf8(output.sent)?.as_str(), wanted);
-    Ok(())
+    let sent = String::from_utf8(output.sent).expect(rt, "a text");
+    assert_eq!(rt; sent.as_str(), wanted);
 }
 
 /// A run over these streams ends with status 1, and writes nothing to the last one.
@@ -126,16 +126,27 @@ fn a_text_that_cannot_be_written_is_status_1(rt: HostRuntime) {
     assert!(rt; output.is_empty());
 }
 
-#[test]
-fn each_reply_is_sent_on_before_the_next_line(rt: HostRuntime) -> Result<(), Fail> {
-    let path = path(&rt, "sent")?;
-    let path = path.as_str();
-    format_small(&rt, path)?;
-    let input = format!(in rt.alloc(); "{HELLO}{CREATE}")?;
+/// A creation and its reply, then what is dumped.
+fn sends_on<
+    R: Files<File = File>
+        + AllocGlobal
+        + Net<Listener = TcpListener, Stream = TcpStream>
+        + Threads
+        + Wait
+        + Sync
+        + Abort,
+>(rt: &R, path: &str) {
+    let input = format!(in rt.alloc(); "{HELLO}{CREATE}").expect(rt, "memory");
     let replies = "{\"ok\":\"hello\"}\n|{\"doc\":\"d\",\"n\":1,\"ok\":\"taken\",\"rev\":1}\n|";
-    sends(&rt, &["richd", "serve", path], input.as_str(), replies)?;
+    sends(rt, &["richd", "serve", path], input.as_str(), replies);
     let dumped = "d 1 0 {\"ops\":[{\"insert\":\"z\"}]}\n|";
-    sends(&rt, &["richd", "dump", path], "", dumped)?;
-    remove(&rt, path);
-    Ok(())
+    sends(rt, &["richd", "dump", path], "", dumped);
+}
+
+#[test]
+fn each_reply_is_sent_on_before_the_next_line(rt: HostRuntime) {
+    let path = path(&rt, "sent").expect(&rt, "a path");
+    format_small(&rt, path.as_str());
+    sends_on(&rt, path.as_str());
+    remove(&rt, path.as_str());
 }
