@@ -90,10 +90,10 @@ impl<V> Map<V> {
                 self.list[i].1 = value;
                 Ok(())
             }
-            Err(i) => self
-                .list
-                .insert(i, (key, value))
-                .map_err(|_| Refusal::NoMemory),
+            Err(i) => {
+                self.list.insert(i, (key, value))?;
+                Ok(())
+            }
         }
     }
 

@@ -6,7 +6,7 @@
 //! where a length would pass 2^48, PastEnd where a delta reaches past a document's end. Each walks the operations of both
 //! sides once, cutting them where they meet; what `compose_many` copies stands with it. The definitions stand in specs/
 //! (Composes, Inverse and Many are read first, then Composed and Cuts); `laws` has the law of undoing and that nothing else
-//! composes two deltas. It stands on `delta`, `document`, `attributes` and `utf16`.
+//! composes two deltas. It stands on `delta`, `document` and `attributes`.
 //!
 //! A caller, with its contract, which is proved as it stands:
 //!

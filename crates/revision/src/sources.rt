@@ -133,10 +133,10 @@ impl Sources {
                 self.list[i].1 = last;
                 Ok(())
             }
-            Err(i) => self
-                .list
-                .insert(i, (source, last))
-                .map_err(|_| Refusal::NoMemory),
+            Err(i) => {
+                self.list.insert(i, (source, last))?;
+                Ok(())
+            }
         }
     }
 

@@ -1,7 +1,6 @@
 -- The list of subscriptions under each change.
-use Rattle.std.proofs.Common.{◌≡◌, ◌+◌, ◌-◌, ◌<◌, ◌≤◌, ◌++◌, ℕ, zero, suc, List, [], ◌∷◌, length, take, drop, get_or, Bool, true, false, cond, Option, Some, None, Result, Ok, Err, Ordering, refl, sym, ap, ap₂, subst, ◌∙◌, append_assoc, arith}
+use Rattle.std.proofs.Common.{◌≡◌, ◌+◌, ◌-◌, ◌<◌, ◌≤◌, ◌++◌, ℕ, zero, suc, List, [], ◌∷◌, length, take, drop, get_or, Bool, true, false, cond, Option, Some, None, Ordering, refl, sym, ap, ap₂, subst, ◌∙◌, append_assoc, arith}
 use Rattle.std.specs.Prelude.{T, ◌&&◌, not}
-use Rattle.std.specs.Result.{OnOk, is_ok}
 use Rattle.std.specs.Cmp.Lexicographic.{nat_list_cmp_total}
 use Rattle.std.specs.FinMap.Entries.{put, is_sorted, below_all, is_sorted-put, is_sorted-where_key}
 use Rattle.std.specs.Ordering.{eq_by_cmp, is_lt}
@@ -25,14 +24,6 @@ read_at items es i e same inside is = subst (λ l. (i < length l) × (e ≡ get_
 
 pub compared : (name text key : List ℕ) (order : Ordering) → order ≡ by_bytes name text → text ≡ key → by_bytes name key ≡ order
 compared name text key order is same = ap (by_bytes name) (sym same) ∙ sym is
-
--- what holds where a step of memory succeeded
-pub OnOk-from : {T E : Type 0} (r : Result T E) (done : Bool) {P : Type 0} → is_ok r ≡ done → (done ≡ true → P) → OnOk r P
-OnOk-from (Ok x) done is holds = holds (sym is)
-OnOk-from (Err e) done is holds = tt
-
-pub chosen_true : {A : Type 0} {x : A} (done : Bool) (y z : A) → x ≡ cond done y z → done ≡ true → x ≡ y
-chosen_true done y z is so = is ∙ ap (λ b. cond b y z) so
 
 -- a change at the place of a name
 module _ (old list : Subscriptions) (text name : List ℕ) (i : ℕ) (is_list : list ≡ old) (is_name : text ≡ name) where

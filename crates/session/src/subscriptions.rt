@@ -73,10 +73,10 @@ impl Subscriptions {
                 self.list[i].1 = revision;
                 Ok(())
             }
-            Err(i) => self
-                .list
-                .insert(i, (name, revision))
-                .map_err(|_| AllocError),
+            Err(i) => {
+                self.list.insert(i, (name, revision))?;
+                Ok(())
+            }
         }
     }
 

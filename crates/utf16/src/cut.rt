@@ -42,8 +42,8 @@ pub fn split_at16(text: &str, at: u64) -> Result<(&str, &str), Cut>
     }
 }
 
-/// The text before and from the code unit `at`, of a text whose code units were counted. Where it has as many as bytes, each
-/// character is one byte, and nothing is walked over. Takes no memory.
+/// The text before and from the code unit `at`, of a text whose code units were counted. Where it has as many as bytes,
+/// each character is one byte, and nothing is walked over. Takes no memory.
 pub fn split_counted(text: &str, units: u64, at: u64) -> Result<(&str, &str), Cut>
     requires { units ≡ length (units_of text.now) }
     ensures whole { IfOk result (λ halves. halves.0.now ++ halves.1.now ≡ text.now) }

@@ -1,7 +1,7 @@
 use Rattle.std.proofs.Common.{cond, ap, ap₂, ◌∙◌}
 use Rattle.std.specs.Result.{is_ok}
 use Rattle.attributes.specs.Map.{entries_of, insert, same_entries_map}
-use Rattle.attributes.proofs.Outcomes.{OnOk-from, OnErr-from, chosen_true, chosen_false}
+use Rattle.attributes.proofs.Outcomes.{OnErr-always}
 use Rattle.attributes.proofs.Places.{written, inserted, ascending_as, ascending_if}
 use Rattle.attributes.proofs.map.Map.set.Goals as goal
 
@@ -26,14 +26,12 @@ invariant_of-self-inside-in-Err g c =
       tt,
     )
 
-pub returns-in-Err-clause-ok : goal.returns-in-Err-clause-ok
-returns-in-Err-clause-ok g c =
-    OnOk-from c.map_err.result (is_ok c.insert.result) c.map_err.ensures.variant
-    (λ done. same_entries_map _ _
-    (chosen_true _ _ _ c.insert.ensures.items done
-    ∙ inserted c.args.self.now _ _ c.args.key c.in-Err.i (ap entries_of c.self.view_is) c.as_str.ensures.text c.in-Err.ensures c.args.value))
+pub returns-in_ok-insert-in-Err-clause-ok : goal.returns-in_ok-insert-in-Err-clause-ok
+returns-in_ok-insert-in-Err-clause-ok g c =
+    same_entries_map _ _
+    (c.in_ok-insert-in-Err.ensures.items
+    ∙ inserted c.args.self.now _ _ c.args.key c.in-Err.i (ap entries_of c.self.view_is) c.as_str.ensures.text c.in-Err.ensures c.args.value)
 
-pub returns-in-Err-clause-err : goal.returns-in-Err-clause-err
-returns-in-Err-clause-err g c =
-    OnErr-from c.map_err.result (is_ok c.insert.result) c.map_err.ensures.variant
-    (λ done. same_entries_map _ _ (chosen_false _ _ _ c.insert.ensures.items done) ∙ c.self.view_is)
+pub returns-in_err-insert-in-Err-clause-err : goal.returns-in_err-insert-in-Err-clause-err
+returns-in_err-insert-in-Err-clause-err g c =
+    OnErr-always c.from_residual.result (same_entries_map _ _ c.in_err-insert-in-Err.ensures.items ∙ c.self.view_is)

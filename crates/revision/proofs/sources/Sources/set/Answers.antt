@@ -3,7 +3,7 @@ use Rattle.std.specs.Result.{is_ok}
 use Rattle.attributes.specs.Map.{entries_of, insert, same_entries_map}
 use Rattle.revision.specs.Sources.{LastTaken, are_named}
 use Rattle.revision.proofs.Named.{named-insert, named_if}
-use Rattle.revision.proofs.Outcomes.{OnOk-from, OnErr-from, chosen_true, chosen_false}
+use Rattle.revision.proofs.Outcomes.{OnErr-always}
 use Rattle.attributes.proofs.CallerLemmas.{written, inserted, ascending_as, ascending_if}
 use Rattle.revision.proofs.sources.Sources.set.Goals as goal
 
@@ -29,17 +29,15 @@ invariant_of-self-inside-in-Err c =
       tt,
     )
 
-pub returns-in-Err-clause-ok : goal.returns-in-Err-clause-ok
-returns-in-Err-clause-ok c =
-    OnOk-from c.map_err.result (is_ok c.insert.result) c.map_err.ensures.variant
-    (λ done. same_entries_map _ _
-    (chosen_true _ _ _ c.insert.ensures.items done
-    ∙ inserted c.args.self.now _ _ c.args.source c.in-Err.i (ap entries_of c.self.view_is) c.as_str.ensures.text c.in-Err.ensures _))
+pub returns-in_ok-insert-in-Err-clause-ok : goal.returns-in_ok-insert-in-Err-clause-ok
+returns-in_ok-insert-in-Err-clause-ok c =
+    same_entries_map _ _
+    (c.in_ok-insert-in-Err.ensures.items
+    ∙ inserted c.args.self.now _ _ c.args.source c.in-Err.i (ap entries_of c.self.view_is) c.as_str.ensures.text c.in-Err.ensures _)
 
-pub returns-in-Err-clause-unchanged : goal.returns-in-Err-clause-unchanged
-returns-in-Err-clause-unchanged c =
-    OnErr-from c.map_err.result (is_ok c.insert.result) c.map_err.ensures.variant
-    (λ done. same_entries_map _ _ (chosen_false _ _ _ c.insert.ensures.items done) ∙ c.self.view_is)
+pub returns-in_err-insert-in-Err-clause-unchanged : goal.returns-in_err-insert-in-Err-clause-unchanged
+returns-in_err-insert-in-Err-clause-unchanged c =
+    OnErr-always c.from_residual.result (same_entries_map _ _ c.in_err-insert-in-Err.ensures.items ∙ c.self.view_is)
 
 pub invariant_of-self : goal.invariant_of-self
 invariant_of-self c =

@@ -3,7 +3,7 @@ use Rattle.std.specs.Prelude.{T}
 use Rattle.std.specs.Result.{is_ok}
 use Rattle.std.specs.FinMap.Entries.{is_sorted}
 use Rattle.attributes.specs.Map.{by_bytes}
-use Rattle.session.proofs.Kept.{OnOk-from, chosen_true, set_is, inserted_is, sorted_with, sorted_if}
+use Rattle.session.proofs.Kept.{set_is, inserted_is, sorted_with, sorted_if}
 use Rattle.session.proofs.subscriptions.Subscriptions.set.Goals as goal
 
 pub invariant_of-self : goal.invariant_of-self
@@ -22,8 +22,7 @@ invariant_of-self-in-Err c =
     (c.insert.ensures.items
     ∙ ap₂ (cond done) (inserted_is c.args.self.now _ _ c.args.name c.in-Err.i c.self.view_is c.as_str.ensures.text c.in-Err.ensures c.args.revision) c.self.view_is)
 
-pub returns-in-Err-clause-ok : goal.returns-in-Err-clause-ok
-returns-in-Err-clause-ok c =
-    OnOk-from c.map_err.result (is_ok c.insert.result) c.map_err.ensures.variant
-    (λ done. chosen_true _ _ _ c.insert.ensures.items done
-    ∙ inserted_is c.args.self.now _ _ c.args.name c.in-Err.i c.self.view_is c.as_str.ensures.text c.in-Err.ensures c.args.revision)
+pub returns-in_ok-insert-in-Err-clause-ok : goal.returns-in_ok-insert-in-Err-clause-ok
+returns-in_ok-insert-in-Err-clause-ok c =
+    c.in_ok-insert-in-Err.ensures.items
+    ∙ inserted_is c.args.self.now _ _ c.args.name c.in-Err.i c.self.view_is c.as_str.ensures.text c.in-Err.ensures c.args.revision
