@@ -1,5 +1,5 @@
 //! A reader of the view.
-ghost use Rattle.std.specs.Prelude.{◌≡◌, ◌⊎◌, true, IfOk, IfErr, OnOk, OnErr};
+ghost use Rattle.std.specs.Prelude.{◌≡◌, ◌⊎◌, true, IfOk, IfErr, IsOk, OnOk, OnErr};
 ghost use Rattle.std.specs.Fn.{FnOnceReturnsAt};
 ghost use mathlib.Core.List.{IsPrefix};
 ghost use Rattle.revision.specs.State as state;
@@ -99,12 +99,14 @@ impl<D, J: Site> Viewer<D, J> {
     pub fn at(&mut self, alloc: Global, name: &Name, revision: u64) -> Result<Document, Refusal>
         ensures kept { IsPrefix self.old self.new }
         ensures answer { (result ≡ document_at (state.fold J.start (commands_of self.new)) name.now revision)
-            ⊎ (result ≡ Err Refusal.NoMemory)
+            ⊎ ((result ≡ Err Refusal.NoMemory)
+            × IsOk (document_at (state.fold J.start (commands_of self.new)) name.now revision))
             ⊎ ((result ≡ Err Refusal.StoreFailed) × (self.new ≡ self.old)) }
     {
         let read = self.read(
             |state: &State| -> Result<Document, Refusal>
-                ensures { (result ≡ document_at state.now name.entry.now revision) ⊎ (result ≡ Err Refusal.NoMemory) }
+                ensures { (result ≡ document_at state.now name.entry.now revision)
+                    ⊎ ((result ≡ Err Refusal.NoMemory) × IsOk (document_at state.now name.entry.now revision)) }
             { state.at(alloc, name, revision) },
         );
         match read {
@@ -123,13 +125,14 @@ impl<D, J: Site> Viewer<D, J> {
         ensures kept { IsPrefix self.old self.new }
         ensures answer { (read_as (λ deltas. deltas.items) result
             ≡ taken_since (state.fold J.start (commands_of self.new)) name.now revision)
-            ⊎ (result ≡ Err Refusal.NoMemory)
+            ⊎ ((result ≡ Err Refusal.NoMemory)
+            × IsOk (taken_since (state.fold J.start (commands_of self.new)) name.now revision))
             ⊎ ((result ≡ Err Refusal.StoreFailed) × (self.new ≡ self.old)) }
     {
         let read = self.read(
             |state: &State| -> Result<Vec<Delta>, Refusal>
                 ensures { (read_as (λ deltas. deltas.items) result ≡ taken_since state.now name.entry.now revision)
-                    ⊎ (result ≡ Err Refusal.NoMemory) }
+                    ⊎ ((result ≡ Err Refusal.NoMemory) × IsOk (taken_since state.now name.entry.now revision)) }
             { since_of(alloc, state, name, revision) },
         );
         match read {
@@ -142,7 +145,7 @@ impl<D, J: Site> Viewer<D, J> {
 // copies of the deltas that were taken since a revision
 fn since_of(alloc: Global, state: &State, name: &Name, revision: u64) -> Result<Vec<Delta>, Refusal>
     ensures { (read_as (λ deltas. deltas.items) result ≡ taken_since state.now name.now revision)
-        ⊎ (result ≡ Err Refusal.NoMemory) }
+        ⊎ ((result ≡ Err Refusal.NoMemory) × IsOk (taken_since state.now name.now revision)) }
 {
     match state.since(name, revision) {
         Ok(deltas) => copied(alloc, deltas),
