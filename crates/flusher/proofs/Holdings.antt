@@ -101,18 +101,18 @@ module _ {D : Type 0} {disk : Ghosts D} (old new : Store D disk) where
   goes_put job result faults any_moment done kept = goes_call result faults.failed_before faults.fails any_moment (put_done job result done) kept
 
 -- one batch that is committed more
-pub kept_more : (start old new : State) (before after : Published) (receipt batch : List Taken) → old ≡ fold start (commands_of (before.told ++ before.held)) → before.held ≡ []
-    → after ≡ record before { held = receipt ∷ [] } → receipt ≡ batch → new ≡ fold old batch → new ≡ fold start (commands_of (after.told ++ after.held))
+pub kept_more : (start old new : State) (before after : Published) (receipt batch : List Taken) → old ≡ fold start (commands_of (before.told ++ before.unpublished)) → before.unpublished ≡ []
+    → after ≡ record before { unpublished = receipt ∷ [] } → receipt ≡ batch → new ≡ fold old batch → new ≡ fold start (commands_of (after.told ++ after.unpublished))
 kept_more start old new before after receipt batch kept none is same grown =
     grown ∙ ap (λ (s : State). fold s batch) (kept ∙ ap (λ (l : List (List Taken)). fold start (commands_of (before.told ++ l))) none ∙ ap (λ (l : List (List Taken)). fold start (commands_of l)) (append-nil before.told))
     ∙ sym (fold-append start (commands_of before.told) batch)
     ∙ ap (λ (c : List Taken). fold start (commands_of before.told ++ c)) (sym (append-nil batch) ∙ ap (λ (b : List Taken). b ++ []) (sym same))
     ∙ ap (fold start) (sym (commands-append before.told (receipt ∷ [])))
-    ∙ ap (λ (p : Published). fold start (commands_of (p.told ++ p.held))) (sym is)
+    ∙ ap (λ (p : Published). fold start (commands_of (p.told ++ p.unpublished))) (sym is)
 
 -- the batch that is held is published: what the store holds is the same
-pub kept_published : (start state : State) (before after : Published) → state ≡ fold start (commands_of (before.told ++ before.held)) → after ≡ record { told = before.told ++ before.held; held = [] }
-    → state ≡ fold start (commands_of (after.told ++ after.held))
+pub kept_published : (start state : State) (before after : Published) → state ≡ fold start (commands_of (before.told ++ before.unpublished)) → after ≡ record { told = before.told ++ before.unpublished; unpublished = [] }
+    → state ≡ fold start (commands_of (after.told ++ after.unpublished))
 kept_published start state before after kept is =
-    kept ∙ ap (λ (l : List (List Taken)). fold start (commands_of l)) (sym (append-nil (before.told ++ before.held)))
-    ∙ ap (λ (p : Published). fold start (commands_of (p.told ++ p.held))) (sym is)
+    kept ∙ ap (λ (l : List (List Taken)). fold start (commands_of l)) (sym (append-nil (before.told ++ before.unpublished)))
+    ∙ ap (λ (p : Published). fold start (commands_of (p.told ++ p.unpublished))) (sym is)

@@ -4,12 +4,12 @@ use Rattle.std.specs.Prelude.{◌==◌, nat_lt, nat_le, not, slice_get, option_t
 use Rattle.std.proofs.lemmas.Bool.{cond-true, cond-false, cond_both, and_from, lt-ltb, le-leb, eq-eqb}
 use Rattle.std.proofs.lemmas.List.{take-append-le, take-append-drop, take-take, length-take-le, length-map, map-append}
 use Rattle.revision.specs.Command.{Taken, Command}
-use Rattle.revision.specs.State.{fold}
+use Rattle.revision.specs.State.{newest_revision, fold}
 use Rattle.revision.specs.Acceptance.{Answer, Takes, Repeats, Refuses, answer}
 use Rattle.world.specs.Board.{Board, Ticket, submitted, submitted_by, ticket_of, ticket_by, can_take, can_settle, can_ack, taken_more, settled_more}
 use Rattle.world.specs.Event.{Event, Done, Submit, Take, Device, Publish, Settle, Ack, Compose}
 use Rattle.world.specs.World.{Entry, entry_of, takens, World}
-use Rattle.world.specs.Step.{is_numbered, with_command, acknowledged, revision_at, step, run}
+use Rattle.world.specs.Step.{is_numbered, with_command, acknowledged, step, run}
 use Rattle.flusher.specs.Schedule.{at_rest}
 
 pub run-append : (world : World) (first others : List Event) → run world (first ++ others) ≡ run (run world first) others
@@ -138,6 +138,6 @@ module _ (board : Board Entry) (tickets acks : List Ticket) (sent : List Command
   -- a document is composed, where that is possible
   pub compose_rests : (document revision : ℕ) → (more : List (ℕ × ℕ)) × (run (at_rest board tickets acks sent composed) (Compose document revision ∷ []) ≡ at_rest board tickets acks sent more)
   compose_rests document revision =
-      cond_both (nat_le 1 revision && nat_le revision (revision_at (slice_get (fold board.start (takens (take board.settled board.order))).documents document)))
+      cond_both (nat_le 1 revision && nat_le revision (newest_revision (slice_get (fold board.start (takens (take board.settled board.order))).documents document)))
       (at_rest board tickets acks sent (composed ++ (document, revision) ∷ [])) (at_rest board tickets acks sent composed)
       (λ (w : World). (more : List (ℕ × ℕ)) × (w ≡ at_rest board tickets acks sent more)) (λ yes. (composed ++ (document, revision) ∷ [], refl)) (λ no. (composed, refl))

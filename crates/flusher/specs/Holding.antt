@@ -21,7 +21,7 @@ module _ {D J : Type 0} {disk : Ghosts D} where
 
   -- the batch that is committed and not published yet, if there is one
   abbrev pub committed_of : Flusher D J disk → List (List Taken)
-  committed_of flusher = flusher.publisher.held
+  committed_of flusher = flusher.publisher.unpublished
 
   -- the batch that is held and not committed yet, if there is one
   abbrev pub waiting_of : Flusher D J disk → List (List Taken)

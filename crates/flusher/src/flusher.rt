@@ -27,8 +27,8 @@ pub struct Flusher<D: Disk, J: Site> {
     waiting: Option<Run<D, J>>,
     barred: Option<NotAdded<J>>,
     begun: Begun<J>,
-    ghost kept: { state_of store ≡ fold begun (commands_of (publisher.told ++ publisher.held)) },
-    ghost fits: { ForSome waiting (λ run. MayCommit (state_of store) run.commands publisher.held) },
+    ghost kept: { state_of store ≡ fold begun (commands_of (publisher.told ++ publisher.unpublished)) },
+    ghost fits: { ForSome waiting (λ run. MayCommit (state_of store) run.commands publisher.unpublished) },
 }
 
 impl<D: Disk, J: Site> Flusher<D, J> {
@@ -39,7 +39,7 @@ impl<D: Disk, J: Site> Flusher<D, J> {
 
     // A flusher of which nothing was published yet.
     pub(crate) fn of(store: Store<D>, publisher: Publisher<D, J>, begun: Begun<J>) -> Flusher<D, J>
-        requires nothing { publisher ≡ record { told = []; held = [] } }
+        requires nothing { publisher ≡ record { told = []; unpublished = [] } }
         requires begin { state_of store ≡ begun }
         ensures store { store_of result ≡ store }
         ensures nothing { (told_of result ≡ []) × (committed_of result ≡ []) × (waiting_of result ≡ []) }

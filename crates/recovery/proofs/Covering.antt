@@ -7,7 +7,7 @@ use Rattle.std.proofs.lemmas.List.{take_more}
 use Rattle.std.proofs.lemmas.Option.{slice_get_past}
 use Rattle.disk.specs.declared.device.Disk.{Ghosts}
 use Rattle.refusal.specs.declared.Refusal.{Refusal}
-use Rattle.revision.specs.State.{State, DocumentRecord}
+use Rattle.revision.specs.State.{newest_revision, State, DocumentRecord}
 use Rattle.history.specs.Cell.{Pair, cells_at, lowest}
 use Rattle.milestone.specs.Job.{Job}
 use Rattle.milestone.specs.declared.cells.Cells.{Cells}
@@ -22,7 +22,7 @@ use Rattle.recovery.specs.Marks.{marks_of, revision_for, greatest_marked}
 use Rattle.recovery.specs.Jobs.{jobs_for, without_job}
 use Rattle.recovery.specs.Marked.{MayRetire}
 use Rattle.recovery.specs.Open.{IsOpen, IsUnchanged, IsRetiredNow, IsFreedNow, IsHalfFreed, IsHalfRaised, IsSpared, AreBothNewest, needing, ring_of, state_of, known_cells, known_marks, kept_jobs}
-use Rattle.recovery.specs.steps.Freeing.{reached, reached_in, MayReach, KeepsSegments, IsMarkSpared, IsMarkAbove, IsPutOf, IsHalfPut, AreCovered}
+use Rattle.recovery.specs.steps.Freeing.{reached_in, MayReach, KeepsSegments, IsMarkSpared, IsMarkAbove, IsPutOf, IsHalfPut, AreCovered}
 use Rattle.recovery.proofs.Going.{open_unchanged, unchanged_cells, unchanged_table}
 use Rattle.recovery.proofs.Marked.{one_oldest}
 use Rattle.recovery.proofs.Marking.{marked_push, marked_member, own, other_document, other_segment}
@@ -328,7 +328,7 @@ module _ {D : Type 0} {disk : Ghosts D} where
         there : (length (state_of start).documents ≤ mark.document) ⊎ (mark.document < length (state_of start).documents) → mark.document < length (state_of start).documents
         there (inr is) = is
         there (inl past) =
-            absurd (omega (arith, above.1, reach above.0, ap (λ (d : Option DocumentRecord). reached d) (slice_get_past (state_of start).documents mark.document past)))
+            absurd (omega (arith, above.1, reach above.0, ap (λ (d : Option DocumentRecord). newest_revision d) (slice_get_past (state_of start).documents mark.document past)))
 
     -- a mark takes twelve calls at most where its document needs milestones, and else none
     pub calls_more : (documents old_calls calls new_calls : ℕ) → documents ≡ length (state_of start).documents → MayReach segment mark (state_of start)

@@ -17,6 +17,7 @@ use Rattle.segments.proofs.CallerLemmas.{one_table}
 use Rattle.recovery.specs.declared.shape.Shape.{Shape}
 use Rattle.recovery.specs.Shape.{cells_place, slots_place}
 use Rattle.recovery.specs.Layout.{HoldsCells, HoldsSlots}
+use Rattle.segments.specs.Order.{bodies_of}
 use Rattle.recovery.specs.Found.{Found, RunsWith, HoldsParts, SpellBatches, limits_of, commands_of}
 use Rattle.recovery.proofs.Named.{named_same}
 
@@ -53,7 +54,7 @@ each_same (x ∷ a) (y ∷ b) is_a is_b same =
     let others = each_same a b is_a.1 is_b.1 there in
     λ i. first i ∷ others i
 
-pub batches_same : (table : List (Option Segment)) (a b : List (List Taken)) → SpellBatches table a → SpellBatches table b → a ≡ b
+pub batches_same : (table : List (Option Segment)) (a b : List (List Taken)) → SpellBatches (bodies_of table) a → SpellBatches (bodies_of table) b → a ≡ b
 batches_same table a b is_a is_b =
     each_same a b (recursion_from_All IsBatch a is_a.each) (recursion_from_All IsBatch b is_b.each) (sym is_a.spelled ∙ is_b.spelled)
 
@@ -72,7 +73,7 @@ parts_once content shape other cells other_cells table other_table batches other
     record {
       shapes = shapes;
       cells_are = cells_same content shape other_cells cells here.laid_out.in_cells holds.laid_out.in_cells;
-      batches_are = batches_same table other_batches batches (subst (λ (t : List (Option Segment)). SpellBatches t other_batches) tables here.spell) holds.spell;
+      batches_are = batches_same table other_batches batches (subst (λ (t : List (Option Segment)). SpellBatches (bodies_of t) other_batches) tables here.spell) holds.spell;
     }
 
 -- what is found of a content that holds these parts, they stand for; and a state that its store runs with, they run with

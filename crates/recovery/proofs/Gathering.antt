@@ -11,9 +11,9 @@ use Rattle.history.specs.Entries.{of_document, above}
 use Rattle.journal.specs.BatchSpelling.{IsBatch, batch}
 use Rattle.journal.proofs.CallerLemmas.{one_spelling}
 use Rattle.segments.specs.Slot.{Segment}
-use Rattle.recovery.specs.Found.{commands_of}
+use Rattle.recovery.specs.Found.{SpellBatches, commands_of}
 use Rattle.recovery.proofs.Folds.{commands_of-push}
-use Rattle.recovery.specs.steps.Reading.{are_below, AreByDocument, SpellEach, SpellGroups, commands_in, AreAdded}
+use Rattle.recovery.specs.steps.Reading.{are_below, AreByDocument, SpellGroups, commands_in, AreAdded}
 
 -- those above a revision are what a filter keeps
 pub above-filter : (revision : ℕ) (entries : List Taken) → filter (λ (t : Taken). nat_lt revision t.revision) entries ≡ above revision entries
@@ -111,7 +111,7 @@ batch-same a b is_a is_b same = (one_spelling a b [] [] is_a is_b (ap (λ (l : L
 
 -- Bodies so far, and one more.
 abbrev pub AddedBy : List (List ℕ) → List (List Taken) → List (List Taken) → Type 0
-AddedBy bodies old new = (batches : List (List Taken)) × SpellEach bodies batches × AreAdded (commands_of batches) old new
+AddedBy bodies old new = (batches : List (List Taken)) × SpellBatches bodies batches × AreAdded (commands_of batches) old new
 
 pub by-none : (lists : List (List Taken)) → AddedBy [] lists lists
 by-none lists = ([], record { spelled = refl; each = All-nil IsBatch }, added-none lists)
@@ -137,7 +137,7 @@ pub record SpelledAt (body : List ℕ) (batches : List (List Taken)) : Type 0 wh
   pub spelled : body ≡ batch commands
   pub part : (docs : ℕ) → are_below docs commands ≡ false → are_below docs (commands_of batches) ≡ false
 
-pub spelled-at : (bodies : List (List ℕ)) (batches : List (List Taken)) (i : ℕ) (body : List ℕ) → SpellEach bodies batches → i < length bodies → get_or bodies i [] ≡ body
+pub spelled-at : (bodies : List (List ℕ)) (batches : List (List Taken)) (i : ℕ) (body : List ℕ) → SpellBatches bodies batches → i < length bodies → get_or bodies i [] ≡ body
     → SpelledAt body batches
 spelled-at bodies batches i body spell lt is =
     let inside : i < length batches = subst (λ n. i < n) (ap length spell.spelled ∙ length-map batches batch) lt in
@@ -184,7 +184,7 @@ gathered-more segments segment now new (groups, spell, so_far) (batches, spell_o
 -- a segment among others
 pub record SpelledIn (bodies : List (List ℕ)) (groups : List (List (List Taken))) : Type 0 where
   pub batches : List (List Taken)
-  pub spell : SpellEach bodies batches
+  pub spell : SpellBatches bodies batches
   pub part : (docs : ℕ) → are_below docs (commands_of batches) ≡ false → are_below docs (commands_in groups) ≡ false
 
 pub spelled-in : (segments : List Segment) (groups : List (List (List Taken))) (i : ℕ) (segment : Segment) → SpellGroups segments groups → i < length segments

@@ -8,7 +8,7 @@ use Rattle.refusal.specs.declared.Refusal.{Refusal}
 use Rattle.refusal.specs.declared.Refusal.TheVariants.{Fault}
 use Rattle.revision.specs.Command.{Taken}
 use Rattle.revision.specs.Past.{Past, from_floor}
-use Rattle.revision.specs.State.{State, DocumentRecord, revision_of}
+use Rattle.revision.specs.State.{newest_revision, State, DocumentRecord, revision_of}
 use Rattle.history.specs.Entries.{of_document}
 use Rattle.history.specs.Cell.{Cell, Pair, cell_of, cells_at, lowest, freed, with_pair, record_of_cell, OfOpen}
 use Rattle.history.specs.Shown.{past_of, name_of}
@@ -24,7 +24,7 @@ use Rattle.recovery.specs.Jobs.{IsJobTo, IsMadeOf, MayKeepNewest, highest, jobs_
 use Rattle.recovery.specs.Goes.{Goes}
 use Rattle.recovery.specs.Open.{IsOpen, AreBothNewest, newest_cell, device_of, state_of, kept_jobs}
 use Rattle.recovery.specs.Run.{IsPutAt}
-use Rattle.recovery.specs.steps.Freeing.{reached, reached_in, IsPutOf, IsHalfPut}
+use Rattle.recovery.specs.steps.Freeing.{reached_in, IsPutOf, IsHalfPut}
 use Rattle.recovery.specs.Unwritten.{MayKeepJob}
 use Rattle.recovery.proofs.FoundOnce.{cells_same, slots_same}
 use Rattle.recovery.proofs.Named.{named_same}
@@ -79,7 +79,7 @@ put_twice cell (Some first, Some second) below one = by_test (nat_lt second.revi
 -- the revision of both cells
 pub newest_lowest : (state : State) (document : ℕ) (pair : Pair) → AreBothNewest state document pair → lowest pair ≡ reached_in state document
 newest_lowest state document pair newest =
-    omega (arith, ap lowest newest.both, ap reached newest.there)
+    omega (arith, ap lowest newest.both, ap newest_revision newest.there)
 
 open_there : (P : Cell → Type 0) (x : Option Cell) (cell : Cell) → x ≡ Some cell → OfOpen P x → P cell
 open_there P x cell is has = subst (λ (c : Option Cell). OfOpen P c) is has
@@ -111,7 +111,7 @@ module _ {D : Type 0} {disk : Ghosts D} where
     inside = omega (arith, slice_get_within (state_of old).documents document put.to.found put.to.there, is_open.runs.is_state.count, is_open.runs.pairs)
 
     is_newest : cell_of_job put.job ≡ newest_cell put.to.found
-    is_newest = put.to.is ∙ ap (λ n. cell_of put.to.found n) (ap reached put.to.there)
+    is_newest = put.to.is ∙ ap (λ n. cell_of put.to.found n) (ap newest_revision put.to.there)
 
     others_stay : (number : ℕ) → number ≢ document → cells_at put.put.goes_on.cells number ≡ cells_at is_open.cells number
     others_stay number apart =
@@ -130,7 +130,7 @@ module _ {D : Type 0} {disk : Ghosts D} where
   newest_already store is_open document found there some second is above =
       one_cell (of_document document is_open.order) second (newest_cell found) there_cell
       (held_is_cell is_open.order (state_of store) document found (revision_of found) is_open.runs.shows there (omega arith) some (omega arith))
-      (omega (arith, above, there_cell.reached, document_reached store is_open document, ap reached there))
+      (omega (arith, above, there_cell.reached, document_reached store is_open document, ap newest_revision there))
     where
       there_cell : IsCellOf (of_document document is_open.order) second
       there_cell = open_there (IsCellOf (of_document document is_open.order)) ((cells_at is_open.cells document).1) second is (is_open.runs.cells_are document).1
@@ -160,10 +160,10 @@ module _ {D : Type 0} {disk : Ghosts D} where
       same_found = same_some second.to.found found (sym second.to.there ∙ (ap (λ (s : State). slice_get s.documents document) same ∙ first.to.there))
 
       below : highest before ≤ revision_of found
-      below = omega (arith, cells_reached old is_open document, known_highest old is_open document, ap reached first.to.there)
+      below = omega (arith, cells_reached old is_open document, known_highest old is_open document, ap newest_revision first.to.there)
 
       some : 1 ≤ revision_of found
-      some = omega (arith, first.to.first, ap reached first.to.there)
+      some = omega (arith, first.to.first, ap newest_revision first.to.there)
 
       both : cells_at second.put.goes_on.cells document ≡ (Some cell, Some cell)
       both =
@@ -180,7 +180,7 @@ module _ {D : Type 0} {disk : Ghosts D} where
       let job = one.0 in
       let to = one.1.0 in
       let made = one.1.1 in
-      let newest : reached_in (state_of old) document ≡ revision_of to.found = ap reached to.there in
+      let newest : reached_in (state_of old) document ≡ revision_of to.found = ap newest_revision to.there in
       inr (record {
         job = job;
         found = to.found;

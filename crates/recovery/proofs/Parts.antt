@@ -17,7 +17,7 @@ use Rattle.history.specs.Found.{StandsFor, StandFor}
 use Rattle.history.specs.Reading.{HasRead}
 use Rattle.history.proofs.CallerLemmas.{stand_is_state, reading_finds}
 use Rattle.segments.specs.Slot.{Segment}
-use Rattle.segments.specs.Order.{segments_of}
+use Rattle.segments.specs.Order.{bodies_of, segments_of}
 use Rattle.recovery.specs.declared.shape.Shape.{Shape}
 use Rattle.recovery.specs.Layout.{Names, HoldsCells, HoldsSlots}
 use Rattle.recovery.specs.Found.{Found, HoldsParts, SpellBatches, limits_of, commands_of}
@@ -59,7 +59,7 @@ pub commands-all : (groups : List (List (List Taken))) → commands_of (all_in g
 commands-all [] = refl
 commands-all (g ∷ groups) = flat_map-append (λ (c : List Taken). c) g (all_in groups) ∙ ap (λ (l : List Taken). commands_of g ++ l) (commands-all groups)
 
-pub spell-all : (table : List (Option Segment)) (groups : List (List (List Taken))) → SpellGroups (segments_of table) groups → SpellBatches table (all_in groups)
+pub spell-all : (table : List (Option Segment)) (groups : List (List (List Taken))) → SpellGroups (segments_of table) groups → SpellBatches (bodies_of table) (all_in groups)
 spell-all table groups spell = record { spelled = joined (segments_of table) groups spell.spelled; each = all-each groups spell.each }
 
 -- Batches that the bodies of all segments spell, in groups.
@@ -173,7 +173,7 @@ in-groups content shape pick table state names slots found =
     let here = found-at content shape pick state names found in
     let in_slots = here.holds.laid_out.in_slots in
     let same : here.table ≡ table = slots_same content shape here.table table in_slots slots in
-    let spell = subst (λ (t : List (Option Segment)). SpellBatches t here.batches) same here.holds.spell in
+    let spell = subst (λ (t : List (Option Segment)). SpellBatches (bodies_of t) here.batches) same here.holds.spell in
     let groups = grouped (segments_of table) here.batches spell.spelled (recursion_from_All IsBatch here.batches spell.each) in
     let commands : commands_of here.batches ≡ commands_in groups.groups = ap commands_of (sym groups.is) ∙ commands-all groups.groups in
     let stand = subst (λ (e : List Taken). StandFor (limits_of shape) here.cells e pick state) commands here.stand in

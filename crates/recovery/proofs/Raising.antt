@@ -7,7 +7,7 @@ use Rattle.std.proofs.lemmas.Option.{slice_get_past}
 use Rattle.disk.specs.declared.device.Disk.{Ghosts}
 use Rattle.refusal.specs.declared.Refusal.{Refusal}
 use Rattle.revision.specs.Pending.{PendingDocument, record_of}
-use Rattle.revision.specs.State.{DocumentRecord, revision_of}
+use Rattle.revision.specs.State.{newest_revision, DocumentRecord, revision_of}
 use Rattle.segments.specs.Numbers.{IsOldest}
 use Rattle.segments.specs.Ring.{known_numbers}
 use Rattle.recovery.specs.declared.marks.Mark.{Mark}
@@ -15,12 +15,12 @@ use Rattle.recovery.specs.declared.store.Store.{Store}
 use Rattle.recovery.specs.Marks.{marks_of, without_segment}
 use Rattle.recovery.specs.Jobs.{no_job_of, no_job_for}
 use Rattle.recovery.specs.Open.{IsOpen, known_marks}
-use Rattle.recovery.specs.steps.Freeing.{reached, MayReach, KeepsSegments}
+use Rattle.recovery.specs.steps.Freeing.{MayReach, KeepsSegments}
 use Rattle.recovery.proofs.Marking.{marked_member}
 use Rattle.recovery.proofs.Reaching.{marks_reached}
 
 -- a document can be given a milestone at its revision, where its open cells are no higher
-pub none_against : (found : Option DocumentRecord) (newest high : ℕ) → newest ≡ reached found → high ≤ newest → 1 ≤ newest → no_job_for found high newest ≡ None
+pub none_against : (found : Option DocumentRecord) (newest high : ℕ) → newest ≡ newest_revision found → high ≤ newest → 1 ≤ newest → no_job_for found high newest ≡ None
 none_against None newest high is above first = absurd (omega (arith, is, first))
 none_against (Some found) newest high is above first = none_here
   where

@@ -9,7 +9,7 @@ use Rattle.disk.specs.declared.device.Disk.{Ghosts}
 use Rattle.revision.specs.Command.{Taken}
 use Rattle.revision.specs.Past.{Past, Change, newest, empty_past, from_floor, with_change}
 use Rattle.revision.specs.Sources.{last_of}
-use Rattle.revision.specs.State.{Limits, DocumentRecord, revision_of, sources_of, units_of, last_of_all, has_place, keeps, change_of, continues, continues_by_name, record_by_name, record_after, all_continue}
+use Rattle.revision.specs.State.{newest_revision, Limits, DocumentRecord, revision_of, sources_of, units_of, last_of_all, has_place, keeps, change_of, continues, continues_by_name, record_by_name, record_after, all_continue}
 use Rattle.history.specs.Entries.{of_document, greatest}
 use Rattle.history.specs.Cell.{Pair, cells_at, OfBoth}
 use Rattle.history.specs.Shown.{RecordShows, past_of}
@@ -24,7 +24,7 @@ use Rattle.recovery.specs.Cells.{highest_known}
 use Rattle.recovery.specs.Marks.{marks_of, greatest_marked}
 use Rattle.recovery.specs.Jobs.{highest}
 use Rattle.recovery.specs.Marked.{SpellSegment}
-use Rattle.recovery.specs.steps.Freeing.{reached, reached_in}
+use Rattle.recovery.specs.steps.Freeing.{reached_in}
 use Rattle.recovery.proofs.Marked.{number_held}
 use Rattle.recovery.proofs.Retirement.{held_there, parted, oldest_here, known_highest}
 
@@ -33,14 +33,14 @@ newest_with : (keep : ℕ) (past : Past) (change : Change) → newest (with_chan
 newest_with keep past change =
     omega (arith, length-drop (max past.floor (newest past + 1 - keep) - past.floor) (past.changes ++ change ∷ []), length-append past.changes (change ∷ []))
 
-reached_with : (keep : ℕ) (found : Option DocumentRecord) (taken : Taken) (name : Option (List ℕ)) → reached (record_by_name keep found taken name) ≤ reached found + 1
+reached_with : (keep : ℕ) (found : Option DocumentRecord) (taken : Taken) (name : Option (List ℕ)) → newest_revision (record_by_name keep found taken name) ≤ newest_revision found + 1
 reached_with keep None taken None = omega arith
 reached_with keep None taken (Some name) = newest_with keep empty_past (change_of taken)
 reached_with keep (Some found) taken name = newest_with keep found.past (change_of taken)
 
 -- a command that continues a document is its next revision
 next_reached : (limits : Limits) (found : Option DocumentRecord) (taken : Taken) (name : Option (List ℕ)) → continues_by_name limits found taken name ≡ true
-    → taken.revision ≡ reached found + 1
+    → taken.revision ≡ newest_revision found + 1
 next_reached limits None taken None is = absurd cc
 next_reached limits None taken (Some name) is =
     let last = and_parts ((taken.revision == 1) && (taken.number == 1)) _ is in
@@ -59,7 +59,7 @@ next_reached limits (Some found) taken (Some name) is = absurd cc
 
 -- the commands of a document reach no further than there are of them
 pub greatest_reached : (limits : Limits) (number : ℕ) (order : List Taken) (found : Option DocumentRecord) → all_continue limits found (of_document number order) ≡ true
-    → greatest number order ≤ reached found + length (of_document number order)
+    → greatest number order ≤ newest_revision found + length (of_document number order)
 greatest_reached limits number [] found = λ goes_on. omega arith
 greatest_reached limits number (first ∷ others) found = elim (cases_eq first.document number) [
   | inl same ↦
@@ -96,7 +96,7 @@ newest_shown : (commands : List Taken) (floor : ℕ) → floor ≤ length comman
 newest_shown commands floor below = omega (arith, below, length-drop (floor - 0) (map change_of commands), length-map commands change_of)
 
 -- a document that shows its commands has reached as many revisions
-shown_reached : (commands : List Taken) (found : Option DocumentRecord) → RecordShows commands found → length commands ≡ reached found
+shown_reached : (commands : List Taken) (found : Option DocumentRecord) → RecordShows commands found → length commands ≡ newest_revision found
 shown_reached commands None shows = ap (λ (l : List Taken). length l) shows
 shown_reached commands (Some found) shows = sym (ap newest shows.past ∙ newest_shown commands found.past.floor shows.floor)
 

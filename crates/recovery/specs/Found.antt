@@ -26,16 +26,16 @@ empty_state shape = record { limits = limits_of shape; documents = [] }
 abbrev pub commands_of : List (List Taken) → List Taken
 commands_of batches = flat_map (λ commands. commands) batches
 
--- The slots spell batches: each body of theirs, the oldest segment's first, is the spelling of one.
-pub record SpellBatches (table : List (Option Segment)) (batches : List (List Taken)) : Type 0 where
-  pub spelled : bodies_of table ≡ map batch batches
+-- Bodies spell batches: each of them is the spelling of one.
+pub record SpellBatches (bodies : List (List ℕ)) (batches : List (List Taken)) : Type 0 where
+  pub spelled : bodies ≡ map batch batches
   pub each : All IsBatch batches
 
 -- What a content holds, by its bytes alone: a shape, two cells for each document number, and for each slot nothing or a segment,
--- whose bodies spell batches.
+-- whose bodies, the oldest segment's first, spell batches.
 pub record HoldsParts (content : List ℕ) (shape : Shape) (cells : List Pair) (table : List (Option Segment)) (batches : List (List Taken)) : Type 0 where
   pub laid_out : IsLaidOut content shape cells table
-  pub spell : SpellBatches table batches
+  pub spell : SpellBatches (bodies_of table) batches
 
 -- The state that the whole content of a device stands for, by a pick of the newer or the older cell of each document. Where a rule
 -- fails there is none.

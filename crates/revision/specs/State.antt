@@ -28,6 +28,11 @@ pub record DocumentRecord : Type 0 where
 abbrev pub revision_of : DocumentRecord → ℕ
 revision_of document = newest document.past
 
+-- 0 where there is no document
+abbrev pub newest_revision : Option DocumentRecord → ℕ
+newest_revision None = 0
+newest_revision (Some document) = revision_of document
+
 abbrev pub content_of : DocumentRecord → Content
 content_of document = content_at document.past (revision_of document)
 

@@ -10,4 +10,4 @@ module _ {J : Type 0} where
   -- Memory was wanted; or the batch that was given can't be put behind those that are published.
   abbrev pub IsUnpublished : Published → Unpublished J → Type 0
   IsUnpublished publisher NoMemory = Unit {0}
-  IsUnpublished publisher (NotAdded why) = (batch : List Taken) × (publisher.held ≡ batch ∷ []) × IsNotAdded publisher.told batch why
+  IsUnpublished publisher (NotAdded why) = (batch : List Taken) × (publisher.unpublished ≡ batch ∷ []) × IsNotAdded publisher.told batch why

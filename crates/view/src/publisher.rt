@@ -59,7 +59,7 @@ impl<D, J: Site> Model for Publisher<D, J> {
 
     ghost use Rattle.view.specs.Stages as spec;
 
-    ghost view = { λ p. record { told = p.told; held = spec.held_in p.stage } };
+    ghost view = { λ p. record { told = p.told; unpublished = spec.held_in p.stage } };
 
     ghost invariant = { λ p. spec.AreShown J.book J.start p.told p.writer.desk.shown.value
         × (drop p.writer.behind p.writer.log.items ≡ spec.waiting J.book p.stage) × spec.IsLogged p.told p.stage };
@@ -75,7 +75,7 @@ impl<D, J: Site> Publisher<D, J> {
     ) -> Result<(Publisher<D, J>, Told<D, J>), Refusal>
         requires book { opened ≡ J.book }
         requires start { state.now ≡ J.start }
-        ensures publisher { IfOk result (λ made. made.0 ≡ record { told = []; held = [] }) }
+        ensures publisher { IfOk result (λ made. made.0 ≡ record { told = []; unpublished = [] }) }
         ensures told { IfOk result (λ made. made.1 ≡ []) }
         ensures only { IsOkUnless result Refusal.NoMemory }
     {
@@ -105,15 +105,15 @@ impl<D, J: Site> Publisher<D, J> {
 
     /// Takes a batch that was committed, to be published next. It takes no memory.
     pub fn accept(&mut self, receipt: Receipt<D>)
-        requires { self.old.held ≡ [] }
-        ensures { self.new ≡ record self.old { held = receipt ∷ [] } }
+        requires { self.old.unpublished ≡ [] }
+        ensures { self.new ≡ record self.old { unpublished = receipt ∷ [] } }
     {
         self.stage = Stage::Held(receipt);
     }
 
     /// Whether a batch was given that isn't published yet.
     pub fn holds(&self) -> bool
-        ensures { result ≡ nat_lt 0 (length self.now.held) }
+        ensures { result ≡ nat_lt 0 (length self.now.unpublished) }
     {
         match &self.stage {
             Stage::Idle => false,
@@ -150,10 +150,10 @@ impl<D, J: Site> Publisher<D, J> {
         rt: &R,
         alloc: Global,
     ) -> Result<Option<(Receipt<D>, Told<D, J>)>, Unpublished<J>>
-        ensures batch { IfOk result (λ published. IfSome published (λ p. self.old.held ≡ p.0 ∷ [])) }
+        ensures batch { IfOk result (λ published. IfSome published (λ p. self.old.unpublished ≡ p.0 ∷ [])) }
         ensures told { IfOk result (λ published. IfSome published (λ p. p.1 ≡ self.old.told ++ p.0 ∷ [])) }
-        ensures shown { IfOk result (λ published. IfSome published (λ p. self.new ≡ record { told = p.1; held = [] })) }
-        ensures none { IfOk result (λ published. IfNone published ((self.old.held ≡ []) × (self.new ≡ self.old))) }
+        ensures shown { IfOk result (λ published. IfSome published (λ p. self.new ≡ record { told = p.1; unpublished = [] })) }
+        ensures none { IfOk result (λ published. IfNone published ((self.old.unpublished ≡ []) × (self.new ≡ self.old))) }
         ensures unchanged { OnErr result (self.new ≡ self.old) }
         ensures refused { IfErr result (λ why. IsUnpublished self.old why) }
     {
@@ -180,10 +180,10 @@ fn published<D, J: Site, R: Wait>(
     Publisher<D, J>,
     Result<Option<(Receipt<D>, Told<D, J>)>, Unpublished<J>>,
 )
-    ensures batch { IfOk result.1 (λ published. IfSome published (λ p. publisher.held ≡ p.0 ∷ [])) }
+    ensures batch { IfOk result.1 (λ published. IfSome published (λ p. publisher.unpublished ≡ p.0 ∷ [])) }
     ensures told { IfOk result.1 (λ published. IfSome published (λ p. p.1 ≡ publisher.told ++ p.0 ∷ [])) }
-    ensures shown { IfOk result.1 (λ published. IfSome published (λ p. result.0 ≡ record { told = p.1; held = [] })) }
-    ensures none { IfOk result.1 (λ published. IfNone published ((publisher.held ≡ []) × (result.0 ≡ publisher))) }
+    ensures shown { IfOk result.1 (λ published. IfSome published (λ p. result.0 ≡ record { told = p.1; unpublished = [] })) }
+    ensures none { IfOk result.1 (λ published. IfNone published ((publisher.unpublished ≡ []) × (result.0 ≡ publisher))) }
     ensures unchanged { OnErr result.1 (result.0 ≡ publisher) }
     ensures refused { IfErr result.1 (λ why. IsUnpublished publisher why) }
 {
@@ -238,9 +238,9 @@ fn queued<D, J: Site, R: Wait>(
     requires waiting { drop writer.behind writer.log.items ≡ [] }
     requires next { next ≡ told ++ receipt ∷ [] }
     ensures done { IfOk result.1 (λ published. IfSome published (λ p. (p.0 ≡ receipt) × (p.1 ≡ next)
-        × (result.0 ≡ record { told = next; held = [] }))) }
+        × (result.0 ≡ record { told = next; unpublished = [] }))) }
     ensures some { IfOk result.1 (λ published. IfNone published ⊥) }
-    ensures unchanged { OnErr result.1 (result.0 ≡ record { told = told; held = receipt ∷ [] }) }
+    ensures unchanged { OnErr result.1 (result.0 ≡ record { told = told; unpublished = receipt ∷ [] }) }
     ensures only { IfErr result.1 (λ why. why ≡ Unpublished.NoMemory) }
 {
     let appended = match news_of(alloc, &receipt, &next) {
@@ -275,9 +275,9 @@ fn shown<D, J: Site, R: Wait>(
     requires waiting { drop writer.behind writer.log.items ≡ to_show J.book receipt next ∷ [] }
     requires next { next ≡ told ++ receipt ∷ [] }
     ensures done { IfOk result.1 (λ published. IfSome published (λ p. (p.0 ≡ receipt) × (p.1 ≡ next)
-        × (result.0 ≡ record { told = next; held = [] }))) }
+        × (result.0 ≡ record { told = next; unpublished = [] }))) }
     ensures some { IfOk result.1 (λ published. IfNone published ⊥) }
-    ensures unchanged { OnErr result.1 (result.0 ≡ record { told = told; held = receipt ∷ [] }) }
+    ensures unchanged { OnErr result.1 (result.0 ≡ record { told = told; unpublished = receipt ∷ [] }) }
     ensures only { IfErr result.1 (λ why. why ≡ Unpublished.NoMemory) }
 {
     let (writer, published) = writer.publish_as::<Sees<J>, R>(rt);

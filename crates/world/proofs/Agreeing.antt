@@ -5,13 +5,13 @@ use Rattle.std.proofs.lemmas.Bool.{and_parts, cond_both, leb-true}
 use Rattle.std.proofs.lemmas.List.{map-append}
 use Rattle.revision.specs.Command.{Taken, Command}
 use Rattle.revision.specs.Past.{Past, newest, empty_past, from_floor}
-use Rattle.revision.specs.State.{change_of, DocumentRecord, revision_of, State, record_by_name, set_document, grown, fold}
+use Rattle.revision.specs.State.{newest_revision, change_of, DocumentRecord, revision_of, State, record_by_name, set_document, grown, fold}
 use Rattle.revision.specs.Acceptance.{Answer, Takes, Repeats, Refuses, answer}
 use Rattle.revision.specs.Agree.{DocumentsAgree, PlacesAgree}
 use Rattle.world.specs.Board.{Ticket, can_take, can_settle, can_ack}
 use Rattle.world.specs.Event.{Done, Failed, Stopped, Event, Submit, Take, Device, Publish, Settle, Ack, Compose, Crash, Open, Resend}
 use Rattle.world.specs.World.{Entry, entry_of, takens, World, begun, last_sent, last_composed}
-use Rattle.world.specs.Step.{keeping_all, whole, with_floors, may_begin_at, may_pick, revision_at, is_numbered, with_command, is_written, written, acknowledged, may_leave, stopped, opened, can_open, running_step, crashed_step, step, run}
+use Rattle.world.specs.Step.{keeping_all, whole, with_floors, may_begin_at, may_pick, is_numbered, with_command, is_written, written, acknowledged, may_leave, stopped, opened, can_open, running_step, crashed_step, step, run}
 use Rattle.world.specs.Law.{OverAll, StateAgrees}
 use Rattle.world.proofs.Pasts.{newest-from_floor, units-from_floor, sources-from_floor}
 use Rattle.revision.specs.Floors.{longer}
@@ -174,7 +174,7 @@ module _ (world : World) (cut : IsCutWorld world) where
       by_ticket None = cut
       by_ticket (Some ticket) = cond_both (can_ack world.board ticket) _ world IsCutWorld (λ e. cut) (λ e. cut)
   running-cut (Compose document revision) = cond_both
-      (nat_le 1 revision && nat_le revision (revision_at (slice_get (fold world.board.start (takens (take world.without world.board.order))).documents document)))
+      (nat_le 1 revision && nat_le revision (newest_revision (slice_get (fold world.board.start (takens (take world.without world.board.order))).documents document)))
       (record world { composed = world.composed ++ (document, revision) ∷ [] }) world IsCutWorld (λ e. cut) (λ e. cut)
   running-cut (Crash kept) = cond_both (may_leave world kept) (stopped world kept) world IsCutWorld (λ e. cut) (λ e. cut)
   running-cut (Open kept floors) = cond_both (world.failed && can_open world kept floors) (opened world kept floors) world IsCutWorld

@@ -4,14 +4,14 @@ use Rattle.std.specs.Prelude.{◌==◌, ◌&&◌, nat_lt, nat_le, if◌then◌el
 use Rattle.std.proofs.lemmas.Bool.{and_parts, and_from, or_cases, eqb-true, lt-ltb, le-leb, eq-eqb}
 use Rattle.std.proofs.lemmas.List.{append-nil, take-map, take-append-drop, take-append-le, take-take, length-append, length-take-le, length-map, map-append}
 use Rattle.revision.specs.Command.{Taken, Command}
-use Rattle.revision.specs.State.{Limits, State, grows, grown, all_grow, fold, last_of_all}
+use Rattle.revision.specs.State.{newest_revision, Limits, State, grows, grown, all_grow, fold, last_of_all}
 use Rattle.revision.specs.Acceptance.{Answer, Takes, Repeats, Refuses, answer}
 use Rattle.revision.specs.Agree.{Agree}
 use Rattle.revision.proofs.CallerLemmas.{taken_grows, agreeing_grow}
 use Rattle.world.specs.Board.{Board, Ticket, submitted, submitted_by, ticket_of, reopened}
 use Rattle.world.specs.Event.{Submit, Publish, Compose}
 use Rattle.world.specs.World.{Entry, entry_of, takens, World}
-use Rattle.world.specs.Step.{revision_at, is_numbered, with_command, may_leave, may_pick, whole, opened, can_open, running_step}
+use Rattle.world.specs.Step.{is_numbered, with_command, may_leave, may_pick, whole, opened, can_open, running_step}
 use Rattle.world.specs.Stepping.{empty_store, taken_of, AreStepped, recovered, floors_left, are_reached}
 use Rattle.world.proofs.Milestones.{recovered_picks, recovered_state, recovered_agrees}
 
@@ -203,9 +203,9 @@ left-taken limits world order shown kept stepped may = elim (or_cases (kept == w
 -- a revision is composed, or isn't
 pub compose-steps : (world : World) (limits : Limits) (document revision : ℕ) (state : State) (made : Bool) → world.board.start ≡ empty_store limits
     → state ≡ fold (empty_store limits) (takens (take world.without world.board.order))
-    → (nat_le 1 revision && nat_le revision (revision_at (slice_get state.documents document))) ≡ made
+    → (nat_le 1 revision && nat_le revision (newest_revision (slice_get state.documents document))) ≡ made
     → cond made (record world { composed = world.composed ++ (document, revision) ∷ [] }) world ≡ running_step world (Compose document revision)
 compose-steps world limits document revision state there start is test =
     ap (λ b. cond b (record world { composed = world.composed ++ (document, revision) ∷ [] }) world)
-    (sym test ∙ ap (λ (s : State). nat_le 1 revision && nat_le revision (revision_at (slice_get s.documents document)))
+    (sym test ∙ ap (λ (s : State). nat_le 1 revision && nat_le revision (newest_revision (slice_get s.documents document)))
     (is ∙ ap (λ s. fold s (takens (take world.without world.board.order))) (sym start)))

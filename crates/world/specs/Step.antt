@@ -2,7 +2,7 @@
 use Rattle.std.specs.Prelude.{ℕ, ◌+◌, ◌-◌, ◌==◌, ◌&&◌, ◌||◌, not, nat_lt, nat_le, if◌then◌else◌, max, Bool, true, false, Option, Some, None, List, [], ◌∷◌, ◌++◌, length, take, slice_get, option_to_list}
 use Rattle.revision.specs.Command.{Taken, Command}
 use Rattle.revision.specs.Past.{from_floor}
-use Rattle.revision.specs.State.{DocumentRecord, revision_of, State, last_of_all, fold}
+use Rattle.revision.specs.State.{DocumentRecord, revision_of, newest_revision, State, last_of_all, fold}
 use Rattle.world.specs.Board.{Ticket, submitted, ticket_of, can_take, taken_more, can_settle, settled_more, taken_beyond, can_ack}
 use Rattle.world.specs.Event.{Outcome, Done, Failed, Stopped, Event, Submit, Take, Device, Publish, Settle, Ack, Compose, Crash, Open, Resend}
 use Rattle.world.specs.World.{entry_of, takens, World, last_sent, last_composed}
@@ -34,11 +34,6 @@ may_pick keep composed number [] (floor ∷ floors) = false
 may_pick keep composed number (first ∷ others) [] = false
 may_pick keep composed number (first ∷ others) (floor ∷ floors) =
     may_begin_at keep (last_composed number composed) first floor && may_pick keep composed (number + 1) others floors
-
--- the revision of the document of a number, 0 where there is none
-abbrev pub revision_at : Option DocumentRecord → ℕ
-revision_at None = 0
-revision_at (Some found) = revision_of found
 
 -- numbers of commands are 1 to 2^53 - 1
 abbrev pub is_numbered : Command → Bool
@@ -117,7 +112,7 @@ running_step world Settle =
 running_step world (Ack place) = acknowledged world (slice_get world.tickets place)
 running_step world (Compose document revision) =
     let found = slice_get (fold world.board.start (takens (take world.without world.board.order))).documents document in
-    if nat_le 1 revision && nat_le revision (revision_at found)
+    if nat_le 1 revision && nat_le revision (newest_revision found)
     then record world { composed = world.composed ++ (document, revision) ∷ [] }
     else world
 running_step world (Crash kept) = if may_leave world kept then stopped world kept else world

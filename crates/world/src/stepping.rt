@@ -3,10 +3,10 @@ ghost use Rattle.std.specs.Prelude.{◌≡◌, ◌<◌, ◌≤◌, ◌+◌, ◌+
 ghost use Rattle.std.specs.Vec.{vec_len, vec_capacity};
 ghost use Rattle.revision.specs.Acceptance.{answer};
 ghost use Rattle.revision.specs.Pending.{record_of};
-ghost use Rattle.revision.specs.State.{all_grow, fold};
+ghost use Rattle.revision.specs.State.{newest_revision, all_grow, fold};
 ghost use Rattle.world.specs.Event as spec_event;
 ghost use Rattle.world.specs.World.{takens, begun, last_composed as spec_last_composed};
-ghost use Rattle.world.specs.Step.{with_command, may_leave, stopped, acknowledged as spec_acknowledged, revision_at, can_open, opened, running_step, step as spec_step};
+ghost use Rattle.world.specs.Step.{with_command, may_leave, stopped, acknowledged as spec_acknowledged, can_open, opened, running_step, step as spec_step};
 ghost use Rattle.world.specs.Stepping.{empty_store, taken_of, outcome_of, event_of, recovered as spec_recovered, floors_left, are_reached as spec_are_reached};
 
 use crate::board::Board;
@@ -433,14 +433,14 @@ fn folded(alloc: Global, limits: Limits, entries: &[Entry]) -> Result<State, Ref
 
 // Whether a state has a document of this number at this revision, or beyond.
 fn has_made(state: &State, document: usize, revision: u64) -> bool
-    ensures { result ≡ (nat_le 1 revision && nat_le revision (revision_at (slice_get state.now.documents document))) }
+    ensures { result ≡ (nat_le 1 revision && nat_le revision (newest_revision (slice_get state.now.documents document))) }
 {
     1 <= revision && revision <= newest(state, document)
 }
 
 // The revision of the document of a number, 0 where there is none.
 fn newest(state: &State, document: usize) -> u64
-    ensures { result ≡ revision_at (slice_get state.now.documents document) }
+    ensures { result ≡ newest_revision (slice_get state.now.documents document) }
 {
     match state.documents().get(document) {
         Some(found) => found.revision(),

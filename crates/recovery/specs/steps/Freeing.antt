@@ -1,7 +1,7 @@
 -- Making room in a full journal: the steps on the way to where nothing needs the oldest segment.
-use Rattle.std.specs.Prelude.{◌≡◌, ◌≢◌, ◌⊎◌, ℕ, ◌≤◌, ◌<◌, Option, Some, None, List, [], slice_get}
+use Rattle.std.specs.Prelude.{◌≡◌, ◌≢◌, ◌⊎◌, ℕ, ◌≤◌, ◌<◌, Option, List, [], slice_get}
 use Rattle.disk.specs.declared.device.Disk.{Ghosts}
-use Rattle.revision.specs.State.{State, DocumentRecord, revision_of}
+use Rattle.revision.specs.State.{State, newest_revision}
 use Rattle.history.specs.Cell.{Pair, cells_at}
 use Rattle.segments.specs.Slot.{Segment}
 use Rattle.segments.specs.Table.{IsRetired}
@@ -13,13 +13,9 @@ use Rattle.recovery.specs.Marked.{MayRetire}
 use Rattle.recovery.specs.Marks.{greatest_marked}
 use Rattle.recovery.specs.Open.{IsOpen, IsHalfRaised, AreBothNewest, state_of, ring_of, known_cells, known_marks, kept_jobs}
 
--- the newest revision of a document, 0 where it isn't there
-abbrev pub reached : Option DocumentRecord → ℕ
-reached None = 0
-reached (Some found) = revision_of found
-
+-- the newest revision of a document, by its number
 abbrev pub reached_in : State → ℕ → ℕ
-reached_in state document = reached (slice_get state.documents document)
+reached_in state document = newest_revision (slice_get state.documents document)
 
 -- a mark is of another segment, or the document has reached it
 abbrev pub MayReach : ℕ → Mark → State → Type 0

@@ -57,11 +57,6 @@ are_below docs (first ∷ others) = nat_lt first.document docs && are_below docs
 abbrev pub AreByDocument : List Taken → List (List Taken) → Type 0
 AreByDocument entries lists = (number : ℕ) → get_or lists number [] ≡ of_document number entries
 
--- bodies spell these batches
-pub record SpellEach (bodies : List (List ℕ)) (batches : List (List Taken)) : Type 0 where
-  pub spelled : bodies ≡ map batch batches
-  pub each : All IsBatch batches
-
 -- the bodies of each segment spell the batches of one group
 pub record SpellGroups (segments : List Segment) (groups : List (List (List Taken))) : Type 0 where
   pub spelled : map (λ segment. segment.bodies) segments ≡ map (λ batches. map batch batches) groups

@@ -7,10 +7,10 @@ ghost use Rattle.segments.specs.Numbers.{NumbersDiffer};
 ghost use Rattle.segments.specs.Table.{numbers_of};
 ghost use Rattle.segments.specs.Order.{segments_of};
 ghost use Rattle.segments.specs.Recovered.{segment_in};
-ghost use Rattle.recovery.specs.Found.{commands_of};
+ghost use Rattle.recovery.specs.Found.{SpellBatches, commands_of};
 ghost use Rattle.recovery.specs.Marks.{IsNoted, marks_of};
 ghost use Rattle.recovery.specs.Marked.{AreMarked, AreBodiesMarked};
-ghost use Rattle.recovery.specs.steps.Reading.{lists_of, are_below, AreByDocument, SpellEach, SpellGroups, commands_in, AreAdded};
+ghost use Rattle.recovery.specs.steps.Reading.{lists_of, are_below, AreByDocument, SpellGroups, commands_in, AreAdded};
 
 use crate::marks::Marks;
 use journal::decode_batch;
@@ -79,12 +79,12 @@ fn add_bodies(
     number: u64,
     bodies: &[Vec<u8>],
 ) -> Result<(), Refusal>
-    ensures added { OnOk result ((batches : List (List TakenValue)) × SpellEach (items_of bodies.now) batches
+    ensures added { OnOk result ((batches : List (List TakenValue)) × SpellBatches (items_of bodies.now) batches
         × AreAdded (commands_of batches) (lists_of lists.old) (lists_of lists.new)) }
     ensures marked { OnOk result
         (AreBodiesMarked number (items_of bodies.now) (marks_of marks.old) (marks_of marks.new)) }
     ensures damaged { IfErr result (λ e. e ≡ Refusal.Damaged → (batches : List (List TakenValue))
-        → SpellEach (items_of bodies.now) batches
+        → SpellBatches (items_of bodies.now) batches
         → are_below (length lists.old) (commands_of batches) ≡ false) }
     ensures only { IfErr result (λ e. (e ≡ Refusal.Damaged) ⊎ (e ≡ Refusal.NoMemory)) }
 {

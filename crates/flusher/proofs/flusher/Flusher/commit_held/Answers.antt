@@ -14,7 +14,7 @@ pub returns-in-None-clause-ok : goal.returns-in-None-clause-ok
 returns-in-None-clause-ok g c =
     let none : c.args.self.now.waiting ≡ None = cc in
     let empty : held_in c.args.self.now.waiting ≡ [] = ap held_in none in
-    (sym (ap (λ (l : List (List Taken)). c.args.self.now.publisher.held ++ l) empty ∙ append-nil _), ap held_in c.in-None.ensures.after)
+    (sym (ap (λ (l : List (List Taken)). c.args.self.now.publisher.unpublished ++ l) empty ∙ append-nil _), ap held_in c.in-None.ensures.after)
 
 pub returns-in-None-clause-state : goal.returns-in-None-clause-state
 returns-in-None-clause-state g c =
@@ -33,7 +33,7 @@ returns-in-Ok-clause-ok g c =
     let held : c.args.self.now.waiting ≡ Some c.in-Some.batch = cc in
     let same : c.commands.result.now ≡ c.in-Some.batch.commands = cc in
     let alone = (c.args.self.now.fits c.in-Some.batch held).alone in (
-      ap (λ (p : Published). p.held) c.accept.ensures ∙ ap (λ (b : List Taken). b ∷ []) (c.in-Ok.ensures.receipt ∙ same) ∙ sym (ap held_in held)
+      ap (λ (p : Published). p.unpublished) c.accept.ensures ∙ ap (λ (b : List Taken). b ∷ []) (c.in-Ok.ensures.receipt ∙ same) ∙ sym (ap held_in held)
           ∙ sym (ap (λ (l : List (List Taken)). l ++ held_in c.args.self.now.waiting) alone),
       ap held_in c.in-Some.ensures.after,
     )

@@ -17,5 +17,5 @@ invariant_of-self g c =
     let same = c.put_document.ensures.state in
     record {
       kept = same ∙ c.args.self.now.kept;
-      fits = λ run is. subst (λ s. MayCommit s run.commands c.args.self.now.publisher.held) (sym same) (c.args.self.now.fits run is);
+      fits = λ run is. subst (λ s. MayCommit s run.commands c.args.self.now.publisher.unpublished) (sym same) (c.args.self.now.fits run is);
     }

@@ -6,7 +6,8 @@ use Rattle.revision.specs.Command.{Taken}
 use Rattle.journal.specs.Scan.{items_of}
 use Rattle.recovery.specs.Marks.{IsNoted, marks_of}
 use Rattle.recovery.specs.Marked.{AreBodiesMarked}
-use Rattle.recovery.specs.steps.Reading.{lists_of, are_below, SpellEach}
+use Rattle.recovery.specs.Found.{SpellBatches}
+use Rattle.recovery.specs.steps.Reading.{lists_of, are_below}
 use Rattle.recovery.proofs.MarkedRead.{no_bodies, bodies_more, one_noted}
 use Rattle.recovery.proofs.Gathering.{AddedBy, SpelledAt, map-at, map-within, map-take-more, batch-same, by-count, by-none, by-more, spelled-at}
 use Rattle.recovery.proofs.reading.entries.add_bodies.Goals as goal
@@ -19,7 +20,7 @@ bytes_in v = v.items
 
 -- the batch that a body spells among those of all
 here : (bodies : List (Vec ℕ Global)) (i : ℕ) (item : Vec ℕ Global) (body : List ℕ) (batches : List (List Taken)) → i < length bodies → item ≡ get_or bodies i item
-    → body ≡ item.items → SpellEach (items_of bodies) batches → SpelledAt body batches
+    → body ≡ item.items → SpellBatches (items_of bodies) batches → SpelledAt body batches
 here bodies i item body batches lt is same spell =
     spelled-at (items_of bodies) batches i body spell (map-within bytes_in bodies i lt) (map-at bytes_in bodies i item [] lt is ∙ sym same)
 

@@ -11,8 +11,8 @@ use Rattle.segments.specs.declared.reading.RecoveredSegment.{RecoveredSegment}
 use Rattle.recovery.specs.declared.marks.Mark.{Mark}
 use Rattle.recovery.specs.Marks.{marks_of}
 use Rattle.recovery.specs.Marked.{AreBodiesMarked}
-use Rattle.recovery.specs.Found.{commands_of}
-use Rattle.recovery.specs.steps.Reading.{lists_of, are_below, SpellEach, SpellGroups}
+use Rattle.recovery.specs.Found.{SpellBatches, commands_of}
+use Rattle.recovery.specs.steps.Reading.{lists_of, are_below, SpellGroups}
 use Rattle.recovery.proofs.Gathering.{AddedBy, GatheredFrom, SpelledIn, map-at, map-within, map-take-more, by-count, gathered-none, gathered-more, spelled-in}
 use Rattle.recovery.proofs.MarkedRead.{Ascending, AreRead, none_read, read_more, apart_at, ascending, marked_read}
 use Rattle.recovery.proofs.reading.entries.gather.Goals as goal
@@ -37,8 +37,8 @@ returns-in_err-add_bodies-clause-damaged c =
     let long : length c.deref_mut.result.now ≡ c.args.docs = ap length c.deref_mut.ensures.value ∙ c.loop-segment.invariant.count in
     rw p.1 (λ is groups spell.
     let at = here c.args.segments.now c.loop-segment.segment-index c.segment-item.result groups c.loop-segment-test.true c.segment-item.is spell in
-    let own : SpellEach (items_of c.deref.result.now) at.batches =
-    subst (λ (l : List (Vec ℕ Global)). SpellEach (items_of l) at.batches) (sym c.deref.ensures.value) at.spell in
+    let own : SpellBatches (items_of c.deref.result.now) at.batches =
+    subst (λ (l : List (Vec ℕ Global)). SpellBatches (items_of l) at.batches) (sym c.deref.ensures.value) at.spell in
     at.part c.args.docs (subst (λ n. are_below n (commands_of at.batches) ≡ false) long (c.in_err-add_bodies.ensures.damaged (sym p.2 ∙ is) at.batches own)))
 
 pub loop-segment-preserved : goal.loop-segment-preserved
