@@ -25,15 +25,16 @@ impl<D, J: Site> Model for Written<D, J> {
 }
 
 impl<D, J: Site> Written<D, J> {
-    /// Settles it at the hub, and gives the receipt of its commit. Where the hub refuses it as `Stranger`, the hub is told that the store has
-    /// failed.
+    /// Settles it at the hub, and gives the receipt of its commit and the hub's token, by which the board has settled what was published up to
+    /// this batch. Where the hub refuses it as `Stranger`, the hub is told that the store has failed.
     pub fn settle<R: Wait>(
         self,
         rt: &R,
         hub: &Hub<D, J>,
         writer: &mut Writer<J>,
-    ) -> Result<(Receipt<D>, Settled<J>), Failed<J>>
+    ) -> Result<(Receipt<D>, Settled<D, J>), Failed<J>>
         ensures receipt { IfOk result (λ done. done.0 ≡ self.0) }
+        ensures settled { IfOk result (λ done. done.1 ≡ self.1) }
         ensures only { IfErr result (λ failed. failed ≡ Refusal.Stranger) }
     {
         let Written { receipt, told } = self;

@@ -26,7 +26,7 @@ use std::sync::{Condvar, Mutex, Wait};
 // What lies under the lock: the board; for each place the least length of the order that a thread waits there to be settled, the
 // greatest number where none does; and whether the end was called.
 #[derive(Drop)]
-struct Kept<D, J: Site> {
+pub(crate) struct Kept<D, J: Site> {
     board: Board<D, J>,
     awaited: [usize; 64],
     ended: bool,
@@ -44,6 +44,15 @@ impl<D, J: Site> Kept<D, J> {
             awaited: [usize::MAX; 64],
             ended: false,
         }
+    }
+
+    // notes that the store has failed, for this reason
+    fn fail(&mut self, why: Refusal) -> Failed<J>
+        ensures kept { self.new ≡ record self.old { board = record self.old.board { failed = true } } }
+        ensures why { result ≡ why }
+    {
+        self.board.fail();
+        Failed::by_board(&self.board, why)
     }
 
     // notes that the end was called
@@ -81,15 +90,17 @@ impl<D, J: Site> Kept<D, J> {
         self.board.submit(alloc, seat, command)
     }
 
-    // settles a batch, and gives the places where somebody waits for what is settled now; or what shows that it can't be settled
+    // settles a batch, and gives the token of that and the places where somebody waits for what is settled now; or what shows that it
+    // can't be settled
     fn settle(
         &mut self,
         receipt: &Receipt<D>,
         told: Told<D, J>,
-    ) -> (Result<(), Unsettled<D, J>>, [bool; 64])
+    ) -> (Result<Settled<D, J>, Unsettled<D, J>>, [bool; 64])
         ensures board { OnOk result.0 (self.new.board
             ≡ record self.old.board { board = settled_more self.old.board.board (length receipt.now); told = told }) }
         ensures others { self.new.ended ≡ self.old.ended }
+        ensures settled { IfOk result.0 (λ settled. settled ≡ told) }
         ensures wakes { OnOk result.0
             (AreWoken self.new.board.board.settled self.old.awaited self.new.awaited result.1) }
         ensures stranger { MaySettle self.old.board.board receipt.now (length (commands_of told)) → IsOk result.0 }
@@ -104,8 +115,8 @@ impl<D, J: Site> Kept<D, J> {
                 [false; 64],
             );
         }
-        let settled = self.board.settled();
-        (Ok(()), woken(&mut self.awaited, settled))
+        let covered = woken(&mut self.awaited, self.board.settled());
+        (Ok(Settled::by_board(&self.board)), covered)
     }
 
     // notes that somebody waits at a place for so many commands to be settled
@@ -192,15 +203,17 @@ impl<D, J: Site> Hub<D, J> {
         self.kept.lock(rt).board.take(alloc, cap)
     }
 
-    /// Settles a batch by its receipt and the token of its publish, as `Board::settle` does, and wakes those who wait for it. A refusal
-    /// shows a moment of the hub's board at which just this batch can't be settled by just this token.
+    /// Settles a batch by its receipt and the token of its publish, as `Board::settle` does, and wakes those who wait for it: the board has
+    /// settled what this token ends with then. A refusal shows a moment of the hub's board at which just this batch can't be settled by
+    /// just this token.
     pub fn settle<R: Wait>(
         &self,
         rt: &R,
         writer: &mut Writer<J>,
         receipt: &Receipt<D>,
         told: Told<D, J>,
-    ) -> Result<Settled<J>, Unsettled<D, J>>
+    ) -> Result<Settled<D, J>, Unsettled<D, J>>
+        ensures settled { IfOk result (λ settled. settled ≡ told) }
         ensures batch { IfErr result (λ unsettled. unsettled.batch ≡ receipt.now) }
         ensures told { IfErr result (λ unsettled. unsettled.told ≡ told) }
     {
@@ -211,10 +224,7 @@ impl<D, J: Site> Hub<D, J> {
                 condition.notify_all();
             }
         }
-        match answer {
-            Ok(()) => Ok(Settled::by_hub()),
-            Err(unsettled) => Err(unsettled),
-        }
+        answer
     }
 
     /// Notes that the store has failed, for this reason, and wakes all who wait.
@@ -222,12 +232,12 @@ impl<D, J: Site> Hub<D, J> {
         ensures { result ≡ why }
     {
         let _ = writer;
-        self.kept.lock(rt).board.fail();
+        let failed = self.kept.lock(rt).fail(why);
         for condition in self.moved.iter() {
             condition.notify_all();
         }
         self.work.notify_all();
-        Failed::by_hub(why)
+        failed
     }
 
     /// What `Board::ack` gives for a ticket, at once: a token that holds the ticket's length, `None` where it isn't settled yet, or `StoreFailed`.
@@ -267,7 +277,7 @@ impl<D, J: Site> Hub<D, J> {
                 return None;
             }
             if kept.ended {
-                return Some(Idle::by_hub());
+                return Some(Idle::by_kept(&kept));
             }
             kept = self.work.wait(rt, kept);
         }

@@ -1,9 +1,13 @@
 //! What a hub gives alone: the rights to write what it orders and to end it, and tokens that show that it was called.
-ghost use Rattle.std.specs.Prelude.{◌≡◌};
+ghost use Rattle.std.specs.Prelude.{◌≡◌, [], true};
+ghost use Rattle.hub.specs.Runs.{untaken};
 
-use published::Site;
+use crate::board::Board;
+use crate::hub::Kept;
+use published::{Site, Told};
 use refusal::Refusal;
 use std::marker::{Model, PhantomData};
+use std::snapshot::Snapshot;
 
 /// The right to write what a hub's board orders: to wait for work, to take runs off, to settle them, and to say that the store has failed.
 /// `Hub::new` makes the only one of its hub, and it can't be copied, so whoever isn't lent it can do none of that.
@@ -60,20 +64,35 @@ impl<J: Site> Nothing<J> {
     }
 }
 
-/// That a batch was settled. Only `Hub::settle` makes one.
+/// That a batch was settled. Only `Hub::settle` makes one, of the board as it then is. Contracts see it as the batches that were published
+/// up to what that board has settled; it takes no memory.
 #[derive(Drop)]
-pub struct Settled<J: Site> {
-    of: PhantomData<J>,
+pub struct Settled<D, J: Site> {
+    told: Snapshot<Told<D, J>>,
 }
 
-impl<J: Site> Settled<J> {
-    // A batch was settled.
-    pub(crate) fn by_hub() -> Settled<J> {
-        Settled { of: PhantomData }
+impl<D, J: Site> Model for Settled<D, J> {
+    ghost use Rattle.std.specs.Prelude.{List};
+    ghost use Rattle.revision.specs.Command.{Taken};
+
+    ghost Value = { List (List Taken) };
+
+    ghost view = { λ s. s.told.value };
+}
+
+impl<D, J: Site> Settled<D, J> {
+    // What this board has settled.
+    pub(crate) fn by_board(board: &Board<D, J>) -> Settled<D, J>
+        ensures { result ≡ board.now.told }
+    {
+        Settled {
+            told: Snapshot::of(board.told()),
+        }
     }
 }
 
-/// That the hub was told that the store has failed, and why. Only `Hub::fail` makes one. Contracts see it as the refusal.
+/// That the hub was told that the store has failed, and why. Only `Hub::fail` makes one, of a board that knows it. Contracts see it as
+/// the refusal.
 #[derive(Drop)]
 pub struct Failed<J: Site> {
     refusal: Refusal,
@@ -89,10 +108,12 @@ impl<J: Site> Model for Failed<J> {
 }
 
 impl<J: Site> Failed<J> {
-    // The hub was told.
-    pub(crate) fn by_hub(refusal: Refusal) -> Failed<J>
+    // This board was told.
+    pub(crate) fn by_board<D>(board: &Board<D, J>, refusal: Refusal) -> Failed<J>
+        requires { board.now.failed ≡ true }
         ensures { result ≡ refusal }
     {
+        let _ = board;
         Failed {
             refusal,
             of: PhantomData,
@@ -107,15 +128,20 @@ impl<J: Site> Failed<J> {
     }
 }
 
-/// That the hub's end was called and all that was ordered had been taken off. Only `Hub::wait_work` makes one.
+/// That the hub's end was called and all that was ordered had been taken off. Only `Hub::wait_work` makes one, of what lies under the
+/// hub's lock then.
 #[derive(Drop)]
 pub struct Idle<J: Site> {
     of: PhantomData<J>,
 }
 
 impl<J: Site> Idle<J> {
-    // The hub was found so.
-    pub(crate) fn by_hub() -> Idle<J> {
+    // What lies under a lock was found so.
+    pub(crate) fn by_kept<D>(kept: &Kept<D, J>) -> Idle<J>
+        requires ended { kept.now.ended ≡ true }
+        requires idle { untaken kept.now.board.board ≡ [] }
+    {
+        let _ = kept;
         Idle { of: PhantomData }
     }
 }

@@ -286,12 +286,12 @@ module _ {D J : Type 0} {disk : Ghosts D} where
   failed_before old mid new refusal first works same (inr (inl (is, inr one))) = inr (inl (is, inr (one_before old mid new same one)))
   failed_before old mid new refusal first works same (inr (inr lost)) = inr (inr lost)
 
-  turned_before : (answer : Turned J) (old mid new : Flusher D J disk) → told_of mid ≡ told_of old → HasTurned mid answer new → HasTurned old answer new
-  turned_before (Settled token) old mid new same one = one_before old mid new same one
+  turned_before : (answer : Turned D J) (old mid new : Flusher D J disk) → told_of mid ≡ told_of old → HasTurned mid answer new → HasTurned old answer new
+  turned_before (Settled token) old mid new same one = (one_before old mid new same one.0, one.1)
   turned_before (Nothing token) old mid new same none = (none.0 ∙ same, none.1)
 
   -- what a write answered, told of the flusher before it was kept up
-  pub turned_after : {E : Type 0} (result : Result (Turned J) E) (old mid new : Flusher D J disk) → told_of mid ≡ told_of old
+  pub turned_after : {E : Type 0} (result : Result (Turned D J) E) (old mid new : Flusher D J disk) → told_of mid ≡ told_of old
       → IfOk result (λ answer. HasTurned mid answer new) → IfOk result (λ answer. HasTurned old answer new)
   turned_after (Ok answer) old mid new same turned = turned_before answer old mid new same turned
   turned_after (Err refusal) old mid new same turned = tt

@@ -34,7 +34,7 @@ pub fn flush_turn<D: Disk, J: Site, R: Wait, G: Gate>(
     writer: &mut Writer<J>,
     upkeep: &mut Upkeep<D>,
     gate: &mut G,
-) -> Result<Turned<J>, Stop<J>>
+) -> Result<Turned<D, J>, Stop<J>>
     // What a crash leaves, and what is published and held after it.
     ensures writes { Writes J.start flusher.old flusher.new }
     ensures turned { IfOk result (λ answer. HasTurned flusher.old answer flusher.new) }
@@ -61,7 +61,7 @@ fn turn_made<D: Disk, J: Site, R: Wait, G: Gate>(
     writer: &mut Writer<J>,
     upkeep: &mut Upkeep<D>,
     gate: &mut G,
-) -> Result<Turned<J>, Refusal>
+) -> Result<Turned<D, J>, Refusal>
     ensures writes { Writes J.start flusher.old flusher.new }
     ensures turned { IfOk result (λ answer. HasTurned flusher.old answer flusher.new) }
     ensures nothing { OnOk result ((committed_of flusher.new ≡ []) × (waiting_of flusher.new ≡ [])) }
@@ -154,7 +154,7 @@ fn write_held<D: Disk, J: Site, R: Wait, G: Gate>(
     writer: &mut Writer<J>,
     upkeep: &mut Upkeep<D>,
     gate: &mut G,
-) -> Result<Turned<J>, Refusal>
+) -> Result<Turned<D, J>, Refusal>
     requires held { committed_of flusher.old ++ waiting_of flusher.old ≢ [] }
     ensures writes { Writes J.start flusher.old flusher.new }
     ensures turned { IfOk result (λ answer. HasTurned flusher.old answer flusher.new) }

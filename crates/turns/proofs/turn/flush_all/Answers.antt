@@ -39,9 +39,17 @@ loop-preserved-in-Err g c =
       writes = writes_on g.J.Site.start c.args.flusher.now c.loop.flusher c.flush_turn.new.flusher i.writes i.works c.flush_turn.ensures.writes;
     }
 
--- a turn was made
-pub loop-preserved : goal.loop-preserved
-loop-preserved g c =
+-- a turn was made, which settled a batch, or found none
+pub loop-preserved-in_default-flush_turn : goal.loop-preserved-in_default-flush_turn
+loop-preserved-in_default-flush_turn g c =
+    let i = c.loop.invariant in
+    record {
+      works = λ works. works_after c.in_default-flush_turn.field-0 (has_failed (store_of c.loop.flusher)) (has_failed (store_of c.flush_turn.new.flusher)) c.in_default-flush_turn.ensures.fails (i.works works);
+      writes = writes_on g.J.Site.start c.args.flusher.now c.loop.flusher c.flush_turn.new.flusher i.writes i.works c.flush_turn.ensures.writes;
+    }
+
+pub loop-preserved-in_default-flush_turn-2 : goal.loop-preserved-in_default-flush_turn-2
+loop-preserved-in_default-flush_turn-2 g c =
     let i = c.loop.invariant in
     record {
       works = λ works. works_after c.in_default-flush_turn.field-0 (has_failed (store_of c.loop.flusher)) (has_failed (store_of c.flush_turn.new.flusher)) c.in_default-flush_turn.ensures.fails (i.works works);

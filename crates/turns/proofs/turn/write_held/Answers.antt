@@ -55,7 +55,8 @@ returns-in-Ok-settle-clause-writes g c =
 
 pub returns-in-Ok-settle-clause-turned : goal.returns-in-Ok-settle-clause-turned
 returns-in-Ok-settle-clause-turned g c =
-    one_written c.args.flusher.now c.write.new.self c.in-Some.both.0 c.in-Some.both.1 (rw c.in-Some.is at c.in-Ok.ensures.some)
+    let written = rw c.in-Some.is at c.in-Ok.ensures.some in
+    (one_written c.args.flusher.now c.write.new.self c.in-Some.both.0 c.in-Some.both.1 written, c.in-Ok-settle.ensures.settled ∙ written.token_is)
 
 pub returns-in-Ok-settle-clause-fails : goal.returns-in-Ok-settle-clause-fails
 returns-in-Ok-settle-clause-fails g c =
