@@ -1,12 +1,14 @@
 -- Pieces of the input, as they are read.
-use Rattle.std.proofs.Common.{◌++◌, ◌+◌, ◌<◌, ℕ, List, [], ◌∷◌, length, take, drop, get_or, Option, Some, None, ◌≡◌, ◌≢◌, refl, sym, ap, subst, ◌∙◌, append_assoc, append-nil}
-use Rattle.std.proofs.lemmas.List.{take-append-drop, take_more}
+use Rattle.std.proofs.Common.{◌++◌, ◌<◌, false, ℕ, zero, suc, List, [], ◌∷◌, take, drop, length, slice_index, Option, Some, None, ◌≡◌, ◌≢◌, refl, sym, ap, subst, ◌∙◌, append_assoc, append-nil, arith}
+use Rattle.std.proofs.lemmas.Bool.{false≢true}
+use Rattle.std.specs.Prelude.{◌==◌}
 use Rattle.std.specs.Io.KnownBytes.{Appends, Consumes, Keeps}
 use Rattle.session.specs.Session.{Session}
 use Rattle.session.specs.Exchange.{Exchange, Shown}
+use Rattle.session.specs.Line.{HasNoEnd}
 use Rattle.session.specs.Replies.{Asks, Feeds, Stops}
 use Rattle.session.specs.Calls.{Call, Fed, OfPiece, TellsNews, StopsNews}
-use Rattle.serving.specs.Serving.{AreServedBy, no_bytes, within_line, line_end, ServesBytes, Serves, StopsAt, AtOnce, InReplies, InNews, StopsBytes, StopsServing}
+use Rattle.serving.specs.Serving.{AreServedBy, no_bytes, within_line, line_end, ServesBytes, Serves, StopsAt, AtOnce, InReplies, InNews, StopsBytes, StopsServing, IsFedAtOnce, BeginsWithEnd}
 use Rattle.session.proofs.CallerLemmas.{asks-joined, appends-both, calls-joined, calls-one}
 
 pub keeps-same : (a : Option (List ℕ)) → Keeps a a
@@ -50,10 +52,37 @@ appends-kept (Some x) (Some y) (Some z) text written kept = kept ∙ written
 -- the calls that serve bytes, one part behind another
 served-joined : (front back : List ℕ) (a b : List Call) → AreServedBy front a → AreServedBy back b → AreServedBy (front ++ back) (a ++ b)
 served-joined front back a b no_bytes second = second
-served-joined front back a b (within_line byte bytes calls inner rest) second =
-    within_line byte (bytes ++ back) (calls ++ b) inner (served-joined bytes back calls b rest second)
+served-joined front back a b (within_line text bytes calls inner rest) second =
+    subst (λ (l : List ℕ). AreServedBy l (Fed text ∷ (calls ++ b))) (sym (append_assoc text bytes back))
+    (within_line text (bytes ++ back) (calls ++ b) inner (served-joined bytes back calls b rest second))
 served-joined front back a b (line_end bytes calls news for_news rest) second =
     line_end (bytes ++ back) (calls ++ b) news for_news (served-joined bytes back calls b rest second)
+
+-- what stands in front of the first line end is text within a line, and what stands from there on begins with the end
+pub text-before : (piece : List ℕ) (count : ℕ) → ((i : ℕ) → i < count → slice_index piece i ≢ 10) → HasNoEnd (take count piece)
+text-before [] zero inner = tt
+text-before [] (suc count) inner = tt
+text-before (byte ∷ bytes) zero inner = tt
+text-before (byte ∷ bytes) (suc count) inner = (inner 0 (omega arith), text-before bytes count (λ i below. inner (suc i) (omega arith)))
+
+pub end-at : (piece : List ℕ) (count : ℕ) → (count < length piece → slice_index piece count ≡ 10) → BeginsWithEnd (drop count piece)
+end-at [] zero end = tt
+end-at [] (suc count) end = tt
+end-at (byte ∷ bytes) zero end = end (omega arith)
+end-at (byte ∷ bytes) (suc count) end = end-at bytes count (λ below. end (omega arith))
+
+pub some-left : (rest : List ℕ) → false ≡ (length rest == 0) → 0 < length rest
+some-left [] is = absurd (false≢true is)
+some-left (byte ∷ bytes) is = omega arith
+
+-- what is left of a piece once a text is served, and once the end behind it is
+pub piece-on : (front rest text behind piece : List ℕ) → piece ≡ front ++ rest → rest ≡ text ++ behind → piece ≡ (front ++ text) ++ behind
+piece-on front rest text behind piece first second = first ∙ ap (λ (l : List ℕ). front ++ l) second ∙ sym (append_assoc front text behind)
+
+pub piece-ended : (front behind next piece : List ℕ) (end : ℕ) → piece ≡ front ++ behind → behind ≡ end ∷ next → BeginsWithEnd behind → piece ≡ (front ++ 10 ∷ []) ++ next
+piece-ended front behind next piece end first is ends =
+    let ten : end ≡ 10 = subst BeginsWithEnd is ends in
+    first ∙ ap (λ (l : List ℕ). front ++ l) (is ∙ ap (λ (b : ℕ). b ∷ next) ten) ∙ sym (append_assoc front (10 ∷ []) next)
 
 module _ {D : Type 0} (does : D → Exchange → D → Type 0) where
   pub bytes-nothing : (s : Session) (d : D) (o : Option (List ℕ)) → ServesBytes does s [] s d d o o
@@ -91,15 +120,15 @@ module _ {D : Type 0} (does : D → Exchange → D → Type 0) where
     written = appends-kept o p q serves.text serves.written kept;
   }
 
-  -- a byte within a line, and a line's end with the news behind it
-  pub byte-within : (byte : ℕ) (old new : Session) (d e : D) (o p : Option (List ℕ)) → byte ≢ 10 → Feeds does old (byte ∷ []) new d e o p
-      → ServesBytes does old (byte ∷ []) new d e o p
-  byte-within byte old new d e o p inner fed = record {
-    calls = Fed (byte ∷ []) ∷ [];
-    served = within_line byte [] [] inner no_bytes;
+  -- text within a line, and a line's end with the news behind it
+  pub text-within : (text : List ℕ) (old new : Session) (d e : D) (o p : Option (List ℕ)) → HasNoEnd text → Feeds does old text new d e o p
+      → ServesBytes does old text new d e o p
+  text-within text old new d e o p inner fed = record {
+    calls = Fed text ∷ [];
+    served = subst (λ (l : List ℕ). AreServedBy l (Fed text ∷ [])) (append-nil text) (within_line text [] [] inner no_bytes);
     asked = fed.asked;
     text = fed.text;
-    comes = calls-one old new (Fed (byte ∷ [])) fed.asked fed.text (OfPiece (byte ∷ []) fed.asked new fed.text fed.replies);
+    comes = calls-one old new (Fed text) fed.asked fed.text (OfPiece text fed.asked new fed.text fed.replies);
     asks = fed.asks;
     written = fed.written;
   }
@@ -118,12 +147,9 @@ module _ {D : Type 0} (does : D → Exchange → D → Type 0) where
     written = appends-both o p q fed.text told.text fed.written told.written;
   }
 
-  pub byte-ending : (byte : ℕ) (old mid new : Session) (d e f : D) (o p q r : Option (List ℕ)) → byte ≡ 10 → Feeds does old (byte ∷ []) mid d e o p
-      → TellsNews does mid new e f p q → Keeps q r → ServesBytes does old (byte ∷ []) new d f o r
-  byte-ending byte old mid new d e f o p q r is fed told kept =
-      bytes-kept (byte ∷ []) old new d f o q r
-      (subst (λ (b : ℕ). ServesBytes does old (b ∷ []) new d f o q) (sym is)
-      (end-of-line old mid new d e f o p q (subst (λ (b : ℕ). Feeds does old (b ∷ []) mid d e o p) is fed) told)) kept
+  pub line-ended : (old mid new : Session) (d e f : D) (o p q r : Option (List ℕ)) → Feeds does old (10 ∷ []) mid d e o p
+      → TellsNews does mid new e f p q → Keeps q r → ServesBytes does old (10 ∷ []) new d f o r
+  line-ended old mid new d e f o p q r fed told kept = bytes-kept (10 ∷ []) old new d f o q r (end-of-line old mid new d e f o p q fed told) kept
 
   pub serves-nothing : (s : Session) (d : D) (i o : Option (List ℕ)) → Serves does s s d d i i o o
   serves-nothing s d i o = record { bytes = []; consumed = consumes-nothing i; serves = bytes-nothing s d o }
@@ -169,7 +195,8 @@ module _ {D : Type 0} (does : D → Exchange → D → Type 0) where
 
   stops-at-before : (more rest : List ℕ) (old : Session) (d e : D) (o p : Option (List ℕ)) → StopsAt does old d o rest e p → StopsAt does old d o (rest ++ more) e p
   stops-at-before more rest old d e o p (AtOnce others q kept) = AtOnce (others ++ more) q kept
-  stops-at-before more rest old d e o p (InReplies byte others new f q stopped) = InReplies byte (others ++ more) new f q stopped
+  stops-at-before more rest old d e o p (InReplies bytes others new f q at_once stopped) =
+      subst (λ (l : List ℕ). StopsAt does old d o l f q) (sym (append_assoc bytes others more)) (InReplies bytes (others ++ more) new f q at_once stopped)
   stops-at-before more rest old d e o p (InNews others mid new between f replied q fed stopped) =
       InNews (others ++ more) mid new between f replied q fed stopped
 
@@ -187,42 +214,38 @@ module _ {D : Type 0} (does : D → Exchange → D → Type 0) where
   }
 
   -- and in a piece behind a first part of it
-  pub stops-within : (piece : List ℕ) (i : ℕ) (old mid : Session) (d e f : D) (o p q : Option (List ℕ)) → i < length piece
-      → ServesBytes does old (take i piece) mid d e o p → StopsBytes does mid (get_or piece i 0 ∷ []) e f p q → StopsBytes does old piece d f o q
-  stops-within piece i old mid d e f o p q within first second =
-      subst (λ (l : List ℕ). StopsBytes does old l d f o q)
-      (ap (λ (l : List ℕ). l ++ drop (i + 1) piece) (sym (take_more piece i 0 within)) ∙ take-append-drop (i + 1) piece)
-      (stops-before (take i piece ++ get_or piece i 0 ∷ []) (drop (i + 1) piece) old d f o q
-      (stops-behind (take i piece) (get_or piece i 0 ∷ []) old mid d e f o p q first second))
+  pub stops-within : (front part rest piece : List ℕ) (old mid : Session) (d e f : D) (o p q : Option (List ℕ)) → piece ≡ (front ++ part) ++ rest
+      → ServesBytes does old front mid d e o p → StopsBytes does mid part e f p q → StopsBytes does old piece d f o q
+  stops-within front part rest piece old mid d e f o p q whole first second =
+      subst (λ (l : List ℕ). StopsBytes does old l d f o q) (sym whole)
+      (stops-before (front ++ part) rest old d f o q (stops-behind front part old mid d e f o p q first second))
 
-  -- it fails in the replies to a byte, or in the news behind it
-  pub stops-replying : (byte : ℕ) (old new : Session) (d e : D) (o p : Option (List ℕ)) → Stops does old (byte ∷ []) new d e o p
-      → StopsBytes does old (byte ∷ []) d e o p
-  stops-replying byte old new d e o p stops = record {
+  -- it fails in the replies to bytes that are fed at once, or in the news behind a line's end
+  pub stops-replying : (bytes : List ℕ) (old new : Session) (d e : D) (o p : Option (List ℕ)) → IsFedAtOnce bytes → Stops does old bytes new d e o p
+      → StopsBytes does old bytes d e o p
+  stops-replying bytes old new d e o p at_once stops = record {
     front = [];
-    rest = byte ∷ [];
+    rest = bytes;
     whole = refl;
     mid = old;
     desk_mid = d;
     output_mid = o;
     served = bytes-nothing old d o;
-    stopped = InReplies byte [] new e p stops;
+    stopped = subst (λ (l : List ℕ). StopsAt does old d o l e p) (append-nil bytes) (InReplies bytes [] new e p at_once stops);
   }
 
-  pub stops-telling : (byte : ℕ) (old mid new : Session) (d e f : D) (o p q : Option (List ℕ)) → byte ≡ 10 → Feeds does old (byte ∷ []) mid d e o p
-      → StopsNews does mid new e f p q → StopsBytes does old (byte ∷ []) d f o q
-  stops-telling byte old mid new d e f o p q is fed stops =
-      subst (λ (b : ℕ). StopsBytes does old (b ∷ []) d f o q) (sym is)
-      (record {
-        front = [];
-        rest = 10 ∷ [];
-        whole = refl;
-        mid = old;
-        desk_mid = d;
-        output_mid = o;
-        served = bytes-nothing old d o;
-        stopped = InNews [] mid new e f p q (subst (λ (b : ℕ). Feeds does old (b ∷ []) mid d e o p) is fed) stops;
-      })
+  pub stops-telling : (old mid new : Session) (d e f : D) (o p q : Option (List ℕ)) → Feeds does old (10 ∷ []) mid d e o p
+      → StopsNews does mid new e f p q → StopsBytes does old (10 ∷ []) d f o q
+  stops-telling old mid new d e f o p q fed stops = record {
+    front = [];
+    rest = 10 ∷ [];
+    whole = refl;
+    mid = old;
+    desk_mid = d;
+    output_mid = o;
+    served = bytes-nothing old d o;
+    stopped = InNews [] mid new e f p q fed stops;
+  }
 
   -- it fails behind pieces that were served
   pub stops-behind-pieces : (old mid : Session) (d e f : D) (i j k o p q : Option (List ℕ))
@@ -243,7 +266,7 @@ module _ {D : Type 0} (does : D → Exchange → D → Type 0) where
   -- what was asked by then
   asked-at : (rest : List ℕ) (old : Session) (d e : D) (o p : Option (List ℕ)) → StopsAt does old d o rest e p → (asked : List Exchange) × Asks does d asked e
   asked-at rest old d e o p (AtOnce others q kept) = ([], refl)
-  asked-at rest old d e o p (InReplies byte others new f q stopped) =
+  asked-at rest old d e o p (InReplies bytes others new f q at_once stopped) =
       (stopped.fed.asked ++ stopped.asked, asks-joined does stopped.fed.asked stopped.asked d stopped.desk_mid f stopped.fed.asks stopped.asks)
   asked-at rest old d e o p (InNews others mid new between f replied q fed stopped) = (
     fed.asked ++ Shown stopped.shown ∷ [],

@@ -1,8 +1,9 @@
 -- Serving a session over a pair of streams.
-use Rattle.std.specs.Prelude.{◌≡◌, ◌≢◌, ℕ, List, [], ◌∷◌, ◌++◌, false, Option, Some, None}
+use Rattle.std.specs.Prelude.{◌≡◌, ◌⊎◌, ℕ, List, [], ◌∷◌, ◌++◌, false, Option, Some, None}
 use Rattle.std.specs.Io.KnownBytes.{Appends, Consumes, IsAtEnd, Keeps}
 use Rattle.session.specs.Session.{Session}
 use Rattle.session.specs.Exchange.{Exchange}
+use Rattle.session.specs.Line.{HasNoEnd}
 use Rattle.session.specs.Calls.{Call, Fed, IsForNews, Calls, StopsNews}
 use Rattle.session.specs.Replies.{Asks, Feeds, Stops}
 
@@ -10,13 +11,22 @@ use Rattle.session.specs.Replies.{Asks, Feeds, Stops}
 abbrev pub beginning : Session
 beginning = record { line = Some []; peer = record { source = None; subscriptions = [] }; ended = false }
 
--- Bytes of the input are served by these calls: each byte is fed, and the news follow each line.
+-- Bytes of the input are served by these calls: text within a line is fed, and the line's end, and the news follow each line.
 pub data AreServedBy : List ℕ → List Call → Type 0 where
   no_bytes : AreServedBy [] []
-  within_line : (byte : ℕ) (bytes : List ℕ) (calls : List Call) → byte ≢ 10 → AreServedBy bytes calls
-      → AreServedBy (byte ∷ bytes) (Fed (byte ∷ []) ∷ calls)
+  within_line : (text bytes : List ℕ) (calls : List Call) → HasNoEnd text → AreServedBy bytes calls
+      → AreServedBy (text ++ bytes) (Fed text ∷ calls)
   line_end : (bytes : List ℕ) (calls : List Call) (news : Call) → IsForNews news → AreServedBy bytes calls
       → AreServedBy (10 ∷ bytes) (Fed (10 ∷ []) ∷ news ∷ calls)
+
+-- bytes that are fed at once: text within a line, or the end of one
+abbrev pub IsFedAtOnce : List ℕ → Type 0
+IsFedAtOnce bytes = HasNoEnd bytes ⊎ (bytes ≡ 10 ∷ [])
+
+-- where bytes begin, a line ends, or there are none
+abbrev pub BeginsWithEnd : List ℕ → Type 0
+BeginsWithEnd [] = Unit {0}
+BeginsWithEnd (byte ∷ bytes) = byte ≡ 10
 
 module _ {D : Type 0} (does : D → Exchange → D → Type 0) where
   -- Bytes of the input were served, and what comes of the calls was written to the output.
@@ -42,12 +52,12 @@ module _ {D : Type 0} (does : D → Exchange → D → Type 0) where
     pub at_end : IsAtEnd input'
 
   -- A stream failed where all that is due was written, and these bytes were to be served next. It failed at once, and what is held back wasn't
-  -- sent on; or a beginning of the replies to the next byte was written; or its replies, and a beginning of the news behind it. What comes of
-  -- the other bytes wasn't asked.
+  -- sent on; or a beginning of the replies to the next bytes that were fed at once was written; or the replies to a line's end, and a beginning of
+  -- the news behind it. What comes of the other bytes wasn't asked.
   pub data StopsAt (old : Session) (desk : D) (output : Option (List ℕ)) : List ℕ → D → Option (List ℕ) → Type 0 where
     AtOnce : (others : List ℕ) (output' : Option (List ℕ)) → Keeps output output' → StopsAt old desk output others desk output'
-    InReplies : (byte : ℕ) (others : List ℕ) (new : Session) (desk' : D) (output' : Option (List ℕ)) → Stops does old (byte ∷ []) new desk desk' output output'
-        → StopsAt old desk output (byte ∷ others) desk' output'
+    InReplies : (bytes others : List ℕ) (new : Session) (desk' : D) (output' : Option (List ℕ)) → IsFedAtOnce bytes → Stops does old bytes new desk desk' output output'
+        → StopsAt old desk output (bytes ++ others) desk' output'
     InNews : (others : List ℕ) (mid new : Session) (between desk' : D) (replied output' : Option (List ℕ)) → Feeds does old (10 ∷ []) mid desk between output replied
         → StopsNews does mid new between desk' replied output' → StopsAt old desk output (10 ∷ others) desk' output'
 

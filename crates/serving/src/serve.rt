@@ -1,19 +1,20 @@
 //! One session over a pair of streams.
-ghost use Rattle.std.specs.Prelude.{◌≡◌, ◌⊎◌, ◌≤◌, ◌<◌, ◌∷◌, List, ℕ, [], None, Some, true, false, take, length, IfOk, IfErr, IsErrOf, OnOk, OnErr};
+ghost use Rattle.std.specs.Prelude.{◌≡◌, ◌⊎◌, ◌≤◌, ◌<◌, ◌∷◌, ◌++◌, List, ℕ, [], None, Some, true, false, take, length, IfOk, IfErr, IsErrOf, OnOk, OnErr};
 ghost use Rattle.std.specs.Io.KnownBytes.{Consumes, IsAtEnd, Keeps};
 ghost use Rattle.recovery.specs.Open.{IsOpen, has_failed as store_has_failed};
 ghost use Rattle.serving.specs.Asked.{KeepsAll};
 ghost use Rattle.serving.specs.Desk.{PassesAtStore, store_of, has_failed};
 ghost use Rattle.session.specs.Exchange.{Exchange};
+ghost use Rattle.session.specs.Line.{HasNoEnd};
 ghost use Rattle.session.specs.Replies.{Asks};
 ghost use Rattle.session.specs.Shelf.{Fits};
-ghost use Rattle.serving.specs.Serving.{Serves, ServesBytes, StopsBytes, StopsServing, IsServed, IsServedSoFar, beginning};
+ghost use Rattle.serving.specs.Serving.{Serves, ServesBytes, StopsBytes, StopsServing, IsServed, IsServedSoFar, BeginsWithEnd, beginning};
 
 use crate::desk::StoreDesk;
 use crate::failure::Failure;
 use disk::Disk;
 use refusal::Refusal;
-use session::{Desk, Output, Session, Shelf};
+use session::{Desk, Output, Session, Shelf, text_length};
 use std::alloc::Global;
 use std::io::{ErrorKind, Read};
 
@@ -38,7 +39,7 @@ pub fn serve<D: Disk, I: Read, O: Output>(
         → (asked : List Exchange) × Asks PassesAtStore desk.old asked desk.new
         × KeepsAll ⟦<D as Disk>⟧ desk.old desk.new asked }
     // Where a stream fails: what was written is what comes of a first part of the input that was taken, and a beginning of what comes of the
-    // next byte; nothing behind that was asked. Where the output hasn't failed, all that comes of what was taken is written.
+    // text of a line behind it, or of a line end; nothing behind that was asked. Where the output hasn't failed, all that comes of what was taken is written.
     ensures stopped { IsErrOf result Failure.Stream → StopsServing PassesAtStore beginning desk.old desk.new
         (I.remaining input.old) (I.remaining input.new) (O.contents output.old) (O.contents output.new) }
     ensures cause { IsErrOf result Failure.Stream → (O.has_failed output.new ≡ true)
@@ -144,7 +145,7 @@ fn read_some<I: Read>(input: &mut I, piece: &mut [u8]) -> Result<usize, Failure>
     Err(Failure::Stream)
 }
 
-// Feeds a piece byte by byte, so that the replies to a line and the news after it are out before the next one is taken.
+// Feeds a piece line by line, so that the replies to a line and the news after it are out before the next one is taken.
 fn feed_all<K: Desk, O: Output>(
     alloc: Global,
     session: &mut Session,
@@ -164,37 +165,79 @@ fn feed_all<K: Desk, O: Output>(
     ensures works { OnOk result (session.new.ended ≡ false) }
     ensures only { IfErr result (λ e. e ≡ Failure.Stream) }
 {
-    for byte in piece {
-        feed_byte(alloc, session, desk, shelf, *byte, output)?;
+    let mut rest = piece;
+    while !rest.is_empty() {
+        let (text, behind) = parted(rest);
+        feed_text(alloc, session, desk, shelf, text, output)?;
+        rest = match behind.split_first() {
+            Some((_end, next)) => {
+                end_line(alloc, session, desk, shelf, output)?;
+                next
+            }
+            None => behind,
+        };
     }
     Ok(())
 }
 
-fn feed_byte<K: Desk, O: Output>(
+// What stands in front of the first line end, and what stands from there on.
+fn parted(piece: &[u8]) -> (&[u8], &[u8])
+    ensures whole { piece.now ≡ result.0.now ++ result.1.now }
+    ensures text { HasNoEnd result.0.now }
+    ensures end { BeginsWithEnd result.1.now }
+{
+    piece.split_at(text_length(piece))
+}
+
+// Feeds text within a line.
+fn feed_text<K: Desk, O: Output>(
     alloc: Global,
     session: &mut Session,
     desk: &mut K,
     shelf: &mut Shelf,
-    byte: u8,
+    text: &[u8],
     output: &mut O,
 ) -> Result<(), Failure>
     requires fits { Fits (K.reached desk.old) shelf.old }
     requires works { session.old.ended ≡ false }
+    requires text { HasNoEnd text.now }
     ensures fits { Fits (K.reached desk.new) shelf.new }
-    ensures served { OnOk result (ServesBytes K.does session.old (byte ∷ []) session.new desk.old desk.new
+    ensures served { OnOk result (ServesBytes K.does session.old text.now session.new desk.old desk.new
         (O.contents output.old) (O.contents output.new)) }
-    ensures stopped { OnErr result (StopsBytes K.does session.old (byte ∷ []) desk.old desk.new
+    ensures stopped { OnErr result (StopsBytes K.does session.old text.now desk.old desk.new
         (O.contents output.old) (O.contents output.new)) }
     ensures cause { OnErr result (O.has_failed output.new ≡ true) }
     ensures works { OnOk result (session.new.ended ≡ false) }
     ensures only { IfErr result (λ e. e ≡ Failure.Stream) }
 {
-    let Ok(()) = session.feed(alloc, &[byte], output, desk, shelf) else {
+    let Ok(()) = session.feed(alloc, text, output, desk, shelf) else {
         return Err(Failure::Stream);
     };
-    if byte != b'\n' {
-        return Ok(());
-    }
+    Ok(())
+}
+
+// Feeds the end of a line, tells the news, and sends on what was written.
+fn end_line<K: Desk, O: Output>(
+    alloc: Global,
+    session: &mut Session,
+    desk: &mut K,
+    shelf: &mut Shelf,
+    output: &mut O,
+) -> Result<(), Failure>
+    requires fits { Fits (K.reached desk.old) shelf.old }
+    requires works { session.old.ended ≡ false }
+    ensures fits { Fits (K.reached desk.new) shelf.new }
+    ensures served { OnOk result (ServesBytes K.does session.old (10 ∷ []) session.new desk.old desk.new
+        (O.contents output.old) (O.contents output.new)) }
+    ensures stopped { OnErr result (StopsBytes K.does session.old (10 ∷ []) desk.old desk.new
+        (O.contents output.old) (O.contents output.new)) }
+    ensures cause { OnErr result (O.has_failed output.new ≡ true) }
+    ensures works { OnOk result (session.new.ended ≡ false) }
+    ensures only { IfErr result (λ e. e ≡ Failure.Stream) }
+{
+    let Ok(()) = session.feed(alloc, &[b'\n'], output, desk, shelf) else {
+        return Err(Failure::Stream);
+    };
     let Ok(_) = session.on_news(alloc, output, desk) else {
         return Err(Failure::Stream);
     };

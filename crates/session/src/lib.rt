@@ -61,6 +61,7 @@ mod state_desk;
 mod subscriptions;
 
 pub use desk::Desk;
+pub use line::text_length;
 pub use output::{Output, Stream, WriteFailed};
 pub use reply::Reply;
 pub use sent::Sent;

@@ -107,8 +107,8 @@ impl Line {
     }
 }
 
-// How many bytes stand in front of the first line end.
-fn text_length(piece: &[u8]) -> usize
+/// How many bytes of a piece of the input stand in front of its first line end, all of them where none is there.
+pub fn text_length(piece: &[u8]) -> usize
     ensures within { result ≤ length piece.now }
     ensures inner { (i : ℕ) → i < result → slice_index piece.now i ≢ 10 }
     ensures end { result < length piece.now → slice_index piece.now result ≡ 10 }
