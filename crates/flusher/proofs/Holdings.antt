@@ -1,5 +1,5 @@
 -- What a flusher holds, and how it fits the state of its store.
-use Rattle.std.proofs.Common.{◌≡◌, ◌≢◌, ◌⊎◌, inl, inr, ℕ, false, List, [], ◌∷◌, ◌++◌, Option, Some, None, refl, sym, ◌∙◌, ap, subst, append-nil}
+use Rattle.std.proofs.Common.{◌≡◌, ◌≢◌, ◌⊎◌, inl, inr, ℕ, true, false, List, [], ◌∷◌, ◌++◌, length, ◌<◌, Option, Some, None, refl, sym, ◌∙◌, ap, subst, append-nil, arith}
 use Rattle.std.specs.Prelude.{Result, Ok, Err, OnOk, IfErr, IsErrOf, option_to_list}
 use Rattle.std.specs.Option.{option_map}
 use Rattle.disk.specs.Crash.{LeavesOnly}
@@ -12,7 +12,7 @@ use Rattle.recovery.specs.declared.store.Store.{Store}
 use Rattle.recovery.specs.Faults.{FailsAtFaults}
 use Rattle.recovery.specs.Found.{commands_of, FoundAs}
 use Rattle.milestone.specs.Job.{Job}
-use Rattle.recovery.specs.Open.{IsOpen, IsUnchanged, IsPutNow, IsRetiredNow, IsWithOrWithout, device_of, state_of, has_failed}
+use Rattle.recovery.specs.Open.{IsOpen, IsUnchanged, IsCommittedNow, IsCommittedBehind, has_room, IsPutNow, IsRetiredNow, IsWithOrWithout, device_of, state_of, has_failed}
 use Rattle.recovery.specs.declared.run.StoreStep.TheVariants.{Retire as Retires}
 use Rattle.recovery.specs.Marked.{MayRetire}
 use Rattle.recovery.specs.Run.{IsTaken, IsWhy}
@@ -20,6 +20,7 @@ use Rattle.recovery.specs.Goes.{Goes}
 use Rattle.recovery.proofs.CallerLemmas.{goes_none, goes_call, open_unchanged, found_as, found_open}
 use Rattle.view.specs.Published.{Published}
 use Rattle.hub.specs.Runs.{Run}
+use Rattle.flusher.specs.Flushers.{IsCommittedTo, IsRunCommitted, IsHeldCommitted, IsGivenUp}
 use Rattle.flusher.proofs.Beginnings.{commands-append, fold-append}
 
 -- the refusal of an answer, or this one where there is none
@@ -49,6 +50,29 @@ module _ {D : Type 0} {disk : Ghosts D} where
       → Goes (IsWithOrWithout (state_of old) (commands_of batches)) old new
   goes_batch old new batch batches is goes =
       subst (λ (c : List Taken). Goes (IsWithOrWithout (state_of old) c) old new) (sym (ap commands_of is ∙ append-nil batch)) goes
+
+-- what is left of a store where no batch was to be committed, and where one was
+module _ {D : Type 0} {disk : Ghosts D} (old new : Store D disk) where
+  pub committed_one : (batch : List Taken) (batches : List (List Taken)) → batches ≡ batch ∷ []
+      → (has_room old batch ≡ true → (is_open : IsOpen old) → IsCommittedNow batch old is_open new)
+      → (has_room old batch ≡ false → (is_open : IsOpen old) → IsCommittedBehind batch old is_open new) → IsHeldCommitted batches old new
+  committed_one batch batches is now behind =
+      subst (λ (l : List (List Taken)). IsHeldCommitted l old new) (sym is)
+      (let done : IsCommittedTo batch old new = record { with_room = now; behind = behind } in done)
+
+  pub given_up_one : (batch : List Taken) (batches : List (List Taken)) → batches ≡ batch ∷ [] → (has_room old batch ≡ true → IsUnchanged old new) → IsGivenUp batches old new
+  given_up_one batch batches is unchanged = subst (λ (l : List (List Taken)). IsGivenUp l old new) (sym is) unchanged
+
+  run_of : (run : List Taken) → 0 < length run → IsCommittedTo run old new → IsRunCommitted run old new
+  run_of [] some done = absurd (let none : ⊥ = omega arith in none)
+  run_of (first ∷ others) some done = done
+
+  pub run_committed : (run : List Taken) (batches : List (List Taken)) → batches ≡ run ∷ [] → 0 < length run → IsHeldCommitted batches old new → IsRunCommitted run old new
+  run_committed run batches is some done = run_of run some (subst (λ (l : List (List Taken)). IsHeldCommitted l old new) is done)
+
+module _ {D : Type 0} {disk : Ghosts D} where
+  pub committed_none : (store : Store D disk) (batches : List (List Taken)) → batches ≡ [] → IsHeldCommitted batches store store
+  committed_none store batches none = subst (λ (l : List (List Taken)). IsHeldCommitted l store store) (sym none) refl
 
 -- an Ok is no refusal
 pub no_error : {A : Type 0} (answer : A) (refusal : Refusal) → IsErrOf (Ok answer) refusal → ⊥

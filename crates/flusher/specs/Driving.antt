@@ -15,7 +15,7 @@ use Rattle.recovery.specs.Open.{IsOpen, IsUnchanged, state_of, has_failed, has_r
 use Rattle.recovery.specs.Run.{IsTaken, IsWhy}
 use Rattle.hub.specs.Legal.{Board}
 use Rattle.hub.specs.Runs.{IsLongest, untaken}
-use Rattle.flusher.specs.Flushers.{IsUsedUp}
+use Rattle.flusher.specs.Flushers.{IsUsedUp, IsRunCommitted}
 use Rattle.flusher.specs.Holding.{CannotPublish, store_of}
 use Rattle.flusher.specs.declared.calls.Call.{Call}
 use Rattle.flusher.specs.declared.calls.Call.TheVariants.{Submit, Turn, Ack, Milestone, Retire}
@@ -59,6 +59,7 @@ module _ {D J : Type 0} {disk : Ghosts D} where
   Gives cap here Turn (Turned count) after =
       IsLongest cap (untaken here.board.board) count × (after.board ≡ turned here.board count) × (after.tickets ≡ here.tickets)
       × (state_of after.store ≡ fold (state_of here.store) (takens (next_run here.board.board count)))
+      × IsRunCommitted (takens (next_run here.board.board count)) here.store after.store
   Gives cap here (Ack at) (Acked told) after = (after ≡ here) × AckGives here.board (slice_get here.tickets at) told
   Gives cap here (Milestone document revision) Put after =
       (after.board ≡ here.board) × (after.tickets ≡ here.tickets) × IsTaken (PutsMilestone document revision) here.store after.store

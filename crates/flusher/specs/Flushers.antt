@@ -1,12 +1,12 @@
 -- What a flusher holds, and what a write makes of it.
-use Rattle.std.specs.Prelude.{◌≡◌, ◌≤◌, ◌<◌, ◌+◌, ◌-◌, ◌^◌, ℕ, min, Option, Some, None, List, [], ◌∷◌, ◌++◌, length}
+use Rattle.std.specs.Prelude.{◌≡◌, ◌≤◌, ◌<◌, ◌+◌, ◌-◌, ◌^◌, ℕ, min, true, false, Option, Some, None, List, [], ◌∷◌, ◌++◌, length}
 use Rattle.disk.specs.declared.device.Disk.{Ghosts}
 use Rattle.revision.specs.Command.{Taken}
 use Rattle.revision.specs.State.{State}
 use Rattle.segments.specs.Numbers.{newest_number}
 use Rattle.segments.specs.Ring.{known_numbers}
 use Rattle.recovery.specs.declared.store.Store.{Store}
-use Rattle.recovery.specs.Open.{FitsSlot, IsOpen, ring_of}
+use Rattle.recovery.specs.Open.{FitsSlot, IsOpen, IsCommittedNow, IsCommittedBehind, IsUnchanged, has_room, ring_of}
 
 -- A batch that is held has a command, its count has four bytes, and it fits a slot; and nothing else is still to be published.
 pub record MayCommit (state : State) (batch : List Taken) (committed : List (List Taken)) : Type 0 where
@@ -30,3 +30,25 @@ module _ {D : Type 0} {disk : Ghosts D} where
   -- An open store has opened its last segment: the newest one has the highest number there is.
   abbrev pub IsUsedUp : Store D disk → Type 0
   IsUsedUp store = IsOpen store → 2 ^ 64 - 1 ≤ newest_number (known_numbers (ring_of store))
+
+  -- A batch is committed to a store: the cells and the slots are those of before, but for the batch, where it had room, and else those that
+  -- freeing the oldest segment left.
+  pub record IsCommittedTo (batch : List Taken) (old new : Store D disk) : Type 0 where
+    pub with_room : has_room old batch ≡ true → (is_open : IsOpen old) → IsCommittedNow batch old is_open new
+    pub behind : has_room old batch ≡ false → (is_open : IsOpen old) → IsCommittedBehind batch old is_open new
+
+  -- the commands of a run are committed as one batch; of none the store is left as it was
+  abbrev pub IsRunCommitted : List Taken → Store D disk → Store D disk → Type 0
+  IsRunCommitted [] old new = new ≡ old
+  IsRunCommitted (first ∷ others) old new = IsCommittedTo (first ∷ others) old new
+
+  -- the batch that was to be committed, where there was one, is committed; and where there was none the store is left as it was
+  abbrev pub IsHeldCommitted : List (List Taken) → Store D disk → Store D disk → Type 0
+  IsHeldCommitted [] old new = new ≡ old
+  IsHeldCommitted (batch ∷ others) old new = IsCommittedTo batch old new
+
+  -- the batch that was to be committed isn't, where there was one, and the store is as it was, where that had room for it; and where there
+  -- was none the store is left as it was
+  abbrev pub IsGivenUp : List (List Taken) → Store D disk → Store D disk → Type 0
+  IsGivenUp [] old new = new ≡ old
+  IsGivenUp (batch ∷ others) old new = has_room old batch ≡ true → IsUnchanged old new

@@ -33,7 +33,7 @@ pub struct Flusher<D: Disk, J: Site> {
 
 impl<D: Disk, J: Site> Flusher<D, J> {
     ghost use Rattle.recovery.specs.Open.{IsWithOrWithout, has_failed, has_room};
-    ghost use Rattle.flusher.specs.Flushers.{IsUsedUp, IsWritten, cap_of};
+    ghost use Rattle.flusher.specs.Flushers.{IsUsedUp, IsWritten, IsHeldCommitted, IsGivenUp, cap_of};
     ghost use Rattle.recovery.specs.Goes.{Goes};
     ghost use Rattle.flusher.specs.Holding.{IsLost, IsUncommitted, store_of, told_of, committed_of, waiting_of};
 
@@ -95,6 +95,11 @@ impl<D: Disk, J: Site> Flusher<D, J> {
         ensures state { OnOk result (state_of (store_of self.new)
             ≡ fold (state_of (store_of self.old)) (commands_of (waiting_of self.old))) }
         ensures same_state { OnErr result (state_of (store_of self.new) ≡ state_of (store_of self.old)) }
+        // The cells and the slots are those of before, but for the batch, where it had room, and else those that freeing left.
+        ensures committed { OnOk result (IsHeldCommitted (waiting_of self.old) (store_of self.old) (store_of self.new)) }
+        // Where it had room, all of the store is as it was.
+        ensures given_up { (IsErrOf result Refusal.Stranger) ⊎ (IsErrOf result Refusal.NoMemory)
+            → IsGivenUp (waiting_of self.old) (store_of self.old) (store_of self.new) }
 
         // When each refusal comes.
         ensures fails { has_failed (store_of self.old) ≡ false
@@ -155,6 +160,14 @@ impl<D: Disk, J: Site> Flusher<D, J> {
             ++ waiting_of self.old) }
         ensures state { OnOk result (state_of (store_of self.new)
             ≡ fold (state_of (store_of self.old)) (commands_of (waiting_of self.old))) }
+        // The cells and the slots are those of before, but for the batch, where it had room, and else those that freeing left; of no batch
+        // the store is as it was.
+        ensures committed { OnOk result (IsHeldCommitted (waiting_of self.old) (store_of self.old) (store_of self.new)) }
+        ensures given_up { IsErrOf result Refusal.Stranger
+            → IsGivenUp (waiting_of self.old) (store_of self.old) (store_of self.new) }
+        ensures memory { IsErrOf result Refusal.NoMemory
+            → (IsGivenUp (waiting_of self.old) (store_of self.old) (store_of self.new))
+            ⊎ IsHeldCommitted (waiting_of self.old) (store_of self.old) (store_of self.new) }
 
         // Whether the batch is committed after a refusal: after `StoreFailed` it is, and isn't published, after `NoMemory` it may be, and
         // after any other it isn't.

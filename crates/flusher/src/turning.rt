@@ -5,7 +5,7 @@ ghost use Rattle.world.specs.Board.{next_run};
 ghost use Rattle.world.specs.World.{takens};
 ghost use Rattle.hub.specs.Runs.{IsLongest, untaken};
 ghost use Rattle.recovery.specs.Open.{state_of, has_failed};
-ghost use Rattle.flusher.specs.Flushers.{cap_of};
+ghost use Rattle.flusher.specs.Flushers.{cap_of, IsRunCommitted};
 ghost use Rattle.flusher.specs.Holding.{store_of};
 ghost use Rattle.flusher.specs.Standing.{IsCalm, RunGoes};
 ghost use Rattle.flusher.specs.Run.{standing};
@@ -39,6 +39,8 @@ pub fn turn<D: Disk, J: Site, R: Wait>(
     ensures settled { IfOk result (λ count. board.new ≡ turned board.old count) }
     ensures state { IfOk result (λ count. state_of (store_of flusher.new)
         ≡ fold (state_of (store_of flusher.old)) (takens (next_run board.old.board count))) }
+    ensures committed { IfOk result (λ count. IsRunCommitted (takens (next_run board.old.board count))
+        (store_of flusher.old) (store_of flusher.new)) }
     ensures fails { has_failed (store_of flusher.new) ≡ true ↔ IsErrOf result Refusal.Fault }
     ensures refused { IfErr result (λ e. ((e ≡ Refusal.NoMemory) ⊎ (e ≡ Refusal.Fault))
         ⊎ IsTurnRefused (cap_of (state_of (store_of flusher.old))) board.old (store_of flusher.old) e

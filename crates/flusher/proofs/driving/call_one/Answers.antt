@@ -41,6 +41,7 @@ returns-in_ok-count-in-Turn-clause-gives g c =
       c.in_ok-count-in-Turn.ensures.settled,
       refl,
       c.in_ok-count-in-Turn.ensures.state,
+      c.in_ok-count-in-Turn.ensures.committed,
     )
 
 pub returns-in-Ack-clause-goes : goal.returns-in-Ack-clause-goes

@@ -13,13 +13,13 @@ use Rattle.flusher.specs.Holding.{store_of, told_of, committed_of, waiting_of}
 use Rattle.flusher.specs.Standing.{RunGoes}
 use Rattle.flusher.specs.Run.{standing}
 use Rattle.flusher.specs.Driving.{turned, IsTurnRefused}
-use Rattle.flusher.specs.Flushers.{cap_of}
+use Rattle.flusher.specs.Flushers.{cap_of, IsRunCommitted, IsHeldCommitted}
 use Rattle.refusal.specs.declared.Refusal.{Refusal}
 use Rattle.refusal.specs.declared.Refusal.TheVariants.{NoMemory, Fault}
 use Rattle.flusher.proofs.Running.{run_none}
 use Rattle.flusher.proofs.Steps.{run_of_none, run_refused_by, run_settled}
 use Rattle.flusher.proofs.Fitting.{fits_slot, run_fits, run_within, may_settle, goes_held}
-use Rattle.flusher.proofs.Holdings.{same_batch}
+use Rattle.flusher.proofs.Holdings.{same_batch, run_committed}
 use Rattle.flusher.proofs.Answering.{turned_by, turned_not, turn_refused, handed_on}
 use Rattle.flusher.proofs.turning.turn.Goals as goal
 
@@ -152,6 +152,16 @@ returns-in_ok-settle-in-Some-clause-state g c =
     c.in_ok-write.ensures.state ∙ ap (λ s. fold (state_of s) (commands_of (waiting_of c.hold.new.self))) c.hold.ensures.store
     ∙ ap (λ (l : List (List Taken)). fold (state_of (store_of c.args.flusher.now)) (commands_of l)) c.hold.ensures.waiting
     ∙ ap (fold (state_of (store_of c.args.flusher.now))) (append-nil c.in_ok-run.run'.commands ∙ c.in_ok-run.ensures.run ∙ ap (λ (n : ℕ). takens (next_run c.args.board.now.board n)) count)
+
+pub returns-in_ok-settle-in-Some-clause-committed : goal.returns-in_ok-settle-in-Some-clause-committed
+returns-in_ok-settle-in-Some-clause-committed g c =
+    let run = c.in_ok-run.run'.commands in
+    let some : 0 < length run = omega arith in
+    let count : length run ≡ c.len-count.result = omega arith in
+    let done = subst (λ s. IsHeldCommitted (waiting_of c.hold.new.self) s (store_of c.write.new.self)) c.hold.ensures.store c.in_ok-write.ensures.committed in
+    subst (λ (r : List Taken). IsRunCommitted r (store_of c.args.flusher.now) (store_of c.write.new.self))
+    (c.in_ok-run.ensures.run ∙ ap (λ (n : ℕ). takens (next_run c.args.board.now.board n)) count)
+    (run_committed (store_of c.args.flusher.now) (store_of c.write.new.self) run (waiting_of c.hold.new.self) c.hold.ensures.waiting some done)
 
 pub returns-in_err-write-clause-refused : goal.returns-in_err-write-clause-refused
 returns-in_err-write-clause-refused g c =

@@ -2,9 +2,9 @@ use Rattle.std.proofs.Common.{◌≡◌, ⊎_elim, inl, inr, [], ◌∷◌, ◌+
 use Rattle.revision.specs.Command.{Taken}
 use Rattle.revision.specs.State.{fold, all_grow}
 use Rattle.recovery.specs.Found.{commands_of}
-use Rattle.refusal.specs.declared.Refusal.TheVariants.{JournalFull, StillNeeded, Stranger}
+use Rattle.refusal.specs.declared.Refusal.TheVariants.{JournalFull, StillNeeded, Stranger, NoMemory}
 use Rattle.view.specs.Published.{Published}
-use Rattle.flusher.proofs.Holdings.{held_in, goes_not, goes_batch, kept_more, same_refusal}
+use Rattle.flusher.proofs.Holdings.{held_in, goes_not, goes_batch, committed_none, committed_one, given_up_one, kept_more, same_refusal}
 use Rattle.flusher.proofs.flusher.Flusher.commit_held.Goals as goal
 
 pub returns-in-None-clause-goes : goal.returns-in-None-clause-goes
@@ -43,6 +43,25 @@ returns-in-Ok-clause-state g c =
     let held : c.args.self.now.waiting ≡ Some c.in-Some.batch = cc in
     let same : c.commands.result.now ≡ c.in-Some.batch.commands = cc in
     c.in-Ok.ensures.state ∙ ap (fold c.args.self.now.store.state) (same ∙ sym (ap commands_of (ap held_in held) ∙ append-nil _))
+
+pub returns-in-None-clause-committed : goal.returns-in-None-clause-committed
+returns-in-None-clause-committed g c =
+    let none : c.args.self.now.waiting ≡ None = cc in
+    committed_none c.args.self.now.store (held_in c.args.self.now.waiting) (ap held_in none)
+
+pub returns-in-Ok-clause-committed : goal.returns-in-Ok-clause-committed
+returns-in-Ok-clause-committed g c =
+    let held : c.args.self.now.waiting ≡ Some c.in-Some.batch = cc in
+    let same : c.commands.result.now ≡ c.in-Some.batch.commands = cc in
+    committed_one _ _ c.commands.result.now _ (ap held_in held ∙ ap (λ (b : List Taken). b ∷ []) (sym same)) c.in-Ok.ensures.committed c.in-Ok.ensures.committed_behind
+
+pub returns-in-Err-clause-given_up : goal.returns-in-Err-clause-given_up
+returns-in-Err-clause-given_up g c told =
+    let held : c.args.self.now.waiting ≡ Some c.in-Some.batch = cc in
+    let same : c.commands.result.now ≡ c.in-Some.batch.commands = cc in
+    given_up_one _ _ c.commands.result.now _ (ap held_in held ∙ ap (λ (b : List Taken). b ∷ []) (sym same))
+    (λ room. ⊎_elim (λ stranger. c.in-Err.ensures.untouched room (same_refusal c.in-Err.refusal Stranger stranger))
+    (λ memory. c.in-Err.ensures.given_up room (same_refusal c.in-Err.refusal NoMemory memory)) told)
 
 pub returns-in-Err-clause-goes : goal.returns-in-Err-clause-goes
 returns-in-Err-clause-goes g c =
