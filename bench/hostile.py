@@ -4,7 +4,8 @@
 usage: bench/hostile.py [NAME..]     (default: each row)
 
 A row is one way, over one server for all rows. After each row a plain session has to create a document, edit it and fetch it, and
-before the end of the script 64 sessions have to find places again. A row that fails says why, and the status is 1.
+before the end of the script 64 sessions have to find places again. No row may take the server above the memory that it had at the
+beginning by more than MOST for each place (Linux tells it). A row that fails says why, and the status is 1.
 
 Run ./demo first, which builds crates/richd/out/richd, or name another program in RICHD. The store lies in a temporary folder (TMPDIR).
 """
@@ -19,10 +20,12 @@ from serving import served_anew
 
 PLACES = 64
 PATIENCE = 30  # seconds
+MOST = 2 << 20  # bytes: for a session with its line, what is read of it and a reply, and for the documents of the rows
 HELLO = b'{"do":"hello","source":"s"}\n'
 GREETING = b'{"ok":"hello"}\n'
 BAD_LINE = b'{"code":1,"error":"BadLine"}\n'
 LINE_TOO_LONG = b'{"code":23,"error":"LineTooLong"}\n'
+TOO_MANY_OPS = b'{"code":4,"error":"TooManyOps"}\n'
 
 
 def connect():
@@ -60,6 +63,13 @@ def expect(stream, sent, wanted):
     stream.sendall(sent)
     got = read_up_to(stream, len(wanted))
     assert got == wanted, (got, wanted)
+
+
+def memory(name):
+    """The bytes of memory that the server has now (VmRSS), or had at most (VmHWM)."""
+    with open(f"/proc/{server.pid}/status") as status:
+        (size,) = (line.split()[1] for line in status if line.startswith(name + ":"))
+    return int(size) * 1024
 
 
 def session():
@@ -191,6 +201,45 @@ def never_reads():
         assert 4 < took < 20, took
 
 
+def never_reads_news():
+    """A peer that follows a document and never reads is closed, while who writes the document is answered."""
+    text, number = "x" * 15_000, 1
+    with session_soon() as stream, session_soon() as writer:
+        replies = writer.makefile("rb")
+        expect(writer, b'{"do":"create","doc":"loud","n":1,"ops":[]}\n', b'{"doc":"loud","n":1,"ok":"taken","rev":1}\n')
+        expect(stream, b'{"do":"subscribe","doc":"loud","rev":1}\n', b'{"doc":"loud","ok":"subscribed","rev":1}\n')
+        stream.settimeout(1)
+        until = time.monotonic() + 90
+        try:
+            while time.monotonic() < until:
+                for ops in ([{"insert": text}], [{"delete": len(text)}]):
+                    number += 1
+                    message = {"do": "edit", "doc": "loud", "n": number, "base": number - 1, "ops": ops}
+                    writer.sendall(json.dumps(message).encode() + b"\n")
+                    reply = json.loads(replies.readline())
+                    assert reply == {"doc": "loud", "n": number, "ok": "taken", "rev": number}, reply
+                stream.send(b"\n")  # its reply isn't read either; once the server has closed this fails
+                if number > 1_000:
+                    time.sleep(0.1)  # by now the news that nobody reads are about as much as the system takes
+            raise AssertionError("it was never closed")
+        except ConnectionError:
+            pass
+
+
+def dear_lines():
+    """64 sessions at once whose lines take the most memory to be read: small values, as many as a line holds."""
+    line = b'{"do":"create","doc":"dear","n":1,"ops":[' + b",".join([b"[]"] * 21_000) + b"]}\n"
+    streams = [session_soon() for _ in range(PLACES)]
+    for _ in range(3):
+        for stream in streams:
+            stream.sendall(line)
+        for stream in streams:
+            got = read_up_to(stream, len(TOO_MANY_OPS))
+            assert got == TOO_MANY_OPS, got
+    for stream in streams:
+        stream.close()
+
+
 rows = [
     line_without_end,
     longest_line,
@@ -201,6 +250,8 @@ rows = [
     vanished,
     two_hundred,
     never_reads,
+    never_reads_news,
+    dear_lines,
 ]
 
 
@@ -222,6 +273,7 @@ def use(number):
 failed = 0
 with tempfile.TemporaryDirectory() as folder:
     server, address = served_anew(folder)
+    first = memory("VmRSS")
     for number, row in enumerate(rows):
         if len(sys.argv) > 1 and row.__name__ not in sys.argv[1:]:
             continue
@@ -229,7 +281,9 @@ with tempfile.TemporaryDirectory() as folder:
         try:
             row()
             use(number)
-            print(f"ok      {row.__name__}, {time.monotonic() - begin:.1f} s")
+            took, more = time.monotonic() - begin, memory("VmHWM") - first
+            assert more <= PLACES * MOST, f"{more >> 10} KiB more than at the beginning"
+            print(f"ok      {row.__name__}, {took:.1f} s; so far at most {more >> 10} KiB more than at the beginning")
         except (AssertionError, OSError, ValueError) as error:
             failed += 1
             print(f"FAILED  {row.__name__}: {error!r}")

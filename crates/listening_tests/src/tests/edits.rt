@@ -1,4 +1,5 @@
-use super::{EVERY, FETCH, formatted, greeted, is_told, line_from, opened, served};
+use super::places::greeted_all;
+use super::{EVERY, FETCH, formatted, greeted, is_told, line_from, opened, send, served};
 use std::net::{Net, SocketAddr, TcpStream};
 use std::process::Abort;
 
@@ -18,6 +19,15 @@ const SHOWN_2: &str = "{\"doc\":\"d\",\"ok\":\"doc\",\"ops\":[{\"insert\":\"qz\"
 const SUBSCRIBE: &str = "{\"do\":\"subscribe\",\"doc\":\"d\",\"rev\":1}";
 
 const SUBSCRIBED: &str = "{\"doc\":\"d\",\"ok\":\"subscribed\",\"rev\":1}";
+
+const UNSUBSCRIBE: &str = "{\"do\":\"unsubscribe\",\"doc\":\"d\"}";
+
+const UNSUBSCRIBED: &str = "{\"doc\":\"d\",\"ok\":\"unsubscribed\"}";
+
+/// How many sources write the document that one follows, and how many edits each of them makes.
+const WRITERS: u32 = 60;
+
+const EACH: u64 = 5;
 
 fn share<R: Abort + AllocGlobal + Net<Stream = TcpStream>>(rt: &R, address: SocketAddr) {
     let ann = greeted(rt, address, "ann");
@@ -95,5 +105,45 @@ fn follow<R: Abort + AllocGlobal + Net<Stream = TcpStream>>(rt: &R, address: Soc
 fn a_subscriber_sees_every_revision_once_in_order(rt: HostRuntime) {
     let store = opened(&rt, formatted(&rt));
     let (_store, ended) = served(&rt, store, EVERY, |address| follow(&rt, address));
+    assert_eq!(&rt; ended, Ok(()));
+}
+
+// Each writer sends its edit of this number before any reads a reply, and each edit is taken.
+fn all_edit(rt: &(impl Abort + AllocGlobal), writers: &[TcpStream], number: u64) {
+    let edit = format!(in rt.alloc();
+        "{{\"base\":1,\"do\":\"edit\",\"doc\":\"d\",\"n\":{number},\"ops\":[{{\"insert\":\"q\"}}]}}"
+    ).expect(rt, "memory");
+    let taken = format!(in rt.alloc();
+        "{{\"doc\":\"d\",\"n\":{number},\"ok\":\"taken\",\"rev\":"
+    ).expect(rt, "memory");
+    for writer in writers {
+        send(rt, writer, edit.as_str());
+    }
+    for writer in writers {
+        let reply = line_from(rt, writer);
+        assert!(rt; reply.as_str().starts_with(taken.as_str()), "{reply}");
+    }
+}
+
+// 300 edits of 60 writers make the revisions from 2 on, and behind the last one no line comes but a reply.
+fn follow_all<R: Abort + AllocGlobal + Net<Stream = TcpStream>>(rt: &R, address: SocketAddr) {
+    let ann = greeted(rt, address, "ann");
+    is_told(rt, &ann, CREATE, TAKEN_1);
+    let bob = greeted(rt, address, "bob");
+    is_told(rt, &bob, SUBSCRIBE, SUBSCRIBED);
+    let writers = greeted_all(rt, address, WRITERS);
+    for number in 1..=EACH {
+        all_edit(rt, writers.as_slice(), number);
+    }
+    for revision in 2..302 {
+        is_seen(rt, &bob, revision);
+    }
+    is_told(rt, &bob, UNSUBSCRIBE, UNSUBSCRIBED);
+}
+
+#[test]
+fn a_subscriber_sees_what_sixty_write_once_in_order(rt: HostRuntime) {
+    let store = opened(&rt, formatted(&rt));
+    let (_store, ended) = served(&rt, store, EVERY, |address| follow_all(&rt, address));
     assert_eq!(&rt; ended, Ok(()));
 }

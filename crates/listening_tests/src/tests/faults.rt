@@ -1,6 +1,7 @@
-use super::{EVERY, FETCH, formatted, greeted, is_told, opened, served};
+use super::{EVERY, FETCH, formatted, greeted, is_told, line_from, opened, served};
 use disk::{Disk, FaultDisk, FaultPlan, Left};
 use refusal::Refusal;
+use std::io::Write;
 use std::net::{Net, SocketAddr, TcpStream};
 use std::process::Abort;
 
@@ -9,6 +10,17 @@ const CREATE: &str = "{\"do\":\"create\",\"doc\":\"d\",\"n\":1,\"ops\":[{\"inser
 const FAILED: &str = "{\"code\":21,\"error\":\"StoreFailed\"}";
 
 const MISSING: &str = "{\"code\":6,\"error\":\"NoDocument\"}";
+
+/// A batch has room for one creation of so many letters of two bytes, and not for two.
+const LETTERS: usize = 1_300;
+
+const TAKEN: &str = "{\"doc\":\"d\",\"n\":1,\"ok\":\"taken\",\"rev\":1}";
+
+const SINCE: &str = "{\"do\":\"since\",\"doc\":\"d\",\"rev\":1}";
+
+const NO_DELTAS: &str = "{\"deltas\":[],\"doc\":\"d\",\"ok\":\"since\",\"rev\":1}";
+
+const FETCH_OTHER: &str = "{\"do\":\"fetch\",\"doc\":\"e\"}";
 
 fn fail<R: Abort + AllocGlobal + Net<Stream = TcpStream>>(rt: &R, address: SocketAddr) {
     let ann = greeted(rt, address, "ann");
@@ -35,5 +47,36 @@ fn a_failing_device_fails_each_command_and_readers_go_on(rt: HostRuntime) {
     let plan = FaultPlan::fail(calls_of_opening(&rt), Left::Nothing);
     let store = opened(&rt, faulty(&rt, plan));
     let (_store, ended) = served(&rt, store, EVERY, |address| fail(&rt, address));
+    assert_eq!(&rt; ended, Err(Refusal::Fault));
+}
+
+// Two creations, as two lines that are sent in one write.
+fn creations(rt: &(impl Abort + AllocGlobal)) -> String {
+    let text = "é".repeat(rt.alloc(), LETTERS).expect(rt, "memory");
+    let lines = format!(in rt.alloc();
+        "{{\"do\":\"create\",\"doc\":\"d\",\"n\":1,\"ops\":[{{\"insert\":\"{text}\"}}]}}\n{{\"do\":\"create\",\"doc\":\"e\",\"n\":1,\"ops\":[{{\"insert\":\"{text}\"}}]}}\n"
+    );
+    lines.expect(rt, "memory")
+}
+
+// Of two commands sent ahead the first one's batch is settled when the second one's fails: it has its reply all the same.
+fn fail_between<R: Abort + AllocGlobal + Net<Stream = TcpStream>>(rt: &R, address: SocketAddr) {
+    let ann = greeted(rt, address, "ann");
+    let mut output = &ann;
+    output
+        .write_all(creations(rt).as_str().as_bytes())
+        .expect(rt, "a write");
+    assert_eq!(rt; line_from(rt, &ann).as_str(), TAKEN);
+    assert_eq!(rt; line_from(rt, &ann).as_str(), FAILED);
+    is_told(rt, &ann, SINCE, NO_DELTAS);
+    is_told(rt, &ann, FETCH_OTHER, MISSING);
+}
+
+// The first creation opens a slot and is appended, by eight calls. The second one's first call fails.
+#[test]
+fn of_lines_sent_ahead_those_that_are_settled_are_acknowledged(rt: HostRuntime) {
+    let call = calls_of_opening(&rt).saturating_add(8);
+    let store = opened(&rt, faulty(&rt, FaultPlan::fail(call, Left::Nothing)));
+    let (_store, ended) = served(&rt, store, EVERY, |address| fail_between(&rt, address));
     assert_eq!(&rt; ended, Err(Refusal::Fault));
 }

@@ -34,7 +34,7 @@ fn is_served<R: Net<Stream = TcpStream>>(rt: &R, address: SocketAddr) -> bool {
 }
 
 /// Connections of so many sources.
-fn greeted_all<R: Abort + AllocGlobal + Net<Stream = TcpStream>>(
+pub fn greeted_all<R: Abort + AllocGlobal + Net<Stream = TcpStream>>(
     rt: &R,
     address: SocketAddr,
     count: u32,

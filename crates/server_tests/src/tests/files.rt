@@ -154,6 +154,48 @@ fn command_runs<
     runs(rt, &["richd", command, path], &mut io::empty(), wanted);
 }
 
+/// Serves a store at an address that can't be had, and ends with this error.
+fn listens_nowhere<
+    R: Files<File = File>
+        + AllocGlobal
+        + Net<Listener = TcpListener, Stream = TcpStream>
+        + Threads
+        + Wait
+        + Sync
+        + Abort,
+>(rt: &R, path: &str, address: &str, errors: &str) {
+    let words = ["richd", "serve", path, "--listen", address];
+    runs(rt, &words, &mut io::empty(), (1, "", errors));
+}
+
+/// An address without a port, and one at which somebody else listens. The store's own faults are found before.
+fn no_address_is_had<
+    R: Files<File = File>
+        + AllocGlobal
+        + Net<Listener = TcpListener, Stream = TcpStream>
+        + Threads
+        + Wait
+        + Sync
+        + Abort,
+>(rt: &R, path: &str) {
+    let listener = TcpListener::bind(rt, "127.0.0.1:0").expect(rt, "a listener");
+    let bound = listener.local_addr().expect(rt, "an address");
+    let bound = format!(in rt.alloc(); "{bound}").expect(rt, "memory");
+    listens_nowhere(rt, path, "nowhere", "error 30 NotFormatted\n");
+    remove(rt, path);
+    format_small(rt, path);
+    listens_nowhere(rt, path, "nowhere", "error 34 Fault\n");
+    listens_nowhere(rt, path, bound.as_str(), "error 34 Fault\n");
+}
+
+#[test]
+fn an_address_that_cannot_be_had_is_a_fault(rt: HostRuntime) {
+    let path = path(&rt, "address").expect(&rt, "a path");
+    fs::write(&rt, path.as_str(), [0; 64].as_slice()).expect(&rt, "the file");
+    no_address_is_had(&rt, path.as_str());
+    remove(&rt, path.as_str());
+}
+
 #[test]
 fn a_file_in_no_folder_is_a_fault(rt: HostRuntime) {
     let path = path(&rt, "folder/none").expect(&rt, "a path");
