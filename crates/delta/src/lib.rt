@@ -27,7 +27,8 @@
 //!
 //! /// The delta that inserts a text behind so many code units.
 //! pub fn insert_behind(alloc: Global, kept: u64, text: String) -> Result<Delta, Refusal>
-//!     ensures { IfOk result (λ delta. delta ≡ nf (counted (retain kept empty ∷ insert_text (units_of (string_bytes text)) empty ∷ []))) }
+//!     ensures { IfOk result (λ delta. delta
+//!         ≡ nf (counted (retain kept empty ∷ insert_text (units_of (string_bytes text)) empty ∷ []))) }
 //! {
 //!     laws::built_in_pieces();
 //!     laws::normal_of_built();

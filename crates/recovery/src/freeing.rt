@@ -209,7 +209,8 @@ impl<D: Disk> Store<D> {
             → IsHalfFreed self.old is_open self.new) }
         ensures calls { IsOpen self.old
             → length (D.past (device_of self.new)) ≤ length (D.past (device_of self.old))
-            + 12 * needing segment (known_marks self.old) (known_cells self.old) (length (state_of self.old).documents) }
+            + 12 * needing segment (known_marks self.old) (known_cells self.old)
+            (length (state_of self.old).documents) }
         ensures calls_by_marks { length (D.past (device_of self.new))
             ≤ length (D.past (device_of self.old)) + 12 * length (known_marks self.old) }
         ensures keeps { KeepsSegments self.old self.new }

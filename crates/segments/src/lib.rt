@@ -22,7 +22,8 @@
 //! /// Appends one byte. A crash at any moment leaves the table before, with a slot opened for it, or with it.
 //! pub fn append_byte<D: Disk>(alloc: Global, ring: &mut Ring, disk: &mut D, byte: u8) -> Result<(), Refusal>
 //!     requires within { end_of ring.old ≤ length (D.seen disk.old) }
-//!     ensures any_moment { (table : List (Option Segment)) → D.unsynced disk.old ≡ [] → Fits (D.seen disk.old) ring.old table
+//!     ensures any_moment { (table : List (Option Segment)) → D.unsynced disk.old ≡ []
+//!         → Fits (D.seen disk.old) ring.old table
 //!         → LeavesOnly ⟦<D as Disk>⟧ (IsLeftByAppend (D.seen disk.old) ring.old table (byte ∷ [])) disk.old disk.new }
 //! {
 //!     let record = Record::of_body(alloc, &[byte])?;

@@ -36,8 +36,8 @@
 //! ) -> Result<(), SessionEnded>
 //!     requires fits { Fits desk.old shelf.old }
 //!     ensures fits { Fits desk.new shelf.new }
-//!     ensures fed { OnOk result (FedAlone (of_session session.old desk.old) piece.now (of_session session.new desk.new)
-//!         (O.contents out.old) (O.contents out.new)) }
+//!     ensures fed { OnOk result (FedAlone (of_session session.old desk.old) piece.now
+//!         (of_session session.new desk.new) (O.contents out.old) (O.contents out.new)) }
 //! {
 //!     desk.feed(alloc, session, piece, out, shelf)
 //! }

@@ -38,7 +38,8 @@
 //!     writer: &mut Writer<J>,
 //! ) -> Result<Idle<J>, Failed<J>>
 //!     ensures stays { (more : List (List Taken)) × (told_of flusher.new ≡ told_of flusher.old ++ more) }
-//!     ensures holds { OnOk result (state_of (store_of flusher.new) ≡ fold J.start (commands_of (told_of flusher.new))) }
+//!     ensures holds { OnOk result (state_of (store_of flusher.new)
+//!         ≡ fold J.start (commands_of (told_of flusher.new))) }
 //! {
 //!     let ended = flush_all(rt, alloc, flusher, hub, writer, 0, &mut OpenGate);
 //!     flusher.kept();

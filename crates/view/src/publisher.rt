@@ -152,8 +152,10 @@ impl<D, J: Site> Publisher<D, J> {
     ) -> Result<Option<(Receipt<D>, Told<D, J>)>, Unpublished<J>>
         ensures batch { IfOk result (λ published. IfSome published (λ p. self.old.unpublished ≡ p.0 ∷ [])) }
         ensures told { IfOk result (λ published. IfSome published (λ p. p.1 ≡ self.old.told ++ p.0 ∷ [])) }
-        ensures shown { IfOk result (λ published. IfSome published (λ p. self.new ≡ record { told = p.1; unpublished = [] })) }
-        ensures none { IfOk result (λ published. IfNone published ((self.old.unpublished ≡ []) × (self.new ≡ self.old))) }
+        ensures shown { IfOk result (λ published. IfSome published
+            (λ p. self.new ≡ record { told = p.1; unpublished = [] })) }
+        ensures none { IfOk result (λ published. IfNone published
+            ((self.old.unpublished ≡ []) × (self.new ≡ self.old))) }
         ensures unchanged { OnErr result (self.new ≡ self.old) }
         ensures refused { IfErr result (λ why. IsUnpublished self.old why) }
     {
@@ -182,8 +184,10 @@ fn published<D, J: Site, R: Wait>(
 )
     ensures batch { IfOk result.1 (λ published. IfSome published (λ p. publisher.unpublished ≡ p.0 ∷ [])) }
     ensures told { IfOk result.1 (λ published. IfSome published (λ p. p.1 ≡ publisher.told ++ p.0 ∷ [])) }
-    ensures shown { IfOk result.1 (λ published. IfSome published (λ p. result.0 ≡ record { told = p.1; unpublished = [] })) }
-    ensures none { IfOk result.1 (λ published. IfNone published ((publisher.unpublished ≡ []) × (result.0 ≡ publisher))) }
+    ensures shown { IfOk result.1 (λ published. IfSome published
+        (λ p. result.0 ≡ record { told = p.1; unpublished = [] })) }
+    ensures none { IfOk result.1 (λ published. IfNone published
+        ((publisher.unpublished ≡ []) × (result.0 ≡ publisher))) }
     ensures unchanged { OnErr result.1 (result.0 ≡ publisher) }
     ensures refused { IfErr result.1 (λ why. IsUnpublished publisher why) }
 {

@@ -433,7 +433,8 @@ fn folded(alloc: Global, limits: Limits, entries: &[Entry]) -> Result<State, Ref
 
 // Whether a state has a document of this number at this revision, or beyond.
 fn has_made(state: &State, document: usize, revision: u64) -> bool
-    ensures { result ≡ (nat_le 1 revision && nat_le revision (newest_revision (slice_get state.now.documents document))) }
+    ensures { result
+        ≡ (nat_le 1 revision && nat_le revision (newest_revision (slice_get state.now.documents document))) }
 {
     1 <= revision && revision <= newest(state, document)
 }
