@@ -35,7 +35,7 @@ fn published<J: Site, R: Abort + AllocGlobal + Wait>(
     publisher: &mut Publisher<MemDisk, J>,
     length: u64,
 ) -> Told<MemDisk, J>
-    ensures { publisher.new.held ≡ [] }
+    ensures { publisher.new.unpublished ≡ [] }
 {
     match publisher.publish(rt, rt.alloc()) {
         Ok(Some((receipt, told))) => {
@@ -121,8 +121,8 @@ fn first_batch<J: Site, R: Abort + AllocGlobal + Wait>(
     publisher: &mut Publisher<MemDisk, J>,
     viewer: &mut Viewer<MemDisk, J>,
 ) -> Told<MemDisk, J>
-    requires { publisher.old.held ≡ [] }
-    ensures { publisher.new.held ≡ [] }
+    requires { publisher.old.unpublished ≡ [] }
+    ensures { publisher.new.unpublished ≡ [] }
 {
     publisher.accept(write(rt, store, 1, 3));
     assert!(rt; publisher.holds());
@@ -139,7 +139,7 @@ fn late_viewer<J: Site, R: Abort + AllocGlobal>(
     publisher: &mut Publisher<MemDisk, J>,
     viewer: &mut Viewer<MemDisk, J>,
 ) -> Viewer<MemDisk, J>
-    requires { publisher.old.held ≡ [] }
+    requires { publisher.old.unpublished ≡ [] }
 {
     publisher.accept(write(rt, store, 2, 2));
     shows(rt, viewer, 1);
@@ -169,7 +169,7 @@ fn begun<J: Site, R: Abort + AllocGlobal>(
 ) -> (Publisher<MemDisk, J>, Viewer<MemDisk, J>)
     requires book { opened ≡ J.book }
     requires start { state ≡ J.start }
-    ensures { result.0.held ≡ [] }
+    ensures { result.0.unpublished ≡ [] }
 {
     let made = Publisher::<MemDisk, J>::new(rt.alloc(), opened, &state);
     let (publisher, start) = made.expect(rt, "memory");
@@ -183,7 +183,7 @@ fn nothing_is_published<J: Site, R: Abort + AllocGlobal + Wait>(
     rt: &R,
     publisher: &mut Publisher<MemDisk, J>,
 )
-    ensures { publisher.new.held ≡ [] }
+    ensures { publisher.new.unpublished ≡ [] }
 {
     match publisher.publish(rt, rt.alloc()) {
         Ok(None) => {}
@@ -209,7 +209,7 @@ fn both_batches<J: Site, R: Abort + AllocGlobal + Wait>(
     publisher: &mut Publisher<MemDisk, J>,
     viewer: &mut Viewer<MemDisk, J>,
 )
-    requires { publisher.old.held ≡ [] }
+    requires { publisher.old.unpublished ≡ [] }
 {
     let mut store = new_store(rt);
     let first = first_batch(rt, &mut store, publisher, viewer);

@@ -22,8 +22,8 @@ fn publish_one<J: Site, R: Abort + AllocGlobal + Wait>(
     publisher: &mut Publisher<MemDisk, J>,
     number: u64,
 )
-    requires { publisher.old.held ≡ [] }
-    ensures { publisher.new.held ≡ [] }
+    requires { publisher.old.unpublished ≡ [] }
+    ensures { publisher.new.unpublished ≡ [] }
 {
     publisher.accept(write(rt, store, number, 1));
     match publisher.publish(rt, rt.alloc()) {
@@ -39,7 +39,7 @@ fn publish_all<J: Site, R: Abort + AllocGlobal + Wait>(
     store: &mut Store<MemDisk>,
     publisher: &mut Publisher<MemDisk, J>,
 )
-    requires { publisher.old.held ≡ [] }
+    requires { publisher.old.unpublished ≡ [] }
 {
     for number in 1..COUNT + 1 {
         publish_one(rt, store, publisher, number);
