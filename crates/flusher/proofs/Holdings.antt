@@ -12,7 +12,7 @@ use Rattle.recovery.specs.declared.store.Store.{Store}
 use Rattle.recovery.specs.Faults.{FailsAtFaults}
 use Rattle.recovery.specs.Found.{commands_of, FoundAs}
 use Rattle.milestone.specs.Job.{Job}
-use Rattle.recovery.specs.Open.{IsOpen, IsUnchanged, IsCommittedNow, IsCommittedBehind, has_room, IsPutNow, IsRetiredNow, IsWithOrWithout, device_of, state_of, has_failed}
+use Rattle.recovery.specs.Open.{IsOpen, IsUnchanged, IsFreedNow, IsHalfFreed, IsCommittedNow, IsCommittedBehind, has_room, IsPutNow, IsRetiredNow, IsWithOrWithout, device_of, state_of, has_failed}
 use Rattle.recovery.specs.declared.run.StoreStep.TheVariants.{Retire as Retires}
 use Rattle.recovery.specs.Marked.{MayRetire}
 use Rattle.recovery.specs.Run.{IsTaken, IsWhy}
@@ -20,7 +20,7 @@ use Rattle.recovery.specs.Goes.{Goes}
 use Rattle.recovery.proofs.CallerLemmas.{goes_none, goes_call, open_unchanged, found_as, found_open}
 use Rattle.view.specs.Published.{Published}
 use Rattle.hub.specs.Runs.{Run}
-use Rattle.flusher.specs.Flushers.{IsCommittedTo, IsRunCommitted, IsHeldCommitted, IsGivenUp}
+use Rattle.flusher.specs.Flushers.{IsCommittedTo, IsLeftWithout, IsRunCommitted, IsHeldCommitted, IsGivenUp}
 use Rattle.flusher.proofs.Beginnings.{commands-append, fold-append}
 
 -- the refusal of an answer, or this one where there is none
@@ -51,6 +51,9 @@ module _ {D : Type 0} {disk : Ghosts D} where
   goes_batch old new batch batches is goes =
       subst (λ (c : List Taken). Goes (IsWithOrWithout (state_of old) c) old new) (sym (ap commands_of is ∙ append-nil batch)) goes
 
+pub no_batch : (batch : List Taken) (batches : List (List Taken)) → batches ≡ [] → batches ≡ batch ∷ [] → ⊥
+no_batch batch batches none some = let no : ⊥ = cc in no
+
 -- what is left of a store where no batch was to be committed, and where one was
 module _ {D : Type 0} {disk : Ghosts D} (old new : Store D disk) where
   pub committed_one : (batch : List Taken) (batches : List (List Taken)) → batches ≡ batch ∷ []
@@ -60,8 +63,11 @@ module _ {D : Type 0} {disk : Ghosts D} (old new : Store D disk) where
       subst (λ (l : List (List Taken)). IsHeldCommitted l old new) (sym is)
       (let done : IsCommittedTo batch old new = record { with_room = now; behind = behind } in done)
 
-  pub given_up_one : (batch : List Taken) (batches : List (List Taken)) → batches ≡ batch ∷ [] → (has_room old batch ≡ true → IsUnchanged old new) → IsGivenUp batches old new
-  given_up_one batch batches is unchanged = subst (λ (l : List (List Taken)). IsGivenUp l old new) (sym is) unchanged
+  pub given_up_one : (batch : List Taken) (batches : List (List Taken)) → batches ≡ batch ∷ [] → (has_room old batch ≡ true → IsUnchanged old new)
+      → (has_room old batch ≡ false → (is_open : IsOpen old) → IsHalfFreed old is_open new ⊎ IsFreedNow old is_open new) → IsGivenUp batches old new
+  given_up_one batch batches is unchanged freed =
+      subst (λ (l : List (List Taken)). IsGivenUp l old new) (sym is)
+      (let left : IsLeftWithout batch old new = record { with_room = unchanged; behind = freed } in left)
 
   run_of : (run : List Taken) → 0 < length run → IsCommittedTo run old new → IsRunCommitted run old new
   run_of [] some done = absurd (let none : ⊥ = omega arith in none)

@@ -1,12 +1,12 @@
 -- What a flusher holds, and what a write makes of it.
-use Rattle.std.specs.Prelude.{◌≡◌, ◌≤◌, ◌<◌, ◌+◌, ◌-◌, ◌^◌, ℕ, min, true, false, Option, Some, None, List, [], ◌∷◌, ◌++◌, length}
+use Rattle.std.specs.Prelude.{◌≡◌, ◌⊎◌, ◌≤◌, ◌<◌, ◌+◌, ◌-◌, ◌^◌, ℕ, min, true, false, Option, Some, None, List, [], ◌∷◌, ◌++◌, length}
 use Rattle.disk.specs.declared.device.Disk.{Ghosts}
 use Rattle.revision.specs.Command.{Taken}
 use Rattle.revision.specs.State.{State}
 use Rattle.segments.specs.Numbers.{newest_number}
 use Rattle.segments.specs.Ring.{known_numbers}
 use Rattle.recovery.specs.declared.store.Store.{Store}
-use Rattle.recovery.specs.Open.{FitsSlot, IsOpen, IsCommittedNow, IsCommittedBehind, IsUnchanged, has_room, ring_of}
+use Rattle.recovery.specs.Open.{FitsSlot, IsOpen, IsCommittedNow, IsCommittedBehind, IsUnchanged, IsFreedNow, IsHalfFreed, has_room, ring_of}
 
 -- A batch that is held has a command, its count has four bytes, and it fits a slot; and nothing else is still to be published.
 pub record MayCommit (state : State) (batch : List Taken) (committed : List (List Taken)) : Type 0 where
@@ -47,8 +47,12 @@ module _ {D : Type 0} {disk : Ghosts D} where
   IsHeldCommitted [] old new = new ≡ old
   IsHeldCommitted (batch ∷ others) old new = IsCommittedTo batch old new
 
-  -- the batch that was to be committed isn't, where there was one, and the store is as it was, where that had room for it; and where there
-  -- was none the store is left as it was
+  -- A batch was to be committed to a store, and isn't: where it had room the store is as it was, and else it is freed for it, or partly freed.
+  pub record IsLeftWithout (batch : List Taken) (old new : Store D disk) : Type 0 where
+    pub with_room : has_room old batch ≡ true → IsUnchanged old new
+    pub behind : has_room old batch ≡ false → (is_open : IsOpen old) → IsHalfFreed old is_open new ⊎ IsFreedNow old is_open new
+
+  -- the batch that was to be committed, where there was one, isn't; and where there was none the store is left as it was
   abbrev pub IsGivenUp : List (List Taken) → Store D disk → Store D disk → Type 0
   IsGivenUp [] old new = new ≡ old
-  IsGivenUp (batch ∷ others) old new = has_room old batch ≡ true → IsUnchanged old new
+  IsGivenUp (batch ∷ others) old new = IsLeftWithout batch old new

@@ -32,7 +32,9 @@ pub struct Flusher<D: Disk, J: Site> {
 }
 
 impl<D: Disk, J: Site> Flusher<D, J> {
-    ghost use Rattle.recovery.specs.Open.{IsWithOrWithout, has_failed, has_room};
+    ghost use Rattle.segments.specs.Numbers.{open_count};
+    ghost use Rattle.segments.specs.Ring.{known_numbers};
+    ghost use Rattle.recovery.specs.Open.{IsOpen, IsUnchanged, IsFreedNow, IsWithOrWithout, has_failed, has_room, ring_of};
     ghost use Rattle.flusher.specs.Flushers.{IsUsedUp, IsWritten, IsHeldCommitted, IsGivenUp, cap_of};
     ghost use Rattle.recovery.specs.Goes.{Goes};
     ghost use Rattle.flusher.specs.Holding.{IsLost, IsUncommitted, store_of, told_of, committed_of, waiting_of};
@@ -97,7 +99,7 @@ impl<D: Disk, J: Site> Flusher<D, J> {
         ensures same_state { OnErr result (state_of (store_of self.new) ≡ state_of (store_of self.old)) }
         // The cells and the slots are those of before, but for the batch, where it had room, and else those that freeing left.
         ensures committed { OnOk result (IsHeldCommitted (waiting_of self.old) (store_of self.old) (store_of self.new)) }
-        // Where it had room, all of the store is as it was.
+        // Where it had room, all of the store is as it was, and else the oldest segment is freed, or partly freed.
         ensures given_up { (IsErrOf result Refusal.Stranger) ⊎ (IsErrOf result Refusal.NoMemory)
             → IsGivenUp (waiting_of self.old) (store_of self.old) (store_of self.new) }
 
@@ -109,6 +111,16 @@ impl<D: Disk, J: Site> Flusher<D, J> {
             × (has_room (store_of self.old) batch ≡ false) × (has_room (store_of self.new) batch ≡ false) }
         ensures needed { IsErrOf result Refusal.StillNeeded → (batch : List Taken) × (waiting_of self.old ≡ batch ∷ [])
             × (has_room (store_of self.old) batch ≡ false) }
+        ensures few { (batch : List Taken) → waiting_of self.old ≡ batch ∷ [] → has_failed (store_of self.old) ≡ false
+            → has_room (store_of self.old) batch ≡ false
+            → open_count (known_numbers (ring_of (store_of self.old))) < 2
+            → IsErrOf result Refusal.StillNeeded }
+        ensures needed_by_few { IsErrOf result Refusal.StillNeeded → IsOpen (store_of self.old)
+            → open_count (known_numbers (ring_of (store_of self.old))) < 2 }
+        ensures needed_untouched { IsErrOf result Refusal.StillNeeded → IsOpen (store_of self.old)
+            → IsUnchanged (store_of self.old) (store_of self.new) }
+        ensures full_still { IsErrOf result Refusal.JournalFull → (is_open : IsOpen (store_of self.old))
+            → IsFreedNow (store_of self.old) is_open (store_of self.new) }
         ensures never_full { (IsErrOf result Refusal.JournalFull) ⊎ (IsErrOf result Refusal.StillNeeded)
             → IsUsedUp (store_of self.old) }
         ensures stranger { IsErrOf result Refusal.Stranger
@@ -160,14 +172,18 @@ impl<D: Disk, J: Site> Flusher<D, J> {
             ++ waiting_of self.old) }
         ensures state { OnOk result (state_of (store_of self.new)
             ≡ fold (state_of (store_of self.old)) (commands_of (waiting_of self.old))) }
-        // The cells and the slots are those of before, but for the batch, where it had room, and else those that freeing left; of no batch
-        // the store is as it was.
+        // The cells and the slots are those of before, but for the batch, where it had room, and else those that freeing left; where no
+        // batch waits the store is as it was.
         ensures committed { OnOk result (IsHeldCommitted (waiting_of self.old) (store_of self.old) (store_of self.new)) }
         ensures given_up { IsErrOf result Refusal.Stranger
             → IsGivenUp (waiting_of self.old) (store_of self.old) (store_of self.new) }
+        ensures lost_store { IsErrOf result Refusal.StoreFailed
+            → IsHeldCommitted (waiting_of self.old) (store_of self.old) (store_of self.new) }
         ensures memory { IsErrOf result Refusal.NoMemory
-            → (IsGivenUp (waiting_of self.old) (store_of self.old) (store_of self.new))
-            ⊎ IsHeldCommitted (waiting_of self.old) (store_of self.old) (store_of self.new) }
+            → ((waiting_of self.new ≡ waiting_of self.old)
+            × IsGivenUp (waiting_of self.old) (store_of self.old) (store_of self.new))
+            ⊎ ((waiting_of self.new ≡ [])
+            × IsHeldCommitted (waiting_of self.old) (store_of self.old) (store_of self.new)) }
 
         // Whether the batch is committed after a refusal: after `StoreFailed` it is, and isn't published, after `NoMemory` it may be, and
         // after any other it isn't.
@@ -183,6 +199,12 @@ impl<D: Disk, J: Site> Flusher<D, J> {
             × (has_room (store_of self.old) batch ≡ false) × (has_room (store_of self.new) batch ≡ false) }
         ensures needed { IsErrOf result Refusal.StillNeeded → (batch : List Taken) × (waiting_of self.old ≡ batch ∷ [])
             × (has_room (store_of self.old) batch ≡ false) }
+        ensures needed_by_few { IsErrOf result Refusal.StillNeeded → IsOpen (store_of self.old)
+            → open_count (known_numbers (ring_of (store_of self.old))) < 2 }
+        ensures needed_untouched { IsErrOf result Refusal.StillNeeded → IsOpen (store_of self.old)
+            → IsUnchanged (store_of self.old) (store_of self.new) }
+        ensures full_still { IsErrOf result Refusal.JournalFull → (is_open : IsOpen (store_of self.old))
+            → IsFreedNow (store_of self.old) is_open (store_of self.new) }
         ensures never_full { (IsErrOf result Refusal.JournalFull) ⊎ (IsErrOf result Refusal.StillNeeded)
             → IsUsedUp (store_of self.old) }
         ensures stranger { IsErrOf result Refusal.Stranger

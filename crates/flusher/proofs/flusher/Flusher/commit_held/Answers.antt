@@ -2,9 +2,10 @@ use Rattle.std.proofs.Common.{◌≡◌, ⊎_elim, inl, inr, [], ◌∷◌, ◌+
 use Rattle.revision.specs.Command.{Taken}
 use Rattle.revision.specs.State.{fold, all_grow}
 use Rattle.recovery.specs.Found.{commands_of}
+use Rattle.recovery.specs.Open.{has_room}
 use Rattle.refusal.specs.declared.Refusal.TheVariants.{JournalFull, StillNeeded, Stranger, NoMemory}
 use Rattle.view.specs.Published.{Published}
-use Rattle.flusher.proofs.Holdings.{held_in, goes_not, goes_batch, committed_none, committed_one, given_up_one, kept_more, same_refusal}
+use Rattle.flusher.proofs.Holdings.{held_in, goes_not, goes_batch, committed_none, committed_one, given_up_one, kept_more, no_batch, same_batch, same_refusal}
 use Rattle.flusher.proofs.flusher.Flusher.commit_held.Goals as goal
 
 pub returns-in-None-clause-goes : goal.returns-in-None-clause-goes
@@ -62,6 +63,37 @@ returns-in-Err-clause-given_up g c told =
     given_up_one _ _ c.commands.result.now _ (ap held_in held ∙ ap (λ (b : List Taken). b ∷ []) (sym same))
     (λ room. ⊎_elim (λ stranger. c.in-Err.ensures.untouched room (same_refusal c.in-Err.refusal Stranger stranger))
     (λ memory. c.in-Err.ensures.given_up room (same_refusal c.in-Err.refusal NoMemory memory)) told)
+    (λ full is_open. ⊎_elim (λ stranger. inr (c.in-Err.ensures.stranger_behind (same_refusal c.in-Err.refusal Stranger stranger) full is_open))
+    (λ memory. c.in-Err.ensures.memory_behind (same_refusal c.in-Err.refusal NoMemory memory) full is_open) told)
+
+pub returns-in-None-clause-few : goal.returns-in-None-clause-few
+returns-in-None-clause-few g c batch held works full few =
+    let none : c.args.self.now.waiting ≡ None = cc in
+    absurd (no_batch batch (held_in c.args.self.now.waiting) (ap held_in none) held)
+
+pub returns-in-Ok-clause-few : goal.returns-in-Ok-clause-few
+returns-in-Ok-clause-few g c batch waits works full few =
+    let held : c.args.self.now.waiting ≡ Some c.in-Some.batch = cc in
+    let same : c.commands.result.now ≡ c.in-Some.batch.commands = cc in
+    let one : c.commands.result.now ≡ batch = same_batch (held_in c.args.self.now.waiting) c.commands.result.now batch (ap held_in held ∙ ap (λ (b : List Taken). b ∷ []) (sym same)) waits in
+    let told = c.commit_freeing.ensures.few works (ap (has_room c.args.self.now.store) one ∙ full) few in
+    let no : ⊥ = cc in absurd no
+
+pub returns-in-Err-clause-few : goal.returns-in-Err-clause-few
+returns-in-Err-clause-few g c batch waits works full few =
+    let held : c.args.self.now.waiting ≡ Some c.in-Some.batch = cc in
+    let same : c.commands.result.now ≡ c.in-Some.batch.commands = cc in
+    let one : c.commands.result.now ≡ batch = same_batch (held_in c.args.self.now.waiting) c.commands.result.now batch (ap held_in held ∙ ap (λ (b : List Taken). b ∷ []) (sym same)) waits in
+    same_refusal c.in-Err.refusal StillNeeded (rw c.in-Err.is at (c.commit_freeing.ensures.few works (ap (has_room c.args.self.now.store) one ∙ full) few))
+
+pub returns-in-Err-clause-needed_by_few : goal.returns-in-Err-clause-needed_by_few
+returns-in-Err-clause-needed_by_few g c told = c.in-Err.ensures.needed_by_few (same_refusal c.in-Err.refusal StillNeeded told)
+
+pub returns-in-Err-clause-needed_untouched : goal.returns-in-Err-clause-needed_untouched
+returns-in-Err-clause-needed_untouched g c told = c.in-Err.ensures.needed_untouched (same_refusal c.in-Err.refusal StillNeeded told)
+
+pub returns-in-Err-clause-full_still : goal.returns-in-Err-clause-full_still
+returns-in-Err-clause-full_still g c told = c.in-Err.ensures.full_still (same_refusal c.in-Err.refusal JournalFull told)
 
 pub returns-in-Err-clause-goes : goal.returns-in-Err-clause-goes
 returns-in-Err-clause-goes g c =
