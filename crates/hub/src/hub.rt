@@ -204,7 +204,7 @@ impl<D, J: Site> Hub<D, J> {
     }
 
     /// Settles a batch by its receipt and the token of its publish, as `Board::settle` does, and wakes those who wait for it: the board has
-    /// settled what this token ends with then. A refusal shows a moment of the hub's board at which just this batch can't be settled by
+    /// then settled all that this token names. A refusal shows a moment of the hub's board at which just this batch can't be settled by
     /// just this token.
     pub fn settle<R: Wait>(
         &self,
