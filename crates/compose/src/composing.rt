@@ -57,7 +57,7 @@ fn compose_onto(alloc: Global, first: Delta, second: &Delta) -> Result<Delta, Re
 {
     let mut out = Builder::new(alloc);
     let mut rest = Cursor::new(second.ops());
-    for op in first.into_ops() {
+    for op in first.into_ops(alloc)? {
         rest = lay_over(alloc, op, rest, &mut out)?;
     }
     end(alloc, rest, out)

@@ -1,26 +1,32 @@
 //! Deltas.
-ghost use Rattle.std.specs.Prelude.{◌≡◌, ◌<◌, IfOk, IsOkUnless};
-ghost use Rattle.delta.specs.Lead.{with_lead};
+ghost use Rattle.std.specs.Prelude.{◌≡◌, ◌<◌, IfOk, OnOk, OnErr, IsOkUnless};
+ghost use Rattle.delta.specs.Lead.{lead_of, lead_units, with_lead};
 ghost use Rattle.delta.specs.Operation.{base_of, out_of, IsBounded};
 ghost use Rattle.delta.specs.Normal.{IsNormal};
 ghost use Rattle.delta.specs.steps.Building.{IsDelta};
 
 use crate::op::Op;
+use crate::ops::Ops;
 use refusal::Refusal;
 use std::alloc::Global;
 use std::marker::Model;
 
 /// A delta: operations in normal form. Its base length and its output length are each at most 2^48 UTF-16 code units.
+/// These and the length of the plain retain that it begins with stand beside the operations, so that who asks for one
+/// doesn't look into them.
 #[derive(Drop)]
 pub struct Delta {
-    ops: Vec<Op>,
+    ops: Ops,
     base: u64,
     out: u64,
+    // 0 where it begins with something else
+    lead: u64,
 }
 
 impl Model for Delta {
-    ghost use Rattle.std.specs.Prelude.{List};
+    ghost use Rattle.std.specs.Prelude.{◌≡◌, List};
     ghost use Rattle.std.specs.Coded.{coded_list};
+    ghost use Rattle.delta.specs.Lead.{lead_units};
     ghost use Rattle.delta.specs.Operation.{Operation, operation_code};
     ghost use Rattle.delta.specs.steps.Building.{IsDelta};
 
@@ -28,9 +34,9 @@ impl Model for Delta {
 
     ghost coded = { coded_list operation_code };
 
-    ghost view = { λ d. d.ops.items };
+    ghost view = { λ d. d.ops };
 
-    ghost invariant = { λ d. IsDelta d.ops.items d.base d.out };
+    ghost invariant = { λ d. IsDelta d.ops d.base d.out × (d.lead ≡ lead_units d.ops) };
 }
 
 impl Delta {
@@ -39,7 +45,13 @@ impl Delta {
         requires { IsDelta ops.items base out }
         ensures { result ≡ ops.items }
     {
-        Delta { ops, base, out }
+        let lead = lead_in(ops.as_slice());
+        Delta {
+            ops: Ops::own(ops),
+            base,
+            out,
+            lead,
+        }
     }
 
     /// The operations.
@@ -51,18 +63,21 @@ impl Delta {
         self.ops.as_slice()
     }
 
-    /// The operations, by value. Nothing is copied.
-    pub fn into_ops(self) -> Vec<Op>
-        ensures ops { result.items ≡ self }
+    /// The operations, by value. Nothing is copied where the delta has them alone; shared ones (`share`) are copied, and only
+    /// that can be refused.
+    pub fn into_ops(self, alloc: Global) -> Result<Vec<Op>, Refusal>
+        ensures ok { IfOk result (λ ops. ops.items ≡ self) }
         ensures normal { IsNormal self }
         ensures bounded { IsBounded self }
+        ensures only { IsOkUnless result Refusal.NoMemory }
     {
         let Delta {
             ops,
             base: _,
             out: _,
+            lead: _,
         } = self;
-        ops
+        ops.into_vec(alloc)
     }
 
     /// The base length: how many code units are retained and deleted. Constant time.
@@ -79,45 +94,84 @@ impl Delta {
         self.out
     }
 
-    /// Gives the retain that is first another length in code units, in place; without one the delta stays. Constant time.
-    pub fn set_lead(&mut self, len: u64)
-        requires some { 0 < len }
-        requires bounded { IsBounded (with_lead len self.old) }
-        ensures lead { self.new ≡ with_lead len self.old }
-        ensures normal { IsNormal self.new }
+    /// The length in code units of the retain without attributes that it begins with; None where it begins with something else
+    /// or is empty. Constant time, without a look at the operations.
+    pub fn lead(&self) -> Option<u64>
+        ensures lead { result ≡ lead_of self.now }
+        ensures normal { IsNormal self.now }
+        ensures bounded { IsBounded self.now }
     {
-        if self.ops.is_empty() {
-            return;
-        }
-        if let Some(old) = self.ops[0].lengthen(len) {
-            self.base = self.base - old + len;
-            self.out = self.out - old + len;
+        if self.lead == 0 {
+            None
+        } else {
+            Some(self.lead)
         }
     }
 
-    /// An equal delta.
+    /// Gives the retain that is first another length in code units; without one the delta stays. Constant time, in place, where
+    /// the delta has its operations alone; shared ones (`share`) are copied before, and only that can be refused. The delta
+    /// is then as it was.
+    pub fn set_lead(&mut self, alloc: Global, len: u64) -> Result<(), Refusal>
+        requires some { 0 < len }
+        requires bounded { IsBounded (with_lead len self.old) }
+        ensures lead { OnOk result (self.new ≡ with_lead len self.old) }
+        ensures normal { IsNormal self.new }
+        ensures err { OnErr result (self.new ≡ self.old) }
+        ensures only { IsOkUnless result Refusal.NoMemory }
+    {
+        if let Some(old) = self.ops.lengthen_first(alloc, len)? {
+            if self.lead != 0 {
+                self.lead = len;
+            }
+            self.base = self.base - old + len;
+            self.out = self.out - old + len;
+        }
+        Ok(())
+    }
+
+    /// An equal delta, whose copies share its operations.
+    pub fn share(self, alloc: Global) -> Result<Self, Refusal>
+        ensures same { IfOk result (λ delta. delta ≡ self) }
+        ensures only { IsOkUnless result Refusal.NoMemory }
+    {
+        let Delta {
+            ops,
+            base,
+            out,
+            lead,
+        } = self;
+        Ok(Delta {
+            ops: ops.share(alloc)?,
+            base,
+            out,
+            lead,
+        })
+    }
+
+    /// An equal delta. One of a shared delta (`share`) takes no memory: it is refused only where the operations can have no more
+    /// owners.
     pub fn copy(&self, alloc: Global) -> Result<Self, Refusal>
         ensures same { IfOk result (λ delta. delta ≡ self.now) }
         ensures only { IsOkUnless result Refusal.NoMemory }
     {
-        let ops = copy_ops(alloc, self.ops.as_slice())?;
+        let ops = self.ops.copy(alloc)?;
         Ok(Delta {
             ops,
             base: self.base,
             out: self.out,
+            lead: self.lead,
         })
     }
 }
 
-fn copy_ops(alloc: Global, ops: &[Op]) -> Result<Vec<Op>, Refusal>
-    ensures same { IfOk result (λ copy. copy.items ≡ ops.now) }
-    ensures only { IsOkUnless result Refusal.NoMemory }
+// the length of the plain retain that is first, and 0 without one
+fn lead_in(ops: &[Op]) -> u64
+    ensures { result ≡ lead_units ops.now }
 {
-    let mut copy = Vec::with_capacity(alloc, ops.len())?;
-    for op in ops {
-        copy.push(op.copy(alloc)?)?;
+    match ops.split_first() {
+        Some((op, _)) => op.plain_len().unwrap_or(0),
+        None => 0,
     }
-    Ok(copy)
 }
 
 impl PartialEq for Delta {

@@ -45,6 +45,7 @@ mod cursor;
 mod delta;
 pub mod laws;
 mod op;
+mod ops;
 mod part;
 mod trimming;
 

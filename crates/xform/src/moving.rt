@@ -12,8 +12,8 @@ use std::alloc::Global;
 
 /// The second delta as it is after the first, which has priority: what `transform` makes of them, by moving the second.
 /// Where the second ends before the first does anything, it stays as it is. Where it begins with a retain of all units
-/// that the first speaks of, that retain gets another length. Both take constant time and no memory; else the second
-/// is transformed. Refused as `transform` does.
+/// that the first speaks of, that retain gets another length. Both take constant time and no memory, but that operations
+/// which the second shares are copied where it moves; else the second is transformed. Refused as `transform` does.
 pub fn move_past(alloc: Global, first: &Delta, second: Delta) -> Result<Delta, Refusal>
     ensures delta { IfOk result (λ delta. delta ≡ second_past first.now second true) }
     ensures accepted { OnOk result (CanTransform first.now second true) }
@@ -28,7 +28,7 @@ pub fn move_past(alloc: Global, first: &Delta, second: Delta) -> Result<Delta, R
     match moved_lead(first, &second) {
         Some(len) => {
             let mut moved = second;
-            moved.set_lead(len);
+            moved.set_lead(alloc, len)?;
             Ok(moved)
         }
         None => transform(alloc, first, &second, true),
@@ -41,13 +41,10 @@ fn ends_before(first: &Delta, second: &Delta) -> bool
     ensures bounded { IsBounded second.now }
 {
     // it is in normal form, and so its own
-    let _ = second.ops();
-    match first.ops().split_first() {
-        Some((op, _)) => match op.plain_len() {
-            Some(kept) => second.base_len() < kept,
-            None => false,
-        },
-        None => true,
+    let _ = second.lead();
+    match first.lead() {
+        Some(kept) => second.base_len() < kept,
+        None => first.ops().is_empty(),
     }
 }
 
@@ -56,10 +53,7 @@ fn ends_before(first: &Delta, second: &Delta) -> bool
 fn moved_lead(first: &Delta, second: &Delta) -> Option<u64>
     ensures { IfSome result (IsMovedLead first.now second.now) }
 {
-    let Some((op, _)) = second.ops().split_first() else {
-        return None;
-    };
-    let Some(kept) = op.plain_len() else {
+    let Some(kept) = second.lead() else {
         return None;
     };
     let (gone, made) = lengths(first);
@@ -76,6 +70,6 @@ fn lengths(delta: &Delta) -> (u64, u64)
     ensures out { result.1 ≡ out_of delta.now }
     ensures bounded { IsBounded delta.now }
 {
-    let _ = delta.ops();
+    let _ = delta.lead();
     (delta.base_len(), delta.out_len())
 }

@@ -1,4 +1,4 @@
-use Rattle.std.proofs.Common.{◌≡◌, sym, ap, ◌∙◌}
+use Rattle.std.proofs.Common.{sym, ap, ◌∙◌}
 use Rattle.delta.specs.Kind.{operation_of_kind}
 use Rattle.delta.proofs.op.Op.lengthen.Goals as goal
 

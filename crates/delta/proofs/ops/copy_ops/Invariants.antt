@@ -1,5 +1,5 @@
 use Rattle.std.proofs.Common.{◌≡◌, take}
-use Rattle.delta.proofs.delta.copy_ops.Given as goal
+use Rattle.delta.proofs.ops.copy_ops.Given as goal
 
 abbrev pub invariant-loop-op : goal.invariant-loop-op
 invariant-loop-op l = l.copy.items ≡ take l.op-index l.ops
