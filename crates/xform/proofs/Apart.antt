@@ -1,9 +1,12 @@
 -- A delta after another that it doesn't overlap: one ends before the other begins.
-use Rattle.std.proofs.Common.{◌≡◌, ℕ, zero, suc, ◌+◌, ◌-◌, ◌<◌, ◌≤◌, ◌^◌, inl, Bool, true, false, cond, List, [], ◌∷◌, length, None, refl, sym, ap, subst, ◌∙◌, arith}
-use Rattle.attributes.specs.Attributes.{Changes, transformed}
+use Rattle.std.proofs.Common.{◌≡◌, ℕ, zero, suc, ◌+◌, ◌-◌, ◌<◌, ◌≤◌, ◌^◌, inl, Bool, true, false, cond, List, [], ◌∷◌, length, Some, None, refl, sym, ap, subst, ◌∙◌, arith}
+use Rattle.std.specs.Prelude.{◌==◌}
+use Rattle.std.proofs.lemmas.Bool.{eqb-true}
+use Rattle.attributes.specs.Attributes.{Changes, transformed, same_changes, same_changes-Decides}
 use Rattle.attributes.specs.Map.{empty, contains}
 use Rattle.attributes.proofs.CallerLemmas.{same_changes_map, get-transformed}
-use Rattle.delta.specs.Operation.{Operation, retain, base_of, out_of}
+use Rattle.delta.specs.Operation.{Operation, insert_text, insert_embed, retain, delete, base_of, out_of}
+use Rattle.delta.specs.Lead.{lead_of}
 use Rattle.delta.specs.Gaps.{Gaps, End, Gap, Fate, Del, Keep, run, counted, units_below, units_kept, units_made}
 use Rattle.delta.specs.Normal.{IsNormal, nf}
 use Rattle.delta.proofs.CallerLemmas.{front-nil, run-parts, units_below-counted, units_made-counted, nf-same}
@@ -63,9 +66,29 @@ after-behind (Gap xs f g) h (suc kept) more moved is moved_is =
     ∙ kept-parts (units_kept f + (units_made g + more)) (units_kept f) (units_made g + more) h refl)))
     ∙ kept-parts moved (length xs) (units_kept f + (units_made g + more)) h (omega (arith, moved_is))
 
-pub none-from : (ops : List Operation) → length ops ≡ 0 → ops ≡ []
+pub none-from : (ops : List Operation) → (length ops == 0) ≡ true → ops ≡ []
 none-from [] e = refl
-none-from (op ∷ ops) e = absurd (omega (arith, e))
+none-from (op ∷ ops) e = absurd (omega (arith, eqb-true (length (op ∷ ops)) 0 e))
+
+-- operations that begin with a retain without attributes, of this length
+lead-parts : (kept n : ℕ) (c : Changes) (ops : List Operation) → cond (same_changes c empty) (Some n) None ≡ Some kept
+    → (rest : List Operation) × (retain n c ∷ ops ≡ retain kept empty ∷ rest)
+lead-parts kept n c ops is = parts (same_changes c empty) refl is
+  where
+    parts : (b : Bool) → same_changes c empty ≡ b → cond b (Some n) None ≡ Some kept
+        → (rest : List Operation) × (retain n c ∷ ops ≡ retain kept empty ∷ rest)
+    parts true same is =
+        let len : n ≡ kept = cc in
+        (ops, λ i. retain (len i) ((same_changes-Decides c empty).0 same i) ∷ ops)
+    parts false same is = absurd (cc)
+
+pub begins-lead : (kept : ℕ) (ops : List Operation) → lead_of ops ≡ Some kept
+    → (rest : List Operation) × (ops ≡ retain kept empty ∷ rest)
+begins-lead kept [] is = absurd (cc)
+begins-lead kept (retain n c ∷ ops) is = lead-parts kept n c ops is
+begins-lead kept (insert_text us a ∷ ops) is = absurd (cc)
+begins-lead kept (insert_embed key value a ∷ ops) is = absurd (cc)
+begins-lead kept (delete n ∷ ops) is = absurd (cc)
 
 -- so it is with lists of operations in normal form
 pub past-nothing : (second : List Operation) → IsNormal second → second_past [] second true ≡ second

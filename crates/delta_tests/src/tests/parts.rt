@@ -7,6 +7,7 @@ use optext::{read_json, read_ops};
 use refusal::Refusal;
 use std::alloc::Global;
 use std::test::Fail;
+use xform::move_past;
 
 pub(super) fn delta_of(alloc: Global, ops: &str) -> Result<Delta, Refusal> {
     let value = read_json(alloc, ops.as_bytes())?;
@@ -45,10 +46,37 @@ fn a_delta_comes_apart(rt: HostRuntime) {
     let delta = delta_of(rt.alloc(), EACH).expect(&rt, "delta");
     let copy = delta.copy(rt.alloc()).expect(&rt, "copy");
     let mut builder = Builder::new(rt.alloc());
-    for op in delta.into_ops() {
+    for op in delta.into_ops(rt.alloc()).expect(&rt, "operations") {
         builder.push(op).expect(&rt, "push");
     }
     assert!(rt; builder.finish() == copy);
+}
+
+/// Keeps three units and inserts one.
+const LED: &str = "[{\"retain\":3},{\"insert\":\"a\"}]";
+
+fn shared(alloc: Global) -> Result<Delta, Refusal> {
+    delta_of(alloc, LED)?.share(alloc)
+}
+
+#[test]
+fn a_shared_delta_comes_apart(rt: HostRuntime) {
+    let delta = shared(rt.alloc()).expect(&rt, "delta");
+    let copy = delta.copy(rt.alloc()).expect(&rt, "copy");
+    assert!(rt; delta == copy && copy == delta_of(rt.alloc(), LED).expect(&rt, "its own"));
+    let ops = delta.into_ops(rt.alloc()).expect(&rt, "operations");
+    assert!(rt; ops.as_slice() == copy.ops());
+    assert!(rt; copy == delta_of(rt.alloc(), LED).expect(&rt, "its own"));
+}
+
+#[test]
+fn a_shared_delta_is_moved(rt: HostRuntime) {
+    let delta = shared(rt.alloc()).expect(&rt, "delta");
+    let copy = delta.copy(rt.alloc()).expect(&rt, "copy");
+    let first = delta_of(rt.alloc(), "[{\"insert\":\"xy\"}]").expect(&rt, "first");
+    let moved = move_past(rt.alloc(), &first, delta).expect(&rt, "moved");
+    assert!(rt; moved.lead() == Some(5) && copy.lead() == Some(3));
+    assert!(rt; copy == delta_of(rt.alloc(), LED).expect(&rt, "its own"));
 }
 
 #[test]

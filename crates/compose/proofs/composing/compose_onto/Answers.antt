@@ -18,8 +18,8 @@ lay_over-requires-clause-first c =
 pub returns-in_err-rest-clause-only : goal.returns-in_err-rest-clause-only
 returns-in_err-rest-clause-only c =
     let is : ◌≡◌ {A = List Operation} (into_iter_items c.loop-op.op-iterator) (c.in-Some.op ∷ into_iter_items c.next.new.self) = c.in-Some.ensures.steps.0 in
-    let p = err_from_is_err_and c.from_residual.result c.from_residual.ensures.1 in
-    handed_on (IsComposeRefused c.args.first c.args.second.now) c.from_residual.result p.0 c.in_err-rest.field-0.0 p.1 p.2
+    let p = err_from_is_err_and c.from_residual-in_err-rest.result c.from_residual-in_err-rest.ensures.1 in
+    handed_on (IsComposeRefused c.args.first c.args.second.now) c.from_residual-in_err-rest.result p.0 c.in_err-rest.field-0.0 p.1 p.2
     (c.in_err-rest.ensures.refused c.args.first c.args.second.now (into_iter_items c.next.new.self)
     (subst (λ (l : List Operation). IsPartlyComposed c.args.first c.args.second.now c.loop-op.out l (operations_left c.loop-op.rest)) is c.loop-op.invariant))
 
