@@ -1,10 +1,11 @@
 //! Deltas.
-ghost use Rattle.std.specs.Prelude.{◌≡◌, ◌<◌, IfOk, OnOk, OnErr, IsOkUnless};
+ghost use Rattle.std.specs.Prelude.{◌≡◌, ◌<◌, ◌↔◌, IfOk, IfErr, IfSome, IfNone, OnOk, OnErr, IsOkUnless};
 ghost use Rattle.delta.specs.Lead.{lead_of, lead_units, with_lead};
 ghost use Rattle.delta.specs.Operation.{base_of, out_of, IsBounded};
 ghost use Rattle.delta.specs.Normal.{IsNormal};
 ghost use Rattle.delta.specs.steps.Building.{IsDelta};
 
+use crate::builder::MAX_LEN;
 use crate::op::Op;
 use crate::ops::Ops;
 use refusal::Refusal;
@@ -51,6 +52,20 @@ impl Delta {
             base,
             out,
             lead,
+        }
+    }
+
+    /// The delta of operations that are in normal form already. Nothing is copied, and it takes no memory. Refused with
+    /// `BadOps` just where the base length or the output length is above 2^48.
+    pub fn from_normal(ops: Vec<Op>) -> Result<Self, Refusal>
+        requires normal { IsNormal ops.items }
+        ensures ok { IfOk result (λ delta. delta ≡ ops.items) }
+        ensures bad { (result ≡ Err Refusal.BadOps) ↔ ¬ (IsBounded ops.items) }
+        ensures only { IfErr result (λ e. e ≡ Refusal.BadOps) }
+    {
+        match bounded_lengths(ops.as_slice()) {
+            Some((base, out)) => Ok(Delta::of(ops, base, out)),
+            None => Err(Refusal::BadOps),
         }
     }
 
@@ -162,6 +177,26 @@ impl Delta {
             lead: self.lead,
         })
     }
+}
+
+// the base length and the output length, where neither is above 2^48
+fn bounded_lengths(ops: &[Op]) -> Option<(u64, u64)>
+    ensures some { IfSome result (λ lengths. (lengths.0 ≡ base_of ops.now) × (lengths.1 ≡ out_of ops.now)
+        × IsBounded ops.now) }
+    ensures none { IfNone result (¬ (IsBounded ops.now)) }
+{
+    let mut base = 0;
+    let mut out = 0;
+    let mut rest = ops;
+    while let Some((op, behind)) = rest.split_first() {
+        if op.base_len() > MAX_LEN - base || op.out_len() > MAX_LEN - out {
+            return None;
+        }
+        base += op.base_len();
+        out += op.out_len();
+        rest = behind;
+    }
+    Some((base, out))
 }
 
 // the length of the plain retain that is first, and 0 without one

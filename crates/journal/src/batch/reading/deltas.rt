@@ -43,6 +43,6 @@ fn delta_in(alloc: Global, bytes: &[u8]) -> Result<(Delta, &[u8]), Unread>
 {
     let (count, rest) = number32(bytes)?;
     let (ops, rest) = operations(alloc, count, rest)?;
-    let delta = delta_of_ops(alloc, ops)?;
+    let delta = delta_of_ops(ops)?;
     Ok((delta, rest))
 }

@@ -6,35 +6,18 @@ ghost use Rattle.journal.specs.steps.Reading.{Gives};
 ghost use Rattle.journal.specs.steps.DeltaReading.{begins_normal, is_normal, delta_of};
 
 use crate::batch::unread::Unread;
-use delta::{Builder, Delta, Op, OpRef};
-use refusal::Refusal;
-use std::alloc::Global;
+use delta::{Delta, Op, OpRef};
 
 /// The delta of these operations, where they are in normal form and within the bound.
 #[tactic(auto, unfolding(crate::specs::steps::DeltaReading::delta_of))]
-pub(super) fn delta_of_ops(alloc: Global, ops: Vec<Op>) -> Result<Delta, Unread>
+pub(super) fn delta_of_ops(ops: Vec<Op>) -> Result<Delta, Unread>
     ensures { Gives (λ x. x) result (delta_of ops.items) }
 {
     if !has_normal_form(ops.as_slice()) {
         return Err(Unread::Malformed);
     }
-    let mut builder = Builder::new(alloc);
-    for op in ops {
-        push(&mut builder, op)?;
-    }
-    Ok(builder.finish())
-}
-
-// adds an operation that neither merges nor moves
-fn push(builder: &mut Builder, op: Op) -> Result<(), Unread>
-    requires { built (builder.old ++ op ∷ []) ≡ builder.old ++ op ∷ [] }
-    ensures ok { OnOk result (builder.new ≡ builder.old ++ op ∷ []) }
-    ensures bounded { OnOk result (is_bounded builder.new ≡ true) }
-    ensures bad { IfErr result (λ e. e ≡ Unread.Malformed → ¬ (IsBounded (builder.old ++ op ∷ []))) }
-{
-    match builder.push(op) {
-        Ok(()) => Ok(()),
-        Err(Refusal::NoMemory) => Err(Unread::NoMemory),
+    match Delta::from_normal(ops) {
+        Ok(delta) => Ok(delta),
         Err(_) => Err(Unread::Malformed),
     }
 }
