@@ -1,5 +1,5 @@
 //! Which commands are taken.
-ghost use Rattle.std.specs.Prelude.{◌≡◌, ◌≢◌, ◌⊎◌, ◌<◌, ◌≤◌, ◌^◌, ◌+◌, true, length, Some, IfOk, OnOk, IfErr, IsErrOf};
+ghost use Rattle.std.specs.Prelude.{◌≡◌, ◌≢◌, ◌⊎◌, ◌<◌, ◌≤◌, ◌^◌, ◌+◌, true, length, Some, IfOk, OnOk, IfErr, IsErrOf, IsOkUnless};
 ghost use Rattle.revision.specs.Acceptance.{answer, by_number, take_on, create_existing, create_new, edit, undo, change, Takes, Refuses};
 ghost use Rattle.revision.specs.Command.{Taken as Change, IsShortDelta};
 ghost use Rattle.revision.specs.Invariants.{IsPast};
@@ -148,8 +148,16 @@ fn plan_new(alloc: Global, state: &State, command: &Command, delta: &Delta) -> R
     }
     let name = command.name().copy(alloc)?;
     let source = command.source().copy(alloc)?;
-    let delta = delta.copy(alloc)?;
+    let delta = shared_copy(alloc, delta)?;
     Ok(Plan::Taken(Taken::creation(count as u32, name, source, delta)))
+}
+
+// an equal delta, whose copies share its operations
+fn shared_copy(alloc: Global, delta: &Delta) -> Result<Delta, Refusal>
+    ensures same { IfOk result (λ copy. copy ≡ delta.now) }
+    ensures only { IsOkUnless result Refusal.NoMemory }
+{
+    delta.copy(alloc)?.share(alloc)
 }
 
 fn plan_edit(
@@ -255,6 +263,7 @@ fn plan_change(
         return Err(refusal);
     }
     let source = source.copy(alloc)?;
+    let delta = delta.share(alloc)?;
     Ok(Plan::Taken(Taken::edit(number, revision + 1, source, command.number(), delta)))
 }
 
