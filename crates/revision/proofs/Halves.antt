@@ -2,13 +2,17 @@
 use Rattle.std.proofs.Common.{◌≡◌, ℕ, zero, suc, ◌<◌, ◌≤◌, ◌⊎◌, inl, inr, Bool, true, false, ◌&&◌, List, [], ◌∷◌, length, take, get_or, Some, None, Ordering, Less, Greater, Equal, refl, sym, ap, subst, ◌∙◌, arith}
 use Rattle.std.specs.Prelude.{T, slice_get}
 use Rattle.std.proofs.lemmas.Option.{slice_get_cases}
-use Rattle.attributes.specs.Place.{IsFree}
+use Rattle.std.proofs.lemmas.Bool.{false≢true}
+use Rattle.attributes.specs.Place.{IsHere, IsFree}
 use Rattle.std.specs.Ordering.{is_lt, ordering_reverse, nat_cmp}
-use Rattle.std.specs.Cmp.Lexicographic.{nat_list_cmp_total, slice_partial_cmp, lists_agrees}
+use Rattle.std.specs.Cmp.{Equal-is}
+use Rattle.std.specs.Cmp.Lexicographic.{nat_list_cmp_total, slice_partial_cmp, lists_agrees, texts_ties}
 use Rattle.std.specs.FinMap.Entries.{is_sorted, below_all}
 use Rattle.attributes.specs.Map.{by_bytes}
 use Rattle.attributes.specs.Table.{AllBefore, none_before, one_before}
-use Rattle.attributes.proofs.CallerLemmas.{same_name, free_at, free_end}
+use Rattle.attributes.proofs.CallerLemmas.{same_name, here_at, free_at, free_end}
+use Rattle.revision.specs.Sources.{LastTaken}
+use Rattle.revision.specs.steps.NameAt.{has_name}
 
 -- the two parts of a test
 T_parts : (a b : Bool) → T (a && b) → T a × T b
@@ -79,3 +83,14 @@ free_between {X} name es low high sorted met within before above = by_place (sli
       free_at name es low sorted before there.0 there.1 (sym there.3)
       (above there.0 (omega (arith, met, there.1)) (sym there.3 ∙ ap (λ n. get_or es n there.0) met))
   by_place (inr past) = free_end name es low sorted before (omega (arith, past.0, met, within))
+
+-- where an entry is of the name, the name stands there
+pub here_named : (name : List ℕ) (es : List (List ℕ × LastTaken)) (i : ℕ) → T (is_sorted by_bytes es) → has_name name (slice_get es i) ≡ true → IsHere name es i
+here_named name es i sorted named = by_place (slice_get_cases es i).1 where
+  by_place : ((x : List ℕ × LastTaken) × (i < length es) × (slice_get es i ≡ Some x) × (get_or es i x ≡ x)) ⊎ ((length es ≤ i) × (slice_get es i ≡ None)) → IsHere name es i
+  by_place (inl there) =
+      let e = there.0 in
+      let ties : has_name name (Some e) ≡ true = sym (ap (has_name name) there.2) ∙ named in
+      let equal : by_bytes name e.0 ≡ Equal = (Equal-is (by_bytes name e.0)).0 (sym (texts_ties name e.0) ∙ ties) in
+      here_at name es i sorted (before-equal name es i e sorted there.1 (sym there.3) equal) e there.1 (sym there.3) equal
+  by_place (inr past) = absurd (false≢true (sym (ap (has_name name) past.1) ∙ named))

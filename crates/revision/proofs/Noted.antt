@@ -131,7 +131,7 @@ but-there source names one other but differ name absent = (
 )
 
 -- the same but for those once one of them was noted or wasn't
-pub but-once_noted : {E : Type 0} (source : List ℕ) (last : LastTaken) (names : List (List ℕ)) (one other after : Sources) (done : Result (Unit {0}) E)
+pub but-once_noted : {V E : Type 0} (source : List ℕ) (last : LastTaken) (names : List (List ℕ)) (one other after : Sources) (done : Result V E)
     → OnOk done (after ≡ insert other source last) → OnErr done (after ≡ other)
     → ((name : List ℕ) → is_among name names ≡ false → (is_among name (source ∷ []) ≡ false) × (get one name ≡ get other name)) → EqualBut names one after
 but-once_noted source last names one other after (Ok _) taken left but = λ name absent.

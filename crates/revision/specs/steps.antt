@@ -8,3 +8,4 @@ pub mod Preparing
 pub mod Index
 pub mod ChangedAt
 pub mod DocumentsView
+pub mod NameAt

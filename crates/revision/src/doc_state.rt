@@ -1,5 +1,5 @@
 //! A document as a state holds it.
-ghost use Rattle.std.specs.Prelude.{◌≡◌, ◌&&◌, ◌+◌, ◌≤◌, ◌<◌, ◌^◌, ◌⊎◌, ◌∷◌, ◌++◌, true, false, [], length, IfOk, IfErr, OnOk, OnErr, IsErrOf, IsOkUnless};
+ghost use Rattle.std.specs.Prelude.{◌≡◌, ◌&&◌, ◌+◌, ◌≤◌, ◌<◌, ◌^◌, ◌⊎◌, ◌∷◌, ◌++◌, true, false, [], length, is_some, IfOk, IfErr, OnOk, OnErr, IsErrOf, IsOkUnless};
 ghost use Rattle.delta.specs.Operation.{base_of, out_of};
 ghost use Rattle.delta.specs.Gaps.{counted, apply};
 ghost use Rattle.revision.specs.Floors.{raised};
@@ -9,6 +9,7 @@ ghost use Rattle.revision.specs.Past.{empty_past, StandInTurn, newest, content_a
 ghost use Rattle.document.specs.Outcome.{IsAccepted};
 ghost use Rattle.revision.specs.Replay.{replay_of};
 ghost use Rattle.revision.specs.Invariants.{IsLimits};
+ghost use Rattle.attributes.specs.Map.{get};
 ghost use Rattle.revision.specs.Sources.{last_of, with_last};
 ghost use Rattle.revision.specs.State.{revision_of, units_of, sources_of, begins as spec_begins, comes_next as spec_comes_next, follows, keeps as spec_keeps, stays_light as spec_stays_light, change_of};
 ghost use Rattle.revision.specs.Pending.{record_of, with_prepared};
@@ -107,13 +108,15 @@ impl DocState {
         })
     }
 
-    /// Prepares a change that follows what is prepared so far, as `is_followed` tells. Its delta is moved into the past. Refused for
-    /// want of memory alone, and then nothing more is prepared. What is read stays as it is.
+    /// Prepares a change that follows what is prepared so far, as `place_for` tells; its source is looked for first at the place that
+    /// `place_for` gave. Its delta is moved into the past. Refused for want of memory alone, and then nothing more is prepared. What is
+    /// read stays as it is.
     pub(crate) fn prepare_next(
         &mut self,
         alloc: Global,
         limits: Limits,
         taken: Taken,
+        near: usize,
     ) -> Result<(), Refusal>
         requires limits { IsLimits limits }
         requires follows { follows limits (with_prepared limits.keep self.old) taken ≡ true }
@@ -125,10 +128,10 @@ impl DocState {
         let delta = taken.delta();
         match self.next.as_mut() {
             // no document is made anew for a second change
-            Some(next) => note_on(alloc, &mut self.past, &mut self.sources, next, taken)?,
+            Some(next) => note_on(alloc, &mut self.past, &mut self.sources, next, taken, near)?,
             None => {
                 let after = after_taken(alloc, &self.document, delta)?;
-                note(alloc, &mut self.past, &mut self.sources, taken)?;
+                note(alloc, &mut self.past, &mut self.sources, taken, near)?;
                 self.next = Some(after);
             }
         }
@@ -142,9 +145,9 @@ impl DocState {
         self.next.as_ref().unwrap_or(&self.document)
     }
 
-    /// Whether a change follows what is prepared. It takes no memory.
-    pub(crate) fn is_followed(&self, limits: Limits, taken: &Taken) -> bool
-        ensures { result ≡ follows limits (with_prepared limits.keep self.now) taken.now }
+    /// Where its source stands or would stand, if a change follows what is prepared. It takes no memory.
+    pub(crate) fn place_for(&self, limits: Limits, taken: &Taken) -> Option<usize>
+        ensures { is_some result ≡ follows limits (with_prepared limits.keep self.now) taken.now }
     {
         let revision = self.past.prepared_revision();
         follows_at(
@@ -318,31 +321,49 @@ pub(crate) fn begins(alloc: Global, limits: Limits, taken: &Taken) -> bool
 {
     let sources = Sources::new(alloc);
     let document = Document::empty(alloc);
-    follows_at(limits, 0, &document, &sources, taken)
+    follows_at(limits, 0, &document, &sources, taken).is_some()
 }
 
-// whether a change follows a revision with this document and these sources
+// Where its source stands or would stand, if a change follows a revision with this document and these sources. The source is looked
+// up once.
 fn follows_at(
     limits: Limits,
     revision: u64,
     document: &Document,
     sources: &Sources,
     taken: &Taken,
-) -> bool
+) -> Option<usize>
     requires { revision < 2 ^ 53 }
-    ensures { result
+    ensures { is_some result
         ≡ (spec_comes_next limits revision sources.now taken.now
         && spec_keeps limits document.now sources.now taken.now) }
 {
-    comes_next(limits, revision, sources, taken) && keeps(limits, document, sources, taken)
+    let found = sources.look_up(taken.source());
+    let last = found.last;
+    if comes_next(limits, revision, sources, last, taken)
+        && keeps(limits, document, sources, last, taken)
+    {
+        return Some(found.place);
+    }
+    None
 }
 
-// whether a change is the next one after a revision with these sources
-fn comes_next(limits: Limits, revision: u64, sources: &Sources, taken: &Taken) -> bool
-    requires { revision < 2 ^ 53 }
+// whether a change is the next one after a revision with these sources, where its source has what was found
+fn comes_next(
+    limits: Limits,
+    revision: u64,
+    sources: &Sources,
+    found: Option<LastTaken>,
+    taken: &Taken,
+) -> bool
+    requires revision { revision < 2 ^ 53 }
+    requires found { found ≡ get sources.now taken.now.source }
     ensures { result ≡ spec_comes_next limits revision sources.now taken.now }
 {
-    let last = sources.last(taken.source());
+    let last = found.unwrap_or(LastTaken {
+        number: 0,
+        revision: 0,
+    });
     taken.revision() == revision + 1
         && revision != LAST
         && taken.number() >= 1
@@ -352,17 +373,32 @@ fn comes_next(limits: Limits, revision: u64, sources: &Sources, taken: &Taken) -
 }
 
 // whether a change keeps the limits: what it leaves is no heavier than it may be, and its entry is as short as it has to be
-fn keeps(limits: Limits, document: &Document, sources: &Sources, taken: &Taken) -> bool
+fn keeps(
+    limits: Limits,
+    document: &Document,
+    sources: &Sources,
+    found: Option<LastTaken>,
+    taken: &Taken,
+) -> bool
+    requires { found ≡ get sources.now taken.now.source }
     ensures { result ≡ spec_keeps limits document.now sources.now taken.now }
 {
-    stays_light(limits, document, sources, taken) && taken.width() <= u64::from(limits.width())
+    stays_light(limits, document, sources, found, taken)
+        && taken.width() <= u64::from(limits.width())
 }
 
 // whether a change's delta is defined on the document, parts no pair, and leaves what is no heavier than it may be
-fn stays_light(limits: Limits, document: &Document, sources: &Sources, taken: &Taken) -> bool
+fn stays_light(
+    limits: Limits,
+    document: &Document,
+    sources: &Sources,
+    found: Option<LastTaken>,
+    taken: &Taken,
+) -> bool
+    requires { found ≡ get sources.now taken.now.source }
     ensures { result ≡ spec_stays_light limits document.now sources.now taken.now }
 {
-    let beside = sources.count_after(taken.source()).saturating_mul(64);
+    let beside = sources.count_with(found).saturating_mul(64);
     match document.weigh(taken.delta()) {
         Ok(units) => units.saturating_add(beside) <= u64::from(limits.weight()),
         Err(_) => false,
@@ -381,13 +417,14 @@ fn after_taken(alloc: Global, document: &Document, taken: &Delta) -> Result<Docu
     }
 }
 
-// Prepares a change in the past and in the table of sources. Refused for want of memory alone, and then both are unchanged. What
-// lies below the floor is let go of, as far as memory goes.
+// Prepares a change in the past and in the table of sources, where its source is looked for first at a place. Refused for want of
+// memory alone, and then both are unchanged. What lies below the floor is let go of, as far as memory goes.
 fn note(
     alloc: Global,
     past: &mut Past,
     sources: &mut SourceTable,
     taken: Taken,
+    near: usize,
 ) -> Result<(), Refusal>
     requires accepted { IsAccepted (prepared_units past.old) (counted taken.delta) }
     requires short { length (apply (prepared_units past.old) (counted taken.delta)) ≤ 2 ^ 29 }
@@ -405,7 +442,8 @@ fn note(
     let revision = taken.revision();
     let (source, number, delta) = taken.into_change();
     past.prepare(source.copy(alloc)?, number, delta)?;
-    let noted = sources.prepare(alloc, &source, number, revision);
+    let last = LastTaken { number, revision };
+    let noted = sources.prepare(alloc, &source, last, near);
     if noted.is_err() {
         past.take_back();
     }
@@ -419,6 +457,7 @@ fn note_on(
     sources: &mut SourceTable,
     next: &mut Document,
     taken: Taken,
+    near: usize,
 ) -> Result<(), Refusal>
     requires next { next.old ≡ prepared_units past.old }
     requires accepted { IsAccepted (prepared_units past.old) (counted taken.delta) }
@@ -440,7 +479,7 @@ fn note_on(
     let (source, number, delta) = taken.into_change();
     past.prepare(source.copy(alloc)?, number, delta)?;
     let last = LastTaken { number, revision };
-    let noted = sources.prepare_with(alloc, &source, last, past.prepared_delta(), next);
+    let noted = sources.prepare_with(alloc, &source, last, near, past.prepared_delta(), next);
     if noted.is_err() {
         past.take_back();
     }

@@ -1,5 +1,5 @@
 //! Documents with what is prepared to follow.
-ghost use Rattle.std.specs.Prelude.{◌≡◌, ◌↔◌, ◌⊎◌, ◌≤◌, ◌<◌, ◌∷◌, ◌++◌, [], true, false, None, Some, ℕ, List, length, map, take, slice_get, bytes_eq, ◌==◌, ◌&&◌, nat_lt, is_none, cond, option_map, IfOk, IfErr, OnOk, OnErr, IsErrOf, IsOkUnless};
+ghost use Rattle.std.specs.Prelude.{◌≡◌, ◌↔◌, ◌⊎◌, ◌≤◌, ◌<◌, ◌∷◌, ◌++◌, [], true, false, None, Some, ℕ, List, length, map, take, slice_get, bytes_eq, ◌==◌, ◌&&◌, nat_lt, is_none, is_some, cond, option_map, IfOk, IfErr, OnOk, OnErr, IsErrOf, IsOkUnless};
 ghost use Rattle.std.specs.BTreeMap.{get_by_text};
 ghost use Rattle.revision.specs.steps.ChangedAt.{changed_at, changed_at_all};
 ghost use Rattle.revision.specs.Documents.{unprepared};
@@ -98,10 +98,10 @@ impl Documents {
         ensures only { IfErr result (λ e. (e ≡ Refusal.Stranger) ⊎ (e ≡ Refusal.NoMemory)) }
         ensures unchanged { OnErr result (self.new ≡ self.old) }
     {
-        if !self.continues(alloc, taken) {
+        let Some(near) = self.place_for(alloc, taken) else {
             return Err(Refusal::Stranger);
-        }
-        if let Err(refusal) = self.prepare_next(alloc, taken) {
+        };
+        if let Err(refusal) = self.prepare_next(alloc, taken, near) {
             return Err(refusal);
         }
         Ok(())
@@ -116,22 +116,34 @@ impl Documents {
         ensures only { IfErr result (λ e. (e ≡ Refusal.Stranger) ⊎ (e ≡ Refusal.NoMemory)) }
         ensures unchanged { OnErr result (self.new ≡ self.old) }
     {
-        if !self.continues(alloc, &taken) {
+        let Some(near) = self.place_for(alloc, &taken) else {
             return Err(Refusal::Stranger);
-        }
-        if let Err(refusal) = self.prepare_next_given(alloc, taken) {
+        };
+        if let Err(refusal) = self.prepare_next_given(alloc, taken, near) {
             return Err(refusal);
         }
         Ok(())
     }
 
-    // whether a command continues what was prepared; it takes no memory
-    fn continues(&self, alloc: Global, taken: &Taken) -> bool
-        ensures { result ≡ grows self.now.after taken.now }
+    // Where its source stands or would stand in the document, if a command continues what was prepared. It takes no memory.
+    fn place_for(&self, alloc: Global, taken: &Taken) -> Option<usize>
+        ensures { is_some result ≡ grows self.now.after taken.now }
     {
         match taken.name() {
-            Some(name) => self.may_create(alloc, taken, name),
-            None => may_change(self.documents.as_slice(), self.limits, taken),
+            Some(name) => self.place_in_new(alloc, taken, name),
+            None => place_in(self.documents.as_slice(), self.limits, taken),
+        }
+    }
+
+    // the first place, if a creation continues what was prepared
+    fn place_in_new(&self, alloc: Global, taken: &Taken, name: &Name) -> Option<usize>
+        requires name { taken.now.name ≡ Some name.now }
+        ensures { is_some result ≡ grows self.now.after taken.now }
+    {
+        if self.may_create(alloc, taken, name) {
+            Some(0)
+        } else {
+            None
         }
     }
 
@@ -147,7 +159,7 @@ impl Documents {
     }
 
     // prepares a command that continues what was prepared
-    fn prepare_next(&mut self, alloc: Global, taken: &Taken) -> Result<(), Refusal>
+    fn prepare_next(&mut self, alloc: Global, taken: &Taken, near: usize) -> Result<(), Refusal>
         requires continues { grows self.old.after taken.now ≡ true }
         ensures ok { OnOk result (self.new ≡ record self.old { after = grown self.old.after taken.now }) }
         ensures only { IsOkUnless result Refusal.NoMemory }
@@ -155,12 +167,17 @@ impl Documents {
     {
         match taken.name() {
             Some(name) => self.create(alloc, taken, name),
-            None => self.change_next(alloc, taken.copy(alloc)?),
+            None => self.change_next(alloc, taken.copy(alloc)?, near),
         }
     }
 
     // the same of a command that is given away
-    fn prepare_next_given(&mut self, alloc: Global, taken: Taken) -> Result<(), Refusal>
+    fn prepare_next_given(
+        &mut self,
+        alloc: Global,
+        taken: Taken,
+        near: usize,
+    ) -> Result<(), Refusal>
         requires continues { grows self.old.after taken ≡ true }
         ensures ok { OnOk result (self.new ≡ record self.old { after = grown self.old.after taken }) }
         ensures only { IsOkUnless result Refusal.NoMemory }
@@ -168,12 +185,12 @@ impl Documents {
     {
         match taken.name() {
             Some(name) => self.create(alloc, &taken, name),
-            None => self.change_next(alloc, taken),
+            None => self.change_next(alloc, taken, near),
         }
     }
 
     // prepares an edit or an undo that continues what was prepared
-    fn change_next(&mut self, alloc: Global, taken: Taken) -> Result<(), Refusal>
+    fn change_next(&mut self, alloc: Global, taken: Taken, near: usize) -> Result<(), Refusal>
         requires name { taken.name ≡ None }
         requires continues { grows self.old.after taken ≡ true }
         ensures ok { OnOk result (self.new ≡ record self.old { after = grown self.old.after taken }) }
@@ -181,7 +198,7 @@ impl Documents {
         ensures unchanged { OnErr result (self.new ≡ self.old) }
     {
         self.touched.push(taken.document_number())?;
-        change(alloc, &mut self.documents, self.limits, taken)?;
+        change(alloc, &mut self.documents, self.limits, taken, near)?;
         Ok(())
     }
 
@@ -312,15 +329,15 @@ impl Documents {
     }
 }
 
-// whether an edit or an undo continues a document that is there
-fn may_change(documents: &[DocState], limits: Limits, taken: &Taken) -> bool
-    ensures { result
+// where its source stands or would stand, if an edit or an undo continues a document that is there
+fn place_in(documents: &[DocState], limits: Limits, taken: &Taken) -> Option<usize>
+    ensures { is_some result
         ≡ continues_by_name limits (slice_get (map (with_prepared limits.keep) documents.now) taken.now.document)
         taken.now None }
 {
     match documents.get(taken.document_number() as usize) {
-        Some(document) => document.is_followed(limits, taken),
-        None => false,
+        Some(document) => document.place_for(limits, taken),
+        None => None,
     }
 }
 
@@ -330,6 +347,7 @@ fn change(
     documents: &mut Vec<DocState>,
     limits: Limits,
     taken: Taken,
+    near: usize,
 ) -> Result<(), Refusal>
     requires limits { IsLimits limits }
     requires continues { continues_by_name limits
@@ -340,7 +358,7 @@ fn change(
     ensures unchanged { OnErr result (documents.new.items ≡ documents.old.items) }
 {
     let number = taken.document_number() as usize;
-    documents[number].prepare_next(alloc, limits, taken)?;
+    documents[number].prepare_next(alloc, limits, taken, near)?;
     Ok(())
 }
 
@@ -352,7 +370,7 @@ fn begin(alloc: Global, limits: Limits, taken: &Taken, name: &Name) -> Result<Do
     ensures only { IsOkUnless result Refusal.NoMemory }
 {
     let mut document = DocState::empty(alloc, name.copy(alloc)?);
-    document.prepare_next(alloc, limits, taken.copy(alloc)?)?;
+    document.prepare_next(alloc, limits, taken.copy(alloc)?, 0)?;
     Ok(document)
 }
 

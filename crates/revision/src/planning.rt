@@ -1,5 +1,5 @@
 //! Which commands are taken.
-ghost use Rattle.std.specs.Prelude.{◌≡◌, ◌≢◌, ◌⊎◌, ◌<◌, ◌≤◌, ◌^◌, ◌+◌, true, length, Some, IfOk, OnOk, IfErr, IsErrOf, IsOkUnless};
+ghost use Rattle.std.specs.Prelude.{◌≡◌, ◌≢◌, ◌⊎◌, ◌<◌, ◌≤◌, ◌^◌, ◌+◌, ℕ, List, true, length, Some, IfOk, OnOk, IfErr, IsErrOf, IsOkUnless};
 ghost use Rattle.revision.specs.Acceptance.{answer, by_number, take_on, create_existing, create_new, edit, undo, change, Takes, Refuses};
 ghost use Rattle.revision.specs.Command.{Taken as Change, IsShortDelta};
 ghost use Rattle.revision.specs.Invariants.{IsPast};
@@ -178,12 +178,13 @@ fn plan_edit(
         (by_number (last_of command.now.source (sources_of (record_of found.now))) command.now.number
         (edit state.now number (record_of found.now) command.now base delta.now)) ≡ true }
 {
-    match turn(found.last(command.source()), command.number()) {
+    let last_taken = found.last(command.source());
+    match turn(last_taken, command.number()) {
         Ok(None) => {}
         Ok(Some(rev)) => return Ok(Plan::Again { rev }),
         Err(refusal) => return Err(refusal),
     }
-    if !has_place(state.limits(), found.sources(), command.source()) {
+    if !has_place(state.limits(), found.sources(), last_taken) {
         return Err(Refusal::TooManySources);
     }
     if base > found.revision() {
@@ -284,11 +285,11 @@ fn turn(last: LastTaken, number: u64) -> Result<Option<u64>, Refusal>
     Ok(None)
 }
 
-// a source is there, or there is room for one more
-fn has_place(limits: Limits, sources: &Sources, source: &Name) -> bool
-    ensures { result ≡ spec_has_place limits source.now sources.now }
+// a source that has this is there, or there is room for one more
+fn has_place(limits: Limits, sources: &Sources, last: LastTaken) -> bool
+    ensures { (source : List ℕ) → last ≡ last_of source sources.now → result ≡ spec_has_place limits source sources.now }
 {
-    sources.last(source).number != 0 || (sources.count() as u64) < u64::from(limits.sources())
+    last.number != 0 || (sources.count() as u64) < u64::from(limits.sources())
 }
 
 // Whether a delta is taken on a document with these sources, where its entry has so many bytes.

@@ -26,8 +26,23 @@ use std::mem::swap;
 pub struct SourceTable {
     accepted: Sources,
     ahead: Sources,
-    changed: Vec<Name>,
+    changed: Vec<Changed>,
     prepared: bool,
+}
+
+// A source in which the two lists may differ, seen as its name, with the place at which it is looked for first.
+#[derive(Drop)]
+struct Changed {
+    source: Name,
+    near: usize,
+}
+
+impl Model for Changed {
+    ghost use Rattle.std.specs.Prelude.{List, ℕ};
+
+    ghost Value = { List ℕ };
+
+    ghost view = { λ c. c.source };
 }
 
 impl Model for SourceTable {
@@ -89,18 +104,18 @@ impl SourceTable {
         }
     }
 
-    /// Prepares a command of a source, whose name has 1 to 32 characters. Refused for want of memory alone, and then nothing more is
-    /// prepared.
+    /// Prepares a command of a source, whose name has 1 to 32 characters. It is looked for first at the place that it has among the
+    /// sources after what is prepared, as far as the caller knows. Refused for want of memory alone, and then nothing more is prepared.
     pub fn prepare(
         &mut self,
         alloc: Global,
         source: &Name,
-        number: u64,
-        revision: u64,
+        last: LastTaken,
+        near: usize,
     ) -> Result<(), Refusal>
         requires { is_source_name source.now ≡ true }
         ensures ok { OnOk result (self.new
-            ≡ record self.old { prepared = with_last source.now number revision self.old.prepared }) }
+            ≡ record self.old { prepared = with_last source.now last.number last.revision self.old.prepared }) }
         ensures only { IsOkUnless result Refusal.NoMemory }
         ensures unchanged { OnErr result (self.new ≡ self.old) }
     {
@@ -120,17 +135,20 @@ impl SourceTable {
             &self.accepted,
             &self.ahead,
             source,
+            near,
         )?;
-        self.ahead.note(alloc, source, number, revision)
+        self.ahead.note(alloc, source, last, near)?;
+        Ok(())
     }
 
-    /// Prepares a command of a source, whose name has 1 to 32 characters, and applies its delta to a document: both, or neither.
-    /// Refused for want of memory alone.
+    /// Prepares a command of a source as `prepare` does, and applies its delta to a document: both, or neither. Refused for want of
+    /// memory alone.
     pub fn prepare_with(
         &mut self,
         alloc: Global,
         source: &Name,
         last: LastTaken,
+        near: usize,
         delta: &Delta,
         document: &mut Document,
     ) -> Result<(), Refusal>
@@ -159,8 +177,9 @@ impl SourceTable {
             &self.accepted,
             &self.ahead,
             source,
+            near,
         )?;
-        note_with(alloc, &mut self.ahead, source, last, delta, document)
+        note_with(alloc, &mut self.ahead, source, last, near, delta, document)
     }
 
     /// Accepts what is prepared. It takes no memory, and isn't refused.
@@ -181,14 +200,15 @@ impl SourceTable {
     }
 }
 
-// Adds a source to those in which two lists may differ. Where they differ in it already it is one of them. Refused for want of
-// memory alone, and then none is added.
+// Adds a source to those in which two lists may differ. Where they differ in it already it is one of them. In both it is looked for
+// first at one place. Refused for want of memory alone, and then none is added.
 fn mark(
     alloc: Global,
-    changed: &mut Vec<Name>,
+    changed: &mut Vec<Changed>,
     accepted: &Sources,
     ahead: &Sources,
     source: &Name,
+    near: usize,
 ) -> Result<(), Refusal>
     requires { EqualBut changed.old.items accepted.now ahead.now }
     ensures ok { OnOk result ((name : List ℕ) → is_among name changed.new.items ≡ false
@@ -196,8 +216,12 @@ fn mark(
     ensures unchanged { OnErr result (changed.new.items ≡ changed.old.items) }
     ensures only { IsOkUnless result Refusal.NoMemory }
 {
-    if is_same(accepted.find(source), ahead.find(source)) {
-        changed.push(source.copy(alloc)?)?;
+    if is_same(
+        accepted.find_near(source, near),
+        ahead.find_near(source, near),
+    ) {
+        let source = source.copy(alloc)?;
+        changed.push(Changed { source, near })?;
     }
     Ok(())
 }
@@ -208,12 +232,14 @@ fn is_same(one: Option<LastTaken>, other: Option<LastTaken>) -> bool
     one == other
 }
 
-// Notes a command of a source, and applies its delta to a document: both, or neither. Refused for want of memory alone.
+// Notes a command of a source, which is looked for first at one place, and applies its delta to a document: both, or neither. Refused
+// for want of memory alone.
 fn note_with(
     alloc: Global,
     sources: &mut Sources,
     source: &Name,
     last: LastTaken,
+    near: usize,
     delta: &Delta,
     document: &mut Document,
 ) -> Result<(), Refusal>
@@ -225,52 +251,53 @@ fn note_with(
     ensures unchanged { OnErr result (sources.new ≡ sources.old) }
     ensures document_unchanged { OnErr result (document.new ≡ document.old) }
 {
-    let before = sources.find(source);
-    sources.note(alloc, source, last.number, last.revision)?;
+    let before = sources.note(alloc, source, last, near)?;
     match apply_taken(alloc, document, delta) {
         Ok(()) => Ok(()),
         Err(refusal) => {
-            sources.put_back(source, before);
+            sources.put_back(source, before, near);
             Err(refusal)
         }
     }
 }
 
-// Makes sources equal to others, which they are but for those of these names. Refused for want of memory alone; they are still
+// Makes sources equal to others, which they are but for those that are changed. Refused for want of memory alone; they are still
 // equal then, but for those.
 fn align_all(
     alloc: Global,
-    names: &[Name],
+    changed: &[Changed],
     accepted: &Sources,
     ahead: &mut Sources,
 ) -> Result<(), Refusal>
-    requires { EqualBut names.now accepted.now ahead.old }
+    requires { EqualBut changed.now accepted.now ahead.old }
     ensures ok { OnOk result (ahead.new ≡ accepted.now) }
-    ensures still { EqualBut names.now accepted.now ahead.new }
+    ensures still { EqualBut changed.now accepted.now ahead.new }
     ensures only { IsOkUnless result Refusal.NoMemory }
 {
-    for name in names {
-        align(alloc, name, accepted, ahead)?;
+    for one in changed {
+        align(alloc, one, accepted, ahead)?;
     }
     Ok(())
 }
 
-// Gives a source what it has in other sources. Refused for want of memory alone, and then unchanged.
+// Gives a source what it has in other sources. In both it is looked for first at one place. Refused for want of memory alone, and then
+// unchanged.
 fn align(
     alloc: Global,
-    source: &Name,
+    changed: &Changed,
     accepted: &Sources,
     ahead: &mut Sources,
 ) -> Result<(), Refusal>
-    ensures ok { OnOk result (ahead.new ≡ with_entry source.now (get accepted.now source.now) ahead.old) }
+    ensures ok { OnOk result (ahead.new ≡ with_entry changed.now (get accepted.now changed.now) ahead.old) }
     ensures unchanged { OnErr result (ahead.new ≡ ahead.old) }
     ensures only { IsOkUnless result Refusal.NoMemory }
 {
-    match accepted.find(source) {
-        Some(last) => ahead.set(source.copy(alloc)?, last.number, last.revision),
-        None => {
-            ahead.remove(source);
-            Ok(())
+    let source = &changed.source;
+    match accepted.find_near(source, changed.near) {
+        Some(last) => {
+            ahead.note(alloc, source, last, changed.near)?;
         }
+        None => ahead.remove(source),
     }
+    Ok(())
 }

@@ -1,10 +1,11 @@
 //! The sources of a document.
-ghost use Rattle.std.specs.Prelude.{◌≡◌, ◌-◌, ◌^◌, ℕ, T, true, None, min, is_some, MatchBool, MatchResult, IfOk, OnOk, OnErr, OnSome, IsOkUnless, length};
+ghost use Rattle.std.specs.Prelude.{◌≡◌, ◌-◌, ◌^◌, ℕ, T, true, None, List, min, is_some, slice_get, MatchOption, MatchResult, IfOk, OnOk, OnErr, OnSome, IsOkUnless, length};
 ghost use Rattle.std.specs.FinMap.Entries.{is_sorted};
 ghost use Rattle.attributes.specs.Map.{by_bytes, empty, get, insert, remove};
 ghost use Rattle.attributes.specs.Place.{IsHere, IsFree};
 ghost use Rattle.revision.specs.Name.{is_source_name};
 ghost use Rattle.revision.specs.Sources.{are_named, count_of, last_of, with_last, with_entry};
+ghost use Rattle.revision.specs.steps.NameAt.{has_name};
 ghost use lib.Dec.{T_prop};
 
 use crate::name::Name;
@@ -18,6 +19,16 @@ use std::marker::Model;
 pub struct LastTaken {
     pub number: u64,
     pub revision: u64,
+}
+
+/// What a source has, where it is there, and the place at which it stands or would stand.
+///
+/// A place is only where the source is looked for first the next time, in these sources or in others that are much the same. Where
+/// it is wrong the source is searched for, so nothing rests on it, and no clause speaks of it.
+#[derive(Drop)]
+pub(crate) struct Found {
+    pub(crate) last: Option<LastTaken>,
+    pub(crate) place: usize,
 }
 
 /// The sources of a document with what each has, in the order of the bytes of their names, which have 1 to 32 characters.
@@ -83,6 +94,26 @@ impl Sources {
         Err(low)
     }
 
+    // Where the name stands, as `place` tells. One place is tried first, and where it stands there nothing is searched.
+    fn place_near(&self, name: &str, near: usize) -> Result<usize, usize>
+        ensures { MatchResult result (IsHere name.now self.now.entries) (IsFree name.now self.now.entries) }
+    {
+        if self.stands_at(name, near) {
+            return Ok(near);
+        }
+        self.place(name)
+    }
+
+    // Whether the name stands at this place.
+    fn stands_at(&self, name: &str, place: usize) -> bool
+        ensures { result ≡ has_name name.now (slice_get self.now.entries place) }
+    {
+        match self.list.get(place) {
+            Some((other, _)) => name == other.as_str(),
+            None => false,
+        }
+    }
+
     /// What a source has, 0 and 0 where it isn't there.
     pub fn last(&self, source: &Name) -> LastTaken
         ensures { result ≡ last_of source.now self.now }
@@ -107,13 +138,45 @@ impl Sources {
         }
     }
 
+    /// What a source has, where it is there, with its place.
+    pub(crate) fn look_up(&self, source: &Name) -> Found
+        ensures { result.last ≡ get self.now source.now }
+    {
+        match self.place(source.as_str()) {
+            Ok(place) => Found {
+                last: Some(self.list[place].1),
+                place,
+            },
+            Err(place) => Found { last: None, place },
+        }
+    }
+
+    /// What a source has, as `find` tells. One place is tried first.
+    pub(crate) fn find_near(&self, source: &Name, near: usize) -> Option<LastTaken>
+        ensures last { result ≡ get self.now source.now }
+        ensures named { OnSome result (is_source_name source.now ≡ true) }
+    {
+        match self.place_near(source.as_str(), near) {
+            Ok(i) => Some(self.list[i].1),
+            Err(_) => None,
+        }
+    }
+
     /// How many there are once a command of this source was taken; 2^64 - 1 where there are more.
     pub fn count_after(&self, source: &Name) -> u64
         ensures { (number revision : ℕ)
             → result ≡ min (count_of (with_last source.now number revision self.now)) (2 ^ 64 - 1) }
     {
+        self.count_with(self.find(source))
+    }
+
+    /// How many there are once a command was taken of a source that has this; 2^64 - 1 where there are more.
+    pub(crate) fn count_with(&self, found: Option<LastTaken>) -> u64
+        ensures { (source : List ℕ) (number revision : ℕ) → found ≡ get self.now source
+            → result ≡ min (count_of (with_last source number revision self.now)) (2 ^ 64 - 1) }
+    {
         let count = self.count() as u64;
-        match self.find(source) {
+        match found {
             Some(_) => count,
             None => count.saturating_add(1),
         }
@@ -140,49 +203,53 @@ impl Sources {
         }
     }
 
-    /// Gives a source that is there what it has from now on, and tells whether it is there. It takes no memory.
-    pub(crate) fn renew(&mut self, source: &Name, last: LastTaken) -> bool
+    /// Gives a source that is there what it has from now on, and gives back what it had. One place is tried first. It takes no memory.
+    pub(crate) fn renew(&mut self, source: &Name, last: LastTaken, near: usize) -> Option<LastTaken>
         requires { is_source_name source.now ≡ true }
-        ensures { MatchBool result (self.new ≡ insert self.old source.now last) ((get self.old source.now ≡ None)
-            × (self.new ≡ self.old)) }
+        ensures before { result ≡ get self.old source.now }
+        ensures after { MatchOption result (self.new ≡ self.old) (λ _. self.new ≡ insert self.old source.now last) }
     {
-        match self.place(source.as_str()) {
+        match self.place_near(source.as_str(), near) {
             Ok(i) => {
+                let before = self.list[i].1;
                 self.list[i].1 = last;
-                true
+                Some(before)
             }
-            Err(_) => false,
+            Err(_) => None,
         }
     }
 
-    /// Notes the last command of a source as `set` does, and copies its name only where it is new.
+    /// Notes the last command of a source as `set` does, and gives back what it had, where it was there. One place is tried first. Its
+    /// name is copied only where it is new.
     pub(crate) fn note(
         &mut self,
         alloc: Global,
         source: &Name,
-        number: u64,
-        revision: u64,
-    ) -> Result<(), Refusal>
+        last: LastTaken,
+        near: usize,
+    ) -> Result<Option<LastTaken>, Refusal>
         requires { is_source_name source.now ≡ true }
-        ensures ok { OnOk result (self.new ≡ with_last source.now number revision self.old) }
+        ensures ok { OnOk result (self.new ≡ insert self.old source.now last) }
+        ensures before { IfOk result (λ before. before ≡ get self.old source.now) }
         ensures unchanged { OnErr result (self.new ≡ self.old) }
         ensures only { IsOkUnless result Refusal.NoMemory }
     {
-        if self.renew(source, LastTaken { number, revision }) {
-            return Ok(());
+        if let Some(before) = self.renew(source, last, near) {
+            return Ok(Some(before));
         }
-        self.set(source.copy(alloc)?, number, revision)
+        self.set(source.copy(alloc)?, last.number, last.revision)?;
+        Ok(None)
     }
 
-    /// Gives a source that is there what it had before, and drops it where it had nothing. It takes no memory.
-    pub(crate) fn put_back(&mut self, source: &Name, before: Option<LastTaken>)
+    /// Gives a source that is there what it had before, and drops it where it had nothing. One place is tried first. It takes no memory.
+    pub(crate) fn put_back(&mut self, source: &Name, before: Option<LastTaken>, near: usize)
         requires named { is_source_name source.now ≡ true }
         requires there { is_some (get self.old source.now) ≡ true }
         ensures { self.new ≡ with_entry source.now before self.old }
     {
         match before {
             Some(last) => {
-                let _ = self.renew(source, last);
+                let _ = self.renew(source, last, near);
             }
             None => self.remove(source),
         }

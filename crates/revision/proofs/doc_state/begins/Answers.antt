@@ -12,6 +12,6 @@ returns c =
     let limits = c.args.limits in
     let taken = c.args.taken.now in
     let d : PendingDocument = record { name = []; past = record { past = empty_past; next = [] } } in
-    c.follows_at.ensures
+    c.is_some.ensures ∙ c.follows_at.ensures
     ∙ ap₂ (λ u (s : Sources). comes_next limits 0 s taken && keeps limits u s taken) c.empty-document.ensures c.new-sources.ensures
     ∙ sym (follows_prepared limits d taken) ∙ follows-empty limits [] taken c.requires

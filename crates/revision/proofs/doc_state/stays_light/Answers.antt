@@ -1,4 +1,4 @@
-use Rattle.std.proofs.Common.{ℕ, ◌≡◌, ◌+◌, ◌*◌, ◌<◌, ◌^◌, ◌↔◌, Err, List, min, ◌-◌, sym, ap, subst, ◌∙◌}
+use Rattle.std.proofs.Common.{◌≡◌, ◌+◌, ◌*◌, ◌<◌, ◌^◌, ◌↔◌, Err, List, min, ◌-◌, sym, ap, subst, ◌∙◌}
 use Rattle.std.specs.Prelude.{nat_le}
 use Rattle.refusal.specs.declared.Refusal.TheVariants.{PastEnd, CutsPair}
 use Rattle.delta.specs.Operation.{Operation}
@@ -22,11 +22,11 @@ returns-in-Ok c =
     let limit : c.from.result ≡ c.args.limits.weight = c.from.ensures ∙ c.weight.ensures in
     let bound : c.args.limits.weight < 2 ^ 32 = subst (λ n. n < 2 ^ 32) c.weight.ensures c.weight.type_inv in
     let w_is : c.in-Ok.units ≡ min weight (2 ^ 64 - 1) = subst (λ (d : List Operation). c.in-Ok.units ≡ min (document.weight_of (apply units (counted d))) (2 ^ 64 - 1)) same c.in-Ok.ensures.ok in
-    let n_is : c.count_after.result ≡ min count (2 ^ 64 - 1) =
-    subst (λ (s : List ℕ). c.count_after.result ≡ min (count_of (with_last s taken.number taken.revision c.args.sources.now)) (2 ^ 64 - 1)) c.source.ensures (c.count_after.ensures taken.number taken.revision) in
+    let n_is : c.count_with.result ≡ min count (2 ^ 64 - 1) =
+    c.count_with.ensures taken.source taken.number taken.revision c.requires in
     let light : nat_le c.saturating_add.result c.from.result ≡ nat_le (weight + 64 * count) c.args.limits.weight =
     ap (nat_le c.saturating_add.result) limit
-    ∙ light_sum weight count c.args.limits.weight c.saturating_add.result c.in-Ok.units c.count_after.result c.saturating_mul-beside.result bound w_is n_is c.saturating_mul-beside.ensures c.saturating_add.ensures in
+    ∙ light_sum weight count c.args.limits.weight c.saturating_add.result c.in-Ok.units c.count_with.result c.saturating_mul-beside.result bound w_is n_is c.saturating_mul-beside.ensures c.saturating_add.ensures in
     kept_is _ _ (nat_le c.saturating_add.result c.from.result) _ (reaches taken.delta units c.weigh.result end cuts c.in-Ok.units c.in-Ok.is)
     (whole taken.delta units c.weigh.result end cuts c.in-Ok.units c.in-Ok.is) light
 

@@ -5,10 +5,10 @@ use Rattle.revision.proofs.source_table.note_with.Goals as goal
 
 pub put_back-requires-clause-there : goal.put_back-requires-clause-there
 put_back-requires-clause-there c =
-    there-noted c.args.source.now c.args.last c.args.sources.now c.note.new.self c.in_ok-note.ensures.ok
+    there-noted c.args.source.now c.args.last c.args.sources.now c.note.new.self c.in_ok-before.ensures.ok
 
 pub returns-in-Err-clause-unchanged : goal.returns-in-Err-clause-unchanged
 returns-in-Err-clause-unchanged c =
     c.put_back.ensures
-    ∙ (ap (λ entry. with_entry c.args.source.now entry c.note.new.self) c.find-before.ensures.last
-    ∙ put-back c.args.source.now c.args.last c.args.sources.now c.note.new.self c.in_ok-note.ensures.ok)
+    ∙ (ap (λ entry. with_entry c.args.source.now entry c.note.new.self) c.in_ok-before.ensures.before
+    ∙ put-back c.args.source.now c.args.last c.args.sources.now c.note.new.self c.in_ok-before.ensures.ok)

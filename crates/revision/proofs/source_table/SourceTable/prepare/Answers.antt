@@ -5,5 +5,5 @@ use Rattle.revision.proofs.source_table.SourceTable.prepare.Goals as goal
 pub invariant_of-self-2 : goal.invariant_of-self-2
 invariant_of-self-2 c =
     let inside = c.if-not-self.self-inside in
-    but-once_noted c.args.source.now (record { number = c.args.number; revision = c.args.revision }) c.mark.new.changed.items inside.accepted inside.ahead c.note.new.self c.note.result
+    but-once_noted c.args.source.now c.args.last c.mark.new.changed.items inside.accepted inside.ahead c.note.new.self c.note.result
     c.note.ensures.ok c.note.ensures.unchanged c.in_ok-mark.ensures.ok

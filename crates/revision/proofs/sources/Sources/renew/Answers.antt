@@ -12,8 +12,8 @@ invariant_of-self-inside c = (
   tt,
 )
 
-pub returns-in-Ok : goal.returns-in-Ok
-returns-in-Ok c =
+pub returns-in-Ok-clause-after : goal.returns-in-Ok-clause-after
+returns-in-Ok-clause-after c =
     same_entries_map _ _
     (written c.args.self.now _ _ _ c.in-Ok.i (ap entries_of c.self.view_is) c.as_str.ensures.text c.in-Ok.ensures _ _ c.index_mut.ensures.value)
 

@@ -5,7 +5,7 @@ use Rattle.revision.specs.Past.{prepared_units, prepared_revision}
 use Rattle.revision.specs.State.{follows, comes_next, keeps}
 use Rattle.revision.specs.Pending.{PendingDocument, with_prepared, prepared_sources}
 use Rattle.revision.proofs.Following.{follows_prepared}
-use Rattle.revision.proofs.doc_state.DocState.is_followed.Goals as goal
+use Rattle.revision.proofs.doc_state.DocState.place_for.Goals as goal
 
 pub returns : goal.returns
 returns c =
