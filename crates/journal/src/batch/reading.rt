@@ -66,10 +66,14 @@ fn batch_of(alloc: Global, bytes: &[u8]) -> Result<(Vec<Taken>, &[u8]), Unread>
     entries(alloc, count, rest)
 }
 
+// no entry is spelled in fewer bytes: an edit of a source whose name has one, with an empty delta, has just so many
+const LEAST_ENTRY: usize = 28;
+
+// So many entries, one behind the other. Room is made for all of them at once, as far as the bytes can hold them.
 fn entries(alloc: Global, count: u32, bytes: &[u8]) -> Result<(Vec<Taken>, &[u8]), Unread>
     ensures { Gives (λ x. (x.0.items, x.1.now)) result (entries_at count bytes.now) }
 {
-    let mut batch = Vec::new(alloc);
+    let mut batch = Vec::with_capacity(alloc, (count as usize).min(bytes.len() / LEAST_ENTRY))?;
     let mut rest = bytes;
     for _ in 0..count {
         let (taken, after) = entry(alloc, rest)?;

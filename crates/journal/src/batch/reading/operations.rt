@@ -11,7 +11,10 @@ use delta::Op;
 use refusal::Refusal;
 use std::alloc::Global;
 
-/// So many operations, one behind the other.
+// no operation is spelled in fewer bytes: a delete has its tag and its length
+const LEAST_OPERATION: usize = 9;
+
+/// So many operations, one behind the other. Room is made for all of them at once, as far as the bytes can hold them.
 pub(super) fn operations(
     alloc: Global,
     count: u32,
@@ -19,7 +22,7 @@ pub(super) fn operations(
 ) -> Result<(Vec<Op>, &[u8]), Unread>
     ensures { Gives (λ x. (x.0.items, x.1.now)) result (operations_at count [] bytes.now) }
 {
-    let mut ops = Vec::new(alloc);
+    let mut ops = Vec::with_capacity(alloc, (count as usize).min(bytes.len() / LEAST_OPERATION))?;
     let mut rest = bytes;
     for _ in 0..count {
         let (op, after) = operation(alloc, rest)?;
