@@ -10,6 +10,7 @@ ghost use Rattle.document.specs.Outcome.{IsAccepted};
 ghost use Rattle.revision.specs.Replay.{replay_of};
 ghost use Rattle.revision.specs.Invariants.{IsLimits};
 ghost use Rattle.attributes.specs.Map.{get};
+ghost use Rattle.revision.specs.Name.{is_source_name};
 ghost use Rattle.revision.specs.Sources.{last_of, with_last};
 ghost use Rattle.revision.specs.State.{revision_of, units_of, sources_of, begins as spec_begins, comes_next as spec_comes_next, follows, keeps as spec_keeps, stays_light as spec_stays_light, change_of};
 ghost use Rattle.revision.specs.Pending.{record_of, with_prepared};
@@ -417,8 +418,28 @@ fn after_taken(alloc: Global, document: &Document, taken: &Delta) -> Result<Docu
     }
 }
 
+// Prepares a change in the past, and gives its source with what that has from then on. Refused for want of memory alone, and then the
+// past is unchanged. What lies below the floor is let go of, as far as memory goes.
+fn add_to(alloc: Global, past: &mut Past, taken: Taken) -> Result<(Name, LastTaken), Refusal>
+    requires accepted { IsAccepted (prepared_units past.old) (counted taken.delta) }
+    requires short { length (apply (prepared_units past.old) (counted taken.delta)) ≤ 2 ^ 29 }
+    requires revision { prepared_revision past.old + 1 < 2 ^ 53 }
+    ensures past { OnOk result (past.new ≡ record past.old { next = past.old.next ++ change_of taken ∷ [] }) }
+    ensures source { IfOk result (λ added. added.0 ≡ taken.source) }
+    ensures named { IfOk result (λ added. is_source_name added.0 ≡ true) }
+    ensures last { IfOk result (λ added. added.1 ≡ record { number = taken.number; revision = taken.revision }) }
+    ensures unchanged { OnErr result (past.new ≡ past.old) }
+    ensures only { IsOkUnless result Refusal.NoMemory }
+{
+    past.let_go(alloc);
+    let revision = taken.revision();
+    let (source, number, delta) = taken.into_change();
+    past.prepare(source.copy(alloc)?, number, delta)?;
+    Ok((source, LastTaken { number, revision }))
+}
+
 // Prepares a change in the past and in the table of sources, where its source is looked for first at a place. Refused for want of
-// memory alone, and then both are unchanged. What lies below the floor is let go of, as far as memory goes.
+// memory alone, and then both are unchanged.
 fn note(
     alloc: Global,
     past: &mut Past,
@@ -438,11 +459,7 @@ fn note(
     ensures sources_unchanged { OnErr result (sources.new ≡ sources.old) }
     ensures only { IsOkUnless result Refusal.NoMemory }
 {
-    past.let_go(alloc);
-    let revision = taken.revision();
-    let (source, number, delta) = taken.into_change();
-    past.prepare(source.copy(alloc)?, number, delta)?;
-    let last = LastTaken { number, revision };
+    let (source, last) = add_to(alloc, past, taken)?;
     let noted = sources.prepare(alloc, &source, last, near);
     if noted.is_err() {
         past.take_back();
@@ -474,11 +491,7 @@ fn note_on(
     ensures sources_unchanged { OnErr result (sources.new ≡ sources.old) }
     ensures only { IsOkUnless result Refusal.NoMemory }
 {
-    past.let_go(alloc);
-    let revision = taken.revision();
-    let (source, number, delta) = taken.into_change();
-    past.prepare(source.copy(alloc)?, number, delta)?;
-    let last = LastTaken { number, revision };
+    let (source, last) = add_to(alloc, past, taken)?;
     let noted = sources.prepare_with(alloc, &source, last, near, past.prepared_delta(), next);
     if noted.is_err() {
         past.take_back();
