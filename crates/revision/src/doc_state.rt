@@ -145,7 +145,7 @@ impl DocState {
         self.next.as_ref().unwrap_or(&self.document)
     }
 
-    /// Where its source stands or would stand, if a change follows what is prepared. It takes no memory.
+    /// Where a change's source stands or would stand, if the change follows what is prepared. It takes no memory.
     pub(crate) fn place_for(&self, limits: Limits, taken: &Taken) -> Option<usize>
         ensures { is_some result ≡ follows limits (with_prepared limits.keep self.now) taken.now }
     {
@@ -324,8 +324,8 @@ pub(crate) fn begins(alloc: Global, limits: Limits, taken: &Taken) -> bool
     follows_at(limits, 0, &document, &sources, taken).is_some()
 }
 
-// Where its source stands or would stand, if a change follows a revision with this document and these sources. The source is looked
-// up once.
+// Where a change's source stands or would stand, if the change follows a revision with this document and these sources. The source
+// is searched for once.
 fn follows_at(
     limits: Limits,
     revision: u64,

@@ -125,7 +125,7 @@ impl Documents {
         Ok(())
     }
 
-    // Where its source stands or would stand in the document, if a command continues what was prepared. It takes no memory.
+    // Where a command's source stands or would stand in the document, if the command continues what was prepared. It takes no memory.
     fn place_for(&self, alloc: Global, taken: &Taken) -> Option<usize>
         ensures { is_some result ≡ grows self.now.after taken.now }
     {
@@ -329,7 +329,7 @@ impl Documents {
     }
 }
 
-// where its source stands or would stand, if an edit or an undo continues a document that is there
+// where the source of an edit or an undo stands or would stand, if that continues a document that is there
 fn place_in(documents: &[DocState], limits: Limits, taken: &Taken) -> Option<usize>
     ensures { is_some result
         ≡ continues_by_name limits (slice_get (map (with_prepared limits.keep) documents.now) taken.now.document)
