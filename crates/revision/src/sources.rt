@@ -109,7 +109,7 @@ impl Sources {
         ensures { result ≡ has_name name.now (slice_get self.now.entries place) }
     {
         match self.list.get(place) {
-            Some((other, _)) => name == other.as_str(),
+            Some((other, _)) => name.as_bytes() == other.as_str().as_bytes(),
             None => false,
         }
     }
