@@ -1,7 +1,7 @@
 -- How many calls and syncs of a device are told of by a write, and by a sync.
-use Rattle.std.proofs.Common.{◌≡◌, ℕ, ◌+◌, ◌≤◌, ◌<◌, min, List, [], ◌∷◌, length, refl, sym, ◌∙◌, ap, subst, arith}
+use Rattle.std.proofs.Common.{◌≡◌, ℕ, ◌+◌, ◌≤◌, ◌<◌, min, List, ◌∷◌, length, sym, ◌∙◌, ap, arith}
 use Rattle.std.specs.Prelude.{Result, Ok, Err, OnOk, OnErr}
-use Rattle.disk.specs.Device.{State, History, IsWrite, IsSync, IsAtMostOneStep, NoStep, OneStep, most_faults}
+use Rattle.disk.specs.Device.{History, IsWrite, IsSync, IsAtMostOneStep, NoStep, OneStep, most_faults}
 use Rattle.disk.specs.Counted.{is_synced, synced_states, synced_moments}
 use Rattle.journal.proofs.Gated.{one_more}
 

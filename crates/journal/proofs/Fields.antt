@@ -1,5 +1,5 @@
 -- Numbers and texts by themselves: what is read of them, and that they have one spelling.
-use Rattle.std.proofs.Common.{◌≡◌, ℕ, ◌^◌, ◌<◌, ◌≤◌, true, None, Some, List, cond, leb, ◌++◌, length, take, drop, refl, sym, ap, ◌∙◌, inl, inr, append_assoc, arith}
+use Rattle.std.proofs.Common.{◌≡◌, ℕ, ◌^◌, ◌<◌, ◌≤◌, true, None, Some, List, leb, ◌++◌, length, take, drop, refl, sym, ap, ◌∙◌, inl, inr, append_assoc}
 use Rattle.std.specs.Int.{Width, w16, w32, w64, byte_len, from_le_bytes}
 use Rattle.std.specs.Str.{is_utf8}
 use Rattle.std.proofs.lemmas.Bool.{leb-true, le-leb, cases_lt}
@@ -7,7 +7,7 @@ use Rattle.std.proofs.lemmas.Option.{some_pair_parts, none-some, cond_some, opti
 use Rattle.std.proofs.lemmas.List.{take_at, drop_at}
 use Rattle.journal.specs.Spelling.{number, text16}
 use Rattle.journal.specs.steps.Reading.{part_at, number_at, text_at}
-use Rattle.journal.proofs.Numbers.{IsBytes, IsNumber, part_again, number16, number32, number64, number_again}
+use Rattle.journal.proofs.Numbers.{IsBytes, IsNumber, number16, number32, number64, number_again}
 use Rattle.journal.proofs.Texts.{text_takes, text_again}
 
 -- what is read has as many bytes as the width, and where nothing is read there are fewer

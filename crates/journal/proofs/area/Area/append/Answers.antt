@@ -1,4 +1,4 @@
-use Rattle.std.proofs.Common.{◌≡◌, ◌≤◌, ◌+◌, ◌++◌, ◌∷◌, [], List, ℕ, length, inl, refl, sym, ap, ◌∙◌, subst, arith, rules, ◌<◌, ◌^◌}
+use Rattle.std.proofs.Common.{◌≡◌, ◌≤◌, ◌+◌, ◌++◌, ◌∷◌, [], List, ℕ, length, inl, refl, sym, ap, ◌∙◌, subst, arith, rules, ◌<◌}
 use Rattle.disk.specs.Device.{overwritten}
 use Rattle.disk.specs.Crash.{history_of}
 use Rattle.disk.proofs.CallerLemmas.{begins, leaves_map}

@@ -1,4 +1,4 @@
-use Rattle.std.proofs.Common.{◌^◌, arith}
+use Rattle.std.proofs.Common.{arith}
 use Rattle.journal.proofs.Fields.{text16_takes, text16_none}
 use Rattle.journal.proofs.batch.fields.read_text16.Goals as goal
 

@@ -4,7 +4,7 @@ use Rattle.journal.proofs.batch.reading.entries.Goals as goal
 
 pub returns-in_err-taken : goal.returns-in_err-taken
 returns-in_err-taken c =
-    let why = err_from_is_err_and c.from_residual.result c.from_residual.ensures.1 in
+    let why = err_from_is_err_and c.from_residual-in_err-taken.result c.from_residual-in_err-taken.ensures.1 in
     rw (why.1, why.2) (none_more _ _ _ _ _ c.loop.invariant c.in_err-taken.field-0.0 c.loop-test.true c.in_err-taken.ensures)
 
 pub loop-preserved : goal.loop-preserved

@@ -1,9 +1,7 @@
-use Rattle.std.proofs.Common.{◌≡◌, ◌∙◌, ◌++◌, ◌∷◌, ◌<◌, ◌^◌, List, ℕ, [], length, ap, sym, subst, refl, rules, arith}
+use Rattle.std.proofs.Common.{◌≡◌, ◌∙◌, ◌++◌, ◌∷◌, ◌<◌, ◌^◌, List, ℕ, [], length, ap, arith}
 use Rattle.std.specs.Int.{w32, to_le_bytes}
-use Rattle.std.proofs.lemmas.Grind.{common_steps}
-use Rattle.journal.specs.Area.{frame, IsBody}
+use Rattle.journal.specs.Area.{frame}
 use Rattle.journal.specs.BatchSpelling.{batch, batch_width}
-use Rattle.journal.specs.Record.{body_of}
 use Rattle.journal.proofs.BatchWidths.{length-batch}
 use Rattle.journal.proofs.Framed.{is_framed, body_of_framed}
 use Rattle.journal.proofs.record.Record.of_batch.Goals as goal

@@ -4,7 +4,7 @@ use Rattle.journal.proofs.batch.reading.operations.operations.Goals as goal
 
 pub returns-in_err-op : goal.returns-in_err-op
 returns-in_err-op c =
-    let why = err_from_is_err_and c.from_residual.result c.from_residual.ensures.1 in
+    let why = err_from_is_err_and c.from_residual-in_err-op.result c.from_residual-in_err-op.ensures.1 in
     rw (why.1, why.2) (operations-none_more _ _ _ _ _ c.loop.invariant c.in_err-op.field-0.0 c.loop-test.true c.in_err-op.ensures)
 
 pub loop-preserved : goal.loop-preserved
