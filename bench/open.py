@@ -1,10 +1,13 @@
 #!/usr/bin/env python3
 """Times opening a store whose journal is full of edits, by `richd dump`.
 
-usage: bench/open.py [SLOTS] [BYTES]     (default: 64 slots of 1,048,576 bytes)
+usage: bench/open.py [SLOTS] [BYTES] [EVERY]     (default: 64 slots of 1,048,576 bytes, and 65536)
 
 Run ./demo first, which builds crates/richd/out/richd. Single letters are typed at the end of 64 documents in turn until the
-journal takes no more. The store lies in a temporary folder (TMPDIR); with TMPDIR=/dev/shm its syncs cost next to nothing.
+journal is nearly full. The store is served with `--every EVERY`: by default so that no milestone is put, and all that was typed
+has to be read again; with 256, which is what `serve` does by itself, a milestone of each document spares most of it. The store
+is opened once `dump` writes its first byte. It lies in a temporary folder (TMPDIR); with TMPDIR=/dev/shm its syncs cost next
+to nothing.
 """
 import json
 import os
@@ -17,15 +20,17 @@ import time
 richd = os.path.join(os.path.dirname(os.path.abspath(__file__)), "../crates/richd/out/richd")
 slots = int(sys.argv[1]) if len(sys.argv) > 1 else 64
 size = int(sys.argv[2]) if len(sys.argv) > 2 else 1_048_576
+every = sys.argv[3] if len(sys.argv) > 3 else "65536"
 DOCUMENTS = 64
 RECORD = 66  # bytes of a record with one letter: its gate and length, the batch's count, the entry
+EDITS = (size - 10) // RECORD * slots // DOCUMENTS - 1  # of each document, so that no slot has to be freed
 
 
 def lines():
     yield {"do": "hello", "source": "bench"}
     for i in range(DOCUMENTS):
         yield {"do": "create", "doc": f"d{i}", "n": 1, "ops": []}
-    for n in range(2, slots * size // RECORD // DOCUMENTS + 3):
+    for n in range(2, EDITS + 1):
         for i in range(DOCUMENTS):
             ops = [{"retain": n - 2}, {"insert": "x"}] if n > 2 else [{"insert": "x"}]
             yield {"base": n - 1, "do": "edit", "doc": f"d{i}", "n": n, "ops": ops}
@@ -35,7 +40,8 @@ with tempfile.TemporaryDirectory() as folder:
     store = os.path.join(folder, "store")
     shape = ["--slots", str(slots), "--slot", str(size), "--docs", str(DOCUMENTS), "--cell", "1048576"]
     subprocess.run([richd, "format", store, *shape], check=True)
-    serve = subprocess.Popen([richd, "serve", store], stdin=subprocess.PIPE, stdout=subprocess.PIPE, stderr=subprocess.DEVNULL, text=True)
+    words = [richd, "serve", store, "--every", every]
+    serve = subprocess.Popen(words, stdin=subprocess.PIPE, stdout=subprocess.PIPE, stderr=subprocess.DEVNULL, text=True)
     taken = 0
 
     def count():
@@ -54,7 +60,9 @@ with tempfile.TemporaryDirectory() as folder:
     filled = time.monotonic() - start
     print(f"{taken} commands taken in {filled:.1f} s: {taken / filled:.0f} a second")
     start = time.monotonic()
-    dumped = subprocess.run([richd, "dump", store], capture_output=True, text=True, check=True)
+    dump = subprocess.Popen([richd, "dump", store], stdout=subprocess.PIPE)
+    first = dump.stdout.read(1)
     took = time.monotonic() - start
-    held = slots * size / 1e6
-    print(f"opened and dumped {dumped.stdout.count(chr(10))} documents from slots of {held:.0f} MB in {took:.2f} s: {held / took:.0f} MB a second")
+    documents = (first + dump.stdout.read()).count(b"\n")
+    dump.wait()
+    print(f"opened {documents} documents in {took:.2f} s: {taken * RECORD / 1e6 / took:.0f} MB a second, {took / taken * 1e6:.2f} microseconds a command")
