@@ -1,6 +1,7 @@
 -- How a run goes on by one call, and what its answers then say.
 use Rattle.std.proofs.Common.{◌≡◌, ◌≢◌, ◌≤◌, ◌<◌, ◌⊎◌, inl, inr, ℕ, suc, zero, ◌+◌, false, Option, Some, None, List, [], ◌∷◌, ◌++◌, length, take, get_or, refl, sym, ◌∙◌, ap, subst, arith, append-nil}
-use Rattle.std.specs.Prelude.{Result, Ok, Err, OnOk, OnErr, IfOk, IfErr, slice_get, min, ◌^◌, ◌-◌}
+use Rattle.std.specs.Prelude.{Result, Ok, Err, OnOk, OnErr, IfOk, IfErr, IsErrOf, slice_get, min, true, ◌↔◌, ◌^◌, ◌-◌}
+use Rattle.std.proofs.lemmas.Bool.{false≢true}
 use Rattle.std.proofs.lemmas.Bool.Decides.{nat_tests}
 use Rattle.std.proofs.lemmas.List.{take_more}
 use Rattle.std.proofs.lemmas.Option.{slice_get-get_or}
@@ -18,6 +19,7 @@ use Rattle.hub.specs.Legal.{Board as Outer}
 use Rattle.hub.specs.Runs.{IsLongest, untaken}
 use Rattle.recovery.specs.declared.store.Store.{Store}
 use Rattle.recovery.specs.declared.run.StoreStep.TheVariants.{Milestone as PutsMilestone, Retire as Retires}
+use Rattle.recovery.specs.Begun.{IsLeftByMemory}
 use Rattle.recovery.specs.Found.{commands_of, FoundAs}
 use Rattle.recovery.specs.Open.{IsOpen, IsUnchanged, device_of, state_of, has_failed, has_room}
 use Rattle.recovery.specs.Run.{IsTaken, IsWhy}
@@ -31,7 +33,7 @@ use Rattle.flusher.specs.Batches.{IsFirst}
 use Rattle.flusher.specs.Flushers.{IsUsedUp, cap_of}
 use Rattle.flusher.specs.Holding.{CannotPublish, store_of}
 use Rattle.flusher.specs.Standing.{Standing, batches_of, IsEven, IsCalm, RunGoes}
-use Rattle.flusher.specs.Driving.{Between, AckGives, Gives, Answered, Begins, Follows, IsHeld, AreHeld, IsTurnRefused, Stops, StopsAtTurn, with_run, turned}
+use Rattle.flusher.specs.Driving.{Between, AckGives, Gives, Answered, Begins, Follows, IsHeld, AreHeld, IsTurnRefused, IsUnanswered, IsUnsettled, Stops, StopsAtTurn, with_run, turned}
 use Rattle.flusher.proofs.Beginnings.{is_first}
 use Rattle.flusher.proofs.Evens.{all_batches, takens_length}
 use Rattle.flusher.proofs.Holdings.{same_batch}
@@ -278,6 +280,71 @@ module _ {D J : Type 0} {disk : Ghosts D} where
 pub on_ok : {A E T : Type 0} (result : Result A E) → T → OnOk result T
 on_ok (Ok a) holds = holds
 on_ok (Err e) holds = tt
+
+-- what holds always holds of an Err
+pub on_err : {A E T : Type 0} (result : Result A E) → T → OnErr result T
+on_err (Ok a) holds = tt
+on_err (Err e) holds = holds
+
+-- What a call leaves that isn't answered, by the case of the call.
+module _ {D : Type 0} {disk : Ghosts D} where
+  pub unanswered_of : {A E : Type 0} (cap : ℕ) (here : Between D disk) (call known : Call) (result : Result A E) (after : Between D disk) → call ≡ known
+      → OnErr result (IsUnanswered cap here known after) → OnErr result (IsUnanswered cap here call after)
+  unanswered_of cap here call known result after is left = subst (λ (c : Call). OnErr result (IsUnanswered cap here c after)) (sym is) left
+
+  abbrev at_between : Outer → List Ticket → Store D disk → Between D disk
+  at_between board tickets store = record { board = board; tickets = tickets; store = store }
+
+  -- a submission
+  pub unsubmitted : {A E : Type 0} (cap : ℕ) (command : Command) (result : Result A E) (board board-after : Outer) (tickets tickets-after : List Ticket) (store : Store D disk)
+      → OnErr result ((board-after ≡ board) × (tickets-after ≡ tickets))
+      → OnErr result (IsUnanswered cap (record { board = board; tickets = tickets; store = store }) (Submit command) (record { board = board-after; tickets = tickets-after; store = store }))
+  unsubmitted cap command (Ok answer) board board-after tickets tickets-after store same = tt
+  unsubmitted cap command (Err e) board board-after tickets tickets-after store same =
+      ap (λ (b : Outer). at_between b tickets-after store) same.0 ∙ ap (λ (t : List Ticket). at_between board t store) same.1
+
+  -- a turn, with the cap of the start
+  pub unturned : {A E : Type 0} (cap other : ℕ) (result : Result A E) (here : Between D disk) (board-after : Outer) (store-after : Store D disk) → cap ≡ other
+      → IsUnsettled cap here.board here.store board-after store-after
+      → OnErr result (IsUnanswered other here Turn (record { board = board-after; tickets = here.tickets; store = store-after }))
+  unturned cap other result here board-after store-after same left =
+      let turned : IsUnanswered other here Turn (record { board = board-after; tickets = here.tickets; store = store-after }) =
+      (refl, subst (λ (n : ℕ). IsUnsettled n here.board here.store board-after store-after) same left) in
+      on_err result turned
+
+  -- a milestone
+  pub unput : {A : Type 0} (cap document revision : ℕ) (result : Result A Refusal) (here : Between D disk) (store-after : Store D disk)
+      → IfErr result (λ e. (e ≡ NoMemory) ⊎ (e ≡ Fault)) → (has_failed store-after ≡ true ↔ IsErrOf result Fault)
+      → (IsErrOf result NoMemory → IsLeftByMemory (PutsMilestone document revision) here.store store-after)
+      → OnErr result (IsUnanswered cap here (Milestone document revision) (record here { store = store-after }))
+  unput cap document revision (Ok answer) here store-after only fails left = tt
+  unput cap document revision (Err e) here store-after (inl memory) fails left = (refl, refl, λ works. left (ap (λ (r : Refusal). Err r) memory))
+  unput cap document revision (Err e) here store-after (inr fault) fails left =
+      (refl, refl, λ works. absurd (false≢true (sym works ∙ fails.1 (ap (λ (r : Refusal). Err r) fault))))
+
+  -- a retirement
+  pub unretired : {A : Type 0} (cap : ℕ) (result : Result A Refusal) (here : Between D disk) (store-after : Store D disk)
+      → IfErr result (λ e. e ≡ Fault) → (has_failed store-after ≡ true ↔ IsErrOf result Fault) → OnErr result (IsUnanswered cap here Retire (record here { store = store-after }))
+  unretired cap (Ok answer) here store-after only fails = tt
+  unretired cap (Err e) here store-after fault fails = (refl, refl, fails.1 (ap (λ (r : Refusal). Err r) fault))
+
+  -- nothing is settled by it
+  turn_settled : (cap : ℕ) (board board-after : Outer) (store store-after : Store D disk) → IsUnsettled cap board store board-after store-after
+      → board-after.board.settled ≡ board.board.settled
+  turn_settled cap board board-after store store-after (inl same) = ap (λ (b : Outer). b.board.settled) same.0
+  turn_settled cap board board-after store store-after (inr (count, longest, some, took)) = ap (λ (b : Outer). b.board.settled) took
+
+  pub unanswered_settled : (cap : ℕ) (here after : Between D disk) (call : Call) → IsUnanswered cap here call after → after.board.board.settled ≡ here.board.board.settled
+  unanswered_settled cap here after (Submit command) left = ap (λ (b : Between D disk). b.board.board.settled) left
+  unanswered_settled cap here after Turn left = turn_settled cap here.board after.board here.store after.store left.1
+  unanswered_settled cap here after (Ack at) left = absurd left
+  unanswered_settled cap here after (Milestone document revision) left = ap (λ (b : Outer). b.board.settled) left.0
+  unanswered_settled cap here after Retire left = ap (λ (b : Outer). b.board.settled) left.0
+
+-- the call behind those that are answered
+pub call_behind : {X : Type 0} (calls : List Call) (at : ℕ) (answers : List X) (call d : Call) → at < length calls → call ≡ get_or calls at d → length answers ≡ at
+    → slice_get calls (length answers) ≡ Some call
+call_behind calls at answers call d inside is same = ap (slice_get calls) same ∙ slice_get-get_or calls at d inside ∙ ap Some (sym is)
 
 -- a run that has a command is one batch more
 pub with_some : (told : List (List Taken)) (run : List Taken) → 0 < length run → with_run told run ≡ told ++ run ∷ []

@@ -1,13 +1,14 @@
 -- What a flusher holds, and how it fits the state of its store.
 use Rattle.std.proofs.Common.{◌≡◌, ◌≢◌, ◌⊎◌, inl, inr, ℕ, true, false, List, [], ◌∷◌, ◌++◌, length, ◌<◌, Option, Some, None, refl, sym, ◌∙◌, ap, subst, append-nil, arith}
 use Rattle.std.specs.Prelude.{Result, Ok, Err, OnOk, IfErr, IsErrOf, option_to_list}
+use Rattle.std.proofs.lemmas.Bool.{and_parts}
 use Rattle.std.specs.Option.{option_map}
 use Rattle.disk.specs.Crash.{LeavesOnly}
 use Rattle.refusal.specs.declared.Refusal.{Refusal}
 use Rattle.refusal.specs.declared.Refusal.TheVariants.{StillNeeded, Fault}
 use Rattle.disk.specs.declared.device.Disk.{Ghosts}
 use Rattle.revision.specs.Command.{Taken}
-use Rattle.revision.specs.State.{State, fold}
+use Rattle.revision.specs.State.{State, fold, grown, grows, all_grow, first_grows}
 use Rattle.recovery.specs.declared.store.Store.{Store}
 use Rattle.recovery.specs.Faults.{FailsAtFaults}
 use Rattle.recovery.specs.Found.{commands_of, FoundAs}
@@ -146,3 +147,12 @@ pub kept_published : (start state : State) (before after : Published) → state 
 kept_published start state before after kept is =
     kept ∙ ap (λ (l : List (List Taken)). fold start (commands_of l)) (sym (append-nil (before.told ++ before.unpublished)))
     ∙ ap (λ (p : Published). fold start (commands_of (p.told ++ p.unpublished))) (sym is)
+
+-- where commands continue a state, their first one does
+first_of_all : (state : State) (commands : List Taken) → all_grow state commands ≡ true → first_grows state commands ≡ true
+first_of_all state [] all = refl
+first_of_all state (first ∷ others) all = (and_parts (grows state first) (all_grow (grown state first) others) all).0
+
+-- and so does that of the batch that was held
+pub first_of_held : (state : State) (batch : List Taken) (batches : List (List Taken)) → batches ≡ batch ∷ [] → all_grow state (commands_of batches) ≡ true → first_grows state batch ≡ true
+first_of_held state batch batches is all = first_of_all state batch (ap (all_grow state) (sym (ap commands_of is ∙ append-nil batch)) ∙ all)

@@ -70,6 +70,11 @@ module _ {D J : Type 0} (refusal : Refusal) where
   answer_only (Ok reply) stops = tt
   answer_only (Err e) stops = stops.1
 
+  pub answer_memory : {T : Type 0} (result : Result (Answer D J) Refusal) → IfErr result (λ e. (e ≡ refusal) × ((e ≡ NoMemory) ⊎ (e ≡ Fault))) → IsErrOf result NoMemory
+      → IsErrOf {T = T} (Err refusal) NoMemory
+  answer_memory (Ok reply) stops is = absurd (no_error reply NoMemory is)
+  answer_memory (Err e) stops is = ap (λ (r : Refusal). Err r) (sym stops.0 ∙ same_of e NoMemory is)
+
   pub answer_fault : (result : Result (Answer D J) Refusal) → IfErr result (λ e. (e ≡ refusal) × ((e ≡ NoMemory) ⊎ (e ≡ Fault))) → (refusal ≡ StillNeeded) ⊎ (refusal ≡ Fault)
       → IfErr result (λ e. e ≡ Fault)
   answer_fault (Ok reply) stops only = tt

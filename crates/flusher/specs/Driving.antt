@@ -10,6 +10,7 @@ use Rattle.world.specs.Board.{Ticket, submitted, ticket_of, next_run, taken_more
 use Rattle.world.specs.World.{entry_of, takens}
 use Rattle.recovery.specs.declared.store.Store.{Store}
 use Rattle.recovery.specs.declared.run.StoreStep.TheVariants.{Milestone as PutsMilestone, Retire as Retires}
+use Rattle.recovery.specs.Begun.{IsLeftByMemory}
 use Rattle.recovery.specs.Found.{commands_of}
 use Rattle.recovery.specs.Open.{IsOpen, IsUnchanged, state_of, has_failed, has_room}
 use Rattle.recovery.specs.Run.{IsTaken, IsWhy}
@@ -46,6 +47,27 @@ abbrev pub turned : Board → ℕ → Board
 turned board count =
     record board { board = settled_more (taken_more board.board count) count; told = with_run board.told (takens (next_run board.board count)) }
 
+module _ {D : Type 0} {disk : Ghosts D} where
+  -- What a turn that is refused leaves of the board and the store: both as they were, or the run that it was to write is taken off the
+  -- board, and nothing is settled.
+  abbrev pub IsUnsettled : ℕ → Board → Store D disk → Board → Store D disk → Type 0
+  IsUnsettled cap board store board-after store-after =
+      ((board-after ≡ board) × (store-after ≡ store))
+      ⊎ ((count : ℕ) × IsLongest cap (untaken board.board) count × (1 ≤ count) × (board-after ≡ record board { board = taken_more board.board count }))
+
+  -- What a call leaves that was begun and isn't answered: no ticket is given, and nothing more is settled. A submission leaves all as it
+  -- was, and an acknowledgement is always answered. A milestone leaves the board and the tickets, and where the store works still,
+  -- memory ran out, and no more is changed of the store than that a job may be kept. A retirement leaves the board and the tickets, and the
+  -- store has failed.
+  abbrev pub IsUnanswered : ℕ → Between D disk → Call → Between D disk → Type 0
+  IsUnanswered cap here (Submit command) after = after ≡ here
+  IsUnanswered cap here Turn after = (after.tickets ≡ here.tickets) × IsUnsettled cap here.board here.store after.board after.store
+  IsUnanswered cap here (Ack at) after = ⊥
+  IsUnanswered cap here (Milestone document revision) after =
+      (after.board ≡ here.board) × (after.tickets ≡ here.tickets)
+      × (has_failed after.store ≡ false → IsLeftByMemory (PutsMilestone document revision) here.store after.store)
+  IsUnanswered cap here Retire after = (after.board ≡ here.board) × (after.tickets ≡ here.tickets) × (has_failed after.store ≡ true)
+
 module _ {D J : Type 0} {disk : Ghosts D} where
   -- What a call gives, and what it makes of the board, of the list of the tickets and of the store: of the board as the world's step of
   -- that name says, and of the store as the store's own step says. A turn settles the longest run of the next commands whose batch has
@@ -79,14 +101,15 @@ module _ {D J : Type 0} {disk : Ghosts D} where
         → has_failed after.store ≡ false → (IsOpen here.store → IsOpen after.store)
         → Answered cap start (calls ++ call ∷ []) (answers ++ reply ∷ []) after
 
-  -- The first calls were answered one after another, so many of them as there are answers, and what came behind them, if anything did,
-  -- gave no ticket and changed nothing of the order.
+  -- The first calls were answered one after another, so many of them as there are answers. Behind them nothing was done, or the next call
+  -- was begun and isn't answered: that gave no ticket, changed nothing of the order and settled nothing.
   pub record IsAnswered (cap : ℕ) (start after : Between D disk) (calls : List Call) (answers : List (Answer D J)) : Type 0 where
     pub last : Between D disk
     pub answered : Answered cap start (take (length answers) calls) answers last
     pub tickets : after.tickets ≡ last.tickets
     pub order : after.board.board.order ≡ last.board.board.order
-    pub settled : last.board.board.settled ≤ after.board.board.settled
+    pub settled : after.board.board.settled ≡ last.board.board.settled
+    pub behind : (after ≡ last) ⊎ ((call : Call) × (slice_get calls (length answers) ≡ Some call) × IsUnanswered cap last call after)
 
 module _ {D J : Type 0} where
   -- An acknowledgement that named what was published: its ticket's length is settled.

@@ -29,12 +29,12 @@ pub data Life (D J : Type 0) (disk : Ghosts D) (start : State) : Board Entry →
       → Life D J disk start here.board.board (acks ++ acked here.tickets calls answers) (sent ++ commands_in calls)
 
 -- How a run goes on the life that came to its board: the calls that were answered bring it to a board that has the order which the run
--- leaves, and no more settled.
+-- leaves, and as many settled.
 pub record LifeGoesOn (D J : Type 0) (disk : Ghosts D) (start : State) (after : Board Entry) (acks : List Ticket) (sent : List Command) : Type 0 where
   pub last : Board Entry
   pub life : Life D J disk start last acks sent
   pub order : after.order ≡ last.order
-  pub settled : last.settled ≤ after.settled
+  pub settled : after.settled ≡ last.settled
 
 -- Lives that ended, each by a crash: the commands that stand, the acknowledgements that were heard of and the commands that were sent, and
 -- the state that the store is opened with next. A crash leaves the first commands of a life's order, which are no fewer than any ticket

@@ -6,6 +6,7 @@ ghost use Rattle.world.specs.Board.{submitted};
 ghost use Rattle.world.specs.World.{entry_of, takens};
 ghost use Rattle.recovery.specs.declared.store.Store.{Store};
 ghost use Rattle.recovery.specs.declared.run.StoreStep.TheVariants.{Milestone as PutsMilestone, Retire as Retires};
+ghost use Rattle.recovery.specs.Begun.{IsLeftByMemory};
 ghost use Rattle.recovery.specs.Found.{FoundAs};
 ghost use Rattle.recovery.specs.Open.{IsOpen, IsUnchanged, device_of, state_of, has_failed};
 ghost use Rattle.recovery.specs.Run.{IsTaken, IsWhy};
@@ -15,7 +16,7 @@ ghost use Rattle.flusher.specs.Flushers.{cap_of};
 ghost use Rattle.flusher.specs.Holding.{store_of, told_of, committed_of, waiting_of};
 ghost use Rattle.flusher.specs.Standing.{IsCalm, RunGoes, batches_of};
 ghost use Rattle.flusher.specs.Run.{standing, between};
-ghost use Rattle.flusher.specs.Driving.{AckGives, Answered, AreHeld, Gives, IsAnswered, IsTurnRefused, Stops, stop_of};
+ghost use Rattle.flusher.specs.Driving.{AckGives, Answered, AreHeld, Gives, IsAnswered, IsTurnRefused, IsUnanswered, Stops, stop_of};
 
 use crate::calls::{Answer, Call};
 use crate::flusher::Flusher;
@@ -120,6 +121,8 @@ fn put_one<D: Disk, J: Site>(
         × IsUnchanged (store_of flusher.old) (store_of flusher.new)
         × IsWhy (PutsMilestone document revision) refusal (store_of flusher.old))) }
     ensures fails { has_failed (store_of flusher.new) ≡ true ↔ IsErrOf result Refusal.Fault }
+    ensures memory { IsErrOf result Refusal.NoMemory
+        → IsLeftByMemory (PutsMilestone document revision) (store_of flusher.old) (store_of flusher.new) }
     ensures only { IfErr result (λ e. (e ≡ Refusal.NoMemory) ⊎ (e ≡ Refusal.Fault)) }
     ensures told { told_of flusher.new ≡ told_of flusher.old }
     ensures committed { committed_of flusher.new ≡ committed_of flusher.old }
@@ -174,6 +177,9 @@ fn call_one<D: Disk, J: Site, R: Wait>(
         (λ reply. Gives (cap_of J.start) (between board.old tickets.old.items flusher.old) call.now reply
         (between board.new tickets.new.items flusher.new)) }
     ensures same { OnErr result (tickets.new.items ≡ tickets.old.items) }
+    ensures left { OnErr result
+        (IsUnanswered (cap_of J.start) (between board.old tickets.old.items flusher.old) call.now
+        (between board.new tickets.new.items flusher.new)) }
     ensures order { OnErr result (board.new.board.order ≡ board.old.board.order) }
     ensures failed { board.new.failed ≡ board.old.failed }
     ensures fails { has_failed (store_of flusher.new) ≡ true ↔ IsErrOf result Refusal.Fault }
@@ -242,7 +248,8 @@ fn stopped_by(ended: Result<(), Refusal>) -> Option<Refusal>
 
 /// One thread's run: makes the calls in order, each with its answer, over a flusher that has nothing under way and its board, where
 /// neither the store nor the board has failed. It makes room for each answer before its call. It stops for want of memory, at a fault
-/// of the device, and where a turn is refused; any other refusal is an answer.
+/// of the device, and where a turn is refused; any other refusal is an answer. The call at which it stops gives no ticket and settles
+/// nothing.
 ///
 /// A crash at any moment of the run leaves the first commands of the board's order up to the end of a batch, and one after its return
 /// no fewer than are settled then, so no fewer than the ticket asks for of which an `Ack` gave a token.

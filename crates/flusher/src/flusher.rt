@@ -2,7 +2,7 @@
 ghost use Rattle.std.specs.Prelude.{List, ◌≡◌, ◌≢◌, ◌⊎◌, ◌↔◌, ◌<◌, ◌≤◌, ◌^◌, [], ◌∷◌, ◌++◌, true, false, Some, None, length, OnOk, OnErr, IfOk, IfErr, IfSome, IfNone, IsErrOf};
 ghost use Rattle.std.specs.Option.{ForSome};
 ghost use Rattle.revision.specs.Command.{Taken};
-ghost use Rattle.revision.specs.State.{fold, all_grow};
+ghost use Rattle.revision.specs.State.{fold, all_grow, first_grows};
 ghost use Rattle.recovery.specs.Found.{commands_of};
 ghost use Rattle.recovery.specs.Open.{FitsSlot, state_of};
 ghost use Rattle.flusher.specs.Flushers.{MayCommit};
@@ -81,8 +81,8 @@ impl<D: Disk, J: Site> Flusher<D, J> {
 
     /// Commits the batch that is held, if it isn't yet, and keeps the receipt. Where the journal is full the oldest segment is freed
     /// first, by milestones of its documents. Refused as `Store::commit_freeing` refuses it; the batch is held still then. So in an open
-    /// store neither `JournalFull` nor `StillNeeded` comes before the numbers of its segments are used up. The readers are shown nothing
-    /// new.
+    /// store neither `JournalFull` nor `StillNeeded` comes before the numbers of its segments are used up, and where there is room for the
+    /// batch, want of memory isn't told of one whose first command doesn't continue the state. The readers are shown nothing new.
     pub fn commit_held(&mut self, alloc: Global) -> Result<(), Refusal>
         // A crash at any moment leaves the state before it, or the one with the batch.
         ensures goes { Goes (IsWithOrWithout (state_of (store_of self.old)) (commands_of (waiting_of self.old)))
@@ -125,6 +125,11 @@ impl<D: Disk, J: Site> Flusher<D, J> {
             → IsUsedUp (store_of self.old) }
         ensures stranger { IsErrOf result Refusal.Stranger
             → all_grow (state_of (store_of self.old)) (commands_of (waiting_of self.old)) ≡ false }
+        ensures grow { OnOk result
+            (all_grow (state_of (store_of self.old)) (commands_of (waiting_of self.old)) ≡ true) }
+        ensures memory { IsErrOf result Refusal.NoMemory → (batch : List Taken) → waiting_of self.old ≡ batch ∷ []
+            → has_room (store_of self.old) batch ≡ true
+            → first_grows (state_of (store_of self.old)) batch ≡ true }
         ensures only { IfErr result (λ e. ((e ≡ Refusal.JournalFull)
             ⊎ ((e ≡ Refusal.StillNeeded) ⊎ (e ≡ Refusal.Stranger)))
             ⊎ ((e ≡ Refusal.NoMemory) ⊎ (e ≡ Refusal.Fault))) }
@@ -209,6 +214,12 @@ impl<D: Disk, J: Site> Flusher<D, J> {
             → IsUsedUp (store_of self.old) }
         ensures stranger { IsErrOf result Refusal.Stranger
             → all_grow (state_of (store_of self.old)) (commands_of (waiting_of self.old)) ≡ false }
+        ensures grow { OnOk result
+            (all_grow (state_of (store_of self.old)) (commands_of (waiting_of self.old)) ≡ true) }
+        // Of a batch whose first command doesn't continue the state, and which has room, want of memory isn't told.
+        ensures first_grows { IsErrOf result Refusal.NoMemory → (batch : List Taken)
+            → waiting_of self.old ≡ batch ∷ [] → has_room (store_of self.old) batch ≡ true
+            → first_grows (state_of (store_of self.old)) batch ≡ true }
         ensures only { IfErr result (λ e. (((e ≡ Refusal.JournalFull)
             ⊎ ((e ≡ Refusal.StillNeeded) ⊎ (e ≡ Refusal.Stranger)))
             ⊎ ((e ≡ Refusal.NoMemory) ⊎ (e ≡ Refusal.Fault))) ⊎ (e ≡ Refusal.StoreFailed)) }

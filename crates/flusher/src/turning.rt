@@ -6,10 +6,10 @@ ghost use Rattle.world.specs.World.{takens};
 ghost use Rattle.hub.specs.Runs.{IsLongest, untaken};
 ghost use Rattle.recovery.specs.Open.{state_of, has_failed};
 ghost use Rattle.flusher.specs.Flushers.{cap_of, IsRunCommitted};
-ghost use Rattle.flusher.specs.Holding.{store_of};
+ghost use Rattle.flusher.specs.Holding.{store_of, told_of};
 ghost use Rattle.flusher.specs.Standing.{IsCalm, RunGoes};
 ghost use Rattle.flusher.specs.Run.{standing};
-ghost use Rattle.flusher.specs.Driving.{IsTurnRefused, turned};
+ghost use Rattle.flusher.specs.Driving.{IsTurnRefused, IsUnsettled, turned};
 
 use crate::flusher::Flusher;
 use crate::gate::OpenGate;
@@ -22,7 +22,8 @@ use std::sync::Wait;
 
 /// A turn: takes off the longest run of commands whose batch fits a slot, writes it, and settles it. Gives how many commands there are
 /// in it, which are none where nothing was left to take off. At `StoreFailed` the run is committed and not published, and the flusher has
-/// noted why; at `NoMemory` it may be committed, and at any other refusal it isn't.
+/// noted why; at `NoMemory` it may be committed, and at any other refusal it isn't. Whatever refused it, nothing is published or settled: the
+/// board is as it was, but that the run may be taken off.
 pub fn turn<D: Disk, J: Site, R: Wait>(
     rt: &R,
     alloc: Global,
@@ -45,6 +46,11 @@ pub fn turn<D: Disk, J: Site, R: Wait>(
     ensures refused { IfErr result (λ e. ((e ≡ Refusal.NoMemory) ⊎ (e ≡ Refusal.Fault))
         ⊎ IsTurnRefused (cap_of (state_of (store_of flusher.old))) board.old (store_of flusher.old) e
         flusher.new) }
+    ensures left { OnErr result (IsUnsettled (cap_of (state_of (store_of flusher.old))) board.old
+        (store_of flusher.old) board.new (store_of flusher.new)) }
+    ensures unsettled { OnErr result ((board.new.board.settled ≡ board.old.board.settled)
+        × (board.new.told ≡ board.old.told)) }
+    ensures unpublished { OnErr result (told_of flusher.new ≡ told_of flusher.old) }
     ensures failed { board.new.failed ≡ board.old.failed }
     ensures order { board.new.board.order ≡ board.old.board.order }
 {

@@ -4,6 +4,7 @@ ghost use Rattle.refusal.specs.declared.Refusal.{Refusal as Why};
 ghost use Rattle.refusal.specs.declared.Refusal.TheVariants.{NoDocument, Future, TooOld, StillNeeded, Stranger, NoMemory, Fault};
 ghost use Rattle.history.specs.Cell.{cells_at};
 ghost use Rattle.recovery.specs.declared.run.StoreStep.TheVariants.{Milestone, Retire};
+ghost use Rattle.recovery.specs.Begun.{IsLeftByMemory};
 ghost use Rattle.recovery.specs.Due.{due_for, IsPutDue};
 ghost use Rattle.recovery.specs.Faults.{FailsAtFaults};
 ghost use Rattle.recovery.specs.Found.{FoundAs};
@@ -70,6 +71,8 @@ impl<D: Disk, J: Site> Flusher<D, J> {
             → IsUnchanged (store_of self.old) (store_of self.new)) }
         ensures unwritten { IfErr result (λ e. e ≢ Fault
             → device_of (store_of self.new) ≡ device_of (store_of self.old)) }
+        ensures memory { IsErrOf result NoMemory
+            → IsLeftByMemory (Milestone document revision) (store_of self.old) (store_of self.new) }
         ensures dropped { OnOk result (kept_jobs (store_of self.new)
             ≡ without_job document (kept_jobs (store_of self.old))) }
         ensures only { IfErr result (λ e. ((e ≡ NoDocument) ⊎ ((e ≡ Future) ⊎ (e ≡ TooOld)))

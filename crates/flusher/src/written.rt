@@ -1,7 +1,7 @@
 //! A batch that was written and isn't settled yet.
 ghost use Rattle.std.specs.Prelude.{◌≡◌, IfOk, IfErr};
 
-use hub::{Failed, Hub, Settled, Writer};
+use hub::{Failed, Hub, Settled, Unsettled, Writer};
 use published::{Site, Told};
 use recovery::Receipt;
 use refusal::Refusal;
@@ -26,21 +26,24 @@ impl<D, J: Site> Model for Written<D, J> {
 
 impl<D, J: Site> Written<D, J> {
     /// Settles it at the hub, and gives the receipt of its commit and the hub's token, by which the board has settled what was published up to
-    /// this batch. Where the hub refuses it as `Stranger`, the hub is told that the store has failed.
+    /// this batch. Where the hub refuses it, the hub is told that the store has failed, as `Stranger`; that comes with the hub's token by which
+    /// just this batch couldn't be settled by just this token.
     pub fn settle<R: Wait>(
         self,
         rt: &R,
         hub: &Hub<D, J>,
         writer: &mut Writer<J>,
-    ) -> Result<(Receipt<D>, Settled<D, J>), Failed<J>>
+    ) -> Result<(Receipt<D>, Settled<D, J>), (Failed<J>, Unsettled<D, J>)>
         ensures receipt { IfOk result (λ done. done.0 ≡ self.0) }
         ensures settled { IfOk result (λ done. done.1 ≡ self.1) }
-        ensures only { IfErr result (λ failed. failed ≡ Refusal.Stranger) }
+        ensures only { IfErr result (λ both. both.0 ≡ Refusal.Stranger) }
+        ensures batch { IfErr result (λ both. both.1.batch ≡ self.0) }
+        ensures told { IfErr result (λ both. both.1.told ≡ self.1) }
     {
         let Written { receipt, told } = self;
         match hub.settle(rt, writer, &receipt, told) {
             Ok(settled) => Ok((receipt, settled)),
-            Err(_unsettled) => Err(hub.fail(rt, writer, Refusal::Stranger)),
+            Err(unsettled) => Err((hub.fail(rt, writer, Refusal::Stranger), unsettled)),
         }
     }
 

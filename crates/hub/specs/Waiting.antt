@@ -1,5 +1,12 @@
--- Those who wait at places until so many commands are settled, and who of them is woken.
+-- What lies under a hub's lock: the board, and those who wait at places until so many commands are settled; and who of them is woken.
 use Rattle.std.specs.Prelude.{◌≡◌, ◌^◌, ◌-◌, ℕ, Bool, List, map, nat_le, if◌then◌else◌}
+use Rattle.hub.specs.Legal.{Board}
+
+-- the board, the length that is awaited at each place, and whether the end was called
+pub record Kept : Type 0 where
+  pub board : Board
+  pub awaited : List ℕ
+  pub ended : Bool
 
 -- what is noted at a place where nobody waits
 abbrev pub nobody : ℕ

@@ -1,18 +1,14 @@
 //! The board behind its lock, and the threads that wait for it.
-ghost use Rattle.std.specs.Prelude.{◌≡◌, ◌⊎◌, ◌≤◌, ◌<◌, ◌+◌, true, false, [], Some, length, min, set, get_or, replicate, IfOk, IfErr, IfSome, IsOk, IsErrOf, OnOk, OnErr};
+ghost use Rattle.std.specs.Prelude.{◌≡◌, ◌⊎◌, ◌≤◌, [], length, IfOk, IfErr, IfSome, OnErr};
 ghost use Rattle.journal.specs.BatchSpelling.{batch_width};
 ghost use Rattle.recovery.specs.Found.{commands_of};
-ghost use Rattle.revision.specs.Acceptance.{answer, Refuses};
-ghost use Rattle.world.specs.Board.{settled_more, submitted};
-ghost use Rattle.world.specs.World.{entry_of};
 ghost use Rattle.hub.specs.Legal.{counted, WasGiven, WasOrdered};
-ghost use Rattle.hub.specs.Runs.{MaySettle};
-ghost use Rattle.hub.specs.Waiting.{AreWoken, nobody};
 
 use crate::board::Board;
+use crate::kept::{Closer, Kept, Writer};
 use crate::run::Run;
-use crate::seat::{PLACES, Seat, Ticket};
-use crate::tokens::{Closer, Failed, Idle, Settled, Writer};
+use crate::seat::{Seat, Ticket};
+use crate::tokens::{Failed, Idle, Settled};
 use crate::unsettled::Unsettled;
 use published::{Site, Told};
 use recovery::Receipt;
@@ -20,130 +16,7 @@ use refusal::Refusal;
 use revision::Command;
 use std::alloc::Global;
 use std::array;
-use std::snapshot::Snapshot;
 use std::sync::{Condvar, Mutex, Wait};
-
-// What lies under the lock: the board; for each place the least length of the order that a thread waits there to be settled, the
-// greatest number where none does; and whether the end was called.
-#[derive(Drop)]
-pub(crate) struct Kept<D, J: Site> {
-    board: Board<D, J>,
-    awaited: [usize; 64],
-    ended: bool,
-}
-
-impl<D, J: Site> Kept<D, J> {
-    // a board at which nobody waits yet, and of which the end wasn't called
-    fn new(board: Board<D, J>) -> Kept<D, J>
-        ensures board { result.board ≡ board }
-        ensures awaited { result.awaited ≡ replicate 64 nobody }
-        ensures ended { result.ended ≡ false }
-    {
-        Kept {
-            board,
-            awaited: [usize::MAX; 64],
-            ended: false,
-        }
-    }
-
-    // notes that the store has failed, for this reason
-    fn fail(&mut self, why: Refusal) -> Failed<J>
-        ensures kept { self.new ≡ record self.old { board = record self.old.board { failed = true } } }
-        ensures why { result ≡ why }
-    {
-        self.board.fail();
-        Failed::by_board(&self.board, why)
-    }
-
-    // notes that the end was called
-    fn end(&mut self)
-        ensures { self.new ≡ record self.old { ended = true } }
-    {
-        self.ended = true;
-    }
-
-    // submits a command to the board, unless the end was called
-    fn submit(
-        &mut self,
-        alloc: Global,
-        seat: &mut Seat<J>,
-        command: &Command,
-    ) -> Result<Ticket, Refusal>
-        ensures ok { OnOk result (self.new
-            ≡ record self.old {
-              board = record
-                  self.old.board { board = submitted (entry_of command.now) self.old.board.board command.now };
-            }) }
-        ensures unchanged { OnErr result (self.new ≡ self.old) }
-        ensures given { WasGiven J.start command.now result }
-        ensures command { IfOk result (λ ticket. ticket.command ≡ command.now) }
-        ensures counts { IfOk result (λ ticket. seat.new ≡ counted seat.old ticket.reply) }
-        ensures uncounted { OnErr result (seat.new ≡ seat.old) }
-        ensures ended { self.old.ended ≡ true → IsErrOf result Refusal.StoreFailed }
-        ensures failed { self.old.board.failed ≡ true → IsErrOf result Refusal.StoreFailed }
-        ensures refused { self.old.ended ≡ false → self.old.board.failed ≡ false
-            → IfErr result (λ e. (e ≡ Refusal.NoMemory) ⊎ (answer self.old.board.board.state command.now ≡ Refuses e)) }
-    {
-        if self.ended {
-            return Err(Refusal::StoreFailed);
-        }
-        self.board.submit(alloc, seat, command)
-    }
-
-    // settles a batch, and gives the token of that and the places where somebody waits for what is settled now; or what shows that it
-    // can't be settled
-    fn settle(
-        &mut self,
-        receipt: &Receipt<D>,
-        told: Told<D, J>,
-    ) -> (Result<Settled<D, J>, Unsettled<D, J>>, [bool; 64])
-        ensures board { OnOk result.0 (self.new.board
-            ≡ record self.old.board { board = settled_more self.old.board.board (length receipt.now); told = told }) }
-        ensures others { self.new.ended ≡ self.old.ended }
-        ensures settled { IfOk result.0 (λ settled. settled ≡ told) }
-        ensures wakes { OnOk result.0
-            (AreWoken self.new.board.board.settled self.old.awaited self.new.awaited result.1) }
-        ensures stranger { MaySettle self.old.board.board receipt.now (length (commands_of told)) → IsOk result.0 }
-        ensures asked { IfErr result.0 (λ e. e
-            ≡ record { board = self.old.board.board; batch = receipt.now; told = told }) }
-        ensures unchanged { OnErr result.0 (self.new ≡ self.old) }
-    {
-        let shown = Snapshot::of(&told);
-        if self.board.settle(receipt, told).is_err() {
-            return (
-                Err(Unsettled::by_board(&self.board, receipt, shown)),
-                [false; 64],
-            );
-        }
-        let covered = woken(&mut self.awaited, self.board.settled());
-        (Ok(Settled::by_board(&self.board)), covered)
-    }
-
-    // notes that somebody waits at a place for so many commands to be settled
-    fn await_at(&mut self, place: usize, length: usize)
-        requires { place < 64 }
-        ensures { self.new
-            ≡ record self.old { awaited = set self.old.awaited place (min length (get_or self.old.awaited place 0)) } }
-    {
-        if length < self.awaited[place] {
-            self.awaited[place] = length;
-        }
-    }
-}
-
-// The places where no more is awaited than is settled. It notes that nobody waits there any more.
-fn woken(awaited: &mut [usize; 64], settled: usize) -> [bool; 64]
-    ensures { AreWoken settled awaited.old awaited.new result }
-{
-    let mut covered = [false; 64];
-    for i in 0..PLACES {
-        if awaited[i] <= settled {
-            awaited[i] = usize::MAX;
-            covered[i] = true;
-        }
-    }
-    covered
-}
 
 /// A board that threads share, behind one lock. A session's threads submit and wait; the flusher's thread takes, settles and waits
 /// for work, and says where the store has failed: these calls ask for the hub's `Writer`, which that thread alone has. Who ends the hub
@@ -159,12 +32,13 @@ pub struct Hub<D, J: Site> {
 impl<D, J: Site> Hub<D, J> {
     /// A hub of a board, the only right to write what it orders, and the only right to end it. It takes no memory.
     pub fn new(board: Board<D, J>) -> (Hub<D, J>, Writer<J>, Closer<J>) {
+        let (kept, writer, closer) = Kept::new(board);
         let hub = Hub {
-            kept: Mutex::new(Kept::new(board)),
+            kept: Mutex::new(kept),
             moved: array::from_fn(|_| Condvar::new()),
             work: Condvar::new(),
         };
-        (hub, Writer::by_hub(), Closer::by_hub())
+        (hub, writer, closer)
     }
 
     /// Submits a command to the board, and wakes the flusher. The ticket is of this command, and the seat counts it just where the
@@ -199,8 +73,7 @@ impl<D, J: Site> Hub<D, J> {
         ensures cap { IfOk result (λ run. run.cap ≡ cap) }
         ensures only { IfErr result (λ e. e ≡ Refusal.NoMemory) }
     {
-        let _ = writer;
-        self.kept.lock(rt).board.take(alloc, cap)
+        self.kept.lock(rt).take(alloc, writer, cap)
     }
 
     /// Settles a batch by its receipt and the token of its publish, as `Board::settle` does, and wakes those who wait for it: the board has
@@ -217,8 +90,7 @@ impl<D, J: Site> Hub<D, J> {
         ensures batch { IfErr result (λ unsettled. unsettled.batch ≡ receipt.now) }
         ensures told { IfErr result (λ unsettled. unsettled.told ≡ told) }
     {
-        let _ = writer;
-        let (answer, covered) = self.kept.lock(rt).settle(receipt, told);
+        let (answer, covered) = self.kept.lock(rt).settle(writer, receipt, told);
         for (condition, wakes) in self.moved.iter().zip(covered.iter()) {
             if *wakes {
                 condition.notify_all();
@@ -231,8 +103,7 @@ impl<D, J: Site> Hub<D, J> {
     pub fn fail<R: Wait>(&self, rt: &R, writer: &mut Writer<J>, why: Refusal) -> Failed<J>
         ensures { result ≡ why }
     {
-        let _ = writer;
-        let failed = self.kept.lock(rt).fail(why);
+        let failed = self.kept.lock(rt).fail(writer, why);
         for condition in self.moved.iter() {
             condition.notify_all();
         }
@@ -245,7 +116,7 @@ impl<D, J: Site> Hub<D, J> {
         ensures holds { IfOk result (λ told. IfSome told (λ t. ticket.now.length ≤ length (commands_of t))) }
         ensures only { IfErr result (λ e. e ≡ Refusal.StoreFailed) }
     {
-        self.kept.lock(rt).board.ack(ticket)
+        self.kept.lock(rt).board().ack(ticket)
     }
 
     /// Waits until a ticket's length is settled, and gives a token that holds it. Refused with `StoreFailed` where the store failed
@@ -257,7 +128,7 @@ impl<D, J: Site> Hub<D, J> {
         let place = ticket.place();
         let mut kept = self.kept.lock(rt);
         for _ in rt.forever() {
-            match kept.board.ack(ticket) {
+            match kept.board().ack(ticket) {
                 Ok(Some(told)) => return Ok(told),
                 Ok(None) => {}
                 Err(refusal) => return Err(refusal),
@@ -273,10 +144,10 @@ impl<D, J: Site> Hub<D, J> {
         let _ = writer;
         let mut kept = self.kept.lock(rt);
         for _ in rt.forever() {
-            if !kept.board.is_idle() {
+            if !kept.board().is_idle() {
                 return None;
             }
-            if kept.ended {
+            if kept.has_ended() {
                 return Some(Idle::by_kept(&kept));
             }
             kept = self.work.wait(rt, kept);
@@ -287,8 +158,7 @@ impl<D, J: Site> Hub<D, J> {
     /// Tells the flusher that nothing more will be submitted. From then on `submit` is refused with `StoreFailed`, so that nobody waits
     /// for a turn that doesn't come.
     pub fn end<R: Wait>(&self, rt: &R, closer: &mut Closer<J>) {
-        let _ = closer;
-        self.kept.lock(rt).end();
+        self.kept.lock(rt).end(closer);
         self.work.notify_all();
     }
 
@@ -296,6 +166,6 @@ impl<D, J: Site> Hub<D, J> {
     pub fn ordered<R: Wait>(&self, rt: &R) -> usize
         ensures { WasOrdered J.start result }
     {
-        self.kept.lock(rt).board.ordered()
+        self.kept.lock(rt).board().ordered()
     }
 }

@@ -11,7 +11,9 @@
 //! isn't `Drop`, so no path lets one go: it ends by the receipt of its commit, or with its store.
 //!
 //! What is the flusher's, to take, to settle, to wait for work and to fail, asks for a hub's `Writer`, and to end it for its `Closer`:
-//! `Hub::new` gives one of each, which can't be copied, so that no session's desk can do any of it.
+//! `Hub::new` gives one of each, which can't be copied, so that no session's desk can do any of it. The hub's own calls can't either: what
+//! lies under the lock stands in a module of its own (src/kept.rt), which lends the board for reading alone, gives no seat, and asks for
+//! the same rights. So `Hub::submit` can't take, settle, fail or end, and `Hub::wait_work`, which is lent a `Writer` alone, can't end.
 //!
 //! Some answers are tokens that nothing else makes: `Settled` where a batch was settled, `Failed` where the hub was told of a failure,
 //! `Idle` where it was ended and nothing is left to take, `Nothing` where a run was taken off empty. A function that answers with one has
@@ -65,6 +67,7 @@
 
 mod board;
 mod hub;
+mod kept;
 mod run;
 mod seat;
 mod tokens;
@@ -72,7 +75,8 @@ mod unsettled;
 
 pub use board::Board;
 pub use hub::Hub;
+pub use kept::{Closer, Writer};
 pub use run::Run;
 pub use seat::{Seat, Ticket};
-pub use tokens::{Closer, Failed, Idle, Nothing, Settled, Writer};
+pub use tokens::{Failed, Idle, Nothing, Settled};
 pub use unsettled::Unsettled;

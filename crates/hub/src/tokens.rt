@@ -1,40 +1,13 @@
-//! What a hub gives alone: the rights to write what it orders and to end it, and tokens that show that it was called.
+//! What a hub gives alone: tokens that show that it was called.
 ghost use Rattle.std.specs.Prelude.{◌≡◌, [], true};
 ghost use Rattle.hub.specs.Runs.{untaken};
 
 use crate::board::Board;
-use crate::hub::Kept;
+use crate::kept::Kept;
 use published::{Site, Told};
 use refusal::Refusal;
 use std::marker::{Model, PhantomData};
 use std::snapshot::Snapshot;
-
-/// The right to write what a hub's board orders: to wait for work, to take runs off, to settle them, and to say that the store has failed.
-/// `Hub::new` makes the only one of its hub, and it can't be copied, so whoever isn't lent it can do none of that.
-#[derive(Drop)]
-pub struct Writer<J: Site> {
-    of: PhantomData<J>,
-}
-
-impl<J: Site> Writer<J> {
-    // That of a new hub.
-    pub(crate) fn by_hub() -> Writer<J> {
-        Writer { of: PhantomData }
-    }
-}
-
-/// The right to end a hub. `Hub::new` makes the only one of its hub, and it can't be copied.
-#[derive(Drop)]
-pub struct Closer<J: Site> {
-    of: PhantomData<J>,
-}
-
-impl<J: Site> Closer<J> {
-    // That of a new hub.
-    pub(crate) fn by_hub() -> Closer<J> {
-        Closer { of: PhantomData }
-    }
-}
 
 /// That a board had no command to take off whose batch has at most so many bytes. Only a run that was taken off empty gives one, by
 /// `Run::nothing`. Contracts see it as how many bytes that run's batch could have.

@@ -1,6 +1,7 @@
 //! Why a batch isn't settled.
 ghost use Rattle.std.specs.Prelude.{◌≡◌, length};
 ghost use Rattle.recovery.specs.Found.{commands_of};
+ghost use Rattle.hub.specs.Legal.{IsOfRun};
 ghost use Rattle.hub.specs.Runs.{MaySettle};
 
 use crate::board::Board;
@@ -49,5 +50,13 @@ impl<D, J: Site> Unsettled<D, J> {
             batch: Snapshot::of(receipt),
             told,
         }
+    }
+
+    /// The board was one of this run, and the batch couldn't be settled there by this token.
+    pub fn shows(&self)
+        ensures run { IsOfRun J.start self.now.board }
+        ensures never { MaySettle self.now.board self.now.batch (length (commands_of self.now.told)) → ⊥ }
+    {
+        let _ = &self.told;
     }
 }

@@ -12,7 +12,7 @@ use Rattle.published.specs.contracts.told.Told as told
 use Rattle.view.proofs.CallerLemmas.{viewer_send}
 use Rattle.hub.specs.contracts.hub.Hub as hub
 use Rattle.hub.specs.contracts.seat.Seat as seat
-use Rattle.hub.specs.contracts.tokens.Closer as closer
+use Rattle.hub.specs.contracts.kept.Closer as closer
 use Rattle.hub.proofs.CallerLemmas.{board_send}
 use Rattle.hub_desk.specs.contracts.desk.HubDesk as desk
 

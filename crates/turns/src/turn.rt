@@ -178,7 +178,7 @@ fn write_held<D: Disk, J: Site, R: Wait, G: Gate>(
                     upkeep.note(receipt);
                     Ok(Turned::Settled(settled))
                 }
-                Err(failed) => Err(failed.refusal()),
+                Err((failed, _unsettled)) => Err(failed.refusal()),
             }
         }
     }

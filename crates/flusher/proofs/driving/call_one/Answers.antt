@@ -13,7 +13,7 @@ use Rattle.flusher.specs.Holding.{store_of, told_of, committed_of, waiting_of}
 use Rattle.flusher.specs.Run.{standing, between}
 use Rattle.flusher.specs.Driving.{AckGives, IsTurnRefused}
 use Rattle.flusher.proofs.Running.{run_none}
-use Rattle.flusher.proofs.Answering.{same_cap, submit_goes, submit_calm, run_store_by, gives_of, gives_one, puts, retires, on_ok, stops_turn, handed_on}
+use Rattle.flusher.proofs.Answering.{same_cap, submit_goes, submit_calm, run_store_by, gives_of, gives_one, puts, retires, on_ok, stops_turn, handed_on, unanswered_of, unsubmitted, unturned, unput, unretired}
 use Rattle.flusher.proofs.Refusing.{fails_not}
 use Rattle.flusher.proofs.driving.call_one.Goals as goal
 
@@ -107,3 +107,33 @@ returns-in-Milestone-clause-fails g c = c.put_one.ensures.fails
 
 pub returns-in-Retire-clause-fails : goal.returns-in-Retire-clause-fails
 returns-in-Retire-clause-fails g c = c.retire_one.ensures.fails
+
+pub returns-in-Submit-clause-left : goal.returns-in-Submit-clause-left
+returns-in-Submit-clause-left g c =
+    unanswered_of (cap_of g.J.Site.start) (between c.args.board.now c.args.tickets.now.items c.args.flusher.now) c.args.call.now (Submit c.in-Submit.command) c.submit_one.result
+    (between c.submit_one.new.board c.submit_one.new.tickets.items c.args.flusher.now) c.in-Submit.is
+    (unsubmitted (cap_of g.J.Site.start) c.in-Submit.command c.submit_one.result c.args.board.now c.submit_one.new.board c.args.tickets.now.items c.submit_one.new.tickets.items
+    (store_of c.args.flusher.now) c.submit_one.ensures.same)
+
+pub returns-in_err-count-in-Turn-clause-left : goal.returns-in_err-count-in-Turn-clause-left
+returns-in_err-count-in-Turn-clause-left g c =
+    unanswered_of (cap_of g.J.Site.start) (between c.args.board.now c.args.tickets.now.items c.args.flusher.now) c.args.call.now Turn c.from_residual.result
+    (between c.turn.new.board c.args.tickets.now.items c.turn.new.flusher) c.in-Turn.is
+    (unturned (cap_of (state_of (store_of c.args.flusher.now))) (cap_of g.J.Site.start) c.from_residual.result (between c.args.board.now c.args.tickets.now.items c.args.flusher.now)
+    c.turn.new.board (store_of c.turn.new.flusher) (same_cap g.J.Site.start (state_of (store_of c.args.flusher.now)) (commands_of (told_of c.args.flusher.now)) c.requires.calm.state)
+    c.in_err-count-in-Turn.ensures.left)
+
+pub returns-in-Milestone-clause-left : goal.returns-in-Milestone-clause-left
+returns-in-Milestone-clause-left g c =
+    let e = c.put_one.ensures in
+    unanswered_of (cap_of g.J.Site.start) (between c.args.board.now c.args.tickets.now.items c.args.flusher.now) c.args.call.now (Milestone c.in-Milestone.document c.in-Milestone.revision) c.put_one.result
+    (between c.args.board.now c.args.tickets.now.items c.put_one.new.flusher) c.in-Milestone.is
+    (unput (cap_of g.J.Site.start) c.in-Milestone.document c.in-Milestone.revision c.put_one.result (between c.args.board.now c.args.tickets.now.items c.args.flusher.now) (store_of c.put_one.new.flusher)
+    e.only e.fails e.memory)
+
+pub returns-in-Retire-clause-left : goal.returns-in-Retire-clause-left
+returns-in-Retire-clause-left g c =
+    let e = c.retire_one.ensures in
+    unanswered_of (cap_of g.J.Site.start) (between c.args.board.now c.args.tickets.now.items c.args.flusher.now) c.args.call.now Retire c.retire_one.result
+    (between c.args.board.now c.args.tickets.now.items c.retire_one.new.flusher) c.in-Retire.is
+    (unretired (cap_of g.J.Site.start) c.retire_one.result (between c.args.board.now c.args.tickets.now.items c.args.flusher.now) (store_of c.retire_one.new.flusher) e.only e.fails)

@@ -1,11 +1,11 @@
-use Rattle.std.proofs.Common.{◌≡◌, ℕ, ◌+◌, [], ◌∷◌, ◌++◌, length, take, refl, sym, ◌∙◌, ap, subst, arith, length-append}
+use Rattle.std.proofs.Common.{◌≡◌, ℕ, ◌+◌, [], ◌∷◌, ◌++◌, length, take, inl, inr, refl, sym, ◌∙◌, ap, subst, arith, length-append}
 use Rattle.std.proofs.lemmas.Result.{err_from_is_err_and}
 use Rattle.flusher.specs.Flushers.{cap_of}
 use Rattle.flusher.specs.Holding.{store_of}
 use Rattle.flusher.specs.Run.{standing, between}
 use Rattle.flusher.specs.Driving.{Answered, Stops}
 use Rattle.flusher.proofs.Running.{run_none, run_on}
-use Rattle.flusher.proofs.Answering.{begins_at, one_more, stops_there, handed_on}
+use Rattle.flusher.proofs.Answering.{begins_at, one_more, stops_there, handed_on, unanswered_settled, call_behind}
 use Rattle.flusher.proofs.driving.drive_all.Goals as goal
 
 pub loop-call-init : goal.loop-call-init
@@ -72,7 +72,13 @@ returns-in_err-answer-clause-answered g c =
           (subst (λ n. Answered cap first (take n c.args.calls.now) c.loop-call.answers.items last) (sym i.count) i.answered);
       tickets = c.in_err-answer.ensures.same;
       order = c.in_err-answer.ensures.order;
-      settled = c.call_one.ensures.goes.settled;
+      settled = unanswered_settled cap last (between c.call_one.new.board c.call_one.new.tickets.items c.call_one.new.flusher) c.call-item.result c.in_err-answer.ensures.left;
+      behind = inr (
+        c.call-item.result,
+        call_behind c.args.calls.now c.loop-call.call-index c.reserve.new.self.items c.call-item.result _ c.loop-call-test.true c.call-item.is
+            (ap length c.in_ok-reserve.ensures.items ∙ i.count),
+        c.in_err-answer.ensures.left,
+      );
     }
 
 pub returns-in_err-reserve-clause-answered : goal.returns-in_err-reserve-clause-answered
@@ -88,7 +94,8 @@ returns-in_err-reserve-clause-answered g c =
           (subst (λ n. Answered cap first (take n c.args.calls.now) c.loop-call.answers.items last) (sym i.count) i.answered);
       tickets = refl;
       order = refl;
-      settled = omega arith;
+      settled = refl;
+      behind = inl refl;
     }
 
 pub returns-clause-answered : goal.returns-clause-answered
@@ -102,5 +109,6 @@ returns-clause-answered g c =
       answered = subst (λ n. Answered cap first (take n c.args.calls.now) c.loop-call.answers.items last) (sym i.count) i.answered;
       tickets = refl;
       order = refl;
-      settled = omega arith;
+      settled = refl;
+      behind = inl refl;
     }

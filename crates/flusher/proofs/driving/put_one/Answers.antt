@@ -1,5 +1,5 @@
 use Rattle.flusher.specs.Holding.{store_of}
-use Rattle.flusher.proofs.Refusing.{answer_works, answer_fails, answer_put, answer_only}
+use Rattle.flusher.proofs.Refusing.{answer_works, answer_fails, answer_put, answer_memory, answer_only}
 use Rattle.flusher.proofs.driving.put_one.Goals as goal
 
 pub returns-in-Err-clause-works : goal.returns-in-Err-clause-works
@@ -17,3 +17,6 @@ returns-in-Err-clause-answer g c =
 
 pub returns-in-Err-clause-only : goal.returns-in-Err-clause-only
 returns-in-Err-clause-only g c = answer_only c.in-Err.refusal c.answered.result c.answered.ensures.stops
+
+pub returns-in-Err-clause-memory : goal.returns-in-Err-clause-memory
+returns-in-Err-clause-memory g c told = c.in-Err.ensures.memory (answer_memory c.in-Err.refusal c.answered.result c.answered.ensures.stops told)

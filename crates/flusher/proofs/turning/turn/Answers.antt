@@ -12,7 +12,7 @@ use Rattle.hub.specs.Runs.{IsLongest, untaken}
 use Rattle.flusher.specs.Holding.{store_of, told_of, committed_of, waiting_of}
 use Rattle.flusher.specs.Standing.{RunGoes}
 use Rattle.flusher.specs.Run.{standing}
-use Rattle.flusher.specs.Driving.{turned, IsTurnRefused}
+use Rattle.flusher.specs.Driving.{turned, IsTurnRefused, IsUnsettled}
 use Rattle.flusher.specs.Flushers.{cap_of, IsRunCommitted, IsHeldCommitted}
 use Rattle.refusal.specs.declared.Refusal.{Refusal}
 use Rattle.refusal.specs.declared.Refusal.TheVariants.{NoMemory, Fault}
@@ -20,7 +20,7 @@ use Rattle.flusher.proofs.Running.{run_none}
 use Rattle.flusher.proofs.Steps.{run_of_none, run_refused_by, run_settled}
 use Rattle.flusher.proofs.Fitting.{fits_slot, run_fits, run_within, may_settle, goes_held}
 use Rattle.flusher.proofs.Holdings.{same_batch, run_committed}
-use Rattle.flusher.proofs.Answering.{turned_by, turned_not, turn_refused, handed_on}
+use Rattle.flusher.proofs.Answering.{turned_by, turned_not, turn_refused, handed_on, on_err}
 use Rattle.flusher.proofs.turning.turn.Goals as goal
 
 unfailed : (b : Bool) → (b ≡ true → ⊥) → b ≡ false
@@ -181,6 +181,43 @@ returns-in_err-write-clause-refused g c =
 
 pub returns-in_err-settle-in-Some-clause-refused : goal.returns-in_err-settle-in-Some-clause-refused
 returns-in_err-settle-in-Some-clause-refused g c =
+    let run = c.in_ok-run.run'.commands in
+    let some : 0 < length run = omega arith in
+    let held = ap (λ (l : List (List Taken)). l ++ waiting_of c.hold.new.self) (c.hold.ensures.committed ∙ c.requires.calm.committed) ∙ c.hold.ensures.waiting in
+    let written = rw (sym c.parts-receipt.ensures) at (rw c.in-Some.is at c.in_ok-write.ensures.some) in
+    let same = same_batch _ c.parts-receipt.result.0 run written.batch held in
+    let tells = written.token_is ∙ written.published ∙ ap (λ (l : List (List Taken)). told_of c.hold.new.self ++ l) held ∙ ap (λ (l : List (List Taken)). l ++ run ∷ []) c.hold.ensures.told in
+    absurd (false≢true (c.in_err-settle-in-Some.ensures.stranger
+    (may_settle g.J.Site.start (standing c.args.board.now c.args.flusher.now) c.take.new.self.board run c.parts-receipt.result.0 c.parts-receipt.result.1 c.requires.calm c.in_ok-run.ensures.run
+    (ap (λ (b : Board). b.board) c.in_ok-run.ensures.board) some same tells)))
+
+pub returns-in_err-run-clause-left : goal.returns-in_err-run-clause-left
+returns-in_err-run-clause-left g c =
+    let store = store_of c.args.flusher.now in
+    let left : IsUnsettled (cap_of (state_of store)) c.args.board.now store c.take.new.self store = inl (c.in_err-run.ensures.unchanged, refl) in
+    on_err c.from_residual.result left
+
+pub returns-in_err-write-clause-left : goal.returns-in_err-write-clause-left
+returns-in_err-write-clause-left g c =
+    let run = c.in_ok-run.run'.commands in
+    let longest = subst (λ (n : ℕ). IsLongest n (untaken c.args.board.now.board) (length run)) c.cap.ensures c.in_ok-run.ensures.longest in
+    let some : 1 ≤ length run = omega arith in
+    let store = store_of c.args.flusher.now in
+    let left : IsUnsettled (cap_of (state_of store)) c.args.board.now store c.take.new.self (store_of c.write.new.self) = inr (length run, longest, some, c.in_ok-run.ensures.board) in
+    on_err c.from_residual-in_err-write.result left
+
+pub returns-in_err-settle-in-Some-clause-left : goal.returns-in_err-settle-in-Some-clause-left
+returns-in_err-settle-in-Some-clause-left g c =
+    let run = c.in_ok-run.run'.commands in
+    let longest = subst (λ (n : ℕ). IsLongest n (untaken c.args.board.now.board) (length run)) c.cap.ensures c.in_ok-run.ensures.longest in
+    let some : 1 ≤ length run = omega arith in
+    let store = store_of c.args.flusher.now in
+    let left : IsUnsettled (cap_of (state_of store)) c.args.board.now store c.settle.new.self (store_of c.write.new.self) =
+    inr (length run, longest, some, c.in_err-settle-in-Some.ensures.unchanged ∙ c.in_ok-run.ensures.board) in
+    on_err c.from_residual-in_err-settle-in-Some.result left
+
+pub returns-in_err-settle-in-Some-clause-unpublished : goal.returns-in_err-settle-in-Some-clause-unpublished
+returns-in_err-settle-in-Some-clause-unpublished g c =
     let run = c.in_ok-run.run'.commands in
     let some : 0 < length run = omega arith in
     let held = ap (λ (l : List (List Taken)). l ++ waiting_of c.hold.new.self) (c.hold.ensures.committed ∙ c.requires.calm.committed) ∙ c.hold.ensures.waiting in

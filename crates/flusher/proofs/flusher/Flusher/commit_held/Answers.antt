@@ -1,6 +1,6 @@
 use Rattle.std.proofs.Common.{◌≡◌, ⊎_elim, inl, inr, [], ◌∷◌, ◌++◌, List, Some, None, refl, sym, ◌∙◌, ap, append-nil}
 use Rattle.revision.specs.Command.{Taken}
-use Rattle.revision.specs.State.{fold, all_grow}
+use Rattle.revision.specs.State.{fold, all_grow, first_grows}
 use Rattle.recovery.specs.Found.{commands_of}
 use Rattle.recovery.specs.Open.{has_room}
 use Rattle.refusal.specs.declared.Refusal.TheVariants.{JournalFull, StillNeeded, Stranger, NoMemory}
@@ -138,3 +138,22 @@ invariant_of-self-in-Ok g c =
       kept = kept_more _ _ _ _ _ _ c.commands.result.now c.args.self.now.kept (c.args.self.now.fits c.in-Some.batch held).alone c.accept.ensures c.in-Ok.ensures.receipt c.in-Ok.ensures.state;
       fits = λ x is. absurd (let none : ⊥ = cc in none);
     }
+
+pub returns-in-None-clause-grow : goal.returns-in-None-clause-grow
+returns-in-None-clause-grow g c =
+    let none : c.args.self.now.waiting ≡ None = cc in
+    ap (λ (l : List (List Taken)). all_grow c.args.self.now.store.state (commands_of l)) (ap held_in none)
+
+pub returns-in-Ok-clause-grow : goal.returns-in-Ok-clause-grow
+returns-in-Ok-clause-grow g c =
+    let held : c.args.self.now.waiting ≡ Some c.in-Some.batch = cc in
+    let same : c.commands.result.now ≡ c.in-Some.batch.commands = cc in
+    ap (all_grow c.args.self.now.store.state) (ap commands_of (ap held_in held) ∙ append-nil _ ∙ sym same) ∙ c.in-Ok.ensures.grow
+
+pub returns-in-Err-clause-memory : goal.returns-in-Err-clause-memory
+returns-in-Err-clause-memory g c told batch waits room =
+    let held : c.args.self.now.waiting ≡ Some c.in-Some.batch = cc in
+    let same : c.commands.result.now ≡ c.in-Some.batch.commands = cc in
+    let one : c.commands.result.now ≡ batch = same_batch (held_in c.args.self.now.waiting) c.commands.result.now batch (ap held_in held ∙ ap (λ (b : List Taken). b ∷ []) (sym same)) waits in
+    ap (first_grows c.args.self.now.store.state) (sym one)
+    ∙ c.in-Err.ensures.memory (same_refusal c.in-Err.refusal NoMemory told) (ap (has_room c.args.self.now.store) one ∙ room)

@@ -12,6 +12,9 @@ pub returns-clause-put : goal.returns-clause-put
 returns-clause-put g c =
     c.put_document.ensures.taken
 
+pub returns-clause-memory : goal.returns-clause-memory
+returns-clause-memory g c = c.put_document.ensures.memory
+
 pub invariant_of-self : goal.invariant_of-self
 invariant_of-self g c =
     let same = c.put_document.ensures.state in

@@ -2,8 +2,8 @@ use Rattle.std.proofs.Common.{◌≡◌, ◌+◌, arith, false}
 use Rattle.std.specs.Prelude.{replicate}
 use Rattle.hub.specs.Waiting.{is_covered, still_awaited}
 use Rattle.hub.proofs.Waking.{made, woken_here, waits_here}
-use Rattle.hub.proofs.hub.woken.Goals.{then-awaited-i, else-awaited-i}
-use Rattle.hub.proofs.hub.woken.Goals as goal
+use Rattle.hub.proofs.kept.woken.Goals.{then-awaited-i, else-awaited-i}
+use Rattle.hub.proofs.kept.woken.Goals as goal
 
 pub loop-i-preserved : goal.loop-i-preserved
 loop-i-preserved c = record { covered = both.0; awaited = both.1 }

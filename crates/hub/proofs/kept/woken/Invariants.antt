@@ -1,7 +1,7 @@
 use Rattle.std.proofs.Common.{◌≡◌, ◌++◌, map, take, drop, false}
 use Rattle.std.specs.Prelude.{replicate}
 use Rattle.hub.specs.Waiting.{is_covered, still_awaited}
-use Rattle.hub.proofs.hub.woken.Given as goal
+use Rattle.hub.proofs.kept.woken.Given as goal
 
 abbrev pub invariant-loop-i : goal.invariant-loop-i
 invariant-loop-i l = record {
