@@ -222,6 +222,7 @@ fn drive_all<D: Disk, J: Site, R: Wait>(
     ensures stops { IfErr result
         (λ e. Stops (cap_of J.start) (between board.old [] flusher.old) calls.now answers.new.items e
         flusher.new) }
+    ensures short { OnErr result (length answers.new.items < length calls.now) }
     ensures whole { OnOk result ((length answers.new.items ≡ length calls.now)
         × Answered (cap_of J.start) (between board.old [] flusher.old) calls.now answers.new.items
         (between board.new tickets.new.items flusher.new)) }
@@ -285,6 +286,7 @@ pub fn drive<D: Disk, J: Site, R: Wait>(
     ensures stops { IfSome result.stopped
         (λ refusal. Stops (cap_of J.start) (between board.old [] flusher.old) calls.now result.answers.items refusal
         flusher.new) }
+    ensures short { IfSome result.stopped (λ e. length result.answers.items < length calls.now) }
     ensures whole { result.stopped ≡ None → (length result.answers.items ≡ length calls.now)
         × Answered (cap_of J.start) (between board.old [] flusher.old) calls.now result.answers.items
         (between board.new result.tickets.items flusher.new) }

@@ -204,6 +204,10 @@ impl<D: Disk, J: Site> Flusher<D, J> {
             × (has_room (store_of self.old) batch ≡ false) × (has_room (store_of self.new) batch ≡ false) }
         ensures needed { IsErrOf result Refusal.StillNeeded → (batch : List Taken) × (waiting_of self.old ≡ batch ∷ [])
             × (has_room (store_of self.old) batch ≡ false) }
+        ensures few { (batch : List Taken) → waiting_of self.old ≡ batch ∷ [] → has_failed (store_of self.old) ≡ false
+            → has_room (store_of self.old) batch ≡ false
+            → open_count (known_numbers (ring_of (store_of self.old))) < 2
+            → IsErrOf result Refusal.StillNeeded }
         ensures needed_by_few { IsErrOf result Refusal.StillNeeded → IsOpen (store_of self.old)
             → open_count (known_numbers (ring_of (store_of self.old))) < 2 }
         ensures needed_untouched { IsErrOf result Refusal.StillNeeded → IsOpen (store_of self.old)

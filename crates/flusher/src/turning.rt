@@ -51,6 +51,8 @@ pub fn turn<D: Disk, J: Site, R: Wait>(
     ensures unsettled { OnErr result ((board.new.board.settled ≡ board.old.board.settled)
         × (board.new.told ≡ board.old.told)) }
     ensures unpublished { OnErr result (told_of flusher.new ≡ told_of flusher.old) }
+    ensures uncommitted { IsErrOf result Refusal.Fault → state_of (store_of flusher.new)
+        ≡ state_of (store_of flusher.old) }
     ensures failed { board.new.failed ≡ board.old.failed }
     ensures order { board.new.board.order ≡ board.old.board.order }
 {

@@ -198,9 +198,10 @@ impl<D, J: Site> Board<D, J> {
     {
         let untaken = self.board.untaken();
         let count = longest(untaken, cap);
-        let run = copied(alloc, &untaken[..count])?;
+        let commands = copied(alloc, &untaken[..count])?;
+        let run = Run::by_board(self, commands, cap);
         self.board.take(count);
-        Ok(Run::taken(run, cap))
+        Ok(run)
     }
 
     /// Settles a batch that was committed, by the receipt of its commit and the token of its publish. Refused with `Stranger` just where the batch isn't the

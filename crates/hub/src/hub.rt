@@ -43,7 +43,8 @@ impl<D, J: Site> Hub<D, J> {
 
     /// Submits a command to the board, and wakes the flusher. The ticket is of this command, and the seat counts it just where the
     /// reply is that it was taken. Refused as `Board::submit` refuses it, and with `StoreFailed` once the end was called, since nobody
-    /// would write it; the seat is as it was then. What is given, a ticket or a refusal, is what the board gave at some moment of its run.
+    /// would write it; the seat is as it was then. What is given, a ticket or a refusal, is what a board gives that
+    /// some legal history from the run's start makes.
     pub fn submit<R: Wait>(
         &self,
         rt: &R,

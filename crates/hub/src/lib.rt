@@ -59,8 +59,10 @@
 //! # What isn't promised
 //!
 //! - What a hub's call did to the board under the lock: no clause can name the board at that moment. The tokens that it moves say
-//!   some of it (a ticket, a seat's count, a `Told`), and tests the rest. `Hub::submit` says that a board of the same run gave its
-//!   answer, a ticket or a refusal; so it may say that memory is short or that the store failed where it isn't so, and tests speak of that.
+//!   some of it (a ticket, a seat's count, a `Told`), and tests the rest. `Hub::submit` says that its answer, a
+//!   ticket or a refusal, is one that a board gives which some legal history from the run's start makes; that the hub's own board stood
+//!   so no clause says. So it may say that memory is short or that the store failed where it isn't so, or refuse by a history that never
+//!   was, and tests speak of that.
 //! - That a thread which waits is ever woken.
 //! - That a ticket is asked for at the board that gave it. A seat and a token are of one run by their types.
 #![tactic(auto)]

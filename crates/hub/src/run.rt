@@ -1,8 +1,10 @@
 //! Runs of the order: which make a batch, a copy of one, and whether a batch is one.
 ghost use Rattle.std.specs.Prelude.{◌≡◌, ◌↔◌, ◌≤◌, true, length, take, IfOk, IsOkUnless, IsTrue};
+ghost use Rattle.world.specs.Board.{next_run};
 ghost use Rattle.world.specs.World.{takens};
-ghost use Rattle.hub.specs.Runs.{IsLongest};
+ghost use Rattle.hub.specs.Runs.{IsLongest, untaken};
 
+use crate::board::Board;
 use crate::tokens::Nothing;
 use disk::Disk;
 use published::Site;
@@ -31,10 +33,13 @@ impl<D, J: Site> Model for Run<D, J> {
 }
 
 impl<D, J: Site> Run<D, J> {
-    // A run that was taken off.
-    pub(crate) fn taken(commands: Vec<Taken>, cap: u32) -> Run<D, J>
+    // The run that a board has to take off next, for a batch of so many bytes.
+    pub(crate) fn by_board(board: &Board<D, J>, commands: Vec<Taken>, cap: u32) -> Run<D, J>
+        requires longest { IsLongest cap (untaken board.now.board) (length commands.items) }
+        requires run { commands.items ≡ takens (next_run board.now.board (length commands.items)) }
         ensures { result ≡ record { commands = commands.items; cap = cap } }
     {
+        let _ = board;
         Run {
             commands,
             cap,

@@ -39,6 +39,7 @@ pub fn flush_turn<D: Disk, J: Site, R: Wait, G: Gate>(
     ensures writes { Writes J.start flusher.old flusher.new }
     ensures turned { IfOk result (λ answer. HasTurned flusher.old answer flusher.new) }
     ensures nothing { OnOk result ((committed_of flusher.new ≡ []) × (waiting_of flusher.new ≡ [])) }
+    ensures unpublished { IsErrOf result Refusal.NoMemory → told_of flusher.new ≡ told_of flusher.old }
 
     // When each refusal comes: a failure of the device is told as such, and nothing else is.
     ensures fails { has_failed (store_of flusher.old) ≡ false
@@ -65,6 +66,7 @@ fn turn_made<D: Disk, J: Site, R: Wait, G: Gate>(
     ensures writes { Writes J.start flusher.old flusher.new }
     ensures turned { IfOk result (λ answer. HasTurned flusher.old answer flusher.new) }
     ensures nothing { OnOk result ((committed_of flusher.new ≡ []) × (waiting_of flusher.new ≡ [])) }
+    ensures unpublished { IsErrOf result Refusal.NoMemory → told_of flusher.new ≡ told_of flusher.old }
     ensures fails { has_failed (store_of flusher.old) ≡ false
         → (has_failed (store_of flusher.new) ≡ true ↔ IsErrOf result Refusal.Fault) }
     ensures causes { IfErr result (λ e. e ≢ Refusal.NoMemory → e ≢ Refusal.Fault
@@ -159,6 +161,7 @@ fn write_held<D: Disk, J: Site, R: Wait, G: Gate>(
     ensures writes { Writes J.start flusher.old flusher.new }
     ensures turned { IfOk result (λ answer. HasTurned flusher.old answer flusher.new) }
     ensures nothing { OnOk result ((committed_of flusher.new ≡ []) × (waiting_of flusher.new ≡ [])) }
+    ensures unpublished { IsErrOf result Refusal.NoMemory → told_of flusher.new ≡ told_of flusher.old }
     ensures fails { has_failed (store_of flusher.old) ≡ false
         → (has_failed (store_of flusher.new) ≡ true ↔ IsErrOf result Refusal.Fault) }
     ensures causes { IfErr result (λ e. e ≢ Refusal.NoMemory → e ≢ Refusal.Fault
