@@ -7,6 +7,7 @@ use Rattle.refusal.specs.declared.Refusal.TheVariants.{StoreFailed}
 use Rattle.revision.specs.Command.{Command}
 use Rattle.revision.specs.State.{State, fold}
 use Rattle.recovery.specs.Found.{commands_of}
+use Rattle.published.proofs.CallerLemmas.{prefix_trans}
 use Rattle.world.specs.Board.{Ticket}
 use Rattle.hub.specs.Legal.{counted}
 use Rattle.session.specs.declared.reply.Reply.{Reply}
@@ -16,7 +17,7 @@ use Rattle.session.specs.Reply.{rev_of}
 use Rattle.hub_desk.specs.AtHub.{Desk, Submits, PassesAtHub}
 use Rattle.hub_desk.specs.Standing.{StandsIn}
 use Rattle.hub_desk.specs.Tickets.{IsOf}
-use Rattle.hub_desk.proofs.Batches.{prefix_trans, no_more}
+use Rattle.hub_desk.proofs.Batches.{no_more}
 
 module _ (start : State) (old settled new : Desk) (command : Command) (ticket : Ticket) (of : IsOf start command (Ok ticket))
     (counts : settled.counted ≡ counted old.counted ticket.reply) (told : IsPrefix old.told settled.told) (shown : settled.shown ≡ old.shown)

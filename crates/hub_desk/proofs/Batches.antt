@@ -6,12 +6,6 @@ use Rattle.revision.specs.State.{State, grows, grown, all_grow, fold}
 use Rattle.recovery.specs.Found.{commands_of}
 use Rattle.session.specs.Shelf.{IsLater}
 
-pub prefix_self : {A : Type 0} (xs : List A) → IsPrefix xs xs
-prefix_self xs = ([], append-nil xs)
-
-pub prefix_trans : {A : Type 0} (xs ys zs : List A) → IsPrefix xs ys → IsPrefix ys zs → IsPrefix xs zs
-prefix_trans xs ys zs (t, is) (u, so) = (t ++ u, sym (append_assoc xs t u) ∙ ap (λ l. l ++ u) is ∙ so)
-
 -- the commands of batches behind others
 commands-joined : (front back : List (List Taken)) → commands_of (front ++ back) ≡ commands_of front ++ commands_of back
 commands-joined [] back = refl

@@ -1,5 +1,7 @@
+pub mod Acknowledged
 pub mod Answering
 pub mod Batches
+pub mod CallerLemmas
 pub mod Finding
 pub mod StandsOn
 pub mod Tickets

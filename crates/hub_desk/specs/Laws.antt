@@ -1,13 +1,18 @@
 -- What follows where a command stands in a state: each law is promised by a function of `laws`.
 use Rattle.std.specs.Prelude.{◌≡◌, ◌⊎◌, ◌≤◌, ◌<◌, ℕ, true, List, Some, Any}
+use mathlib.Core.List.{IsPrefix}
 use Rattle.refusal.specs.declared.Refusal.{Refusal}
 use Rattle.refusal.specs.declared.Refusal.TheVariants.{Exists, OldNumber}
 use Rattle.revision.specs.Command.{Action, Create, Edit, Undo, Command, Taken}
 use Rattle.revision.specs.State.{State, DocumentRecord, find, all_grow, fold}
 use Rattle.revision.specs.Acceptance.{Repeats, Refuses, answer}
 use Rattle.revision.specs.Agree.{Agree}
+use Rattle.recovery.specs.Found.{commands_of}
 use Rattle.world.specs.Law.{last_held}
-use Rattle.hub_desk.specs.Standing.{StandsIn}
+use Rattle.session.specs.Exchange.{Exchange}
+use Rattle.session.specs.Replies.{Asks}
+use Rattle.hub_desk.specs.AtHub.{Desk, PassesAtHub}
+use Rattle.hub_desk.specs.Standing.{StandsIn, AllStand}
 
 -- why a command is refused whose number is below its source's last one: its document exists, or the number is old
 abbrev pub refusal_of_old : Action → Refusal
@@ -44,3 +49,12 @@ abbrev pub WasTakenAmong : Type 0
 WasTakenAmong = (state : State) (commands : List Taken) (command : Command) (revision : ℕ) → all_grow state commands ≡ true
     → (last_held state command).number < command.number → StandsIn (fold state commands) command revision
     → Any (IsTakenOf (fold state commands) command revision) commands
+
+-- No exchange makes a desk forget what it was told of.
+abbrev pub ToldKept : Type 0
+ToldKept = (start : State) (asked : List Exchange) (old new : Desk) → Asks (PassesAtHub start) old asked new → IsPrefix old.told new.told
+
+-- All that a desk acknowledged stands in what the batches make that it was told of by then, and in what further ones make of that.
+abbrev pub AcknowledgedStand : Type 0
+AcknowledgedStand = (start : State) (old new : Desk) (asked : List Exchange) (batches : List (List Taken)) → Asks (PassesAtHub start) old asked new
+    → IsPrefix new.told batches → all_grow start (commands_of batches) ≡ true → AllStand (fold start (commands_of batches)) asked

@@ -1,5 +1,5 @@
 //! What holds of published batches. Each function does nothing: its contract is the law.
-ghost use Rattle.std.specs.Prelude.{◌≡◌, ◌++◌, ◌∷◌, [], List};
+ghost use Rattle.std.specs.Prelude.{◌≡◌, ◌≤◌, ◌++◌, ◌∷◌, [], List, length};
 ghost use mathlib.Core.List.{IsPrefix};
 ghost use Rattle.revision.specs.Command.{Taken};
 ghost use Rattle.recovery.specs.Found.{commands_of};
@@ -12,9 +12,13 @@ pub fn commands_join()
         → commands_of (first ++ batch ∷ []) ≡ commands_of first ++ batch }
 {}
 
-/// A list begins with itself, and with the beginnings of its beginnings.
+/// A list begins with itself, and with the beginnings of its beginnings. Of two beginnings of one list the shorter begins the longer, and
+/// one that is no shorter than the list is all of it.
 pub fn beginnings()
     ensures itself { (batches : List (List Taken)) → IsPrefix batches batches }
     ensures through { (first more all : List (List Taken)) → IsPrefix first more → IsPrefix more all
         → IsPrefix first all }
+    ensures shorter { (first more all : List (List Taken)) → IsPrefix first all → IsPrefix more all
+        → length first ≤ length more → IsPrefix first more }
+    ensures whole { (first all : List (List Taken)) → IsPrefix first all → length all ≤ length first → first ≡ all }
 {}

@@ -3,9 +3,10 @@ use mathlib.Core.List.{IsPrefix}
 use Rattle.revision.specs.Command.{Taken}
 use Rattle.revision.specs.State.{fold}
 use Rattle.recovery.specs.Found.{commands_of}
+use Rattle.published.proofs.CallerLemmas.{prefix_trans}
 use Rattle.session.specs.Shelf.{IsLater}
 use Rattle.hub_desk.specs.AtHub.{Desk}
-use Rattle.hub_desk.proofs.Batches.{prefix_trans, later_batches}
+use Rattle.hub_desk.proofs.Batches.{later_batches}
 use Rattle.hub_desk.proofs.desk.HubDeskDesk.view.Goals as goal
 
 -- what is shown is what the batches make that are told of then, and those begin with what was told of before

@@ -1,0 +1,2 @@
+-- Laws of `laws`, as the proofs of other crates cite them.
+pub use Rattle.hub_desk.proofs.Acknowledged.{all_stand, told_through}
