@@ -1,6 +1,6 @@
 -- What a flusher holds, and how it fits the state of its store.
-use Rattle.std.proofs.Common.{◌≡◌, ◌≢◌, ◌⊎◌, inl, inr, ℕ, true, false, List, [], ◌∷◌, ◌++◌, length, ◌<◌, Option, Some, None, refl, sym, ◌∙◌, ap, subst, append-nil, arith}
-use Rattle.std.specs.Prelude.{Result, Ok, Err, OnOk, IfErr, IsErrOf, option_to_list}
+use Rattle.std.proofs.Common.{◌≡◌, ◌≢◌, ◌⊎◌, inl, inr, ℕ, Bool, true, false, ◌&&◌, List, [], ◌∷◌, ◌++◌, length, ◌<◌, ◌≤◌, Option, Some, None, refl, sym, ◌∙◌, ap, subst, append-nil, arith}
+use Rattle.std.specs.Prelude.{Result, Ok, Err, OnOk, OnErr, IfOk, IfErr, IfSome, IfNone, IsErrOf, option_to_list}
 use Rattle.std.proofs.lemmas.Bool.{and_parts}
 use Rattle.std.specs.Option.{option_map}
 use Rattle.disk.specs.Crash.{LeavesOnly}
@@ -35,6 +35,11 @@ same_refusal one two is = ap (λ (e : Refusal). Err e) (ap (refusal_in one) is)
 
 abbrev pub held_in : Option Run → List (List Taken)
 held_in waiting = option_to_list (option_map (λ r. r.commands) waiting)
+
+-- one batch at most is held
+pub held_few : (waiting : Option Run) → length (held_in waiting) ≤ 1
+held_few None = omega arith
+held_few (Some r) = omega arith
 
 pub none_of_held : (waiting : Option Run) → held_in waiting ≡ [] → waiting ≡ None
 none_of_held None is = refl
@@ -147,6 +152,59 @@ pub kept_published : (start state : State) (before after : Published) → state 
 kept_published start state before after kept is =
     kept ∙ ap (λ (l : List (List Taken)). fold start (commands_of l)) (sym (append-nil (before.told ++ before.unpublished)))
     ∙ ap (λ (p : Published). fold start (commands_of (p.told ++ p.unpublished))) (sym is)
+
+-- Further commands continue what these make, so all of them continue the state.
+all_join : (state : State) (first more : List Taken) → all_grow state first ≡ true → all_grow (fold state first) more ≡ true → all_grow state (first ++ more) ≡ true
+all_join state [] more all behind = behind
+all_join state (command ∷ others) more all behind =
+    let parts = and_parts (grows state command) (all_grow (grown state command) others) all in
+    ap (λ (b : Bool). b && all_grow (grown state command) (others ++ more)) parts.0 ∙ all_join (grown state command) others more parts.1 behind
+
+-- one batch that is committed more continues the others
+pub grown_more : (start old : State) (before after : Published) (receipt batch : List Taken) → old ≡ fold start (commands_of (before.told ++ before.unpublished)) → before.unpublished ≡ []
+    → all_grow start (commands_of (before.told ++ before.unpublished)) ≡ true → after ≡ record before { unpublished = receipt ∷ [] } → receipt ≡ batch → all_grow old batch ≡ true
+    → all_grow start (commands_of (after.told ++ after.unpublished)) ≡ true
+grown_more start old before after receipt batch kept none all is same more =
+    let told : commands_of (before.told ++ before.unpublished) ≡ commands_of before.told =
+    ap (λ (l : List (List Taken)). commands_of (before.told ++ l)) none ∙ ap commands_of (append-nil before.told) in
+    ap (λ (p : Published). all_grow start (commands_of (p.told ++ p.unpublished))) is
+    ∙ ap (all_grow start) (commands-append before.told (receipt ∷ []) ∙ ap (λ (c : List Taken). commands_of before.told ++ c) (append-nil receipt ∙ same))
+    ∙ all_join start (commands_of before.told) batch (ap (all_grow start) (sym told) ∙ all)
+    (ap (λ (s : State). all_grow s batch) (ap (fold start) (sym told) ∙ sym kept) ∙ more)
+
+-- the batch that is held is published: the commands are the same
+pub grown_published : (start : State) (before after : Published) → all_grow start (commands_of (before.told ++ before.unpublished)) ≡ true
+    → after ≡ record { told = before.told ++ before.unpublished; unpublished = [] } → all_grow start (commands_of (after.told ++ after.unpublished)) ≡ true
+grown_published start before after all is =
+    ap (λ (p : Published). all_grow start (commands_of (p.told ++ p.unpublished))) is
+    ∙ ap (λ (l : List (List Taken)). all_grow start (commands_of l)) (append-nil (before.told ++ before.unpublished)) ∙ all
+
+-- A publish leaves a publisher as it was, or has published what it was given.
+pub published_or_not : {E : Type 0} (result : Result (Option (List Taken × List (List Taken))) E) (old new : Published)
+    → IfOk result (λ published. IfSome published (λ p. old.unpublished ≡ p.0 ∷ [])) → IfOk result (λ published. IfSome published (λ p. p.1 ≡ old.told ++ p.0 ∷ []))
+    → IfOk result (λ published. IfSome published (λ p. new ≡ record { told = p.1; unpublished = [] }))
+    → IfOk result (λ published. IfNone published ((old.unpublished ≡ []) × (new ≡ old))) → OnErr result (new ≡ old)
+    → (new ≡ old) ⊎ (new ≡ record { told = old.told ++ old.unpublished; unpublished = [] })
+published_or_not (Ok (Some p)) old new batch told shown none same =
+    inr (shown ∙ ap (λ (t : List (List Taken)). record { told = t; unpublished = [] }) (told ∙ ap (λ (l : List (List Taken)). old.told ++ l) (sym batch)))
+published_or_not (Ok None) old new batch told shown none same = inl none.1
+published_or_not (Err why) old new batch told shown none same = inl same
+
+-- so what a flusher's type keeps goes on
+pub kept_moved : (start state : State) (old new : Published) → (new ≡ old) ⊎ (new ≡ record { told = old.told ++ old.unpublished; unpublished = [] })
+    → state ≡ fold start (commands_of (old.told ++ old.unpublished)) → state ≡ fold start (commands_of (new.told ++ new.unpublished))
+kept_moved start state old new (inl same) kept = kept ∙ ap (λ (p : Published). fold start (commands_of (p.told ++ p.unpublished))) (sym same)
+kept_moved start state old new (inr is) kept = kept_published start state old new kept is
+
+pub grown_moved : (start : State) (old new : Published) → (new ≡ old) ⊎ (new ≡ record { told = old.told ++ old.unpublished; unpublished = [] })
+    → all_grow start (commands_of (old.told ++ old.unpublished)) ≡ true → all_grow start (commands_of (new.told ++ new.unpublished)) ≡ true
+grown_moved start old new (inl same) grown = ap (λ (p : Published). all_grow start (commands_of (p.told ++ p.unpublished))) same ∙ grown
+grown_moved start old new (inr is) grown = grown_published start old new grown is
+
+pub few_moved : (old new : Published) → (new ≡ old) ⊎ (new ≡ record { told = old.told ++ old.unpublished; unpublished = [] })
+    → length old.unpublished ≤ 1 → length new.unpublished ≤ 1
+few_moved old new (inl same) few = omega (arith, few, ap (λ (p : Published). length p.unpublished) same)
+few_moved old new (inr is) few = omega (arith, ap (λ (p : Published). length p.unpublished) is)
 
 -- where commands continue a state, their first one does
 first_of_all : (state : State) (commands : List Taken) → all_grow state commands ≡ true → first_grows state commands ≡ true

@@ -10,3 +10,4 @@ pub mod Resting
 pub mod Scheduling
 pub mod Living
 pub mod Refusing
+pub mod Counting

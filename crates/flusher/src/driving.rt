@@ -1,5 +1,5 @@
 //! One thread's run over a board and a flusher: call after call, each with its answer.
-ghost use Rattle.std.specs.Prelude.{List, ℕ, ◌≡◌, ◌≢◌, ◌⊎◌, ◌↔◌, ◌<◌, ◌≤◌, ◌^◌, [], ◌∷◌, ◌++◌, true, false, Some, None, length, slice_get, take, OnOk, OnErr, IfOk, IfErr, IfSome, IfNone, IsErrOf};
+ghost use Rattle.std.specs.Prelude.{List, ℕ, ◌≡◌, ◌≢◌, ◌⊎◌, ◌↔◌, ◌<◌, ◌≤◌, ◌+◌, ◌^◌, [], ◌∷◌, ◌++◌, true, false, Some, None, length, slice_get, take, OnOk, OnErr, IfOk, IfErr, IfSome, IfNone, IsErrOf};
 ghost use Rattle.disk.specs.Crash.{LeavesOnly, MayLeaveNow};
 ghost use Rattle.refusal.specs.declared.Refusal.{Refusal as Why};
 ghost use Rattle.world.specs.Board.{submitted};
@@ -56,6 +56,7 @@ fn submit_one<D: Disk, J: Site>(
     ensures same { OnErr result ((board.new ≡ board.old) × (tickets.new.items ≡ tickets.old.items)) }
     ensures told { board.new.told ≡ board.old.told }
     ensures failed { board.new.failed ≡ board.old.failed }
+    ensures counts { seat.new + length board.old.board.order ≡ seat.old + length board.new.board.order }
     ensures only { IfErr result (λ e. e ≡ Refusal.NoMemory) }
 {
     tickets.reserve(1)?;
@@ -182,6 +183,7 @@ fn call_one<D: Disk, J: Site, R: Wait>(
         (between board.new tickets.new.items flusher.new)) }
     ensures order { OnErr result (board.new.board.order ≡ board.old.board.order) }
     ensures failed { board.new.failed ≡ board.old.failed }
+    ensures counts { seat.new + length board.old.board.order ≡ seat.old + length board.new.board.order }
     ensures fails { has_failed (store_of flusher.new) ≡ true ↔ IsErrOf result Refusal.Fault }
     ensures stops { IfErr result (λ e. ((e ≡ Refusal.NoMemory) ⊎ (e ≡ Refusal.Fault))
         ⊎ ((call.now ≡ Call.Turn)
@@ -227,6 +229,7 @@ fn drive_all<D: Disk, J: Site, R: Wait>(
         × Answered (cap_of J.start) (between board.old [] flusher.old) calls.now answers.new.items
         (between board.new tickets.new.items flusher.new)) }
     ensures failed { board.new.failed ≡ board.old.failed }
+    ensures counts { seat.new + length board.old.board.order ≡ seat.old + length board.new.board.order }
     ensures fails { has_failed (store_of flusher.new) ≡ true ↔ IsErrOf result Refusal.Fault }
 {
     for call in calls {
@@ -291,6 +294,8 @@ pub fn drive<D: Disk, J: Site, R: Wait>(
         × Answered (cap_of J.start) (between board.old [] flusher.old) calls.now result.answers.items
         (between board.new result.tickets.items flusher.new) }
     ensures fails { has_failed (store_of flusher.new) ≡ true ↔ result.stopped ≡ Some Refusal.Fault }
+    // The seat counts each command that is taken, and no other seat does.
+    ensures counts { seat.new + length board.old.board.order ≡ seat.old + length board.new.board.order }
 
     // The next run may go on from there.
     ensures calm { result.stopped ≡ None → IsCalm J.start (standing board.new flusher.new) }

@@ -12,7 +12,7 @@ use crate::gate::{Gate, Moment};
 use crate::written::{Written, to_settle};
 use disk::Disk;
 use hub::Run;
-use published::{NotAdded, Site};
+use published::{NotAdded, Site, Told};
 use recovery::Store;
 use refusal::Refusal;
 use std::alloc::Global;
@@ -28,6 +28,8 @@ pub struct Flusher<D: Disk, J: Site> {
     barred: Option<NotAdded<J>>,
     begun: Begun<J>,
     ghost kept: { state_of store ≡ fold begun (commands_of (publisher.told ++ publisher.unpublished)) },
+    ghost grown: { all_grow begun (commands_of (publisher.told ++ publisher.unpublished)) ≡ true },
+    ghost few: { length publisher.unpublished ≤ 1 },
     ghost fits: { ForSome waiting (λ run. MayCommit (state_of store) run.commands publisher.unpublished) },
 }
 
@@ -61,6 +63,21 @@ impl<D: Disk, J: Site> Flusher<D, J> {
             ≡ fold J.start (commands_of (told_of self.now ++ committed_of self.now)) }
     {
         self.begun.is_start();
+    }
+
+    /// Each command of these batches continues what those before it make of the start.
+    pub fn grown(&self)
+        ensures { all_grow J.start (commands_of (told_of self.now ++ committed_of self.now)) ≡ true }
+    {
+        self.begun.is_start();
+    }
+
+    /// One batch at most is committed and not published yet, and one at most is held.
+    pub fn few(&self)
+        ensures committed { length (committed_of self.now) ≤ 1 }
+        ensures waiting { length (waiting_of self.now) ≤ 1 }
+    {
+        let _ = &self.waiting;
     }
 
     /// Holds a run as the batch that the next `commit_held` or `write` commits. It has to be one that a board took off for this flusher's
@@ -106,6 +123,9 @@ impl<D: Disk, J: Site> Flusher<D, J> {
         // When each refusal comes.
         ensures fails { has_failed (store_of self.old) ≡ false
             → (has_failed (store_of self.new) ≡ true ↔ IsErrOf result Refusal.Fault) }
+        ensures failed_before { has_failed (store_of self.old) ≡ true → (batch : List Taken)
+            → waiting_of self.old ≡ batch ∷ [] → IsErrOf result Refusal.Fault
+            × IsUnchanged (store_of self.old) (store_of self.new) }
         ensures none { waiting_of self.old ≡ [] → OnErr result ⊥ }
         ensures full { IsErrOf result Refusal.JournalFull → (batch : List Taken) × (waiting_of self.old ≡ batch ∷ [])
             × (has_room (store_of self.old) batch ≡ false) × (has_room (store_of self.new) batch ≡ false) }
@@ -199,6 +219,9 @@ impl<D: Disk, J: Site> Flusher<D, J> {
         // A failure of the device is told as such, and nothing else is.
         ensures fails { has_failed (store_of self.old) ≡ false
             → (has_failed (store_of self.new) ≡ true ↔ IsErrOf result Refusal.Fault) }
+        ensures failed_before { has_failed (store_of self.old) ≡ true → (batch : List Taken)
+            → waiting_of self.old ≡ batch ∷ [] → IsErrOf result Refusal.Fault
+            × IsUnchanged (store_of self.old) (store_of self.new) }
         // When each other refusal comes.
         ensures full { IsErrOf result Refusal.JournalFull → (batch : List Taken) × (waiting_of self.old ≡ batch ∷ [])
             × (has_room (store_of self.old) batch ≡ false) × (has_room (store_of self.new) batch ≡ false) }
@@ -256,6 +279,13 @@ impl<D: Disk, J: Site> Flusher<D, J> {
         ensures { result ≡ cap_of (state_of (store_of self.now)) }
     {
         self.store.state().limits().width().saturating_add(4)
+    }
+
+    /// The token of what is published.
+    pub fn told(&self) -> &Told<D, J>
+        ensures { result.now ≡ told_of self.now }
+    {
+        self.publisher.told()
     }
 
     /// A reader of what is published, if there is a place for one more. It takes no memory.

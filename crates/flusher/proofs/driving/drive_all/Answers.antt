@@ -14,6 +14,7 @@ loop-call-init g c = record {
   works = c.requires.works;
   failed = refl;
   goes = run_none g.J.Site.start (standing c.args.board.now c.args.flusher.now) c.requires.calm;
+  counts = refl;
   count = ap length c.requires.nothing.0;
   answered = begins_at (cap_of g.J.Site.start) c.args.board.now (store_of c.args.flusher.now) c.args.answers.now.items c.args.tickets.now.items c.requires.nothing.0 c.requires.nothing.1;
 }
@@ -50,6 +51,7 @@ loop-call-preserved g c =
       goes =
           run_on g.J.Site.start (standing c.args.board.now c.args.flusher.now) (standing c.loop-call.board c.loop-call.flusher) (standing c.call_one.new.board c.call_one.new.flusher)
           i.goes i.calm i.works c.call_one.ensures.goes;
+      counts = omega (arith, i.counts, c.call_one.ensures.counts);
       count = omega (arith, ap length items, length-append c.loop-call.answers.items (c.in_ok-answer.answer ∷ []), i.count);
       answered =
           subst (λ l. Answered (cap_of g.J.Site.start) (between c.args.board.now [] c.args.flusher.now) (take (c.loop-call.call-index + 1) c.args.calls.now) l

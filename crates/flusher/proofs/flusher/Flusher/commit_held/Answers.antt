@@ -1,11 +1,11 @@
-use Rattle.std.proofs.Common.{◌≡◌, ⊎_elim, inl, inr, [], ◌∷◌, ◌++◌, List, Some, None, refl, sym, ◌∙◌, ap, append-nil}
+use Rattle.std.proofs.Common.{◌≡◌, ⊎_elim, inl, inr, [], ◌∷◌, ◌++◌, List, length, Some, None, refl, sym, ◌∙◌, ap, append-nil, arith}
 use Rattle.revision.specs.Command.{Taken}
 use Rattle.revision.specs.State.{fold, all_grow, first_grows}
 use Rattle.recovery.specs.Found.{commands_of}
 use Rattle.recovery.specs.Open.{has_room}
-use Rattle.refusal.specs.declared.Refusal.TheVariants.{JournalFull, StillNeeded, Stranger, NoMemory}
+use Rattle.refusal.specs.declared.Refusal.TheVariants.{JournalFull, StillNeeded, Stranger, NoMemory, Fault}
 use Rattle.view.specs.Published.{Published}
-use Rattle.flusher.proofs.Holdings.{held_in, goes_not, goes_batch, committed_none, committed_one, given_up_one, kept_more, no_batch, same_batch, same_refusal}
+use Rattle.flusher.proofs.Holdings.{held_in, goes_not, goes_batch, committed_none, committed_one, given_up_one, kept_more, grown_more, no_batch, same_batch, same_refusal}
 use Rattle.flusher.proofs.flusher.Flusher.commit_held.Goals as goal
 
 pub returns-in-None-clause-goes : goal.returns-in-None-clause-goes
@@ -136,6 +136,8 @@ invariant_of-self-in-Ok g c =
     let held : c.args.self.now.waiting ≡ Some c.in-Some.batch = cc in
     record {
       kept = kept_more _ _ _ _ _ _ c.commands.result.now c.args.self.now.kept (c.args.self.now.fits c.in-Some.batch held).alone c.accept.ensures c.in-Ok.ensures.receipt c.in-Ok.ensures.state;
+      grown = grown_more _ _ _ _ _ c.commands.result.now c.args.self.now.kept (c.args.self.now.fits c.in-Some.batch held).alone c.args.self.now.grown c.accept.ensures c.in-Ok.ensures.receipt c.in-Ok.ensures.grow;
+      few = omega (arith, ap (λ (p : Published). length p.unpublished) c.accept.ensures);
       fits = λ x is. absurd (let none : ⊥ = cc in none);
     }
 
@@ -157,3 +159,19 @@ returns-in-Err-clause-memory g c told batch waits room =
     let one : c.commands.result.now ≡ batch = same_batch (held_in c.args.self.now.waiting) c.commands.result.now batch (ap held_in held ∙ ap (λ (b : List Taken). b ∷ []) (sym same)) waits in
     ap (first_grows c.args.self.now.store.state) (sym one)
     ∙ c.in-Err.ensures.memory (same_refusal c.in-Err.refusal NoMemory told) (ap (has_room c.args.self.now.store) one ∙ room)
+
+-- a store that had failed
+pub returns-in-None-clause-failed_before : goal.returns-in-None-clause-failed_before
+returns-in-None-clause-failed_before g c failed batch held =
+    let none : c.args.self.now.waiting ≡ None = cc in
+    absurd (no_batch batch (held_in c.args.self.now.waiting) (ap held_in none) held)
+
+pub returns-in-Ok-clause-failed_before : goal.returns-in-Ok-clause-failed_before
+returns-in-Ok-clause-failed_before g c failed batch held =
+    let told = (c.commit_freeing.ensures.faults.failed_before failed).0 in
+    let no : ⊥ = cc in absurd no
+
+pub returns-in-Err-clause-failed_before : goal.returns-in-Err-clause-failed_before
+returns-in-Err-clause-failed_before g c failed batch held =
+    let both = c.commit_freeing.ensures.faults.failed_before failed in
+    (same_refusal c.in-Err.refusal Fault (rw c.in-Err.is at both.0), both.1)
