@@ -1,12 +1,15 @@
 -- How what the flusher's thread does goes on from call to call.
 use Rattle.std.proofs.Common.{◌≡◌, ◌≢◌, ◌↔◌, ◌⊎◌, ◌≤◌, ◌+◌, inl, inr, ℕ, Bool, true, false, List, [], ◌∷◌, ◌++◌, length, refl, sym, ◌∙◌, ap, subst, arith, append_assoc, append-nil, length-append}
-use Rattle.std.specs.Prelude.{Result, Ok, Err, IfOk, IfErr, IsErrOf}
-use Rattle.std.proofs.lemmas.Bool.{false≢true}
+use Rattle.std.specs.Prelude.{◌<◌, Result, Ok, Err, IfOk, IfErr, IsErrOf}
+use Rattle.std.proofs.lemmas.Bool.{false≢true, cases_lt}
+use mathlib.Core.List.{IsPrefix}
 use Rattle.disk.specs.declared.device.Disk.{Ghosts}
 use Rattle.refusal.specs.declared.Refusal.{Refusal}
 use Rattle.refusal.specs.declared.Refusal.TheVariants.{JournalFull, Stranger, StillNeeded, StoreFailed, NoMemory, Fault}
 use Rattle.revision.specs.Command.{Taken}
 use Rattle.revision.specs.State.{State, fold, all_grow}
+use Rattle.published.specs.Batches.{IsShorter}
+use Rattle.published.proofs.CallerLemmas.{prefix_shorter, prefix_whole}
 use Rattle.recovery.specs.declared.store.Store.{Store}
 use Rattle.recovery.specs.Found.{commands_of, FoundAs}
 use Rattle.recovery.specs.Open.{IsWithOrWithout, state_of, has_failed, has_room}
@@ -17,7 +20,7 @@ use Rattle.flusher.specs.Batches.{IsBeginning}
 use Rattle.flusher.specs.Flushers.{IsUsedUp, IsWritten}
 use Rattle.flusher.specs.Holding.{IsLost, IsUncommitted, store_of, told_of, committed_of, waiting_of}
 use Rattle.flusher.proofs.CallerLemmas.{commands-append, fewer, longer, within_write}
-use Rattle.turns.specs.Writing.{IsKeptUp, IsFullFor, IsOneMore, IsTurnFailed, given_to, told_count, Writes}
+use Rattle.turns.specs.Writing.{WasAt, IsKeptUp, IsFullFor, IsOneMore, IsTurnFailed, given_to, told_count, Writes}
 use Rattle.turns.specs.Turning.{HasTurned}
 use Rattle.turns.specs.declared.turned.Turned.{Turned}
 use Rattle.turns.specs.declared.turned.Turned.TheVariants.{Settled, Nothing}
@@ -35,6 +38,39 @@ held_found : (start state : State) (told committed waiting : List (List Taken)) 
     → IsWithOrWithout state (commands_of waiting) content → IsBeginning (length (commands_of told)) start (told ++ (committed ++ waiting)) content
 held_found start state told committed waiting content kept found =
     within_write (length (commands_of told)) start state (told ++ (committed ++ waiting)) (told ++ committed) waiting content (sym (append_assoc told committed waiting)) (no_fewer told committed) kept found
+
+-- a beginning of batches is no longer than they are, and makes no more commands
+prefix-length : (first all : List (List Taken)) → IsPrefix first all → (length first ≤ length all) × (length (commands_of first) ≤ length (commands_of all))
+prefix-length first all (more, whole) = (
+  omega (arith, ap length whole, length-append first more),
+  omega (arith, ap (λ (l : List (List Taken)). length (commands_of l)) whole, ap length (commands-append first more), length-append (commands_of first) (commands_of more)),
+)
+
+-- none is longer than what was published and begins it
+none_longer : (old new first : List (List Taken)) → new ≡ old → IsShorter old first → IsPrefix first new → ⊥
+none_longer old new first same longer begins =
+    let within = (prefix-length first new begins).0 in
+    absurd (omega (arith, longer.1, within, ap length same))
+
+-- of two beginnings of one list one begins the other
+compare : (first mid all : List (List Taken)) → IsPrefix first all → IsPrefix mid all → IsPrefix first mid ⊎ IsShorter mid first
+compare first mid all begins also = by_length (cases_lt (length mid) (length first))
+  where
+    by_length : (length mid < length first) ⊎ (length first ≤ length mid) → IsPrefix first mid ⊎ IsShorter mid first
+    by_length (inl less) = inr (prefix_shorter mid first all also begins (omega (arith, less)), less)
+    by_length (inr le) = inl (prefix_shorter first mid all begins also le)
+
+module _ {D : Type 0} {disk : Ghosts D} where
+  -- more batches came behind
+  was_longer : {start : State} {least : ℕ} {first batches all : List (List Taken)} {old new : Store D disk} (more : List (List Taken)) → all ≡ batches ++ more
+      → WasAt start least first batches old new → WasAt start least first all old new
+  was_longer {start} {least} {first} {batches} {all} more whole was = record {
+    between = was.between;
+    state = was.state;
+    works = was.works;
+    before = goes_map (λ content found. longer least start batches all more content whole found) was.before;
+    behind = goes_map (λ content found. longer (length (commands_of first)) start batches all more content whole found) was.behind;
+  }
 
 module _ {D J : Type 0} {disk : Ghosts D} where
   -- some calls, and then others, where the first ones didn't fail
@@ -57,7 +93,37 @@ module _ {D J : Type 0} {disk : Ghosts D} where
             (goes_map (λ content found. longer (told_count old) start (given_to mid) (given_to new) more.0 content more.1 found) first.goes)
             (goes_map (λ content found. fewer (told_count mid) (told_count old) start (given_to new) content least found) second.goes);
         lasts = λ worked is_open. second.lasts (works worked) (first.goes.opens (works worked) is_open);
+        each = λ front further begins. by_moment front further (compare front (told_of mid) (told_of new) begins (second.told.0, sym second.told.1)) begins;
       }
+    where
+      least : told_count old ≤ told_count mid
+      least = (prefix-length (told_of old) (told_of mid) (first.told.0, sym first.told.1)).1
+
+      -- it was published by the first calls, or by the others
+      by_moment : (front : List (List Taken)) → IsShorter (told_of old) front → IsPrefix front (told_of mid) ⊎ IsShorter (told_of mid) front → IsPrefix front (told_of new)
+          → WasAt start (told_count old) front (given_to new) (store_of old) (store_of new)
+      by_moment front further (inl early) begins =
+          let was = was_longer second.more.0 second.more.1 (first.each front further early) in
+          let fits = (prefix-length front (told_of mid) early).1 in
+          record {
+            between = was.between;
+            state = was.state;
+            works = was.works;
+            before = was.before;
+            behind = goes_on was.behind
+                (goes_map (λ content found. fewer (told_count mid) (length (commands_of front)) start (given_to new) content fits found) second.goes);
+          }
+      by_moment front further (inr late) begins =
+          let was = second.each front late begins in
+          record {
+            between = was.between;
+            state = was.state;
+            works = λ worked. was.works (works worked);
+            before = goes_on
+                (goes_map (λ content found. longer (told_count old) start (given_to mid) (given_to new) second.more.0 content second.more.1 found) first.goes)
+                (goes_map (λ content found. fewer (told_count mid) (told_count old) start (given_to new) content least found) was.before);
+            behind = was.behind;
+          }
 
   -- what was given is the same, and no more is published
   pub writes_same : (start : State) (old new : Flusher D J disk) → Kept start (state_of (store_of old)) (told_of old) (committed_of old)
@@ -74,6 +140,7 @@ module _ {D J : Type 0} {disk : Ghosts D} where
         goes = mapped;
         lasts = λ works is_open content left.
             fewer (told_count old) (told_count new) start (given_to new) content (omega (arith, count)) ((mapped.any_moment works is_open).last content left);
+        each = λ first further begins. absurd (none_longer (told_of old) (told_of new) first tells further begins);
       }
 
   -- the store alone changes, and stands for the same
@@ -86,23 +153,42 @@ module _ {D J : Type 0} {disk : Ghosts D} where
       ∙ ap (λ (l : List (List Taken)). told_of old ++ (committed_of old ++ l)) waits in
       writes_same start old new kept (goes_map (λ content found. inl found) goes) tells same
 
-  -- what was held is written and published
-  pub writes_published : (start : State) (old new : Flusher D J disk) → Kept start (state_of (store_of old)) (told_of old) (committed_of old)
+  -- what was held is written and published, as one batch
+  pub writes_published : (start : State) (old new : Flusher D J disk) (batch : List Taken) → committed_of old ++ waiting_of old ≡ batch ∷ [] → Kept start (state_of (store_of old)) (told_of old) (committed_of old)
       → Kept start (state_of (store_of new)) (told_of new) (committed_of new)
       → Goes (IsWithOrWithout (state_of (store_of old)) (commands_of (waiting_of old))) (store_of old) (store_of new)
       → (has_failed (store_of old) ≡ false → has_failed (store_of new) ≡ false)
       → told_of new ≡ told_of old ++ (committed_of old ++ waiting_of old) → committed_of new ≡ [] → waiting_of new ≡ [] → Writes start old new
-  writes_published start old new kept after goes works tells none nothing =
+  writes_published start old new batch one kept after goes works tells none nothing =
       let same : given_to new ≡ given_to old =
       ap (λ (l : List (List Taken)). told_of new ++ (l ++ waiting_of new)) none ∙ ap (λ (l : List (List Taken)). told_of new ++ l) nothing ∙ append-nil (told_of new) ∙ tells in
+      let mapped : Goes (IsBeginning (told_count old) start (given_to new)) (store_of old) (store_of new) =
+      goes_map (λ content found. subst (λ (b : List (List Taken)). IsBeginning (told_count old) start b content) (sym same)
+      (held_found start (state_of (store_of old)) (told_of old) (committed_of old) (waiting_of old) content kept found)) goes in
       record {
         told = (committed_of old ++ waiting_of old, tells);
         more = ([], same ∙ sym (append-nil (given_to old)));
-        goes = goes_map (λ content found. subst (λ (b : List (List Taken)). IsBeginning (told_count old) start b content) (sym same)
-            (held_found start (state_of (store_of old)) (told_of old) (committed_of old) (waiting_of old) content kept found)) goes;
+        goes = mapped;
+        each = λ first further begins. now_published first mapped
+            (prefix_whole first (told_of new) begins
+            (omega (arith, further.1, ap (λ (l : List (List Taken)). length l) tells, length-append (told_of old) (committed_of old ++ waiting_of old), ap (λ (l : List (List Taken)). length l) one)));
         lasts = λ worked is_open content left.
             held_found start (state_of (store_of new)) (told_of new) (committed_of new) (waiting_of new) content after
             (inl (found_now (store_of new) (goes.opens (works worked) is_open) content left));
+      }
+    where
+      -- what the store holds then is just what is published
+      now_published : (first : List (List Taken)) → Goes (IsBeginning (told_count old) start (given_to new)) (store_of old) (store_of new) → first ≡ told_of new
+          → WasAt start (told_count old) first (given_to new) (store_of old) (store_of new)
+      now_published first mapped all = record {
+        between = store_of new;
+        state = after ∙ ap (λ (l : List (List Taken)). fold start (commands_of (told_of new ++ l))) none
+            ∙ ap (λ (l : List (List Taken)). fold start (commands_of l)) (append-nil (told_of new) ∙ sym all);
+        works = works;
+        before = mapped;
+        behind = subst (λ (l : List (List Taken)). Goes (IsBeginning (length (commands_of l)) start (given_to new)) (store_of new) (store_of new)) (sym all)
+            (goes_none (store_of new) (λ is_open. held_found start (state_of (store_of new)) (told_of new) (committed_of new) (waiting_of new) _ after
+            (inl (found_as _ _ (found_open (store_of new) is_open)))));
       }
 
   -- a batch more is held
@@ -127,6 +213,7 @@ module _ {D J : Type 0} {disk : Ghosts D} where
         goes = still;
         lasts = λ works is_open content left.
             fewer (told_count old) (told_count new) start (given_to new) content (omega (arith, count)) ((still.any_moment works is_open).last content left);
+        each = λ first further begins. absurd (none_longer (told_of old) (told_of new) first tells further begins);
       }
 
   -- no call at all
@@ -228,7 +315,7 @@ module _ {D J : Type 0} {disk : Ghosts D} where
       → Goes (IsWithOrWithout (state_of (store_of old)) (commands_of (waiting_of old))) (store_of old) (store_of new)
       → (has_failed (store_of old) ≡ false → has_failed (store_of new) ≡ false)
       → IsWritten (told_of old) (committed_of old ++ waiting_of old) (told_of new) receipt token → committed_of new ≡ [] → waiting_of new ≡ [] → Writes start old new
-  writes_written start old new receipt token kept after goes works written committed waiting = writes_published start old new kept after goes works written.published committed waiting
+  writes_written start old new receipt token kept after goes works written committed waiting = writes_published start old new receipt written.batch kept after goes works written.published committed waiting
 
   pub one_written : (old new : Flusher D J disk) (receipt : List Taken) (token : List (List Taken))
       → IsWritten (told_of old) (committed_of old ++ waiting_of old) (told_of new) receipt token → IsOneMore old new

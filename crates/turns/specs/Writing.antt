@@ -1,11 +1,13 @@
 -- What the flusher's thread does from one moment to a later one, with no word of the board, which other threads move meanwhile.
 use Rattle.std.specs.Prelude.{◌≡◌, ◌⊎◌, ℕ, false, List, [], ◌∷◌, ◌++◌, length}
+use mathlib.Core.List.{IsPrefix}
 use Rattle.disk.specs.declared.device.Disk.{Ghosts}
 use Rattle.disk.specs.Crash.{MayLeaveNow}
 use Rattle.refusal.specs.declared.Refusal.{Refusal}
 use Rattle.refusal.specs.declared.Refusal.TheVariants.{JournalFull, Stranger, StillNeeded, StoreFailed}
 use Rattle.revision.specs.Command.{Taken}
-use Rattle.revision.specs.State.{State, all_grow}
+use Rattle.published.specs.Batches.{IsShorter}
+use Rattle.revision.specs.State.{State, fold, all_grow}
 use Rattle.recovery.specs.declared.store.Store.{Store}
 use Rattle.recovery.specs.Found.{commands_of, FoundAs}
 use Rattle.recovery.specs.Open.{IsOpen, device_of, state_of, has_failed, has_room}
@@ -29,6 +31,15 @@ module _ {D : Type 0} {disk : Ghosts D} where
     pub no_room : has_room between batch ≡ false
     pub last : IsUsedUp between
 
+  -- There was a moment at which the store held just what these first batches make. A crash before it leaves some first ones of all, so many
+  -- commands at least, and a crash at any moment from there on no fewer commands than the first ones have.
+  pub record WasAt (start : State) (least : ℕ) (first all : List (List Taken)) (old new : Store D disk) : Type 0 where
+    pub between : Store D disk
+    pub state : state_of between ≡ fold start (commands_of first)
+    pub works : has_failed old ≡ false → has_failed between ≡ false
+    pub before : Goes (IsBeginning least start all) old between
+    pub behind : Goes (IsBeginning (length (commands_of first)) start all) between new
+
 module _ {D J : Type 0} {disk : Ghosts D} where
   -- all batches that the flusher was given so far, in order: what is published, what is committed, and what is held
   abbrev pub given_to : Flusher D J disk → List (List Taken)
@@ -39,12 +50,14 @@ module _ {D J : Type 0} {disk : Ghosts D} where
   told_count flusher = length (commands_of (told_of flusher))
 
   -- Nothing that was published is taken back, and no batch that was given is dropped. A crash at any moment between leaves some first
-  -- batches of those that were given by the end, and no fewer commands than were published at the beginning; and a crash at the end
-  -- no fewer than are published then.
+  -- batches of those that were given by the end, and no fewer commands than were published at the beginning; a crash at any moment from
+  -- a batch's publishing on no fewer than were published with it; and a crash at the end no fewer than are published then.
   pub record Writes (start : State) (old new : Flusher D J disk) : Type 0 where
     pub told : (l : List (List Taken)) × (told_of new ≡ told_of old ++ l)
     pub more : (l : List (List Taken)) × (given_to new ≡ given_to old ++ l)
     pub goes : Goes (IsBeginning (told_count old) start (given_to new)) (store_of old) (store_of new)
+    pub each : (first : List (List Taken)) → IsShorter (told_of old) first → IsPrefix first (told_of new)
+        → WasAt start (told_count old) first (given_to new) (store_of old) (store_of new)
     pub lasts : has_failed (store_of old) ≡ false → IsOpen (store_of old)
         → (content : List ℕ) → MayLeaveNow disk (device_of (store_of new)) content → IsBeginning (told_count new) start (given_to new) content
 
