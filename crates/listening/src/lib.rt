@@ -3,8 +3,8 @@
 //! `serve_on` puts together what the crates below have: a flusher and a board from `start`, a hub of that board, a desk at it for each
 //! seat, `serve_desks` of `sockets`, and `flush_all` of `turns`. When the listener fails each session ends, then the hub is ended, the
 //! flusher writes what is left, and the store is given back. `specs/Served.antt` says what that leaves of the store, at any moment of
-//! it: the batches that were written, in one order, or some first ones of them. What is promised of a command's answer stands on the
-//! desk, the hub and the flusher; of sockets nothing can be said.
+//! it: the batches that were written, in one order, or some first ones of them, and from the moment on at which a batch is written no
+//! fewer. What is promised of a command's answer stands on the desk, the hub and the flusher; of sockets nothing can be said.
 //!
 //! A caller, which `listening_tests` proves safe:
 //!
@@ -32,6 +32,7 @@
 //! ```
 #![tactic(auto)]
 
-mod serving;
+mod connections;
+mod writing;
 
-pub use serving::serve_on;
+pub use connections::serve_on;

@@ -19,7 +19,7 @@ use std::io::{Read, Write};
 use std::net::{Net, SocketAddr, TcpListener, TcpStream};
 use std::rt::Files;
 use std::sync::Wait;
-use std::thread::Threads;
+use std::thread::{self, Threads};
 use words::{Invocation, ShapeOptions};
 
 /// Runs the program, and answers its status: 0 for success, 1 for a refusal or a standard stream that failed, 2 for
@@ -134,8 +134,13 @@ fn pick_of(older: bool) -> Pick {
     if older { Pick::Older } else { Pick::Newer }
 }
 
+// Whether the system gives a thread more: one is made, which does nothing.
+fn gives_thread<R: Threads + Wait>(rt: &R) -> bool {
+    thread::scope(thread::scope_env(), rt, |scope| scope.spawn(|| ()).is_ok())
+}
+
 // Serves the store to those who connect to the address, once it has told where it listens. It ends where the listener fails. An address
-// that can't be had is a fault.
+// that can't be had is a fault; where the system gives no thread, memory is wanted.
 fn listen<
     R: AllocGlobal + Net<Listener = TcpListener, Stream = TcpStream> + Threads + Wait + Sync,
     O: Write,
@@ -147,6 +152,9 @@ fn listen<
     output: &mut O,
 ) -> Result<(), Failure> {
     let (listener, bound) = bind(rt, address)?;
+    if !gives_thread(rt) {
+        return Err(Failure::Refused(Refusal::NoMemory));
+    }
     if writeln!(output, "listening {bound}").is_err() || output.flush().is_err() {
         return Err(Failure::Stream);
     }

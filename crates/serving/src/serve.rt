@@ -57,15 +57,16 @@ pub fn serve<D: Disk, I: Read, O: Output>(
 {
     let mut session = Session::new(alloc)?;
     let mut shelf = Shelf::new(alloc)?;
-    serve_all(alloc, &mut session, desk, &mut shelf, input, output)?;
+    serve_session(alloc, &mut session, desk, &mut shelf, input, output)?;
     if desk.has_failed() {
         return Err(Failure::Refused(Refusal::StoreFailed));
     }
     Ok(())
 }
 
-// Serves pieces of the input up to its end.
-fn serve_all<K: Desk, I: Read, O: Output>(
+/// Serves a session by a desk, up to the end of the input, with the news after each line. A stream that fails ends it at once
+/// (`Stream`).
+pub fn serve_session<K: Desk, I: Read, O: Output>(
     alloc: Global,
     session: &mut Session,
     desk: &mut K,

@@ -1,6 +1,6 @@
 use denote.Param.Send.{sendable}
 use Rattle.listening.proofs.Crossing.{desk_send}
-use Rattle.listening.proofs.serving.serve_all.Goals as goal
+use Rattle.listening.proofs.connections.serve_all.Goals as goal
 
 pub serve_desks-served-requires-send-K : goal.serve_desks-served-requires-send-K
 serve_desks-served-requires-send-K g c κs within =

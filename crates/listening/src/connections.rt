@@ -1,12 +1,13 @@
-//! A store over a listener.
+//! A store over connections.
 ghost use Rattle.std.specs.Prelude.{◌≡◌, ◌≢◌, ◌↔◌, [], true, false, OnOk, IfErr, IsErrOf, IsOkUnless};
 ghost use Rattle.recovery.specs.Open.{state_of, has_failed};
 ghost use Rattle.flusher.specs.Holding.{store_of, committed_of, waiting_of};
 ghost use Rattle.turns.specs.Writing.{Writes};
 ghost use Rattle.listening.specs.Served.{IsStarted, WasServed, WasShown};
 
+use crate::writing::{Shared, write_all};
 use disk::Disk;
-use flusher::{Flusher, OpenGate, StartFault, start};
+use flusher::{Flusher, StartFault, start};
 use hub::{Board, Closer, Hub, Seat, Writer};
 use hub_desk::HubDesk;
 use published::{Opened, Site};
@@ -19,7 +20,6 @@ use std::net::{OpenListener, TcpStream};
 use std::sync::Wait;
 use std::sync::ledger::Blank;
 use std::thread::{self, Threads};
-use turns::flush_all;
 
 /// How many sessions run at once.
 const SEATS: u32 = 64;
@@ -141,23 +141,12 @@ fn serve_seats<
                 rt,
                 alloc,
                 hub: &hub,
-                listener,
                 every,
             };
-            serve_at(&shared, flusher, writer, closer, desks)
+            serve_at(&shared, flusher, writer, closer, desks, listener)
         }
         Err(refusal) => (flusher.end(rt), Err(refusal)),
     }
-}
-
-// What the thread that writes and the one that takes connections share.
-#[derive(Drop)]
-struct Shared<'a, D, J: Site, R, N> {
-    rt: &'a R,
-    alloc: Global,
-    hub: &'a Hub<D, J>,
-    listener: &'a N,
-    every: u32,
 }
 
 // Serves by desks at a hub, and gives the store back.
@@ -168,11 +157,12 @@ fn serve_at<
     N: OpenListener<Stream = TcpStream> + Sync,
     D: Disk + Send + Drop,
 >(
-    shared: &Shared<'_, D, J, R, N>,
+    shared: &Shared<'_, D, J, R>,
     flusher: Flusher<D, J>,
     writer: Writer<J>,
     closer: Closer<J>,
     desks: Vec<HubDesk<'_, D, J, R>>,
+    listener: &N,
 ) -> (Store<D>, Result<(), Refusal>)
     requires started { IsStarted flusher }
     ensures served { WasServed (store_of flusher) result.0 }
@@ -184,8 +174,16 @@ fn serve_at<
     let mut writer = writer;
     let mut closer = closer;
     flusher.kept();
-    let served = serve_hub(shared, desks, &mut closer, &mut flusher, &mut writer);
+    let served = serve_hub(
+        shared,
+        desks,
+        listener,
+        &mut closer,
+        &mut flusher,
+        &mut writer,
+    );
     flusher.kept();
+    flusher.few();
     (flusher.end(shared.rt), served)
 }
 
@@ -207,8 +205,9 @@ fn serve_hub<
     N: OpenListener<Stream = TcpStream> + Sync,
     D: Disk + Send + Drop,
 >(
-    shared: &Shared<'_, D, J, R, N>,
+    shared: &Shared<'_, D, J, R>,
     desks: Vec<HubDesk<'_, D, J, R>>,
+    listener: &N,
     closer: &mut Closer<J>,
     flusher: &mut Flusher<D, J>,
     writer: &mut Writer<J>,
@@ -222,38 +221,13 @@ fn serve_hub<
     let (served, flushed) = thread::join_mut(
         shared.rt,
         &mut || match desks.take() {
-            Some(desks) => serve_all(shared, desks, closer),
+            Some(desks) => serve_all(shared, desks, listener, closer),
             None => Ok(()),
         },
         &mut || write_all(shared, flusher, writer),
     );
     flushed?;
     served
-}
-
-// Makes turns until the hub is ended.
-fn write_all<J: Site, R: Wait, N, D: Disk>(
-    shared: &Shared<'_, D, J, R, N>,
-    flusher: &mut Flusher<D, J>,
-    writer: &mut Writer<J>,
-) -> Result<(), Refusal>
-    ensures writes { Writes J.start flusher.old flusher.new }
-    ensures nothing { OnOk result ((committed_of flusher.new ≡ []) × (waiting_of flusher.new ≡ [])) }
-    ensures fails { has_failed (store_of flusher.old) ≡ false
-        → (has_failed (store_of flusher.new) ≡ true ↔ IsErrOf result Refusal.Fault) }
-{
-    match flush_all(
-        shared.rt,
-        shared.alloc,
-        flusher,
-        shared.hub,
-        writer,
-        shared.every,
-        &mut OpenGate,
-    ) {
-        Ok(_idle) => Ok(()),
-        Err(failed) => Err(failed.refusal()),
-    }
 }
 
 // Takes connections until the listener fails, and ends the hub once each session has ended.
@@ -263,13 +237,14 @@ fn serve_all<
     N: OpenListener<Stream = TcpStream> + Sync,
     D: Send + Drop,
 >(
-    shared: &Shared<'_, D, J, R, N>,
+    shared: &Shared<'_, D, J, R>,
     desks: Vec<HubDesk<'_, D, J, R>>,
+    listener: &N,
     closer: &mut Closer<J>,
 ) -> Result<(), Refusal>
     ensures only { IsOkUnless result Refusal.NoMemory }
 {
-    let served = serve_desks(shared.rt, shared.alloc, desks, shared.listener);
+    let served = serve_desks(shared.rt, shared.alloc, desks, listener);
     shared.hub.end(shared.rt, closer);
     Ok(served?)
 }

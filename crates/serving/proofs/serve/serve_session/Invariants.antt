@@ -1,7 +1,7 @@
 use Rattle.std.proofs.Common.{◌≡◌, false}
 use Rattle.serving.specs.Serving.{Serves}
 use Rattle.session.specs.Shelf.{Fits}
-use Rattle.serving.proofs.serve.serve_all.Given as goal
+use Rattle.serving.proofs.serve.serve_session.Given as goal
 
 -- what comes of the pieces so far is written, the shelf fits, and no write has failed
 abbrev pub invariant-pieces : goal.invariant-pieces

@@ -1,5 +1,5 @@
 use Rattle.recovery.specs.Open.{state_of}
-use Rattle.listening.proofs.serving.serve_on.Given as goal
+use Rattle.listening.proofs.connections.serve_on.Given as goal
 
 -- the run is named by its ledger of seats, its log, and the state that its store was opened with
 abbrev pub ghosts-serve_run-J-Ledger : goal.ghosts-serve_run-J-Ledger

@@ -2,7 +2,7 @@ use denote.Param.{param}
 use denote.Param.Send.{sendable}
 use Rattle.std.proofs.Crossing.{crosses}
 use Rattle.listening.proofs.Crossing.{desk_send, closer_send, hub_sync}
-use Rattle.listening.proofs.serving.serve_hub.Goals as goal
+use Rattle.listening.proofs.connections.serve_hub.Goals as goal
 
 -- the thread of the sessions has a desk for each of them, and shares the hub
 pub join_mut-served-requires-send-F : goal.join_mut-served-requires-send-F
