@@ -16,9 +16,9 @@ use Rattle.turns.specs.Writing.{WasAt}
 
 module _ {D : Type 0} {disk : Ghosts D} where
   -- Batches were to be written one after another: first those that readers were shown, then what was committed and not shown, then what
-  -- was not committed, one batch of each at most. The store holds what the first two make of what it held. A crash at any moment leaves some first ones of all of
-  -- them; a crash from the moment on at which readers could be shown some, no fewer commands than these have; and a crash at the end no
-  -- fewer than readers were shown.
+  -- was not committed, one batch at most of either. The store holds what the first two make of what it held. A crash at any moment leaves
+  -- some first ones of all of them. For any first ones of those that were shown there was a moment at which the store held just these, and
+  -- a crash from there on leaves no fewer commands; one at the end no fewer than readers were shown.
   pub record IsServed (shown committed waiting : List (List Taken)) (old new : Store D disk) : Type 0 where
     pub state : state_of new ≡ fold (state_of old) (commands_of (shown ++ committed))
     pub few : (length committed ≤ 1) × (length waiting ≤ 1)
