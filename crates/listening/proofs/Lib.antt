@@ -1,2 +1,4 @@
 pub mod Crossing
+pub mod FlusherCrossing
 mod Served
+mod Answered

@@ -1,5 +1,5 @@
 -- What a flusher's thread writes is what serving a store leaves of it.
-use Rattle.std.proofs.Common.{◌≡◌, ◌≤◌, ℕ, true, false, List, [], ◌∷◌, ◌++◌, length, refl, sym, ◌∙◌, ap, subst, arith}
+use Rattle.std.proofs.Common.{◌≡◌, ◌≤◌, ℕ, List, [], ◌∷◌, ◌++◌, length, refl, sym, ◌∙◌, ap, subst, arith}
 use mathlib.Core.List.{IsPrefix}
 use Rattle.disk.specs.declared.device.Disk.{Ghosts}
 use Rattle.revision.specs.Command.{Taken}

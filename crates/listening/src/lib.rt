@@ -1,19 +1,30 @@
-//! A store over a listener: 64 desks at one hub, each with a thread of its own, and one flusher's thread.
+//! A store served by threads: one writes, and each session has its own.
 //!
-//! `serve_on` puts together what the crates below have: a flusher and a board from `start`, a hub of that board, a desk at it for each
-//! seat, `serve_desks` of `sockets`, and `flush_all` of `turns`. When the listener fails each session ends, then the hub is ended, the
-//! flusher writes what is left, and the store is given back. `specs/Served.antt` says what that leaves of the store, at any moment of
-//! it: the batches that were written, in one order, or some first ones of them, and from the moment on at which a batch is written no
-//! fewer. What is promised of a command's answer stands on the desk, the hub and the flusher; of sockets nothing can be said.
+//! `serve_on` puts together what the crates below have, for those who connect to a listener: a flusher and a board from `start`, a hub of
+//! that board, a desk at it for each of 64 seats, `serve_desks` of `sockets`, and `flush_all` of `turns`. When the listener fails each
+//! session ends, then the hub is ended, the flusher writes what is left, and the store is given back. `specs/Served.antt` says what that
+//! leaves of the store, at any moment of it: the batches that were written, in one order, or some first ones of them, and from the
+//! moment on at which a batch is written no fewer. What is promised of a command's answer stands on the desk, the hub and the flusher; of sockets
+//! nothing can be said.
 //!
-//! A caller, which `listening_tests` proves safe:
+//! `serve_streams` does the same for one session over a pair of streams, with `serve_session` of `serving`. Of this session
+//! `specs/Streams.antt` says what was written, that all that was acknowledged stands in the store, and from when on no crash takes it away.
+//!
+//! Callers, which `listening_tests` proves:
 //!
 //! ```text
+//! ghost use Rattle.std.specs.Prelude.{IfOk};
+//! ghost use Rattle.recovery.specs.Open.{state_of};
+//! ghost use Rattle.listening.specs.Streams.{IsAnsweredAtHub, WasAnsweredWhole};
+//!
 //! use disk::Disk;
-//! use listening::serve_on;
+//! use listening::{serve_on, serve_streams};
 //! use recovery::Store;
 //! use refusal::Refusal;
+//! use serving::Failure;
+//! use session::Output;
 //! use std::alloc::Global;
+//! use std::io::Read;
 //! use std::net::{OpenListener, TcpStream};
 //! use std::sync::Wait;
 //! use std::thread::Threads;
@@ -29,10 +40,29 @@
 //!     served?;
 //!     Ok(store)
 //! }
+//!
+//! /// Serves one session over a pair of streams: what it wrote comes of its input, and the store holds all that its desk acknowledged.
+//! pub fn serve_session<R: Threads + Wait + Sync, I: Read, O: Output, D: Disk + Send + Drop>(
+//!     rt: &R,
+//!     alloc: Global,
+//!     store: Store<D>,
+//!     input: &mut I,
+//!     output: &mut O,
+//! ) -> Result<Store<D>, Failure>
+//!     ensures { IfOk result (λ after. WasAnsweredWhole (IsAnsweredAtHub (state_of store)
+//!         (I.remaining input.old) (I.remaining input.new) (O.contents output.old) (O.contents output.new))
+//!         store after) }
+//! {
+//!     let (after, served) = serve_streams(rt, alloc, store, input, output, 256);
+//!     served?;
+//!     Ok(after)
+//! }
 //! ```
 #![tactic(auto)]
 
 mod connections;
+mod streams;
 mod writing;
 
 pub use connections::serve_on;
+pub use streams::serve_streams;

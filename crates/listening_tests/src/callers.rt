@@ -1,17 +1,21 @@
 //! The callers that open `lib.rt` of hub_desk, sockets and listening.
 ghost use Rattle.std.specs.Prelude.{IfErr, IfOk};
+ghost use Rattle.recovery.specs.Open.{state_of};
 ghost use Rattle.hub_desk.specs.AtHub.{Acknowledges, Refuses};
+ghost use Rattle.listening.specs.Streams.{IsAnsweredAtHub, WasAnsweredWhole};
 
 use disk::Disk;
 use hub_desk::HubDesk;
-use listening::serve_on;
+use listening::{serve_on, serve_streams};
 use published::Site;
 use recovery::Store;
 use refusal::Refusal;
 use revision::Command;
-use session::{Desk, Reply};
+use serving::Failure;
+use session::{Desk, Output, Reply};
 use sockets::serve_desks;
 use std::alloc::{AllocError, Global};
+use std::io::Read;
 use std::net::{OpenListener, TcpStream};
 use std::sync::Wait;
 use std::thread::Threads;
@@ -49,4 +53,21 @@ pub fn serve_store<
     let (store, served) = serve_on(rt, alloc, store, listener, 256);
     served?;
     Ok(store)
+}
+
+/// Serves one session over a pair of streams: what it wrote comes of its input, and the store holds all that its desk acknowledged.
+pub fn serve_session<R: Threads + Wait + Sync, I: Read, O: Output, D: Disk + Send + Drop>(
+    rt: &R,
+    alloc: Global,
+    store: Store<D>,
+    input: &mut I,
+    output: &mut O,
+) -> Result<Store<D>, Failure>
+    ensures { IfOk result (λ after. WasAnsweredWhole (IsAnsweredAtHub (state_of store)
+        (I.remaining input.old) (I.remaining input.new) (O.contents output.old) (O.contents output.new))
+        store after) }
+{
+    let (after, served) = serve_streams(rt, alloc, store, input, output, 256);
+    served?;
+    Ok(after)
 }

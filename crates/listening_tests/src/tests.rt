@@ -2,6 +2,7 @@ mod edits;
 mod faults;
 mod many;
 mod places;
+mod streams;
 
 use disk::{Disk, MemDisk};
 use listening::serve_on;

@@ -3,7 +3,7 @@ ghost use Rattle.std.specs.Prelude.{◌≤◌};
 
 use clap::error::ErrorKind;
 use disk::{Fault, FileDisk};
-use listening::serve_on;
+use listening::{serve_on, serve_streams};
 use recovery::{OpenFault, Pick, Shape, Store};
 use refusal::Refusal;
 use serving::Failure;
@@ -82,9 +82,8 @@ fn invoke<
             listen: None,
             every,
         } => {
-            let mut desk = StoreDesk::new(open(rt, path, Pick::Newer)?, every);
-            let mut stream = Stream::new(output);
-            serve(rt.alloc(), &mut desk, input, &mut stream)
+            let store = open(rt, path, Pick::Newer)?;
+            serve_alone(rt, store, every, input, output)
         }
         Invocation::Dump { path, older } => {
             let store = open(rt, path, pick_of(older))?;
@@ -132,6 +131,23 @@ fn is_there<R: Files<File = File> + AllocGlobal>(rt: &R, path: &str) -> Result<b
 // Which milestone of a document its reading begins with.
 fn pick_of(older: bool) -> Pick {
     if older { Pick::Older } else { Pick::Newer }
+}
+
+// Serves one session over the streams, beside a thread that writes. Where the system gives no thread, this one does both in turn.
+fn serve_alone<R: AllocGlobal + Threads + Wait + Sync, I: Read, O: Write>(
+    rt: &R,
+    store: Store<FileDisk>,
+    every: u32,
+    input: &mut I,
+    output: &mut O,
+) -> Result<(), Failure> {
+    let mut stream = Stream::new(output);
+    if gives_thread(rt) {
+        let (_store, served) = serve_streams(rt, rt.alloc(), store, input, &mut stream, every);
+        return served;
+    }
+    let mut desk = StoreDesk::new(store, every);
+    serve(rt.alloc(), &mut desk, input, &mut stream)
 }
 
 // Whether the system gives a thread more: one is made, which does nothing.
