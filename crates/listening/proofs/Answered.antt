@@ -148,6 +148,7 @@ module _ {D J : Type 0} {disk : Ghosts D} where
       record {
         served = served;
         told = (behind, told);
+        grow = ap (λ (s : State). all_grow s (commands_of (told_of new ++ committed_of new))) same ∙ grown;
         stand = λ asked asks. subst (λ (s : State). AllStand s asked) (sym kept)
             (all_stand start first_desk last asked (told_of new ++ committed_of new)
             (subst (λ (s : State). Asks (PassesAtHub s) first_desk asked last) same asks) longer grown);

@@ -5,7 +5,7 @@ use Rattle.disk.specs.declared.device.Disk.{Ghosts}
 use Rattle.disk.specs.Crash.{LeavesOnly, MayLeaveNow}
 use Rattle.published.specs.Batches.{IsShorter}
 use Rattle.revision.specs.Command.{Taken}
-use Rattle.revision.specs.State.{State, fold}
+use Rattle.revision.specs.State.{State, all_grow, fold}
 use Rattle.recovery.specs.declared.store.Store.{Store}
 use Rattle.recovery.specs.Found.{commands_of, FoundAs}
 use Rattle.recovery.specs.Open.{IsOpen, device_of, state_of, has_failed}
@@ -42,11 +42,13 @@ HoldsAll answered content = (state : State) × FoundAs content state × AllStand
 
 module _ {D : Type 0} {disk : Ghosts D} where
   -- Batches were to be written in one order, as serving over a listener has them, and the desk was told of some first ones of those that
-  -- readers were shown. So all that it acknowledged stands in the state that the store holds. And take any point in the exchange: there was
-  -- a moment at which the store held just what the desk was told of by then, in which all that it had acknowledged by then stands.
+  -- readers were shown. So all that it acknowledged stands in the state that the store holds. Each command of the first two lists continues
+  -- what those before it make. And take any point in the exchange: there was a moment at which the store held just what the desk was told of
+  -- by then, in which all that it had acknowledged by then stands.
   pub record KeepsAnswers (shown committed waiting : List (List Taken)) (last : Desk) (old new : Store D disk) : Type 0 where
     pub served : IsServed shown committed waiting old new
     pub told : IsPrefix last.told shown
+    pub grow : all_grow (state_of old) (commands_of (shown ++ committed)) ≡ true
     pub stand : (asked : List Exchange) → Asks (PassesAtHub (state_of old)) first_desk asked last → AllStand (state_of new) asked
     pub each_answer : (answered others : List Exchange) (mid : Desk) → Asks (PassesAtHub (state_of old)) first_desk answered mid
         → Asks (PassesAtHub (state_of old)) mid others last

@@ -49,6 +49,7 @@ pub fn serve_streams<R: Threads + Wait + Sync, I: Read, O: Output, D: Disk + Sen
         (I.remaining input.old) (I.remaining input.new) (O.contents output.old) (O.contents output.new))
         store result.0) }
     ensures sent { OnOk result.1 (O.has_failed output.new ≡ false) }
+    ensures sent_all { IsErrOf result.1 (Failure.Refused Refusal.StoreFailed) → O.has_failed output.new ≡ false }
     // It holds all that was acknowledged also where a stream fails, or the store.
     ensures stopped { IsErrOf result.1 Failure.Stream → WasAnswered (StopsAtHub (state_of store)
         (I.remaining input.old) (I.remaining input.new) (O.contents output.old) (O.contents output.new)
@@ -100,6 +101,7 @@ fn serve_run<
         (I.remaining input.old) (I.remaining input.new) (O.contents output.old) (O.contents output.new))
         store result.0) }
     ensures sent { OnOk result.1 (O.has_failed output.new ≡ false) }
+    ensures sent_all { IsErrOf result.1 (Failure.Refused Refusal.StoreFailed) → O.has_failed output.new ≡ false }
     ensures stopped { IsErrOf result.1 Failure.Stream → WasAnswered (StopsAtHub (state_of store)
         (I.remaining input.old) (I.remaining input.new) (O.contents output.old) (O.contents output.new)
         (O.has_failed output.new)) store result.0 }
@@ -146,6 +148,7 @@ fn serve_board<
         (I.remaining input.old) (I.remaining input.new) (O.contents output.old) (O.contents output.new))
         (store_of flusher) result.0) }
     ensures sent { OnOk result.1 (O.has_failed output.new ≡ false) }
+    ensures sent_all { IsErrOf result.1 (Failure.Refused Refusal.StoreFailed) → O.has_failed output.new ≡ false }
     ensures stopped { IsErrOf result.1 Failure.Stream → WasAnswered (StopsAtHub J.start
         (I.remaining input.old) (I.remaining input.new) (O.contents output.old) (O.contents output.new)
         (O.has_failed output.new)) (store_of flusher) result.0 }
@@ -238,6 +241,7 @@ fn serve_seated<
         (I.remaining input.old) (I.remaining input.new) (O.contents output.old) (O.contents output.new))
         (store_of flusher) result.0) }
     ensures sent { OnOk result.1 (O.has_failed output.new ≡ false) }
+    ensures sent_all { IsErrOf result.1 (Failure.Refused Refusal.StoreFailed) → O.has_failed output.new ≡ false }
     ensures stopped { IsErrOf result.1 Failure.Stream → WasAnswered (StopsAtHub J.start
         (I.remaining input.old) (I.remaining input.new) (O.contents output.old) (O.contents output.new)
         (O.has_failed output.new)) (store_of flusher) result.0 }
