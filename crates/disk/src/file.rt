@@ -64,8 +64,8 @@ impl<F: RawFile> FileDisk<F> {
 }
 
 impl FileDisk {
-    /// Makes a file of `len` zeros, which may not be there yet, and syncs it and its folder.
-    /// Where that fails no file is left.
+    /// Makes a file of `len` zeros, which may not be there yet, locks it, and syncs it and its folder.
+    /// Where that fails no file is left, unless another program has locked the new file by then.
     pub fn create<R: Files<File = File> + AllocGlobal>(
         rt: &R,
         path: &str,
@@ -81,6 +81,7 @@ impl FileDisk {
             .write(true)
             .create_new(true)
             .open(rt, path)?;
+        lock(&file)?;
         let disk = FileDisk::fill(rt, file, path, len);
         if disk.is_err() {
             let _ = fs::remove_file(rt, path);
@@ -88,13 +89,15 @@ impl FileDisk {
         disk
     }
 
-    /// Opens a file as a device of the file's length. Until a sync succeeds, nothing of it is known to be synced.
+    /// Opens a file as a device of the file's length, and locks it: while another device of this file is there, in this program
+    /// or another one, that is refused. Until a sync succeeds, nothing of it is known to be synced.
     pub fn open<R: Files<File = File> + AllocGlobal>(rt: &R, path: &str) -> Result<FileDisk, Fault>
         ensures past { IfOk result (λ disk. ⟦<FileDisk as Disk>⟧.past disk ≡ []) }
         ensures honest { IfOk result ⟦<FileDisk as Disk>⟧.honest }
         ensures faults { IfOk result (λ disk. ⟦<FileDisk as Disk>⟧.faults disk ≡ 0) }
     {
         let file = OpenOptions::new().read(true).write(true).open(rt, path)?;
+        lock(&file)?;
         let size = file.metadata()?.len();
         let disk = FileDisk::load(rt.alloc(), HostFile::new(file), size)?;
         Ok(disk)
@@ -118,6 +121,11 @@ impl FileDisk {
         sync_folder(rt, path)?;
         Ok(disk)
     }
+}
+
+// Takes the lock of a file for this device alone, without waiting. It is held until the file is closed, however the program ends.
+fn lock(file: &File) -> Result<(), Fault> {
+    file.try_lock().map_err(|_| Fault)
 }
 
 // Syncs the folder that a file lies in.

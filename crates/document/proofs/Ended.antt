@@ -18,14 +18,14 @@ pub record EndsIn {X : Type 0} (xs : List X) (x : X) : Type 0 where
 ends_in_later : {X : Type 0} (x y : X) (xs : List X) → EndsIn xs y → EndsIn (x ∷ xs) y
 ends_in_later x y xs e = record { before = x ∷ e.before; parts = ap (λ l. x ∷ l) e.parts; count = omega (arith, e.count) }
 
-ends_in : {X : Type 0} (xs : List X) (n : ℕ) (x : X) → length xs ≡ suc n → x ≡ get_or xs n x → EndsIn xs x
+pub ends_in : {X : Type 0} (xs : List X) (n : ℕ) (x : X) → length xs ≡ suc n → x ≡ get_or xs n x → EndsIn xs x
 ends_in [] n x len is = absurd (omega arith)
 ends_in (y ∷ []) zero x len is = record { before = []; parts = ap (λ z. z ∷ []) (sym is); count = refl }
 ends_in (y ∷ []) (suc n) x len is = absurd (omega arith)
 ends_in (y ∷ z ∷ xs) zero x len is = absurd (omega arith)
 ends_in (y ∷ z ∷ xs) (suc n) x len is = ends_in_later y x (z ∷ xs) (ends_in (z ∷ xs) n x (omega arith) is)
 
-last_attributes-last : (before : List (List Element)) (last : List Element) → last_attributes (before ++ last ∷ []) ≡ text_attributes last
+pub last_attributes-last : (before : List (List Element)) (last : List Element) → last_attributes (before ++ last ∷ []) ≡ text_attributes last
 last_attributes-last [] last = refl
 last_attributes-last (r ∷ []) last = refl
 last_attributes-last (r ∷ s ∷ before) last = last_attributes-last (s ∷ before) last
@@ -70,7 +70,7 @@ units-taken old new more a takes =
     ∙ (sym (append_assoc (units_of_runs takes.0) takes.1 more)
     ∙ (ap (λ l. l ++ more) (sym (units_of_runs-last takes.0 takes.1)) ∙ ap (λ l. units_of_runs l ++ more) (sym takes.2))))
 
-set-last : {X : Type 0} (xs : List X) (x y : X) (e : EndsIn xs x) (n : ℕ) → n + 1 ≡ length xs → set xs n y ≡ e.before ++ y ∷ []
+pub set-last : {X : Type 0} (xs : List X) (x y : X) (e : EndsIn xs x) (n : ℕ) → n + 1 ≡ length xs → set xs n y ≡ e.before ++ y ∷ []
 set-last xs x y e n at =
     ap (λ l. set l n y) e.parts
     ∙ (ap (λ m. set (e.before ++ x ∷ []) m y) (let k : n ≡ length e.before = omega (arith, e.count) in k) ∙ set-append_seam e.before x [] y)
@@ -100,10 +100,11 @@ AreRuns-one_more rs new r s e is merged some apart =
 -- a run of text after all runs: taken into the last one, or apart from it
 pub merged_run : (yes : Bool) (old new : List (List Element)) (r more : List Element) (a : Attributes) → more ≡ r → text_attributes r ≡ Some a
     → IsRun r → AreRuns old → MatchBool yes (TakesText old new more a) ((last_attributes old ≢ Some a) × (new ≡ old))
-    → MatchBool yes ((units_of_runs new ≡ units_of_runs old ++ r) × AreRuns new) (IsApart (last_attributes old) (text_attributes r) × (new ≡ old))
+    → MatchBool yes ((units_of_runs new ≡ units_of_runs old ++ r) × AreRuns new × (last_attributes new ≡ text_attributes r)) (IsApart (last_attributes old) (text_attributes r) × (new ≡ old))
 merged_run true old new r more a is attributes run merged takes = (
   units-taken old new more a takes ∙ ap (λ l. units_of_runs old ++ l) is,
   AreRuns-taken old new more a takes (subst IsWellFormed (sym is) run.1) merged,
+  ap last_attributes takes.4 ∙ (last_attributes-last takes.0 (takes.1 ++ more) ∙ (text_attributes-more takes.1 more a takes.3 ∙ (takes.3 ∙ sym attributes))),
 )
 merged_run false old new r more a is attributes run merged missed = (
   subst (IsApart (last_attributes old)) (sym attributes) (apart_from_text (last_attributes old) a missed.0),

@@ -4,6 +4,9 @@ pub mod Characters
 pub mod Letters
 pub mod Joined
 pub mod Ended
+pub mod Chunked
+pub mod Entering
+pub mod Appended
 pub mod Cutting
 pub mod Passing
 pub mod Progress

@@ -10,10 +10,10 @@ use Rattle.delta.specs.Element.{Element}
 use Rattle.delta.specs.Operation.{Operation, retain, delete, op_base, base_of, out_of}
 use Rattle.delta.specs.Gaps.{counted, apply}
 use Rattle.delta.proofs.CallerLemmas.{base_of-append, out_of-append, length-apply_counted, effect_of_parts, effect_past_end, effect_of_retain, effect_of_delete}
-use Rattle.document.specs.Pairs.{IsPairAt, IsWithinPair}
+use Rattle.document.specs.Pairs.{IsPairAt, IsWithinPair, IsWellFormed}
 use Rattle.document.specs.steps.Passes.{StopsInPair, IsOneApplied, IsSteppedOver, IsRetained, with_change}
 use Rattle.document.proofs.Formed.{IsWellFormed-seam}
-use Rattle.document.proofs.Passing.{length-parts}
+use Rattle.document.proofs.Passing.{length-parts, kept_run}
 
 -- an outcome that is no refusal
 pub when_ok : {T E : Type 0} (r : Result T E) (P : Type 0) → is_err r ≡ false → OnOk r P → P
@@ -149,3 +149,9 @@ applied_whole old mid new ops made next n applied keeps all =
     empty_list : (l : List Element) → length l ≡ 0 → l ≡ []
     empty_list [] e = refl
     empty_list (x ∷ l) e = absurd (omega (arith, e))
+
+-- units put out as they are
+pub kept_plain : (old new out more run : List Element) (c : Changes) (n : ℕ) → run ++ new ≡ old → IsWellFormed run → n ≡ length run → c ≡ empty → more ≡ out ++ run
+    → IsRetained old new n c out more
+kept_plain old new out more run c n parts formed count plain put =
+    kept_run old new out more run c n parts formed count (put ∙ ap (λ l. out ++ l) (sym (kept_same run) ∙ ap (λ d. with_change d run) (sym plain)))

@@ -4,5 +4,6 @@ pub mod Weight
 pub mod Outcome
 pub mod Making
 pub mod steps
+pub mod Chunks
 pub mod Laws
 mod Examples

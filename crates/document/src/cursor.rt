@@ -1,49 +1,56 @@
 //! A walk over the units of runs, piece by piece.
-ghost use Rattle.std.specs.Prelude.{◌≡◌, ◌-◌, ◌^◌, min, ◌≤◌, ◌<◌, ◌++◌, length, IfOk, IfSome, OnErr, None, IsOkUnless};
+ghost use Rattle.std.specs.Prelude.{◌≡◌, ◌-◌, ◌^◌, min, ◌≤◌, ◌<◌, ◌++◌, length, IfOk, IfSome, OnErr, None, IsOkUnless, take};
 ghost use Rattle.document.specs.Pairs.{IsWithinPair};
+ghost use Rattle.document.specs.Chunks.{units_of_chunks, AreChunks};
 ghost use Rattle.document.specs.Weight.{weight_of};
 ghost use Rattle.document.specs.steps.Pieces.{piece_units, begun_units, IsPiece, IsBegun};
 ghost use Rattle.document.specs.steps.Runs.{units_of_runs, AreRuns, IsRun};
 
+use crate::chunk::Chunk;
 use crate::run::Piece;
 use crate::shared::SharedRun;
-use crate::weights::runs_weight;
+use crate::weights::{chunks_weight, runs_weight};
 use std::marker::Model;
 use utf16::{Cut, split_counted};
 
-/// A place in runs, seen as the units from there on.
+/// A place in chunks, seen as the units from there on: what is left of a run, the runs after it in its chunk, and the chunks after
+/// that.
 #[derive(Drop)]
 pub struct Cursor<'a> {
     begun: Option<Piece<'a>>,
-    rest: &'a [SharedRun],
+    runs: &'a [SharedRun],
+    chunks: &'a [Chunk],
 }
 
 impl<'a> Model for Cursor<'a> {
-    ghost use Rattle.std.specs.Prelude.{◌++◌, List};
+    ghost use Rattle.std.specs.Prelude.{◌++◌, ◌≤◌, length, List};
     ghost use Rattle.std.specs.Coded.{coded_list};
     ghost use Rattle.delta.specs.Element.{Element};
     ghost use Rattle.delta.specs.ElementCode.{element_code};
     ghost use Rattle.document.specs.steps.Pieces.{begun_units, IsBegun};
+    ghost use Rattle.document.specs.Chunks.{units_of_chunks, AreChunks};
     ghost use Rattle.document.specs.steps.Runs.{units_of_runs, AreRuns};
 
     ghost Value = { List Element };
 
     ghost coded = { coded_list element_code };
 
-    ghost view = { λ c. begun_units c.begun ++ units_of_runs c.rest.now };
+    ghost view = { λ c. begun_units c.begun ++ (units_of_runs c.runs.now ++ units_of_chunks c.chunks.now) };
 
-    ghost invariant = { λ c. IsBegun c.begun × AreRuns c.rest.now };
+    ghost invariant = { λ c. IsBegun c.begun × AreRuns c.runs.now × (length c.runs.now ≤ 128)
+        × AreChunks c.chunks.now };
 }
 
 impl<'a> Cursor<'a> {
-    /// The start of the runs.
-    pub fn new(runs: &'a [SharedRun]) -> Self
-        requires { AreRuns runs.now }
-        ensures { result ≡ units_of_runs runs.now }
+    /// The start of the chunks.
+    pub fn new(chunks: &'a [Chunk]) -> Self
+        requires { AreChunks chunks.now }
+        ensures { result ≡ units_of_chunks chunks.now }
     {
         Cursor {
             begun: None,
-            rest: runs,
+            runs: &[],
+            chunks,
         }
     }
 
@@ -53,7 +60,8 @@ impl<'a> Cursor<'a> {
     {
         Cursor {
             begun: self.begun,
-            rest: self.rest,
+            runs: self.runs,
+            chunks: self.chunks,
         }
     }
 
@@ -67,10 +75,11 @@ impl<'a> Cursor<'a> {
         ensures parted { OnErr result (IsWithinPair self.old most) }
         ensures only { IsOkUnless result Cut.InPair }
     {
-        let (whole, rest) = first(self.begun, self.rest);
+        let (whole, runs, chunks) = first(self.begun, self.runs, self.chunks);
         let (piece, left) = cut(whole, most)?;
         self.begun = left;
-        self.rest = rest;
+        self.runs = runs;
+        self.chunks = chunks;
         Ok(piece)
     }
 
@@ -81,15 +90,58 @@ impl<'a> Cursor<'a> {
         ensures most { IfSome result (λ run. length run.now ≤ most) }
         ensures none { (result ≡ None) → (self.new ≡ self.old) }
     {
-        if self.begun.is_some() || self.rest.is_empty() {
+        if self.begun.is_some() {
             return None;
         }
-        let run = &self.rest[0];
+        let (runs, chunks) = entered(self.runs, self.chunks);
+        if runs.is_empty() {
+            return None;
+        }
+        let run = &runs[0];
         if run.units() > most {
             return None;
         }
-        self.rest = &self.rest[1..];
+        self.runs = &runs[1..];
+        self.chunks = chunks;
         Some(run)
+    }
+
+    /// The runs up to the chunk's end that stand there as a whole and have at most so many code units together, with that number,
+    /// and steps over them.
+    pub fn next_runs(&mut self, most: u64) -> (&'a [SharedRun], u64)
+        ensures parts { units_of_runs result.0.now ++ self.new ≡ self.old }
+        ensures runs { AreRuns result.0.now }
+        ensures few { length result.0.now ≤ 128 }
+        ensures units { result.1 ≡ length (units_of_runs result.0.now) }
+        ensures none { (result.1 ≡ 0) → (self.new ≡ self.old) }
+        ensures most { result.1 ≤ most }
+    {
+        if self.begun.is_some() {
+            return (&[], 0);
+        }
+        let (runs, chunks) = entered(self.runs, self.chunks);
+        let (count, units) = whole_runs(runs, most);
+        let (front, back) = runs.split_at(count);
+        self.runs = back;
+        self.chunks = chunks;
+        (front, units)
+    }
+
+    /// The chunks that stand there as a whole and have at most so many code units together, with that number, and steps over them.
+    pub fn next_chunks(&mut self, most: u64) -> (&'a [Chunk], u64)
+        ensures parts { units_of_chunks result.0.now ++ self.new ≡ self.old }
+        ensures chunks { AreChunks result.0.now }
+        ensures units { result.1 ≡ length (units_of_chunks result.0.now) }
+        ensures none { (result.1 ≡ 0) → (self.new ≡ self.old) }
+        ensures most { result.1 ≤ most }
+    {
+        if self.begun.is_some() || !self.runs.is_empty() {
+            return (&[], 0);
+        }
+        let (count, units) = whole_chunks(self.chunks, most);
+        let (front, back) = self.chunks.split_at(count);
+        self.chunks = back;
+        (front, units)
     }
 
     /// How many bytes are left of a text that is begun; 0 where none is.
@@ -109,24 +161,87 @@ impl<'a> Cursor<'a> {
             Some(piece) => piece.weight(),
             None => 0,
         };
-        begun.saturating_add(runs_weight(self.rest))
+        begun
+            .saturating_add(runs_weight(self.runs))
+            .saturating_add(chunks_weight(self.chunks))
     }
 }
 
-// what is left of the run begun, or the next run, and the runs after it
-fn first<'a>(begun: Option<Piece<'a>>, rest: &'a [SharedRun]) -> (Piece<'a>, &'a [SharedRun])
-    requires some { 0 < length (begun_units begun ++ units_of_runs rest.now) }
+// what is left of the run begun, or the next run, and the runs and chunks after it
+fn first<'a>(
+    begun: Option<Piece<'a>>,
+    runs: &'a [SharedRun],
+    chunks: &'a [Chunk],
+) -> (Piece<'a>, &'a [SharedRun], &'a [Chunk])
+    requires some { 0 < length (begun_units begun ++ (units_of_runs runs.now ++ units_of_chunks chunks.now)) }
     requires begun { IsBegun begun }
-    requires rest { AreRuns rest.now }
-    ensures parts { piece_units result.0 ++ units_of_runs result.1.now ≡ begun_units begun.entry
-        ++ units_of_runs rest.now }
+    requires runs { AreRuns runs.now }
+    requires few { length runs.now ≤ 128 }
+    requires chunks { AreChunks chunks.now }
+    ensures parts { piece_units result.0 ++ (units_of_runs result.1.now ++ units_of_chunks result.2.now)
+        ≡ begun_units begun.entry ++ (units_of_runs runs.now ++ units_of_chunks chunks.now) }
     ensures piece { IsPiece result.0 }
-    ensures rest { AreRuns result.1.now }
+    ensures runs { AreRuns result.1.now }
+    ensures few { length result.1.now ≤ 128 }
+    ensures chunks { AreChunks result.2.now }
 {
     match begun {
-        Some(piece) => (piece, rest),
-        None => (rest[0].piece(), &rest[1..]),
+        Some(piece) => (piece, runs, chunks),
+        None => {
+            let (runs, chunks) = entered(runs, chunks);
+            (runs[0].piece(), &runs[1..], chunks)
+        }
     }
+}
+
+// the same place, within a chunk where there is one
+fn entered<'a>(runs: &'a [SharedRun], chunks: &'a [Chunk]) -> (&'a [SharedRun], &'a [Chunk])
+    requires runs { AreRuns runs.now }
+    requires few { length runs.now ≤ 128 }
+    requires chunks { AreChunks chunks.now }
+    ensures same { units_of_runs result.0.now ++ units_of_chunks result.1.now
+        ≡ units_of_runs runs.now ++ units_of_chunks chunks.now }
+    ensures some { 0 < length (units_of_runs runs.now ++ units_of_chunks chunks.now) → 0 < length result.0.now }
+    ensures runs { AreRuns result.0.now }
+    ensures few { length result.0.now ≤ 128 }
+    ensures chunks { AreChunks result.1.now }
+{
+    if runs.is_empty() && !chunks.is_empty() {
+        return (chunks[0].runs(), &chunks[1..]);
+    }
+    (runs, chunks)
+}
+
+// how many runs have at most so many code units together, and how many that is
+fn whole_runs(runs: &[SharedRun], most: u64) -> (usize, u64)
+    ensures within { result.0 ≤ length runs.now }
+    ensures units { result.1 ≡ length (units_of_runs (take result.0 runs.now)) }
+    ensures most { result.1 ≤ most }
+{
+    let mut units: u64 = 0;
+    for (count, run) in runs.iter().enumerate() {
+        if run.units() > most - units {
+            return (count, units);
+        }
+        units += run.units();
+    }
+    (runs.len(), units)
+}
+
+// how many chunks have at most so many code units together, and how many that is
+fn whole_chunks(chunks: &[Chunk], most: u64) -> (usize, u64)
+    ensures within { result.0 ≤ length chunks.now }
+    ensures units { result.1 ≡ length (units_of_chunks (take result.0 chunks.now)) }
+    ensures most { result.1 ≤ most }
+{
+    let mut units: u64 = 0;
+    for (count, chunk) in chunks.iter().enumerate() {
+        if chunk.len16() > most - units {
+            return (count, units);
+        }
+        units += chunk.len16();
+    }
+    (chunks.len(), units)
 }
 
 // parts a piece after at most so many code units

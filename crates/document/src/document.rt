@@ -1,10 +1,11 @@
 //! Documents.
-ghost use Rattle.std.specs.Prelude.{◌≡◌, ◌⊎◌, ◌+◌, ◌≤◌, ◌<◌, ◌^◌, ◌↔◌, ◌-◌, min, [], ◌∷◌, ◌++◌, length, IfOk, IfErr, OnOk, OnErr, IsOkUnless};
+ghost use Rattle.std.specs.Prelude.{◌≡◌, ◌⊎◌, ◌+◌, ◌≤◌, ◌<◌, ◌^◌, ◌↔◌, ◌-◌, min, [], ◌∷◌, ◌++◌, length, IfOk, IfErr, OnOk, OnErr, IsOkUnless, MatchBool};
 ghost use Rattle.document.specs.Pairs.{IsWellFormed};
 ghost use Rattle.delta.specs.Gaps.{counted, apply, End};
 ghost use Rattle.delta.specs.Normal.{nf};
 ghost use Rattle.document.specs.Weight.{weight_of};
 ghost use Rattle.document.specs.steps.Pieces.{piece_units};
+ghost use Rattle.document.specs.Chunks.{units_of_chunks, AreChunks};
 ghost use Rattle.document.specs.steps.Runs.{units_of_runs, AreRuns};
 ghost use Rattle.utf16.specs.Units.{units_of};
 ghost use Rattle.delta.specs.Element.{letters};
@@ -15,12 +16,13 @@ ghost use Rattle.document.specs.Making.{document_from};
 ghost use Rattle.document.specs.Outcome.{IsAccepted, IsTooLong, IsRefused};
 
 use crate::appending::text_behind;
-use crate::applying::{applied, parts_pair};
+use crate::applying::{built, parts_pair};
+use crate::building::{ChunkBuilder, extend_made};
+use crate::chunk::Chunk;
+use crate::cursor::Cursor;
 use crate::reweighing::weighed;
 use crate::run::Piece;
-use crate::runs::put_text;
-use crate::shared::SharedRun;
-use crate::weights::{runs_weight, text_weight};
+use crate::weights::{chunks_units, chunks_weight};
 use attributes::Attrs;
 use delta::{Builder, Delta, MAX_LEN, Op};
 use refusal::Refusal;
@@ -28,31 +30,26 @@ use std::alloc::Global;
 use std::marker::Model;
 
 /// A document of rich text, seen as its list of units: UTF-16 code units and embeds, each with attributes. It has at
-/// most 2^48 units. Its length and its weight stand beside its runs.
+/// most 2^48 units. It is kept as chunks of runs.
 #[derive(Drop)]
 pub struct Document {
-    runs: Vec<SharedRun>,
-    units: u64,
-    weight: u64,
+    chunks: Vec<Chunk>,
 }
 
 impl Model for Document {
-    ghost use Rattle.std.specs.Prelude.{◌≡◌, ◌≤◌, ◌-◌, ◌^◌, min, List, length};
+    ghost use Rattle.std.specs.Prelude.{◌≤◌, ◌^◌, List, length};
     ghost use Rattle.std.specs.Coded.{coded_list};
     ghost use Rattle.delta.specs.Element.{Element};
     ghost use Rattle.delta.specs.ElementCode.{element_code};
-    ghost use Rattle.document.specs.Weight.{weight_of};
-    ghost use Rattle.document.specs.steps.Runs.{units_of_runs, AreRuns};
+    ghost use Rattle.document.specs.Chunks.{units_of_chunks, AreChunks};
 
     ghost Value = { List Element };
 
     ghost coded = { coded_list element_code };
 
-    ghost view = { λ d. units_of_runs d.runs.items };
+    ghost view = { λ d. units_of_chunks d.chunks.items };
 
-    ghost invariant = { λ d. (length (units_of_runs d.runs.items) ≤ 2 ^ 48) × AreRuns d.runs.items
-        × (d.units ≡ length (units_of_runs d.runs.items))
-        × (d.weight ≡ min (weight_of (units_of_runs d.runs.items)) (2 ^ 64 - 1)) };
+    ghost invariant = { λ d. (length (units_of_chunks d.chunks.items) ≤ 2 ^ 48) × AreChunks d.chunks.items };
 }
 
 impl Document {
@@ -61,9 +58,7 @@ impl Document {
         ensures { result ≡ [] }
     {
         Document {
-            runs: Vec::new(alloc),
-            units: 0,
-            weight: 0,
+            chunks: Vec::new(alloc),
         }
     }
 
@@ -83,21 +78,30 @@ impl Document {
         }
     }
 
-    /// How many code units it has; an embed counts as one. In constant time.
+    /// Its chunks: each has 1 to 128 runs, and no two neighbours among the runs of all of them are texts of equal attributes. It takes
+    /// no memory.
+    pub fn chunks(&self) -> &[Chunk]
+        ensures units { units_of_chunks result.now ≡ self.now }
+        ensures chunks { AreChunks result.now }
+    {
+        self.chunks.as_slice()
+    }
+
+    /// How many code units it has; an embed counts as one. Linear in the chunks.
     pub fn len16(&self) -> u64
         ensures len { result ≡ length self.now }
         ensures bounded { length self.now ≤ 2 ^ 48 }
         ensures well_formed { IsWellFormed self.now }
     {
-        self.units
+        chunks_units(self.chunks.as_slice())
     }
 
     /// Its weight: 12 for each unit; for each attribute of each unit, and for each embed's value, 12, the bytes of its
-    /// name and the bytes of a text value. 2^64 - 1 where it is more. In constant time.
+    /// name and the bytes of a text value. 2^64 - 1 where it is more. Linear in the chunks.
     pub fn weight(&self) -> u64
         ensures { result ≡ min (weight_of self.now) (2 ^ 64 - 1) }
     {
-        self.weight
+        chunks_weight(self.chunks.as_slice())
     }
 
     /// What its weight would be after a delta: 2^64 - 1 where it would be more. Refused as PastEnd where the delta reaches past
@@ -113,21 +117,17 @@ impl Document {
         ensures only { IfErr result (λ e. (e ≡ Refusal.PastEnd) ⊎ (e ≡ Refusal.CutsPair)) }
     {
         self.fits(delta)?;
-        Ok(weighed(self.runs.as_slice(), self.weight, delta.ops()))
+        Ok(weighed(self.chunks.as_slice(), self.weight(), delta.ops()))
     }
 
-    /// An equal document, which shares its runs with this one: no text or attribute is copied. Linear in the runs. Refused as
-    /// NoMemory, which also comes where a run can have no more owners.
+    /// An equal document, which shares its chunks with this one: no text or attribute is copied. Linear in the chunks. Refused as
+    /// NoMemory, which also comes where a chunk can have no more owners.
     pub fn copy(&self, alloc: Global) -> Result<Self, Refusal>
         ensures same { IfOk result (λ document. document ≡ self.now) }
         ensures only { IsOkUnless result Refusal.NoMemory }
     {
-        let runs = applied(alloc, self.runs.as_slice(), &[], self.units)?;
-        Ok(Document {
-            runs,
-            units: self.units,
-            weight: self.weight,
-        })
+        let chunks = share_chunks(alloc, self.chunks.as_slice())?;
+        Ok(Document { chunks })
     }
 
     /// The delta that makes it of the empty document, by inserts alone.
@@ -138,8 +138,15 @@ impl Document {
         ensures only { IsOkUnless result Refusal.NoMemory }
     {
         let mut builder = Builder::new(alloc);
-        for run in &self.runs {
-            let op = inserted(alloc, run.piece())?;
+        let mut cursor = Cursor::new(self.chunks.as_slice());
+        let mut left = self.len16();
+        while left > 0 {
+            let piece = match cursor.next(left) {
+                Ok(piece) => piece,
+                Err(_) => unreachable!(),
+            };
+            let op = inserted(alloc, piece)?;
+            left -= piece.units();
             if let Err(refusal) = builder.push(op) {
                 return Err(refusal);
             }
@@ -169,11 +176,10 @@ impl Document {
         if behind == 0
             && let Some((text, units, attrs)) = text_behind(delta.ops())
         {
-            self.append(alloc, text, units, attrs)?;
+            self.append(alloc, delta, text, units, attrs)?;
             return Ok(());
         }
-        let runs = applied(alloc, self.runs.as_slice(), delta.ops(), behind)?;
-        *self = Document::of_runs(runs, behind + delta.out_len());
+        self.remake(alloc, delta, behind)?;
         Ok(())
     }
 
@@ -191,49 +197,123 @@ impl Document {
             Ok(behind) => behind,
             Err(refusal) => return Err(refusal),
         };
-        match applied(alloc, self.runs.as_slice(), delta.ops(), behind) {
-            Ok(runs) => Ok(Document::of_runs(runs, behind + delta.out_len())),
+        match self.remade(alloc, delta, behind) {
+            Ok(after) => Ok(after),
             Err(no_memory) => Err(no_memory),
         }
     }
 
-    // the document of runs of so many code units
-    fn of_runs(runs: Vec<SharedRun>, units: u64) -> Self
-        requires runs { AreRuns runs.items }
-        requires counted { units ≡ length (units_of_runs runs.items) }
-        requires bound { units ≤ 2 ^ 48 }
-        ensures units { result ≡ units_of_runs runs.items }
-        ensures well_formed { IsWellFormed result }
+    // the document after a delta that is accepted and leaves so many code units behind it as they are
+    fn remade(&self, alloc: Global, delta: &Delta, behind: u64) -> Result<Self, Refusal>
+        requires accepted { IsAccepted self.now (counted delta.now) }
+        requires behind { length self.now ≡ base_of delta.now + behind }
+        ensures ok { IfOk result (λ after. after ≡ apply self.now (counted delta.now)) }
+        ensures well_formed { IfOk result (λ after. IsWellFormed after) }
+        ensures only { IsOkUnless result Refusal.NoMemory }
     {
-        let weight = runs_weight(runs.as_slice());
-        Document {
-            runs,
-            units,
-            weight,
+        let made = self.built(alloc, delta, behind)?;
+        let chunks = made.finish(alloc)?;
+        Ok(Document::of_chunks(chunks))
+    }
+
+    // the runs of it
+    fn built(&self, alloc: Global, delta: &Delta, behind: u64) -> Result<ChunkBuilder, Refusal>
+        requires accepted { IsAccepted self.now (counted delta.now) }
+        requires behind { length self.now ≡ base_of delta.now + behind }
+        ensures units { IfOk result (λ made. units_of_runs made ≡ apply self.now (counted delta.now)) }
+        ensures runs { IfOk result (λ made. AreRuns made) }
+        ensures bound { IfOk result (λ made. length (units_of_runs made) ≤ 2 ^ 48) }
+        ensures only { IsOkUnless result Refusal.NoMemory }
+    {
+        let made = built(alloc, self.chunks.as_slice(), delta.ops(), behind)?;
+        Ok(made)
+    }
+
+    // applies a delta that is accepted and leaves so many code units behind it as they are. Where the document is one chunk before
+    // and after it, the chunk is changed in place
+    fn remake(&mut self, alloc: Global, delta: &Delta, behind: u64) -> Result<(), Refusal>
+        requires accepted { IsAccepted self.old (counted delta.now) }
+        requires behind { length self.old ≡ base_of delta.now + behind }
+        ensures ok { OnOk result (self.new ≡ apply self.old (counted delta.now)) }
+        ensures well_formed { OnOk result (IsWellFormed self.new) }
+        ensures err { OnErr result (self.new ≡ self.old) }
+        ensures only { IsOkUnless result Refusal.NoMemory }
+    {
+        if self.chunks.len() != 1 {
+            *self = self.remade(alloc, delta, behind)?;
+            return Ok(());
+        }
+        let made = self.built(alloc, delta, behind)?;
+        match made.into_one() {
+            Ok(runs) => {
+                self.chunks[0].replace(alloc, runs)?;
+                Ok(())
+            }
+            Err(made) => {
+                let chunks = made.finish(alloc)?;
+                *self = Document::of_chunks(chunks);
+                Ok(())
+            }
         }
     }
 
-    // puts a text behind the document
+    // the document of chunks
+    fn of_chunks(chunks: Vec<Chunk>) -> Self
+        requires chunks { AreChunks chunks.items }
+        requires bound { length (units_of_chunks chunks.items) ≤ 2 ^ 48 }
+        ensures units { result ≡ units_of_chunks chunks.items }
+        ensures well_formed { IsWellFormed result }
+    {
+        Document { chunks }
+    }
+
+    // applies a delta that puts a text behind the document and does nothing else
     fn append(
         &mut self,
         alloc: Global,
+        delta: &Delta,
         text: &str,
         units: u64,
         attrs: &Attrs,
     ) -> Result<(), Refusal>
         requires counted { units ≡ length (units_of text.now) }
-        requires bound { length self.old + units ≤ 2 ^ 48 }
-        ensures ok { OnOk result (self.new ≡ self.old ++ letters (units_of text.now) attrs.now) }
+        requires accepted { IsAccepted self.old (counted delta.now) }
+        requires behind { length self.old ≡ base_of delta.now }
+        requires puts { apply self.old (counted delta.now) ≡ self.old ++ letters (units_of text.now) attrs.now }
+        ensures ok { OnOk result (self.new ≡ apply self.old (counted delta.now)) }
         ensures well_formed { OnOk result (IsWellFormed self.new) }
         ensures err { OnErr result (self.new ≡ self.old) }
         ensures only { IsOkUnless result Refusal.NoMemory }
     {
-        let more = text_weight(text, units, attrs);
-        let attrs = attrs.copy(alloc)?;
-        put_text(alloc, &mut self.runs, text, units, attrs, 0)?;
-        self.units += units;
-        self.weight = self.weight.saturating_add(more);
+        if self.merge_last(alloc, text, units, attrs)? {
+            return Ok(());
+        }
+        self.remake(alloc, delta, 0)?;
         Ok(())
+    }
+
+    // puts a text behind the document, where its last run takes the text in, and says whether it does
+    fn merge_last(
+        &mut self,
+        alloc: Global,
+        text: &str,
+        units: u64,
+        attrs: &Attrs,
+    ) -> Result<bool, Refusal>
+        requires counted { units ≡ length (units_of text.now) }
+        requires bound { length self.old + units ≤ 2 ^ 48 }
+        ensures ok { IfOk result (λ yes. MatchBool yes (self.new ≡ self.old ++ letters (units_of text.now) attrs.now)
+            (self.new ≡ self.old)) }
+        ensures well_formed { OnOk result (IsWellFormed self.new) }
+        ensures err { OnErr result (self.new ≡ self.old) }
+        ensures only { IsOkUnless result Refusal.NoMemory }
+    {
+        let len = self.chunks.len();
+        if len == 0 {
+            return Ok(false);
+        }
+        let merged = self.chunks[len - 1].merge_last(alloc, text, units, attrs)?;
+        Ok(merged)
     }
 
     // how many code units a delta leaves behind it as they are, where it may be applied
@@ -268,11 +348,21 @@ impl Document {
         if delta.base_len() > len {
             return Err(Refusal::PastEnd);
         }
-        if parts_pair(self.runs.as_slice(), ops) {
+        if parts_pair(self.chunks.as_slice(), ops) {
             return Err(Refusal::CutsPair);
         }
         Ok(len)
     }
+}
+
+// one more owner of each chunk
+fn share_chunks(alloc: Global, chunks: &[Chunk]) -> Result<Vec<Chunk>, Refusal>
+    ensures same { IfOk result (λ shared. shared.items ≡ chunks.now) }
+    ensures only { IsOkUnless result Refusal.NoMemory }
+{
+    let mut shared = Vec::with_capacity(alloc, chunks.len())?;
+    extend_made(&mut shared, chunks)?;
+    Ok(shared)
 }
 
 // the operation that inserts a piece

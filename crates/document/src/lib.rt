@@ -34,6 +34,8 @@
 
 mod appending;
 mod applying;
+mod building;
+mod chunk;
 mod cursor;
 mod document;
 mod joining;
@@ -45,4 +47,7 @@ mod shared;
 mod walk;
 mod weights;
 
+pub use chunk::Chunk;
 pub use document::Document;
+pub use run::Piece;
+pub use shared::SharedRun;

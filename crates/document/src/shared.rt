@@ -1,8 +1,8 @@
 //! Runs that documents have together.
-ghost use Rattle.std.specs.Prelude.{◌≡◌, ◌≢◌, ◌+◌, ◌-◌, min, ◌<◌, ◌^◌, ◌++◌, length, IfOk, OnErr, IsOkUnless, MatchBool, Some};
+ghost use Rattle.std.specs.Prelude.{◌≡◌, ◌≢◌, ◌+◌, ◌-◌, min, ◌<◌, ◌^◌, ◌++◌, length, IfOk, OnErr, IsOkUnless, IsTrue, MatchBool, Some, ◌↔◌, false};
 ghost use Rattle.utf16.specs.Units.{units_of};
 ghost use Rattle.delta.specs.Element.{letters};
-ghost use Rattle.document.specs.steps.Runs.{text_attributes};
+ghost use Rattle.document.specs.steps.Runs.{text_attributes, IsApart};
 ghost use Rattle.document.specs.Weight.{weight_of};
 
 use crate::run::{Piece, Run};
@@ -74,6 +74,23 @@ impl SharedRun {
         ensures some { 0 < result }
     {
         self.units
+    }
+
+    /// Whether it is a text with these attributes.
+    pub fn takes(&self, attrs: &Attrs) -> bool
+        ensures { IsTrue result ↔ (text_attributes self.now ≡ Some attrs.now) }
+    {
+        self.run.takes(attrs)
+    }
+
+    /// Whether it and the next run are texts of equal attributes.
+    pub fn joins(&self, next: &SharedRun) -> bool
+        ensures { (result ≡ false) → IsApart (text_attributes self.now) (text_attributes next.now) }
+    {
+        match next.piece() {
+            Piece::Text(_, _, attrs) => self.takes(attrs),
+            Piece::Embed(_, _, _) => false,
+        }
     }
 
     /// The whole run as a piece.

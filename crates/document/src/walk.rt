@@ -1,14 +1,16 @@
 //! Steps over units of runs: past them, or out with a change.
 ghost use Rattle.std.specs.Prelude.{◌≡◌, ◌+◌, ◌≤◌, ◌<◌, ◌^◌, ◌++◌, length, IfOk, OnOk, OnErr, IsOkUnless};
+ghost use Rattle.attributes.specs.Map.{empty};
 ghost use Rattle.document.specs.Pairs.{IsWithinPair};
 ghost use Rattle.document.specs.steps.Passes.{IsSteppedOver, IsRetained, with_change};
 ghost use Rattle.document.specs.steps.Pieces.{piece_dressed, IsPiece};
 ghost use Rattle.document.specs.steps.Runs.{units_of_runs, IsRun, AreRuns};
 
+use crate::building::ChunkBuilder;
 use crate::cursor::Cursor;
 use crate::joining::joins;
 use crate::run::Piece;
-use crate::runs::{put_embed, put_run, put_text};
+use crate::runs::{put_chunks, put_embed, put_run, put_runs, put_text};
 use crate::shared::SharedRun;
 use attributes::{Attrs, Change, apply};
 use delta::Op;
@@ -30,8 +32,8 @@ pub fn skip(cursor: &mut Cursor<'_>, len: u64) -> Result<(), Cut>
     Ok(())
 }
 
-// steps over the next run, or a piece of one, of at most so many code units, and says how many it has; refused where that would
-// part a pair
+// steps over the next chunks or runs, or a piece of a run, of at most so many code units, and says how many they have; refused
+// where that would part a pair
 fn skip_next(cursor: &mut Cursor<'_>, most: u64) -> Result<u64, Cut>
     requires some { 0 < most }
     requires there { most ≤ length cursor.old }
@@ -41,8 +43,13 @@ fn skip_next(cursor: &mut Cursor<'_>, most: u64) -> Result<u64, Cut>
     ensures parted { OnErr result (IsWithinPair cursor.old most) }
     ensures only { IsOkUnless result Cut.InPair }
 {
-    if let Some(run) = cursor.next_run(most) {
-        return Ok(run.units());
+    let (_, units) = cursor.next_chunks(most);
+    if units > 0 {
+        return Ok(units);
+    }
+    let (_, units) = cursor.next_runs(most);
+    if units > 0 {
+        return Ok(units);
     }
     let piece = cursor.next(most)?;
     Ok(piece.units())
@@ -56,15 +63,15 @@ pub fn keep(
     len: u64,
     change: &Change,
     ops: &[Op],
-    out: &mut Vec<SharedRun>,
+    out: &mut ChunkBuilder,
 ) -> Result<(), Refusal>
     requires there { len ≤ length cursor.old }
     requires whole { ¬ (IsWithinPair cursor.old len) }
-    requires bound { length (units_of_runs out.old.items) + len < 2 ^ 64 }
-    requires runs { AreRuns out.old.items }
+    requires bound { length (units_of_runs out.old) + len < 2 ^ 64 }
+    requires runs { AreRuns out.old }
     ensures kept { OnOk result
-        (IsRetained cursor.old cursor.new len change.now (units_of_runs out.old.items) (units_of_runs out.new.items)) }
-    ensures runs { OnOk result (AreRuns out.new.items) }
+        (IsRetained cursor.old cursor.new len change.now (units_of_runs out.old) (units_of_runs out.new)) }
+    ensures runs { OnOk result (AreRuns out.new) }
     ensures only { IsOkUnless result Refusal.NoMemory }
 {
     let mut left = len;
@@ -74,26 +81,91 @@ pub fn keep(
     Ok(())
 }
 
-// steps over the next run, or a piece of one, of at most so many code units, puts it out with a change of its attributes, and
-// says how many it has
+// steps over the next chunks or runs, or a piece of a run, of at most so many code units, puts them out with a change of their
+// attributes, and says how many they have
 fn keep_next(
     alloc: Global,
     cursor: &mut Cursor<'_>,
     most: u64,
     change: &Change,
     ops: &[Op],
-    out: &mut Vec<SharedRun>,
+    out: &mut ChunkBuilder,
 ) -> Result<u64, Refusal>
     requires some { 0 < most }
     requires there { most ≤ length cursor.old }
     requires whole { ¬ (IsWithinPair cursor.old most) }
-    requires bound { length (units_of_runs out.old.items) + most < 2 ^ 64 }
-    requires runs { AreRuns out.old.items }
+    requires bound { length (units_of_runs out.old) + most < 2 ^ 64 }
+    requires runs { AreRuns out.old }
     ensures kept { IfOk result (λ len.
-        IsRetained cursor.old cursor.new len change.now (units_of_runs out.old.items) (units_of_runs out.new.items)) }
+        IsRetained cursor.old cursor.new len change.now (units_of_runs out.old) (units_of_runs out.new)) }
     ensures some { IfOk result (λ len. 0 < len) }
     ensures most { IfOk result (λ len. len ≤ most) }
-    ensures runs { OnOk result (AreRuns out.new.items) }
+    ensures runs { OnOk result (AreRuns out.new) }
+    ensures only { IsOkUnless result Refusal.NoMemory }
+{
+    if change.is_empty() {
+        let len = keep_plain_next(alloc, cursor, most, change, ops, out)?;
+        return Ok(len);
+    }
+    let len = keep_changed_next(alloc, cursor, most, change, ops, out)?;
+    Ok(len)
+}
+
+// the same with a change that changes nothing
+fn keep_plain_next(
+    alloc: Global,
+    cursor: &mut Cursor<'_>,
+    most: u64,
+    change: &Change,
+    ops: &[Op],
+    out: &mut ChunkBuilder,
+) -> Result<u64, Refusal>
+    requires plain { change.now ≡ empty }
+    requires some { 0 < most }
+    requires there { most ≤ length cursor.old }
+    requires whole { ¬ (IsWithinPair cursor.old most) }
+    requires bound { length (units_of_runs out.old) + most < 2 ^ 64 }
+    requires runs { AreRuns out.old }
+    ensures kept { IfOk result (λ len.
+        IsRetained cursor.old cursor.new len change.now (units_of_runs out.old) (units_of_runs out.new)) }
+    ensures some { IfOk result (λ len. 0 < len) }
+    ensures most { IfOk result (λ len. len ≤ most) }
+    ensures runs { OnOk result (AreRuns out.new) }
+    ensures only { IsOkUnless result Refusal.NoMemory }
+{
+    let (chunks, units) = cursor.next_chunks(most);
+    if units > 0 {
+        put_chunks(alloc, out, chunks)?;
+        return Ok(units);
+    }
+    let (runs, units) = cursor.next_runs(most);
+    if units > 0 {
+        put_runs(alloc, out, runs)?;
+        return Ok(units);
+    }
+    let len = keep_part(alloc, cursor, most, change, ops, out)?;
+    Ok(len)
+}
+
+// the same run by run
+fn keep_changed_next(
+    alloc: Global,
+    cursor: &mut Cursor<'_>,
+    most: u64,
+    change: &Change,
+    ops: &[Op],
+    out: &mut ChunkBuilder,
+) -> Result<u64, Refusal>
+    requires some { 0 < most }
+    requires there { most ≤ length cursor.old }
+    requires whole { ¬ (IsWithinPair cursor.old most) }
+    requires bound { length (units_of_runs out.old) + most < 2 ^ 64 }
+    requires runs { AreRuns out.old }
+    ensures kept { IfOk result (λ len.
+        IsRetained cursor.old cursor.new len change.now (units_of_runs out.old) (units_of_runs out.new)) }
+    ensures some { IfOk result (λ len. 0 < len) }
+    ensures most { IfOk result (λ len. len ≤ most) }
+    ensures runs { OnOk result (AreRuns out.new) }
     ensures only { IsOkUnless result Refusal.NoMemory }
 {
     if let Some(run) = cursor.next_run(most) {
@@ -109,20 +181,16 @@ fn keep_run(
     alloc: Global,
     run: &SharedRun,
     change: &Change,
-    out: &mut Vec<SharedRun>,
+    out: &mut ChunkBuilder,
 ) -> Result<(), Refusal>
     requires run { IsRun run.now }
-    requires bound { length (units_of_runs out.old.items) + length run.now < 2 ^ 64 }
-    requires runs { AreRuns out.old.items }
+    requires bound { length (units_of_runs out.old) + length run.now < 2 ^ 64 }
+    requires runs { AreRuns out.old }
     ensures units { OnOk result
-        (units_of_runs out.new.items ≡ units_of_runs out.old.items ++ with_change change.now run.now) }
-    ensures runs { OnOk result (AreRuns out.new.items) }
+        (units_of_runs out.new ≡ units_of_runs out.old ++ with_change change.now run.now) }
+    ensures runs { OnOk result (AreRuns out.new) }
     ensures only { IsOkUnless result Refusal.NoMemory }
 {
-    if change.is_empty() {
-        put_run(alloc, out, run)?;
-        return Ok(());
-    }
     let piece = run.piece();
     let attrs = apply(alloc, piece.attrs(), change)?;
     if attrs == *piece.attrs() {
@@ -141,18 +209,18 @@ fn keep_part(
     most: u64,
     change: &Change,
     ops: &[Op],
-    out: &mut Vec<SharedRun>,
+    out: &mut ChunkBuilder,
 ) -> Result<u64, Refusal>
     requires some { 0 < most }
     requires there { most ≤ length cursor.old }
     requires whole { ¬ (IsWithinPair cursor.old most) }
-    requires bound { length (units_of_runs out.old.items) + most < 2 ^ 64 }
-    requires runs { AreRuns out.old.items }
+    requires bound { length (units_of_runs out.old) + most < 2 ^ 64 }
+    requires runs { AreRuns out.old }
     ensures kept { IfOk result (λ len.
-        IsRetained cursor.old cursor.new len change.now (units_of_runs out.old.items) (units_of_runs out.new.items)) }
+        IsRetained cursor.old cursor.new len change.now (units_of_runs out.old) (units_of_runs out.new)) }
     ensures some { IfOk result (λ len. 0 < len) }
     ensures most { IfOk result (λ len. len ≤ most) }
-    ensures runs { OnOk result (AreRuns out.new.items) }
+    ensures runs { OnOk result (AreRuns out.new) }
     ensures only { IsOkUnless result Refusal.NoMemory }
 {
     let piece = match cursor.next(most) {
@@ -173,17 +241,17 @@ fn keep_part(
 // puts a piece out with other attributes, with room for so many bytes more where it begins a run of text
 fn put(
     alloc: Global,
-    out: &mut Vec<SharedRun>,
+    out: &mut ChunkBuilder,
     piece: Piece<'_>,
     attrs: Attrs,
     more: usize,
 ) -> Result<(), Refusal>
     requires piece { IsPiece piece }
-    requires bound { length (units_of_runs out.old.items) + length (piece_dressed piece attrs) < 2 ^ 64 }
-    requires runs { AreRuns out.old.items }
-    ensures units { OnOk result (units_of_runs out.new.items ≡ units_of_runs out.old.items
+    requires bound { length (units_of_runs out.old) + length (piece_dressed piece attrs) < 2 ^ 64 }
+    requires runs { AreRuns out.old }
+    ensures units { OnOk result (units_of_runs out.new ≡ units_of_runs out.old
         ++ piece_dressed piece.entry attrs) }
-    ensures runs { OnOk result (AreRuns out.new.items) }
+    ensures runs { OnOk result (AreRuns out.new) }
     ensures only { IsOkUnless result Refusal.NoMemory }
 {
     match piece {

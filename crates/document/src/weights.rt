@@ -8,11 +8,13 @@ ghost use Rattle.delta.specs.Element.{letters};
 ghost use Rattle.delta.specs.Gaps.{counted, apply};
 ghost use Rattle.delta.specs.Operation.{base_of, op_base};
 ghost use Rattle.document.specs.Pairs.{IsWithinPair};
+ghost use Rattle.document.specs.Chunks.{units_of_chunks};
 ghost use Rattle.document.specs.Weight.{weight_of, attributes_weight};
 ghost use Rattle.document.specs.steps.Passes.{StopsInPair};
 ghost use Rattle.document.specs.steps.Runs.{units_of_runs, AreRuns};
 ghost use Rattle.document.specs.steps.Weighing.{kept_weight, set_weight, IsRetainedWeighed, IsWeighed};
 
+use crate::chunk::Chunk;
 use crate::cursor::Cursor;
 use crate::run::{Piece, named_weight};
 use crate::shared::SharedRun;
@@ -29,6 +31,41 @@ pub fn runs_weight(runs: &[SharedRun]) -> u64
         weight = weight.saturating_add(run.weight());
     }
     weight
+}
+
+/// How many code units runs have.
+pub fn runs_units(runs: &[SharedRun]) -> u64
+    requires { length (units_of_runs runs.now) < 2 ^ 64 }
+    ensures { result ≡ length (units_of_runs runs.now) }
+{
+    let mut units: u64 = 0;
+    for run in runs {
+        units += run.units();
+    }
+    units
+}
+
+/// The weight of chunks.
+pub fn chunks_weight(chunks: &[Chunk]) -> u64
+    ensures { result ≡ min (weight_of (units_of_chunks chunks.now)) (2 ^ 64 - 1) }
+{
+    let mut weight: u64 = 0;
+    for chunk in chunks {
+        weight = weight.saturating_add(chunk.weight());
+    }
+    weight
+}
+
+/// How many code units chunks have.
+pub fn chunks_units(chunks: &[Chunk]) -> u64
+    requires { length (units_of_chunks chunks.now) < 2 ^ 64 }
+    ensures { result ≡ length (units_of_chunks chunks.now) }
+{
+    let mut units: u64 = 0;
+    for chunk in chunks {
+        units += chunk.len16();
+    }
+    units
 }
 
 /// The weight of what one operation makes.
@@ -75,7 +112,7 @@ pub fn passed_weight(cursor: &mut Cursor<'_>, len: u64) -> u64
     weight
 }
 
-// steps over the next run, or a piece of one, of at most so many code units: how many it has, and its weight
+// steps over the next chunks or runs, or a piece of a run, of at most so many code units: how many they have, and their weight
 fn passed_next_weight(cursor: &mut Cursor<'_>, most: u64) -> (u64, u64)
     requires some { 0 < most }
     requires there { most ≤ length cursor.old }
@@ -84,9 +121,14 @@ fn passed_next_weight(cursor: &mut Cursor<'_>, most: u64) -> (u64, u64)
     ensures some { 0 < result.0 }
     ensures most { result.0 ≤ most }
 {
-    // no run that is passed as a whole is looked into
-    if let Some(run) = cursor.next_run(most) {
-        return (run.units(), run.weight());
+    // no chunk or run that is passed as a whole is looked into
+    let (chunks, units) = cursor.next_chunks(most);
+    if units > 0 {
+        return (units, chunks_weight(chunks));
+    }
+    let (runs, units) = cursor.next_runs(most);
+    if units > 0 {
+        return (units, runs_weight(runs));
     }
     let piece = match cursor.next(most) {
         Ok(piece) => piece,

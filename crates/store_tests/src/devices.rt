@@ -87,6 +87,25 @@ fn a_file_is_made_in_the_working_folder(rt: HostRuntime) {
     is_made_and_opened_again(&rt, name.as_str());
 }
 
+/// While a device over a file is there no other one is made over it, and afterwards one is.
+fn is_open_once<R: Files<File = File> + AllocGlobal + Abort>(rt: &R, path: &str) {
+    let mut disk = made(rt, path, 8);
+    assert!(rt; FileDisk::open(rt, path).is_err());
+    try_out(rt, &mut disk);
+    assert!(rt; FileDisk::create(rt, path, 8).is_err());
+    drop(disk);
+    let mut again = FileDisk::open(rt, path).expect(rt, "the file");
+    assert!(rt; FileDisk::open(rt, path).is_err());
+    holds_what_was_written(rt, &mut again);
+    fs::remove_file(rt, path).expect(rt, "the file goes");
+}
+
+#[test]
+fn one_device_at_a_time_is_over_a_file(rt: HostRuntime) {
+    let path = path(&rt, "locked").expect(&rt, "a path");
+    is_open_once(&rt, path.as_str());
+}
+
 /// Writes and reads at the end of a longer device.
 fn try_out_longer(rt: &impl Abort, disk: &mut FileDisk) {
     assert_eq!(rt; disk.len(), 2_500_000);

@@ -43,3 +43,8 @@ abbrev pub last_attributes : List (List Element) → Option Attributes
 last_attributes [] = None
 last_attributes (r ∷ []) = text_attributes r
 last_attributes (r ∷ s ∷ rs) = last_attributes (s ∷ rs)
+
+-- those of the first
+abbrev pub first_attributes : List (List Element) → Option Attributes
+first_attributes [] = None
+first_attributes (r ∷ rs) = text_attributes r

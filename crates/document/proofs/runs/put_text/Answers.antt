@@ -19,13 +19,13 @@ returns-then-branch-clause-kept c =
 pub returns-clause-ok : goal.returns-clause-ok
 returns-clause-ok c =
     let missed = on_false _ _ _ c.if-branch.false c.in_ok-merge_last.ensures.ok in
-    units_more c.args.runs.now.items _ _ _ (rw missed.1 at c.in_ok-push.ensures.items) (c.in_ok-new.ensures.run ∙ c.in_ok-run.ensures.run)
+    units_more c.args.runs.now _ _ _ (rw missed.1 at c.in_ok-push.ensures.ok) (c.in_ok-new.ensures.run ∙ c.in_ok-run.ensures.run)
 
 pub returns-clause-kept : goal.returns-clause-kept
 returns-clause-kept c =
     let missed = on_false _ _ _ c.if-branch.false c.in_ok-merge_last.ensures.ok in
     let us = units_of c.args.text.now in
     let some : 0 < length (letters us c.args.attrs) = omega (arith, length-letters us c.args.attrs, c.if-units-eq0.false, c.requires.counted) in
-    AreRuns-one_more c.args.runs.now.items _ _ _ (rw missed.1 at c.in_ok-push.ensures.items) (c.in_ok-new.ensures.run ∙ c.in_ok-run.ensures.run) c.requires.kept (some, IsWellFormed-text c.args.text.now c.args.attrs c.utf8.text)
-    (subst (IsApart (last_attributes c.args.runs.now.items)) (sym (text_attributes-letters us c.args.attrs _ refl some))
-    (apart_from_text (last_attributes c.args.runs.now.items) c.args.attrs missed.0))
+    AreRuns-one_more c.args.runs.now _ _ _ (rw missed.1 at c.in_ok-push.ensures.ok) (c.in_ok-new.ensures.run ∙ c.in_ok-run.ensures.run) c.requires.kept (some, IsWellFormed-text c.args.text.now c.args.attrs c.utf8.text)
+    (subst (IsApart (last_attributes c.args.runs.now)) (sym (text_attributes-letters us c.args.attrs _ refl some))
+    (apart_from_text (last_attributes c.args.runs.now) c.args.attrs missed.0))

@@ -31,5 +31,5 @@ loop-left-preserved c =
 
 pub returns-clause-kept : goal.returns-clause-kept
 returns-clause-kept c =
-    subst (λ n. IsRetained c.args.cursor.now c.loop-left.cursor n c.args.change.now (units_of_runs c.args.out.now.items) (units_of_runs c.loop-left.out.items))
+    subst (λ n. IsRetained c.args.cursor.now c.loop-left.cursor n c.args.change.now (units_of_runs c.args.out.now) (units_of_runs c.loop-left.out))
     (omega (arith, c.loop-left.invariant.less)) c.loop-left.invariant.kept

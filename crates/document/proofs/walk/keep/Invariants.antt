@@ -6,12 +6,12 @@ use Rattle.document.proofs.walk.keep.Given as goal
 
 abbrev pub invariant-loop-left : goal.invariant-loop-left
 invariant-loop-left l = record {
-  kept : IsRetained l.initial.cursor l.cursor (l.len - l.left) l.change (units_of_runs l.initial.out.items) (units_of_runs l.out.items);
+  kept : IsRetained l.initial.cursor l.cursor (l.len - l.left) l.change (units_of_runs l.initial.out) (units_of_runs l.out);
   less : l.left ≤ l.len;
   there : l.left ≤ length l.cursor;
   whole : ¬ (IsWithinPair l.cursor l.left);
-  bound : length (units_of_runs l.out.items) + l.left < 2 ^ 64;
-  runs : AreRuns l.out.items;
+  bound : length (units_of_runs l.out) + l.left < 2 ^ 64;
+  runs : AreRuns l.out;
 }
 
 abbrev pub decreases-loop-left : goal.decreases-loop-left

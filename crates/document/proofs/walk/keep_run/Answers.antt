@@ -8,20 +8,13 @@ use Rattle.document.proofs.Passing.{kept-piece}
 use Rattle.document.proofs.Progress.{kept_same}
 use Rattle.document.proofs.walk.keep_run.Goals as goal
 
-pub returns-then-is_empty-clause-units : goal.returns-then-is_empty-clause-units
-returns-then-is_empty-clause-units c =
-    let empty_one = c.if-is_empty.ensures.0 refl in
-    c.in_ok-put_run.ensures.ok
-    ∙ ap (λ l. units_of_runs c.args.out.now.items ++ l)
-    (sym (kept_same c.args.run.now) ∙ ap (λ d. with_change d c.args.run.now) (sym empty_one))
-
 pub returns-then-eq-clause-units : goal.returns-then-eq-clause-units
 returns-then-eq-clause-units c =
-    let out = units_of_runs c.args.out.now.items in
+    let out = units_of_runs c.args.out.now in
     let by_change = c.in_ok-attrs.ensures.value ∙ ap (λ a. changed a c.args.change.now) c.attrs.ensures in
     let same = (same_attributes-Decides _ _).0 (sym c.if-eq.ensures) in
     let unchanged = sym c.attrs-3.ensures ∙ (sym same ∙ by_change) in
-    c.in_ok-put_run-2.ensures.ok
+    c.in_ok-put_run.ensures.ok
     ∙ ap (λ l. out ++ l)
     (sym c.piece-piece.ensures.units
     ∙ (sym (dressed_itself c.piece-piece.result)
@@ -30,7 +23,7 @@ returns-then-eq-clause-units c =
 
 pub returns-clause-units : goal.returns-clause-units
 returns-clause-units c =
-    let out = units_of_runs c.args.out.now.items in
+    let out = units_of_runs c.args.out.now in
     let by_change = c.in_ok-attrs.ensures.value ∙ ap (λ a. changed a c.args.change.now) c.attrs.ensures in
     c.in_ok-put.ensures.units
     ∙ ap (λ l. out ++ l)

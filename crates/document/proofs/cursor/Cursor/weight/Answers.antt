@@ -1,4 +1,5 @@
-use Rattle.std.proofs.Common.{◌≡◌, ◌-◌, ◌^◌, min, ap, sym, ◌∙◌, arith}
+use Rattle.std.proofs.Common.{◌≡◌, ◌-◌, ◌^◌, ◌++◌, min, ap, sym, ◌∙◌, arith}
+use Rattle.document.specs.Chunks.{units_of_chunks}
 use Rattle.document.specs.Weight.{weight_of}
 use Rattle.document.specs.steps.Pieces.{begun_units}
 use Rattle.document.specs.steps.Runs.{units_of_runs}
@@ -16,8 +17,11 @@ returns c =
     omega (
       arith,
       c.saturating_add.ensures,
+      c.saturating_add-2.ensures,
       c.runs_weight.ensures,
+      c.chunks_weight.ensures,
       begun,
-      weight_of-append (begun_units c.self.inside.begun) (units_of_runs c.self.inside.rest.now),
+      weight_of-append (begun_units c.self.inside.begun) (units_of_runs c.self.inside.runs.now ++ units_of_chunks c.self.inside.chunks.now),
+      weight_of-append (units_of_runs c.self.inside.runs.now) (units_of_chunks c.self.inside.chunks.now),
       ap weight_of c.self.view_is,
     )

@@ -1,33 +1,44 @@
-use Rattle.std.proofs.Common.{◌≡◌, ◌+◌, ◌∙◌, length, take, ap, arith}
-use Rattle.std.proofs.lemmas.List.{take_all}
+use Rattle.std.proofs.Common.{◌≡◌, ◌+◌, ◌++◌, ◌∙◌, refl, sym, length, ap, arith, append_assoc, append-nil, length-append}
+use Rattle.std.proofs.lemmas.List.{nil_from_length}
 use Rattle.delta.specs.Gaps.{End}
 use Rattle.delta.specs.Normal.{nf, spelled}
-use Rattle.document.specs.steps.Runs.{units_of_runs}
-use Rattle.document.proofs.Joined.{length-one_more, length-before}
-use Rattle.document.proofs.Inserting.{spelled_more, runs_before_next, bounded_more, only_memory, finished, finished_base, finished_back}
+use Rattle.document.specs.steps.Pieces.{piece_units}
+use Rattle.document.proofs.Inserting.{spelled_more, bounded_more, only_memory, finished, finished_base, finished_back}
+use Rattle.document.proofs.Passing.{length-parts}
+use Rattle.document.proofs.Progress.{whole_at_end}
 use Rattle.document.proofs.document.Document.as_delta.Goals as goal
 use Rattle.document.proofs.document.Document.as_delta.Goals.{After-finish}
 
-pub returns-in-Err-clause-only : goal.returns-in-Err-clause-only
-returns-in-Err-clause-only c =
-    let rs = c.deref-run-items.result.now in
-    only_memory c.in-Err.refusal _
-    (bounded_more (units_of_runs (take c.loop-run.run-index rs)) c.loop-run.builder c.in_ok-op.op c.loop-run.invariant c.in_ok-op.ensures.base
-    (omega (arith, length-one_more rs c.loop-run.run-index c.run-item.result c.loop-run-test.true c.run-item.is, length-before rs (c.loop-run.run-index + 1), c.in_ok-op.ensures.out, ap length c.piece.ensures.units, ap (λ l. length (units_of_runs l)) c.deref-run-items.ensures.value, c.self.invariant.0)))
-    c.in-Err.ensures.bad c.in-Err.ensures.only
+pub unreachable-requires : goal.unreachable-requires
+unreachable-requires c = whole_at_end c.loop-left.cursor c.loop-left.left (sym c.loop-left.invariant.left) c.in-Err.ensures.parted
 
-pub loop-run-preserved : goal.loop-run-preserved
-loop-run-preserved c =
-    let rs = c.deref-run-items.result.now in
-    spelled_more (units_of_runs (take c.loop-run.run-index rs)) _ _ c.in_ok-op.op c.loop-run.builder c.push.new.self c.loop-run.invariant c.in_ok-op.ensures.units c.in_default.ensures.ok
-    (runs_before_next rs c.loop-run.run-index c.run-item.result _ c.loop-run-test.true c.run-item.is c.piece.ensures.units)
+pub returns-in-Err-push-clause-only : goal.returns-in-Err-push-clause-only
+returns-in-Err-push-clause-only c =
+    let so_far = c.loop-left.invariant.made in
+    only_memory c.in-Err-push.refusal _
+    (bounded_more so_far.0 c.loop-left.builder c.in_ok-op.op so_far.1 c.in_ok-op.ensures.base
+    (omega (arith, ap length so_far.2, length-append so_far.0 c.loop-left.cursor, length-parts c.loop-left.cursor c.next.new.self (piece_units c.in-Ok.piece) c.in-Ok.ensures.parts, c.in_ok-op.ensures.out, c.len16-left.ensures.bounded)))
+    c.in-Err-push.ensures.bad c.in-Err-push.ensures.only
+
+pub loop-left-preserved : goal.loop-left-preserved
+loop-left-preserved c =
+    let so_far = c.loop-left.invariant.made in
+    let more = piece_units c.in-Ok.piece in
+    record {
+      made = (
+        so_far.0 ++ more,
+        spelled_more so_far.0 more (so_far.0 ++ more) c.in_ok-op.op c.loop-left.builder c.push.new.self so_far.1 c.in_ok-op.ensures.units c.in_default.ensures.ok refl,
+        append_assoc so_far.0 more c.next.new.self ∙ (ap (λ l. so_far.0 ++ l) c.in-Ok.ensures.parts ∙ so_far.2),
+      );
+      left = omega (arith, length-parts c.loop-left.cursor c.next.new.self more c.in-Ok.ensures.parts, c.units-left.ensures.units, c.loop-left.invariant.left);
+    }
 
 made : (c : After-finish) → c.finish.result ≡ nf (End c.args.self.now)
 made c =
-    let all = take_all c.loop-run.run-index c.deref-run-items.result.now c.loop-run-test.false in
-    finished c.args.self.now c.loop-run.builder c.finish.result
-    (c.loop-run.invariant ∙ ap (λ l. spelled (End l)) (ap units_of_runs (all ∙ c.deref-run-items.ensures.value) ∙ c.self.view_is))
-    c.finish.ensures
+    let so_far = c.loop-left.invariant.made in
+    let none = nil_from_length c.loop-left.cursor (omega (arith, c.loop-left.invariant.left, c.loop-left-test.false)) in
+    let all : so_far.0 ≡ c.args.self.now = sym (append-nil so_far.0) ∙ (ap (λ l. so_far.0 ++ l) (sym none) ∙ so_far.2) in
+    finished c.args.self.now c.loop-left.builder c.finish.result (so_far.1 ∙ ap (λ l. spelled (End l)) all) c.finish.ensures
 
 pub returns-clause-delta : goal.returns-clause-delta
 returns-clause-delta c = made c
