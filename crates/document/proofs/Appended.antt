@@ -1,10 +1,10 @@
 -- A text that the last run of a document takes in.
-use Rattle.std.proofs.Common.{◌≡◌, ◌≢◌, Bool, true, false, MatchBool, Some, ℕ, ◌+◌, ◌≤◌, List, [], ◌∷◌, ◌++◌, length, get_or, set, refl, sym, ap, subst, ◌∙◌, arith, length-append}
+use Rattle.std.proofs.Common.{◌≡◌, ◌≢◌, Bool, true, false, MatchBool, Some, ℕ, ◌+◌, ◌≤◌, List, [], ◌∷◌, ◌++◌, length, get_or, set, sym, ap, subst, ◌∙◌, arith, length-append}
 use Rattle.attributes.specs.Attributes.{Attributes}
 use Rattle.delta.specs.Element.{Element}
 use Rattle.document.specs.Chunks.{runs_of_chunks, units_of_chunks, IsChunk, AreSized, AreChunks}
 use Rattle.document.specs.Pairs.{IsWellFormed}
-use Rattle.document.specs.steps.Runs.{units_of_runs, AreRuns, TakesText, last_attributes}
+use Rattle.document.specs.Runs.{units_of_runs, AreRuns, TakesText, last_attributes}
 use Rattle.document.proofs.Chunked.{runs_of_chunks-last, AreSized-append, AreSized-parts, TakesText-later, length_chunks-more, length_chunks-before}
 use Rattle.document.proofs.Ended.{ends_in, set-last, units-taken, AreRuns-taken}
 

@@ -4,7 +4,7 @@ use Rattle.std.proofs.lemmas.List.{take-append-drop, take_more, take_rest, nil_f
 use Rattle.attributes.specs.Attributes.{Attributes}
 use Rattle.delta.specs.Element.{Element}
 use Rattle.document.specs.Chunks.{runs_of_chunks, units_of_chunks, IsChunk, AreSized, AreChunks}
-use Rattle.document.specs.steps.Runs.{units_of_runs, AreRuns, IsApart, TakesText, first_attributes, last_attributes, text_attributes}
+use Rattle.document.specs.Runs.{units_of_runs, AreRuns, IsApart, TakesText, first_attributes, last_attributes, text_attributes}
 use Rattle.document.specs.Weight.{weight_of}
 use Rattle.document.proofs.Ended.{EndsIn, ends_in, last_attributes-last, apart_from_embed, units-taken}
 use Rattle.document.proofs.Joined.{units_of_runs-append}

@@ -7,7 +7,7 @@ use Rattle.utf16.specs.Units.{units_of, IsHigh, IsLow, IsInPair}
 use Rattle.std.specs.Borrow.{Bor}
 use Rattle.document.specs.declared.run.Piece.{Piece}
 use Rattle.document.specs.declared.run.Piece.TheVariants as piece
-use Rattle.document.specs.steps.Pieces.{IsPiece}
+use Rattle.document.specs.Pieces.{IsPiece}
 use Rattle.utf16.specs.declared.cut.Cut.{Cut}
 use Rattle.utf16.specs.declared.cut.Cut.TheVariants.{PastEnd, InPair}
 use Rattle.delta.specs.Element.{letters}

@@ -8,7 +8,7 @@ use Rattle.delta.proofs.CallerLemmas.{units_below-counted, length-apply_counted}
 use Rattle.document.specs.steps.Passes.{StopsInPair}
 use Rattle.delta.specs.Places.{IsDefined}
 use Rattle.document.specs.Places.{Cuts}
-use Rattle.document.specs.steps.Runs.{units_of_runs}
+use Rattle.document.specs.Runs.{units_of_runs}
 use Rattle.document.proofs.Parting.{parts_of_cut, cut_of_parts}
 
 pub defined_by : (d : List Element) (ops : List Operation) → base_of ops ≤ length d → IsDefined d (counted ops)

@@ -1,13 +1,13 @@
 -- Steps of a cursor over whole runs and whole chunks.
-use Rattle.std.proofs.Common.{◌≡◌, ℕ, List, [], ◌++◌, ◌∷◌, length, take, drop, refl, sym, ap, ◌∙◌, arith, false, append_assoc, append-nil, Option, Some, None}
+use Rattle.std.proofs.Common.{◌≡◌, ℕ, List, [], ◌++◌, length, take, drop, refl, sym, ap, ◌∙◌, arith, false, append_assoc, Option, Some, None}
 use Rattle.std.specs.Option.{is_some}
 use Rattle.std.proofs.lemmas.Bool.{false≢true}
 use Rattle.std.proofs.lemmas.List.{take-append-drop, nil_from_length}
 use Rattle.delta.specs.Element.{Element}
 use Rattle.document.specs.Chunks.{units_of_chunks}
 use Rattle.document.specs.declared.run.Piece.{Piece}
-use Rattle.document.specs.steps.Pieces.{begun_units}
-use Rattle.document.specs.steps.Runs.{units_of_runs}
+use Rattle.document.specs.Pieces.{begun_units}
+use Rattle.document.specs.Runs.{units_of_runs}
 use Rattle.document.proofs.Joined.{units_of_runs-append}
 use Rattle.document.proofs.Chunked.{units_of_chunks-append}
 

@@ -8,7 +8,7 @@ use Rattle.delta.specs.Operation.{Operation, op_base, op_out, base_of, out_of, I
 use Rattle.delta.specs.Gaps.{End, front, joined, counted, units_below, apply}
 use Rattle.delta.specs.Normal.{spelled, settled, built, nf}
 use Rattle.delta.proofs.CallerLemmas.{apply-nf, counted-append, units_below-counted, base_of-append, out_of-append, base_of-nf, length-apply_counted, counted-spelled}
-use Rattle.document.specs.steps.Runs.{units_of_runs}
+use Rattle.document.specs.Runs.{units_of_runs}
 use Rattle.document.proofs.Joined.{units_of_runs-last}
 
 counted_of : (us : List Element) (ops : List Operation) → ops ≡ spelled (End us) → counted ops ≡ End us

@@ -4,7 +4,7 @@ use Rattle.std.proofs.lemmas.Bool.{false≢true}
 use Rattle.std.proofs.lemmas.List.{map-append, length-map}
 use Rattle.attributes.specs.Attributes.{Attributes, same_attributes, same_attributes-Decides}
 use Rattle.delta.specs.Element.{Element, lettered, letters}
-use Rattle.document.specs.steps.Runs.{text_attributes}
+use Rattle.document.specs.Runs.{text_attributes}
 
 pub letters-append : (us vs : List ℕ) (a : Attributes) → letters (us ++ vs) a ≡ letters us a ++ letters vs a
 letters-append us vs a = map-append (λ u. lettered u a) us vs

@@ -14,7 +14,7 @@ use Rattle.document.specs.Weight.{weight_of, attributes_weight}
 use Rattle.document.specs.declared.run.Piece.{Piece}
 use Rattle.document.specs.declared.run.Piece.TheVariants as piece
 use Rattle.document.specs.steps.Passes.{IsSteppedOver, with_change}
-use Rattle.document.specs.steps.Pieces.{piece_units, piece_attributes, piece_dressed, IsCounted, IsPiece}
+use Rattle.document.specs.Pieces.{piece_units, piece_attributes, piece_dressed, IsCounted, IsPiece}
 use Rattle.document.specs.steps.Weighing.{piece_weight, IsRetainedWeighed, IsWeighed}
 use Rattle.document.proofs.Letters.{length-letters}
 use Rattle.document.proofs.Passing.{passed_none, passed_more, passed_on, passed_run, kept-piece}

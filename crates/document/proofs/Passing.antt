@@ -7,7 +7,7 @@ use Rattle.document.specs.declared.run.Piece.{Piece}
 use Rattle.document.specs.declared.run.Piece.TheVariants as piece
 use Rattle.document.specs.Pairs.{IsPairAt, IsWithinPair, IsWellFormed}
 use Rattle.document.specs.steps.Passes.{IsSteppedOver, IsRetained, with_change}
-use Rattle.document.specs.steps.Pieces.{piece_units, piece_attributes, piece_dressed}
+use Rattle.document.specs.Pieces.{piece_units, piece_attributes, piece_dressed}
 use Rattle.document.proofs.Formed.{IsPairAt-later, IsWellFormed-append, well_formed-of_formed}
 
 -- a pair of a document is one with more before it

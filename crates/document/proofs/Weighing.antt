@@ -9,8 +9,8 @@ use Rattle.attributes.specs.Scalar.{Scalar}
 use Rattle.delta.specs.Element.{Element, letters}
 use Rattle.document.specs.declared.run.Content.{Content}
 use Rattle.document.specs.declared.run.Content.TheVariants as content
-use Rattle.document.specs.steps.Pieces.{content_units, content_weight}
-use Rattle.document.specs.steps.Runs.{units_of_runs}
+use Rattle.document.specs.Pieces.{content_units, content_weight}
+use Rattle.document.specs.Runs.{units_of_runs}
 use Rattle.document.specs.Weight.{entries_weight, named_weight, weight_of, attributes_weight}
 use Rattle.document.proofs.Joined.{units_of_runs-last}
 use Rattle.document.proofs.Letters.{length-letters}

@@ -1,7 +1,7 @@
 -- A document in chunks: a chunk is seen as its list of runs, and the runs of a document are those of all its chunks.
 use Rattle.std.specs.Prelude.{◌≤◌, ◌<◌, List, [], ◌∷◌, ◌++◌, length}
 use Rattle.delta.specs.Element.{Element}
-use Rattle.document.specs.steps.Runs.{units_of_runs, AreRuns}
+use Rattle.document.specs.Runs.{units_of_runs, AreRuns}
 
 -- the runs of all chunks
 abbrev pub runs_of_chunks : List (List (List Element)) → List (List Element)

@@ -4,6 +4,8 @@ pub mod Weight
 pub mod Outcome
 pub mod Making
 pub mod steps
+pub mod Pieces
+pub mod Runs
 pub mod Chunks
 pub mod Laws
 mod Examples

@@ -1,5 +1,3 @@
 -- What the contracts of single steps cite: for a reader of a body, beside the definitions of the subject.
-pub mod Runs
-pub mod Pieces
 pub mod Passes
 pub mod Weighing

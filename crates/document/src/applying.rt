@@ -5,7 +5,7 @@ ghost use Rattle.delta.specs.Gaps.{counted, apply};
 ghost use Rattle.document.specs.Chunks.{units_of_chunks, AreChunks};
 ghost use Rattle.document.specs.Pairs.{IsWithinPair};
 ghost use Rattle.document.specs.steps.Passes.{StopsInPair, IsOneApplied};
-ghost use Rattle.document.specs.steps.Runs.{units_of_runs, AreRuns};
+ghost use Rattle.document.specs.Runs.{units_of_runs, AreRuns};
 
 use crate::building::ChunkBuilder;
 use crate::chunk::Chunk;

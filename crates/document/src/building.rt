@@ -3,7 +3,7 @@ ghost use Rattle.std.specs.Prelude.{◌≡◌, ◌≢◌, ◌+◌, ◌-◌, ◌<
 ghost use Rattle.utf16.specs.Units.{units_of};
 ghost use Rattle.delta.specs.Element.{letters};
 ghost use Rattle.document.specs.Chunks.{runs_of_chunks, units_of_chunks, IsChunk, AreSized, AreChunks};
-ghost use Rattle.document.specs.steps.Runs.{units_of_runs, AreRuns, IsApart, TakesText, last_attributes, first_attributes, text_attributes};
+ghost use Rattle.document.specs.Runs.{units_of_runs, AreRuns, IsApart, TakesText, last_attributes, first_attributes, text_attributes};
 
 use crate::chunk::Chunk;
 use crate::runs::{extend, merge_into, share_all};

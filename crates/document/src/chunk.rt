@@ -3,7 +3,7 @@ ghost use Rattle.std.specs.Prelude.{◌≡◌, ◌≢◌, ◌+◌, ◌-◌, min,
 ghost use Rattle.utf16.specs.Units.{units_of};
 ghost use Rattle.delta.specs.Element.{letters};
 ghost use Rattle.document.specs.Chunks.{IsChunk};
-ghost use Rattle.document.specs.steps.Runs.{units_of_runs, last_attributes, first_attributes, text_attributes, TakesText};
+ghost use Rattle.document.specs.Runs.{units_of_runs, last_attributes, first_attributes, text_attributes, TakesText};
 ghost use Rattle.document.specs.Weight.{weight_of};
 
 use crate::runs::{merge_into, share_all};
@@ -16,7 +16,7 @@ use std::marker::Model;
 use std::sync::Arc;
 
 /// 1 to 128 runs that any number of documents own together, seen as the list of these runs. Its number of code units and its
-/// weight stand beside it, so that who passes a chunk doesn't look into it.
+/// weight are kept beside the runs, so that whoever steps over a chunk doesn't look into it.
 #[derive(Drop)]
 pub struct Chunk {
     runs: Arc<Vec<SharedRun>>,
@@ -31,7 +31,7 @@ impl Model for Chunk {
     ghost use Rattle.std.specs.Arc.{arc_value};
     ghost use Rattle.delta.specs.Element.{Element};
     ghost use Rattle.delta.specs.ElementCode.{element_code};
-    ghost use Rattle.document.specs.steps.Runs.{units_of_runs};
+    ghost use Rattle.document.specs.Runs.{units_of_runs};
     ghost use Rattle.document.specs.Chunks.{IsChunk};
 
     ghost Value = { List (List Element) };
@@ -47,7 +47,7 @@ impl Model for Chunk {
 
 impl Chunk {
     /// A chunk of these runs, with one owner.
-    pub fn new(alloc: Global, runs: Vec<SharedRun>) -> Result<Self, Refusal>
+    pub(crate) fn new(alloc: Global, runs: Vec<SharedRun>) -> Result<Self, Refusal>
         requires sized { IsChunk runs.items }
         requires bound { length (units_of_runs runs.items) < 2 ^ 64 }
         ensures runs { IfOk result (λ chunk. chunk ≡ runs.items) }
@@ -66,7 +66,7 @@ impl Chunk {
     }
 
     /// Has these runs in place of its own. Where the chunk has one owner that takes no memory.
-    pub fn replace(&mut self, alloc: Global, runs: Vec<SharedRun>) -> Result<(), Refusal>
+    pub(crate) fn replace(&mut self, alloc: Global, runs: Vec<SharedRun>) -> Result<(), Refusal>
         requires sized { IsChunk runs.items }
         requires bound { length (units_of_runs runs.items) < 2 ^ 64 }
         ensures ok { OnOk result (self.new ≡ runs.items) }
@@ -86,7 +86,7 @@ impl Chunk {
     }
 
     /// One more owner of the chunk. It takes no memory: refused only where the chunk can have no more owners.
-    pub fn share(&self) -> Result<Self, Refusal>
+    pub(crate) fn share(&self) -> Result<Self, Refusal>
         ensures same { IfOk result (λ chunk. chunk ≡ self.now) }
         ensures only { IsOkUnless result Refusal.NoMemory }
     {
@@ -98,7 +98,7 @@ impl Chunk {
         })
     }
 
-    /// Its runs.
+    /// Its runs, 1 to 128 of them. It takes no memory.
     pub fn runs(&self) -> &[SharedRun]
         ensures runs { result.now ≡ self.now }
         ensures sized { IsChunk self.now }
@@ -106,14 +106,14 @@ impl Chunk {
         self.runs.as_slice()
     }
 
-    /// How many code units it has. In constant time.
+    /// How many code units it has; an embed counts as one. In constant time.
     pub fn len16(&self) -> u64
         ensures { result ≡ length (units_of_runs self.now) }
     {
         self.units
     }
 
-    /// Its weight, and 2^64 - 1 where that is more. In constant time.
+    /// Its weight, as `Document::weight` counts it, and 2^64 - 1 where that is more. In constant time.
     pub fn weight(&self) -> u64
         ensures { result ≡ min (weight_of (units_of_runs self.now)) (2 ^ 64 - 1) }
     {
@@ -121,14 +121,14 @@ impl Chunk {
     }
 
     /// Its first run.
-    pub fn first(&self) -> &SharedRun
+    pub(crate) fn first(&self) -> &SharedRun
         ensures { first_attributes self.now ≡ text_attributes result.now }
     {
         &self.runs[0]
     }
 
     /// Its last run.
-    pub fn last(&self) -> &SharedRun
+    pub(crate) fn last(&self) -> &SharedRun
         ensures { last_attributes self.now ≡ text_attributes result.now }
     {
         let len = self.runs.len();
@@ -137,7 +137,7 @@ impl Chunk {
 
     /// Takes a text into the last run, where that is a text of equal attributes, and says whether it is. The chunk is changed in
     /// place where it has one owner, and is else made anew for this one.
-    pub fn merge_last(
+    pub(crate) fn merge_last(
         &mut self,
         alloc: Global,
         text: &str,

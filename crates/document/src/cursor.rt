@@ -1,20 +1,22 @@
 //! A walk over the units of runs, piece by piece.
-ghost use Rattle.std.specs.Prelude.{◌≡◌, ◌-◌, ◌^◌, min, ◌≤◌, ◌<◌, ◌++◌, length, IfOk, IfSome, OnErr, None, IsOkUnless, take};
+ghost use Rattle.std.specs.Prelude.{◌≡◌, ◌-◌, ◌^◌, min, ◌≤◌, ◌<◌, ◌++◌, length, IfOk, IfSome, OnOk, OnErr, None, IsOkUnless, take};
 ghost use Rattle.document.specs.Pairs.{IsWithinPair};
 ghost use Rattle.document.specs.Chunks.{units_of_chunks, AreChunks};
 ghost use Rattle.document.specs.Weight.{weight_of};
-ghost use Rattle.document.specs.steps.Pieces.{piece_units, begun_units, IsPiece, IsBegun};
-ghost use Rattle.document.specs.steps.Runs.{units_of_runs, AreRuns, IsRun};
+ghost use Rattle.document.specs.steps.Passes.{IsSteppedOver};
+ghost use Rattle.document.specs.Pieces.{piece_units, begun_units, IsPiece, IsBegun};
+ghost use Rattle.document.specs.Runs.{units_of_runs, AreRuns, IsRun};
 
 use crate::chunk::Chunk;
 use crate::run::Piece;
 use crate::shared::SharedRun;
+use crate::walk::skip;
 use crate::weights::{chunks_weight, runs_weight};
 use std::marker::Model;
 use utf16::{Cut, split_counted};
 
-/// A place in chunks, seen as the units from there on: what is left of a run, the runs after it in its chunk, and the chunks after
-/// that.
+/// A place in a document, seen as the units from there on. It is what is left of a run, the runs after it in its chunk, and the
+/// chunks after that.
 #[derive(Drop)]
 pub struct Cursor<'a> {
     begun: Option<Piece<'a>>,
@@ -27,9 +29,9 @@ impl<'a> Model for Cursor<'a> {
     ghost use Rattle.std.specs.Coded.{coded_list};
     ghost use Rattle.delta.specs.Element.{Element};
     ghost use Rattle.delta.specs.ElementCode.{element_code};
-    ghost use Rattle.document.specs.steps.Pieces.{begun_units, IsBegun};
+    ghost use Rattle.document.specs.Pieces.{begun_units, IsBegun};
     ghost use Rattle.document.specs.Chunks.{units_of_chunks, AreChunks};
-    ghost use Rattle.document.specs.steps.Runs.{units_of_runs, AreRuns};
+    ghost use Rattle.document.specs.Runs.{units_of_runs, AreRuns};
 
     ghost Value = { List Element };
 
@@ -43,7 +45,7 @@ impl<'a> Model for Cursor<'a> {
 
 impl<'a> Cursor<'a> {
     /// The start of the chunks.
-    pub fn new(chunks: &'a [Chunk]) -> Self
+    pub(crate) fn new(chunks: &'a [Chunk]) -> Self
         requires { AreChunks chunks.now }
         ensures { result ≡ units_of_chunks chunks.now }
     {
@@ -54,7 +56,7 @@ impl<'a> Cursor<'a> {
         }
     }
 
-    /// The same place once more, from where another walk goes on.
+    /// The same place once more, from where another walk goes on. It takes no memory.
     pub fn again(&self) -> Self
         ensures { result ≡ self.now }
     {
@@ -65,7 +67,20 @@ impl<'a> Cursor<'a> {
         }
     }
 
-    /// The next piece, of at most so many code units, and steps over it; refused where that would part a pair.
+    /// Steps over so many code units, and looks into none of the chunks and runs that these have as a whole; refused where that would
+    /// part a pair, and then the cursor may have moved.
+    pub fn skip(&mut self, len: u64) -> Result<(), Cut>
+        requires { len ≤ length self.old }
+        ensures passed { OnOk result (IsSteppedOver self.old self.new len) }
+        ensures parted { OnErr result (IsWithinPair self.old len) }
+        ensures only { IsOkUnless result Cut.InPair }
+    {
+        skip(self, len)?;
+        Ok(())
+    }
+
+    /// The next piece, of at most so many code units, a run or a part of one, and steps over it; refused where that would part a
+    /// pair.
     pub fn next(&mut self, most: u64) -> Result<Piece<'a>, Cut>
         requires some { 0 < most }
         requires there { most ≤ length self.old }
@@ -84,7 +99,7 @@ impl<'a> Cursor<'a> {
     }
 
     /// The next run, and steps over it, where it stands there as a whole and has at most so many code units.
-    pub fn next_run(&mut self, most: u64) -> Option<&'a SharedRun>
+    pub(crate) fn next_run(&mut self, most: u64) -> Option<&'a SharedRun>
         ensures parts { IfSome result (λ run. run.now ++ self.new ≡ self.old) }
         ensures run { IfSome result (λ run. IsRun run.now) }
         ensures most { IfSome result (λ run. length run.now ≤ most) }
@@ -108,7 +123,7 @@ impl<'a> Cursor<'a> {
 
     /// The runs up to the chunk's end that stand there as a whole and have at most so many code units together, with that number,
     /// and steps over them.
-    pub fn next_runs(&mut self, most: u64) -> (&'a [SharedRun], u64)
+    pub(crate) fn next_runs(&mut self, most: u64) -> (&'a [SharedRun], u64)
         ensures parts { units_of_runs result.0.now ++ self.new ≡ self.old }
         ensures runs { AreRuns result.0.now }
         ensures few { length result.0.now ≤ 128 }
@@ -128,7 +143,7 @@ impl<'a> Cursor<'a> {
     }
 
     /// The chunks that stand there as a whole and have at most so many code units together, with that number, and steps over them.
-    pub fn next_chunks(&mut self, most: u64) -> (&'a [Chunk], u64)
+    pub(crate) fn next_chunks(&mut self, most: u64) -> (&'a [Chunk], u64)
         ensures parts { units_of_chunks result.0.now ++ self.new ≡ self.old }
         ensures chunks { AreChunks result.0.now }
         ensures units { result.1 ≡ length (units_of_chunks result.0.now) }
@@ -145,7 +160,7 @@ impl<'a> Cursor<'a> {
     }
 
     /// How many bytes are left of a text that is begun; 0 where none is.
-    pub fn bytes_begun(&self) -> usize {
+    pub(crate) fn bytes_begun(&self) -> usize {
         match self.begun {
             Some(Piece::Text(text, _, _)) => text.len(),
             Some(Piece::Embed(_, _, _)) => 0,

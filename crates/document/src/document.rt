@@ -4,9 +4,10 @@ ghost use Rattle.document.specs.Pairs.{IsWellFormed};
 ghost use Rattle.delta.specs.Gaps.{counted, apply, End};
 ghost use Rattle.delta.specs.Normal.{nf};
 ghost use Rattle.document.specs.Weight.{weight_of};
-ghost use Rattle.document.specs.steps.Pieces.{piece_units};
+ghost use Rattle.document.specs.steps.Passes.{StopsInPair};
+ghost use Rattle.document.specs.Pieces.{piece_units};
 ghost use Rattle.document.specs.Chunks.{units_of_chunks, AreChunks};
-ghost use Rattle.document.specs.steps.Runs.{units_of_runs, AreRuns};
+ghost use Rattle.document.specs.Runs.{units_of_runs, AreRuns};
 ghost use Rattle.utf16.specs.Units.{units_of};
 ghost use Rattle.delta.specs.Element.{letters};
 ghost use Rattle.delta.specs.Operation.{base_of, out_of, op_base, op_out};
@@ -21,16 +22,15 @@ use crate::building::{ChunkBuilder, extend_made};
 use crate::chunk::Chunk;
 use crate::cursor::Cursor;
 use crate::reweighing::weighed;
-use crate::run::Piece;
 use crate::weights::{chunks_units, chunks_weight};
 use attributes::Attrs;
-use delta::{Builder, Delta, MAX_LEN, Op};
+use delta::{Builder, Delta, MAX_LEN};
 use refusal::Refusal;
 use std::alloc::Global;
 use std::marker::Model;
 
 /// A document of rich text, seen as its list of units: UTF-16 code units and embeds, each with attributes. It has at
-/// most 2^48 units. It is kept as chunks of runs.
+/// most 2^48 units. It is kept as chunks of runs, which it shares with the documents that come of it.
 #[derive(Drop)]
 pub struct Document {
     chunks: Vec<Chunk>,
@@ -78,13 +78,20 @@ impl Document {
         }
     }
 
-    /// Its chunks: each has 1 to 128 runs, and no two neighbours among the runs of all of them are texts of equal attributes. It takes
-    /// no memory.
+    /// Its chunks. Each has 1 to 128 runs, and no run merges with the next one, across chunks too: no two neighbours among all
+    /// runs are texts of equal attributes. The document without a unit has no chunk. It takes no memory.
     pub fn chunks(&self) -> &[Chunk]
         ensures units { units_of_chunks result.now ≡ self.now }
         ensures chunks { AreChunks result.now }
     {
         self.chunks.as_slice()
+    }
+
+    /// A walk over its units, from the start. It takes no memory.
+    pub fn cursor(&self) -> Cursor<'_>
+        ensures { result ≡ self.now }
+    {
+        Cursor::new(self.chunks.as_slice())
     }
 
     /// How many code units it has; an embed counts as one. Linear in the chunks.
@@ -105,9 +112,9 @@ impl Document {
     }
 
     /// What its weight would be after a delta: 2^64 - 1 where it would be more. Refused as PastEnd where the delta reaches past
-    /// the end, else as CutsPair where it parts a surrogate pair. It makes no document and takes no memory. It goes over the runs up
-    /// to the last that the delta meets, by their lengths, and looks only at those that it deletes from, changes or cuts; only a
-    /// document that weighs 2^64 - 1 or more is weighed as a whole.
+    /// the end, else as CutsPair where it parts a surrogate pair. It makes no document and takes no memory. It goes over the chunks up
+    /// to the last that the delta meets, by their lengths, looks into those in which an operation begins or ends, and weighs only
+    /// the runs that it deletes from, changes or cuts; only a document that weighs 2^64 - 1 or more is weighed as a whole.
     pub fn weigh(&self, delta: &Delta) -> Result<u64, Refusal>
         ensures ok { IfOk result (λ weight. weight
             ≡ min (weight_of (apply self.now (counted delta.now))) (2 ^ 64 - 1)) }
@@ -145,7 +152,7 @@ impl Document {
                 Ok(piece) => piece,
                 Err(_) => unreachable!(),
             };
-            let op = inserted(alloc, piece)?;
+            let op = piece.inserted(alloc)?;
             left -= piece.units();
             if let Err(refusal) = builder.push(op) {
                 return Err(refusal);
@@ -156,9 +163,10 @@ impl Document {
 
     /// Applies a delta. It is refused as PastEnd where the delta reaches past the end, else as CutsPair where it parts a
     /// surrogate pair, else as BadOps where the document would have more than 2^48 code units, and as NoMemory; the
-    /// document is then as it was. Linear in the runs, the operations and the texts of the runs that it cuts or changes; no text
-    /// is copied more than once, and none of a run that it leaves whole. Where it only puts a text behind the whole document,
-    /// no other text is copied.
+    /// document is then as it was. Linear in the chunks, the operations, the runs of the chunks in which an operation begins or ends,
+    /// those that it changes, and the texts of the runs that it cuts or changes. The other chunks are shared with the document
+    /// before, and so are the other runs; no text is copied more than once, and none of a run that it leaves whole. Where it only
+    /// puts a text behind the whole document, no other text is copied.
     pub fn apply(&mut self, alloc: Global, delta: &Delta) -> Result<(), Refusal>
         ensures ok { OnOk result (self.new ≡ apply self.old (counted delta.now)) }
         ensures well_formed { OnOk result (IsWellFormed self.new) }
@@ -330,14 +338,17 @@ impl Document {
         Ok(behind)
     }
 
-    // how many code units the document has, where a delta is defined on it and cuts no pair
-    fn fits(&self, delta: &Delta) -> Result<u64, Refusal>
+    /// How many code units the document has, where a delta is defined on it and cuts no pair. Refused as PastEnd where the delta
+    /// reaches past the end, else as CutsPair where it parts a surrogate pair. It takes no memory. It goes over the chunks up to
+    /// the last that the delta meets, and looks only into those in which an operation begins or ends.
+    pub fn fits(&self, delta: &Delta) -> Result<u64, Refusal>
         ensures len { IfOk result (λ len. len ≡ length self.now) }
         ensures bounded { length self.now ≤ 2 ^ 48 }
         ensures out { out_of delta.now ≤ 2 ^ 48 }
         ensures there { OnOk result (base_of delta.now ≤ length self.now) }
         ensures defined { OnOk result (IsDefined self.now (counted delta.now)) }
         ensures whole { OnOk result (¬ (Cuts self.now (counted delta.now))) }
+        ensures stops { OnOk result (¬ (StopsInPair self.now delta.now)) }
         ensures past_end { (result ≡ Err Refusal.PastEnd) ↔ ¬ (IsDefined self.now (counted delta.now)) }
         ensures cuts { (result ≡ Err Refusal.CutsPair)
             ↔ (IsDefined self.now (counted delta.now) × Cuts self.now (counted delta.now)) }
@@ -363,24 +374,4 @@ fn share_chunks(alloc: Global, chunks: &[Chunk]) -> Result<Vec<Chunk>, Refusal>
     let mut shared = Vec::with_capacity(alloc, chunks.len())?;
     extend_made(&mut shared, chunks)?;
     Ok(shared)
-}
-
-// the operation that inserts a piece
-fn inserted(alloc: Global, piece: Piece<'_>) -> Result<Op, Refusal>
-    ensures units { IfOk result (λ op. counted (op ∷ []) ≡ End (piece_units piece.entry)) }
-    ensures out { IfOk result (λ op. op_out op ≡ length (piece_units piece.entry)) }
-    ensures base { IfOk result (λ op. op_base op ≡ 0) }
-    ensures only { IsOkUnless result Refusal.NoMemory }
-{
-    match piece {
-        Piece::Text(text, _, attrs) => {
-            Ok(Op::text(String::from_str(alloc, text)?, attrs.copy(alloc)?))
-        }
-        Piece::Embed(key, value, attrs) => {
-            match Op::embed(alloc, key.as_str(), value.copy(alloc)?, attrs.copy(alloc)?) {
-                Ok(op) => Ok(op),
-                Err(refusal) => Err(refusal),
-            }
-        }
-    }
 }

@@ -2,10 +2,13 @@
 ghost use Rattle.std.specs.Prelude.{◌≡◌, ◌≢◌, ◌+◌, ◌-◌, ◌*◌, min, ◌<◌, ◌↔◌, ◌^◌, ◌++◌, [], ◌∷◌, length, IfOk, IfSome, OnOk, OnErr, IsOkUnless, IsTrue, Some, None, string_bytes};
 ghost use Rattle.utf16.specs.Units.{units_of};
 ghost use Rattle.delta.specs.Element.{letters, embedded};
-ghost use Rattle.document.specs.steps.Runs.{text_attributes};
+ghost use Rattle.delta.specs.Gaps.{counted, End};
+ghost use Rattle.delta.specs.Operation.{op_base, op_out};
+ghost use Rattle.document.specs.Runs.{text_attributes};
 ghost use Rattle.document.specs.Weight.{weight_of, attributes_weight, named_weight, scalar_weight};
 
 use attributes::{Attrs, Key, Value, ValueRef};
+use delta::Op;
 use refusal::Refusal;
 use std::alloc::Global;
 use std::marker::Model;
@@ -28,7 +31,7 @@ enum Content {
     Embed(Key, Value),
 }
 
-/// A part of a run: a text with its number of code units, or an embed, and the attributes.
+/// A run or a part of one: a text with its number of code units, or an embed, and the attributes.
 #[derive(Clone, Copy)]
 pub enum Piece<'a> {
     Text(&'a str, u64, &'a Attrs),
@@ -36,7 +39,7 @@ pub enum Piece<'a> {
 }
 
 impl Content {
-    ghost use Rattle.document.specs.steps.Pieces.{content_weight, IsSameContent};
+    ghost use Rattle.document.specs.Pieces.{content_weight, IsSameContent};
 
     // an equal content, whose text has room for so many bytes more
     fn copy(&self, alloc: Global, more: usize) -> Result<Self, Refusal>
@@ -65,7 +68,7 @@ impl Content {
 }
 
 impl<'a> Piece<'a> {
-    ghost use Rattle.document.specs.steps.Pieces.{piece_units, piece_attributes, IsCounted};
+    ghost use Rattle.document.specs.Pieces.{piece_units, piece_attributes, IsCounted};
     ghost use Rattle.document.specs.steps.Weighing.{piece_weight};
 
     /// How many code units it has.
@@ -90,8 +93,28 @@ impl<'a> Piece<'a> {
         }
     }
 
+    /// The operation that inserts it. Refused for want of memory alone.
+    pub fn inserted(&self, alloc: Global) -> Result<Op, Refusal>
+        ensures units { IfOk result (λ op. counted (op ∷ []) ≡ End (piece_units self.now)) }
+        ensures out { IfOk result (λ op. op_out op ≡ length (piece_units self.now)) }
+        ensures base { IfOk result (λ op. op_base op ≡ 0) }
+        ensures only { IsOkUnless result Refusal.NoMemory }
+    {
+        match self {
+            Piece::Text(text, _, attrs) => {
+                Ok(Op::text(String::from_str(alloc, text)?, attrs.copy(alloc)?))
+            }
+            Piece::Embed(key, value, attrs) => {
+                match Op::embed(alloc, key.as_str(), value.copy(alloc)?, attrs.copy(alloc)?) {
+                    Ok(op) => Ok(op),
+                    Err(refusal) => Err(refusal),
+                }
+            }
+        }
+    }
+
     /// Its weight, and 2^64 - 1 where that is more.
-    pub fn weight(&self) -> u64
+    pub(crate) fn weight(&self) -> u64
         requires { IsCounted self.now }
         ensures { result ≡ min (weight_of (piece_units self.now)) (2 ^ 64 - 1) }
     {
@@ -99,7 +122,7 @@ impl<'a> Piece<'a> {
     }
 
     /// Its weight with other attributes, by their weight.
-    pub fn weight_with(&self, attributes: u64) -> u64
+    pub(crate) fn weight_with(&self, attributes: u64) -> u64
         requires { IsCounted self.now }
         ensures { result
             ≡ min (min (attributes + (12 + piece_weight self.now)) (2 ^ 64 - 1) * length (piece_units self.now))
@@ -131,7 +154,7 @@ impl Model for Run {
 
     ghost coded = { coded_list element_code };
 
-    ghost use Rattle.document.specs.steps.Pieces.{content_units};
+    ghost use Rattle.document.specs.Pieces.{content_units};
 
     ghost view = { λ r. content_units r.content r.attrs };
 
@@ -139,7 +162,7 @@ impl Model for Run {
 }
 
 impl Run {
-    ghost use Rattle.document.specs.steps.Pieces.{piece_units, IsCounted};
+    ghost use Rattle.document.specs.Pieces.{piece_units, IsCounted};
 
     /// A run of a text with so many code units, which has room for so many bytes more.
     pub fn text(

@@ -3,7 +3,7 @@ ghost use Rattle.std.specs.Prelude.{◌≡◌, ◌≢◌, Some, ◌+◌, ◌<◌
 ghost use Rattle.utf16.specs.Units.{units_of};
 ghost use Rattle.delta.specs.Element.{letters, embedded};
 ghost use Rattle.document.specs.Chunks.{units_of_chunks, AreChunks};
-ghost use Rattle.document.specs.steps.Runs.{units_of_runs, AreRuns, IsRun, IsApart, TakesText, last_attributes, text_attributes};
+ghost use Rattle.document.specs.Runs.{units_of_runs, AreRuns, IsRun, IsApart, TakesText, last_attributes, text_attributes};
 
 use crate::building::ChunkBuilder;
 use crate::chunk::Chunk;

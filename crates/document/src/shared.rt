@@ -2,7 +2,7 @@
 ghost use Rattle.std.specs.Prelude.{◌≡◌, ◌≢◌, ◌+◌, ◌-◌, min, ◌<◌, ◌^◌, ◌++◌, length, IfOk, OnErr, IsOkUnless, IsTrue, MatchBool, Some, ◌↔◌, false};
 ghost use Rattle.utf16.specs.Units.{units_of};
 ghost use Rattle.delta.specs.Element.{letters};
-ghost use Rattle.document.specs.steps.Runs.{text_attributes, IsApart};
+ghost use Rattle.document.specs.Runs.{text_attributes, IsApart};
 ghost use Rattle.document.specs.Weight.{weight_of};
 
 use crate::run::{Piece, Run};
@@ -12,8 +12,9 @@ use std::alloc::Global;
 use std::marker::Model;
 use std::sync::Arc;
 
-/// A run that any number of documents own together, seen as its units. Only a run with one owner is changed in place. Its number
-/// of code units and its weight stand beside it, so that who passes a run doesn't look into it.
+/// A run, a text or an embed with its attributes, that any number of documents own together, seen as its units. Only a run with one
+/// owner is changed in place. Its number of code units and its weight are kept beside it, so that whoever steps over a run doesn't
+/// look into it.
 #[derive(Drop)]
 pub struct SharedRun {
     run: Arc<Run>,
@@ -40,10 +41,10 @@ impl Model for SharedRun {
 }
 
 impl SharedRun {
-    ghost use Rattle.document.specs.steps.Pieces.{piece_units, IsCounted};
+    ghost use Rattle.document.specs.Pieces.{piece_units, IsCounted};
 
     /// A run with one owner.
-    pub fn new(alloc: Global, run: Run) -> Result<Self, Refusal>
+    pub(crate) fn new(alloc: Global, run: Run) -> Result<Self, Refusal>
         ensures run { IfOk result (λ shared. shared ≡ run) }
         ensures only { IsOkUnless result Refusal.NoMemory }
     {
@@ -56,7 +57,7 @@ impl SharedRun {
     }
 
     /// One more owner of the run. It takes no memory: refused only where the run can have no more owners.
-    pub fn share(&self) -> Result<Self, Refusal>
+    pub(crate) fn share(&self) -> Result<Self, Refusal>
         ensures same { IfOk result (λ shared. shared ≡ self.now) }
         ensures only { IsOkUnless result Refusal.NoMemory }
     {
@@ -68,7 +69,7 @@ impl SharedRun {
         })
     }
 
-    /// How many code units it has.
+    /// How many code units it has; an embed counts as one.
     pub fn units(&self) -> u64
         ensures units { result ≡ length self.now }
         ensures some { 0 < result }
@@ -77,14 +78,14 @@ impl SharedRun {
     }
 
     /// Whether it is a text with these attributes.
-    pub fn takes(&self, attrs: &Attrs) -> bool
+    pub(crate) fn takes(&self, attrs: &Attrs) -> bool
         ensures { IsTrue result ↔ (text_attributes self.now ≡ Some attrs.now) }
     {
         self.run.takes(attrs)
     }
 
     /// Whether it and the next run are texts of equal attributes.
-    pub fn joins(&self, next: &SharedRun) -> bool
+    pub(crate) fn joins(&self, next: &SharedRun) -> bool
         ensures { (result ≡ false) → IsApart (text_attributes self.now) (text_attributes next.now) }
     {
         match next.piece() {
@@ -110,7 +111,7 @@ impl SharedRun {
 
     /// Takes a text in at the end where the run is a text with equal attributes, and says whether it is. The run is changed in
     /// place where it has one owner, and is else made anew for this one.
-    pub fn merge(
+    pub(crate) fn merge(
         &mut self,
         alloc: Global,
         text: &str,

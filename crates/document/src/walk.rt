@@ -3,8 +3,8 @@ ghost use Rattle.std.specs.Prelude.{◌≡◌, ◌+◌, ◌≤◌, ◌<◌, ◌^
 ghost use Rattle.attributes.specs.Map.{empty};
 ghost use Rattle.document.specs.Pairs.{IsWithinPair};
 ghost use Rattle.document.specs.steps.Passes.{IsSteppedOver, IsRetained, with_change};
-ghost use Rattle.document.specs.steps.Pieces.{piece_dressed, IsPiece};
-ghost use Rattle.document.specs.steps.Runs.{units_of_runs, IsRun, AreRuns};
+ghost use Rattle.document.specs.Pieces.{piece_dressed, IsPiece};
+ghost use Rattle.document.specs.Runs.{units_of_runs, IsRun, AreRuns};
 
 use crate::building::ChunkBuilder;
 use crate::cursor::Cursor;

@@ -11,7 +11,7 @@ ghost use Rattle.document.specs.Pairs.{IsWithinPair};
 ghost use Rattle.document.specs.Chunks.{units_of_chunks};
 ghost use Rattle.document.specs.Weight.{weight_of, attributes_weight};
 ghost use Rattle.document.specs.steps.Passes.{StopsInPair};
-ghost use Rattle.document.specs.steps.Runs.{units_of_runs, AreRuns};
+ghost use Rattle.document.specs.Runs.{units_of_runs, AreRuns};
 ghost use Rattle.document.specs.steps.Weighing.{kept_weight, set_weight, IsRetainedWeighed, IsWeighed};
 
 use crate::chunk::Chunk;

@@ -1,9 +1,9 @@
-use Rattle.std.proofs.Common.{◌+◌, ◌<◌, ◌^◌, length, ap, sym, subst, arith, ◌∙◌}
+use Rattle.std.proofs.Common.{◌+◌, ◌<◌, ◌^◌, length, ap, subst, arith}
 use Rattle.std.proofs.lemmas.List.{take_all}
 use Rattle.delta.specs.Operation.{base_of, out_of}
 use Rattle.document.specs.Chunks.{units_of_chunks}
 use Rattle.document.specs.steps.Passes.{IsRetained}
-use Rattle.document.specs.steps.Runs.{units_of_runs, AreRuns}
+use Rattle.document.specs.Runs.{units_of_runs}
 use Rattle.document.proofs.Passing.{kept_length}
 use Rattle.document.proofs.Progress.{IsApplied, drop-here, take-here, lengths-split, length-ahead, length-made, applied_more, parts_before, whole_at_end, applied_whole}
 use Rattle.document.proofs.applying.built.Goals as goal

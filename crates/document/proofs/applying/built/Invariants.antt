@@ -1,7 +1,7 @@
 use Rattle.std.proofs.Common.{take, drop}
 use Rattle.document.specs.Chunks.{units_of_chunks}
 use Rattle.document.specs.steps.Passes.{StopsInPair}
-use Rattle.document.specs.steps.Runs.{units_of_runs, AreRuns}
+use Rattle.document.specs.Runs.{units_of_runs, AreRuns}
 use Rattle.document.proofs.Progress.{IsApplied}
 use Rattle.document.proofs.applying.built.Given as goal
 

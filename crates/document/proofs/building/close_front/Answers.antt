@@ -1,6 +1,6 @@
 use Rattle.std.proofs.Common.{◌≡◌, ◌++◌, length, arith, ap}
 use Rattle.document.specs.Chunks.{IsChunk, runs_of_chunks}
-use Rattle.document.specs.steps.Runs.{units_of_runs}
+use Rattle.document.specs.Runs.{units_of_runs}
 use Rattle.document.proofs.Chunked.{length_runs-front, length_runs-back, closed_runs, closed_sized}
 use Rattle.document.proofs.building.close_front.Goals as goal
 

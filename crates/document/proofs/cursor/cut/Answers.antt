@@ -1,7 +1,7 @@
 use Rattle.std.proofs.Common.{◌≤◌, ◌-◌, length, arith, sym, ap, ◌∙◌, subst}
 use Rattle.utf16.specs.Units.{units_of, IsInPair}
 use Rattle.document.specs.Pairs.{IsWithinPair}
-use Rattle.document.specs.steps.Pieces.{piece_units}
+use Rattle.document.specs.Pieces.{piece_units}
 use Rattle.document.proofs.Cutting.{parted_by, not_refused, on_err, text_of_piece, letters-parts, length-front, length-back, both_formed}
 use Rattle.document.proofs.cursor.cut.Goals as goal
 

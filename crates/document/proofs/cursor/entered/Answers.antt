@@ -1,4 +1,4 @@
-use Rattle.std.proofs.Common.{arith, rules}
+use Rattle.std.proofs.Common.{rules}
 use Rattle.document.proofs.Chunked.{entered_first}
 use Rattle.document.proofs.cursor.entered.Goals as goal
 

@@ -1,5 +1,5 @@
 use Rattle.std.proofs.Common.{◌≡◌, ◌≤◌, length, take}
-use Rattle.document.specs.steps.Runs.{units_of_runs}
+use Rattle.document.specs.Runs.{units_of_runs}
 use Rattle.document.proofs.cursor.whole_runs.Given as goal
 
 abbrev pub invariant-loop-count : goal.invariant-loop-count

@@ -1,5 +1,5 @@
-use Rattle.std.proofs.Common.{length, arith, ap, sym, subst, ◌∙◌, length-append}
-use Rattle.document.specs.steps.Runs.{IsApart, last_attributes, units_of_runs}
+use Rattle.std.proofs.Common.{length, arith, ap, sym, subst, length-append}
+use Rattle.document.specs.Runs.{IsApart, last_attributes, units_of_runs}
 use Rattle.document.proofs.Chunked.{extended, extended_chunks, first_of_chunks, first_chunk, first_chunk_runs, first_chunk_length}
 use Rattle.document.proofs.runs.put_chunks.Goals as goal
 

@@ -1,5 +1,5 @@
 use Rattle.std.proofs.Common.{ap, ◌∙◌}
-use Rattle.document.specs.steps.Runs.{last_attributes, text_attributes}
+use Rattle.document.specs.Runs.{last_attributes, text_attributes}
 use Rattle.document.proofs.Ended.{units_more, AreRuns-one_more, last_attributes-last, on_true, on_false}
 use Rattle.document.proofs.runs.put_run.Goals as goal
 

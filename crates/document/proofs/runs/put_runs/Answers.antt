@@ -1,5 +1,5 @@
 use Rattle.std.proofs.Common.{ap, sym, subst, ◌∙◌}
-use Rattle.document.specs.steps.Runs.{IsApart, last_attributes}
+use Rattle.document.specs.Runs.{IsApart, last_attributes}
 use Rattle.document.proofs.Chunked.{extended, extended_after, first_is, first_read, last_attributes-append}
 use Rattle.document.proofs.runs.put_runs.Goals as goal
 

@@ -1,6 +1,6 @@
 use Rattle.std.proofs.Common.{◌-◌, arith, subst}
 use Rattle.document.specs.steps.Passes.{IsRetained}
-use Rattle.document.specs.steps.Runs.{units_of_runs}
+use Rattle.document.specs.Runs.{units_of_runs}
 use Rattle.document.proofs.Passing.{kept_none, kept_on, kept_left, kept_length, kept_whole}
 use Rattle.document.proofs.walk.keep.Goals as goal
 

@@ -1,7 +1,7 @@
 use Rattle.std.proofs.Common.{◌+◌, ◌≤◌, ◌-◌, ◌<◌, ◌^◌, length}
 use Rattle.document.specs.Pairs.{IsWithinPair}
 use Rattle.document.specs.steps.Passes.{IsRetained}
-use Rattle.document.specs.steps.Runs.{units_of_runs, AreRuns}
+use Rattle.document.specs.Runs.{units_of_runs, AreRuns}
 use Rattle.document.proofs.walk.keep.Given as goal
 
 abbrev pub invariant-loop-left : goal.invariant-loop-left

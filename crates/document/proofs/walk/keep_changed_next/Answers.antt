@@ -1,6 +1,6 @@
 use Rattle.std.proofs.Common.{subst}
 use Rattle.document.specs.steps.Passes.{IsRetained}
-use Rattle.document.specs.steps.Runs.{units_of_runs}
+use Rattle.document.specs.Runs.{units_of_runs}
 use Rattle.document.proofs.Passing.{kept_run}
 use Rattle.document.proofs.walk.keep_changed_next.Goals as goal
 

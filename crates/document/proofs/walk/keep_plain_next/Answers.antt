@@ -1,7 +1,7 @@
-use Rattle.std.proofs.Common.{sym, subst, arith, ◌∙◌}
+use Rattle.std.proofs.Common.{subst, arith, ◌∙◌}
 use Rattle.document.specs.Chunks.{runs_of_chunks}
 use Rattle.document.specs.steps.Passes.{IsRetained}
-use Rattle.document.specs.steps.Runs.{units_of_runs}
+use Rattle.document.specs.Runs.{units_of_runs}
 use Rattle.document.proofs.Joined.{IsWellFormed-runs}
 use Rattle.document.proofs.Progress.{kept_plain}
 use Rattle.document.proofs.walk.keep_plain_next.Goals as goal

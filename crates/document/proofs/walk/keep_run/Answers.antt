@@ -1,11 +1,10 @@
-use Rattle.std.proofs.Common.{◌∙◌, ◌++◌, ap, sym, refl}
+use Rattle.std.proofs.Common.{◌∙◌, ◌++◌, ap, sym}
 use Rattle.attributes.specs.Attributes.{changed, same_attributes-Decides}
 use Rattle.document.specs.steps.Passes.{with_change}
-use Rattle.document.specs.steps.Pieces.{piece_dressed}
-use Rattle.document.specs.steps.Runs.{units_of_runs}
+use Rattle.document.specs.Pieces.{piece_dressed}
+use Rattle.document.specs.Runs.{units_of_runs}
 use Rattle.document.proofs.Measured.{dressed_itself}
 use Rattle.document.proofs.Passing.{kept-piece}
-use Rattle.document.proofs.Progress.{kept_same}
 use Rattle.document.proofs.walk.keep_run.Goals as goal
 
 pub returns-then-eq-clause-units : goal.returns-then-eq-clause-units

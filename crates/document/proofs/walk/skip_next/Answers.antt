@@ -1,4 +1,4 @@
-use Rattle.std.proofs.Common.{sym, subst, arith, ◌∙◌}
+use Rattle.std.proofs.Common.{subst, arith}
 use Rattle.document.specs.Chunks.{runs_of_chunks}
 use Rattle.document.specs.steps.Passes.{IsSteppedOver}
 use Rattle.document.proofs.Joined.{IsWellFormed-runs}

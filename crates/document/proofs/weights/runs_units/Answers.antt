@@ -1,6 +1,6 @@
 use Rattle.std.proofs.Common.{◌+◌, length, arith, ap}
 use Rattle.std.proofs.lemmas.List.{take_all}
-use Rattle.document.specs.steps.Runs.{units_of_runs}
+use Rattle.document.specs.Runs.{units_of_runs}
 use Rattle.document.proofs.Joined.{length-one_more, length-before}
 use Rattle.document.proofs.weights.runs_units.Goals as goal
 

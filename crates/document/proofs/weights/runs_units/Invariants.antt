@@ -1,5 +1,5 @@
 use Rattle.std.proofs.Common.{◌≡◌, length, take}
-use Rattle.document.specs.steps.Runs.{units_of_runs}
+use Rattle.document.specs.Runs.{units_of_runs}
 use Rattle.document.proofs.weights.runs_units.Given as goal
 
 abbrev pub invariant-loop-run : goal.invariant-loop-run

@@ -1,6 +1,6 @@
 use Rattle.std.proofs.Common.{arith, ap}
 use Rattle.std.proofs.lemmas.List.{take_all}
-use Rattle.document.specs.steps.Runs.{units_of_runs}
+use Rattle.document.specs.Runs.{units_of_runs}
 use Rattle.document.specs.Weight.{weight_of}
 use Rattle.document.proofs.Weighing.{runs_more}
 use Rattle.document.proofs.weights.runs_weight.Goals as goal

@@ -1,5 +1,5 @@
 use Rattle.std.proofs.Common.{length, arith, ap}
-use Rattle.document.specs.steps.Runs.{units_of_runs}
+use Rattle.document.specs.Runs.{units_of_runs}
 use Rattle.document.proofs.building.ChunkBuilder.extend.Goals as goal
 
 pub make_room-requires-clause-bound : goal.make_room-requires-clause-bound

@@ -1,7 +1,7 @@
 use Rattle.std.proofs.Common.{◌-◌, ◌++◌, arith, ap, sym, ◌∙◌, append-nil}
 use Rattle.std.proofs.lemmas.List.{nil_from_length}
 use Rattle.document.specs.Chunks.{runs_of_chunks}
-use Rattle.document.specs.steps.Runs.{last_attributes}
+use Rattle.document.specs.Runs.{last_attributes}
 use Rattle.document.proofs.Chunked.{last_read, last_chunk_read, last_attributes-append}
 use Rattle.document.proofs.building.ChunkBuilder.last.Goals as goal
 

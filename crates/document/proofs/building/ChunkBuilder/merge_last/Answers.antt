@@ -2,7 +2,7 @@ use Rattle.std.proofs.Common.{◌≡◌, ◌≢◌, ◌<◌, ◌++◌, length, a
 use Rattle.utf16.specs.Units.{units_of}
 use Rattle.delta.specs.Element.{letters}
 use Rattle.document.specs.Chunks.{runs_of_chunks}
-use Rattle.document.specs.steps.Runs.{units_of_runs, TakesText, last_attributes}
+use Rattle.document.specs.Runs.{units_of_runs, TakesText, last_attributes}
 use Rattle.document.proofs.Chunked.{length_runs-back, some_last, merged_loose}
 use Rattle.document.proofs.building.ChunkBuilder.merge_last.Goals as goal
 use Rattle.document.proofs.building.ChunkBuilder.merge_last.Goals.{else-is_empty-via-then-is_empty+else-not-takes, else-is_empty-via-else-is_empty}

@@ -1,5 +1,5 @@
 use Rattle.std.proofs.Common.{◌≡◌, ◌-◌, ◌<◌, length, vec_len, arith, ap, sym, ◌∙◌}
-use Rattle.document.specs.steps.Runs.{last_attributes}
+use Rattle.document.specs.Runs.{last_attributes}
 use Rattle.document.proofs.Chunked.{last_read}
 use Rattle.document.proofs.chunk.Chunk.last.Goals as goal
 

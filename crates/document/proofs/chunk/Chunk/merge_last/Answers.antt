@@ -1,8 +1,8 @@
-use Rattle.std.proofs.Common.{◌≡◌, ◌-◌, ◌^◌, min, length, arith, ap, rules, ◌∙◌, sym, subst, Some}
+use Rattle.std.proofs.Common.{◌≡◌, ◌-◌, ◌^◌, min, length, arith, ap, ◌∙◌, sym, Some}
 use Rattle.utf16.specs.Units.{units_of}
 use Rattle.delta.specs.Element.{letters}
 use Rattle.document.specs.Chunks.{IsChunk}
-use Rattle.document.specs.steps.Runs.{units_of_runs, last_attributes}
+use Rattle.document.specs.Runs.{units_of_runs, last_attributes}
 use Rattle.document.specs.Weight.{weight_of}
 use Rattle.document.proofs.Chunked.{taken_length, taken_measures}
 use Rattle.document.proofs.Letters.{length-letters}

@@ -1,6 +1,6 @@
 use Rattle.std.proofs.Common.{sym, ap, subst, length, arith, ◌∙◌}
 use Rattle.std.proofs.lemmas.List.{length-drop}
-use Rattle.document.specs.steps.Runs.{AreRuns, units_of_runs}
+use Rattle.document.specs.Runs.{AreRuns, units_of_runs}
 use Rattle.document.proofs.Chunked.{AreRuns-split}
 use Rattle.document.proofs.Entering.{none_begun, none_passed, runs_passed}
 use Rattle.document.proofs.cursor.Cursor.next_runs.Goals as goal

@@ -1,8 +1,8 @@
 use Rattle.std.proofs.Common.{◌≡◌, ◌-◌, ◌^◌, ◌++◌, min, ap, sym, ◌∙◌, arith}
 use Rattle.document.specs.Chunks.{units_of_chunks}
 use Rattle.document.specs.Weight.{weight_of}
-use Rattle.document.specs.steps.Pieces.{begun_units}
-use Rattle.document.specs.steps.Runs.{units_of_runs}
+use Rattle.document.specs.Pieces.{begun_units}
+use Rattle.document.specs.Runs.{units_of_runs}
 use Rattle.document.proofs.Weighing.{weight_of-append}
 use Rattle.document.proofs.cursor.Cursor.weight.Goals as goal
 use Rattle.document.proofs.cursor.Cursor.weight.Goals.{in-Some, in-None}

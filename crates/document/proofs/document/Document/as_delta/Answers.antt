@@ -1,8 +1,8 @@
-use Rattle.std.proofs.Common.{◌≡◌, ◌+◌, ◌++◌, ◌∙◌, refl, sym, length, ap, arith, append_assoc, append-nil, length-append}
+use Rattle.std.proofs.Common.{◌≡◌, ◌++◌, ◌∙◌, refl, sym, length, ap, arith, append_assoc, append-nil, length-append}
 use Rattle.std.proofs.lemmas.List.{nil_from_length}
 use Rattle.delta.specs.Gaps.{End}
 use Rattle.delta.specs.Normal.{nf, spelled}
-use Rattle.document.specs.steps.Pieces.{piece_units}
+use Rattle.document.specs.Pieces.{piece_units}
 use Rattle.document.proofs.Inserting.{spelled_more, bounded_more, only_memory, finished, finished_base, finished_back}
 use Rattle.document.proofs.Passing.{length-parts}
 use Rattle.document.proofs.Progress.{whole_at_end}

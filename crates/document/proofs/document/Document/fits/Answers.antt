@@ -1,6 +1,7 @@
 use Rattle.std.proofs.Common.{refl, arith, ap}
 use Rattle.document.specs.Chunks.{runs_of_chunks}
 use Rattle.std.proofs.lemmas.Bool.{false≢true}
+use Rattle.document.proofs.Parting.{cut_of_parts}
 use Rattle.document.proofs.Deciding.{defined_by, base_by, cut_by_runs, runs_parted}
 use Rattle.document.proofs.document.Document.fits.Goals as goal
 
@@ -49,3 +50,6 @@ returns-clause-cuts c = (
   λ e. absurd (cc),
   λ both. let cut = both.1 in absurd (false≢true (c.if-parts_pair.ensures.1 (runs_parted (runs_of_chunks c.as_slice.result.now) (runs_of_chunks c.self.inside.chunks.items) c.args.self.now c.ops-ops.result.now c.args.delta.now (ap runs_of_chunks c.as_slice.ensures.value) c.self.view_is c.ops-ops.ensures.ops c.ops-ops.ensures.normal cut))),
 )
+
+pub returns-clause-stops : goal.returns-clause-stops
+returns-clause-stops c = λ stops. returns-clause-whole c (cut_of_parts c.args.self.now c.args.delta.now c.ops-ops.ensures.normal stops)

@@ -1,6 +1,6 @@
 use Rattle.std.proofs.Common.{◌≡◌, length, set, sym, subst, arith, ◌∙◌}
 use Rattle.document.specs.Chunks.{runs_of_chunks}
-use Rattle.document.specs.steps.Runs.{AreRuns}
+use Rattle.document.specs.Runs.{AreRuns}
 use Rattle.document.proofs.Chunked.{one_set}
 use Rattle.document.proofs.Joined.{IsWellFormed-runs}
 use Rattle.document.proofs.document.Document.remake.Goals as goal

@@ -1,5 +1,5 @@
 use Rattle.std.proofs.Common.{ap, sym, ◌∙◌, arith, length}
-use Rattle.document.specs.steps.Pieces.{content_units}
+use Rattle.document.specs.Pieces.{content_units}
 use Rattle.document.proofs.Letters.{appended}
 use Rattle.document.proofs.run.Run.append.Goals as goal
 

@@ -1,7 +1,7 @@
 use Rattle.std.proofs.Common.{◌<◌, length, sym, ap, subst, arith, ◌∙◌}
 use Rattle.std.proofs.lemmas.Bool.{false≢true}
 use Rattle.utf16.specs.Units.{units_of}
-use Rattle.document.specs.steps.Runs.{IsApart, text_attributes}
+use Rattle.document.specs.Runs.{IsApart, text_attributes}
 use Rattle.document.proofs.Ended.{apart_from_text}
 use Rattle.document.proofs.Letters.{length-letters, text_attributes-letters}
 use Rattle.document.proofs.shared.SharedRun.joins.Goals as goal
