@@ -77,15 +77,15 @@ module _ (revision : ℕ) (past : Past) where
   pub raised-is-past : (limits : Limits) → IsPast limits past → IsPast limits (raised revision past)
   raised-is-past limits = from-is-past past (max past.floor (min revision (newest past))) low high limits
 
-raised-none : (past : Past) → raised 0 past ≡ past
-raised-none past =
+pub raised_none : (past : Past) → raised 0 past ≡ past
+raised_none past =
     let here : max past.floor (min 0 (newest past)) ≡ past.floor = omega arith in
     ap (from_floor past) here ∙ from_itself past
 
 -- the document at a place
 pub raised-at : (floors : List ℕ) (documents : List DocumentRecord) (n : ℕ) (d : DocumentRecord) → slice_get documents n ≡ Some d
     → slice_get (raised_each floors documents) n ≡ Some (record d { past = raised (get_or floors n 0) d.past })
-raised-at [] documents n d at = at ∙ ap (λ (p : Past). Some (record d { past = p })) (sym (raised-none d.past))
+raised-at [] documents n d at = at ∙ ap (λ (p : Past). Some (record d { past = p })) (sym (raised_none d.past))
 raised-at (floor ∷ floors) [] n d at = absurd (cc)
 raised-at (floor ∷ floors) (first ∷ others) zero d at = ap (λ (o : Option DocumentRecord). o) cc
 raised-at (floor ∷ floors) (first ∷ others) (suc n) d at = raised-at floors others n d at
@@ -98,7 +98,7 @@ raised-length (floor ∷ floors) (first ∷ others) = ap suc (raised-length floo
 -- each is one that stood there, from its revision on
 pub raised-back : (floors : List ℕ) (documents : List DocumentRecord) (n : ℕ) (found : DocumentRecord) → slice_get (raised_each floors documents) n ≡ Some found
     → (d : DocumentRecord) × (slice_get documents n ≡ Some d) × (found.name ≡ d.name) × ((revision : ℕ) × (found.past ≡ raised revision d.past))
-raised-back [] documents n found at = (found, at, refl, (0, sym (raised-none found.past)))
+raised-back [] documents n found at = (found, at, refl, (0, sym (raised_none found.past)))
 raised-back (floor ∷ floors) [] n found at = absurd (cc)
 raised-back (floor ∷ floors) (first ∷ others) zero found at =
     let is : record first { past = raised floor first.past } ≡ found = same_Some (record first { past = raised floor first.past }) found at in

@@ -1,11 +1,24 @@
-//! A state is copied, whole or from some revisions on.
-ghost use Rattle.std.specs.Prelude.{◌≡◌, get_or, IfOk, IsOkUnless};
+//! A document and a state are copied, whole or from some revisions on.
+ghost use Rattle.std.specs.Prelude.{◌≡◌, [], get_or, IfOk, IsOkUnless};
 ghost use Rattle.revision.specs.Floors.{raised_each};
 
+use crate::doc_state::DocState;
 use crate::documents::Documents;
 use crate::state::State;
 use refusal::Refusal;
 use std::alloc::Global;
+
+impl DocState {
+    /// An equal document, of which nothing is prepared, as of no document of a state. Refused for want of memory alone.
+    #[tactic(auto, using(crate::proofs::Raising::raised_none))]
+    pub fn copy(&self, alloc: Global) -> Result<DocState, Refusal>
+        ensures same { IfOk result (λ copy. copy
+            ≡ record { name = self.now.name; past = record { past = self.now.past.past; next = [] } }) }
+        ensures only { IsOkUnless result Refusal.NoMemory }
+    {
+        self.copy_from(alloc, 0)
+    }
+}
 
 impl State {
     /// An equal state. Refused for want of memory alone.

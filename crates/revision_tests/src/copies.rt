@@ -1,9 +1,9 @@
-//! Copies of a state, whole or from some revisions on.
+//! Copies of a document, and of a state, whole or from some revisions on.
 use crate::asking::Answer::{Again, Not, Now};
 use crate::asking::{Row, What, after, doc, holds, roomy};
 use crate::steps::Step;
 use refusal::Refusal;
-use revision::State;
+use revision::{DocState, State};
 use std::process::Abort;
 
 const B: What = What::Edit(2, &[Step::Plain("b")]);
@@ -54,6 +54,34 @@ fn reads_as(rt: &(impl Abort + AllocGlobal), copy: &State, state: &State, held: 
     assert!(rt; copied == document.as_delta(rt.alloc()).expect(rt, "memory"));
     let deltas = copy.since(&name, *revision).expect(rt, "held");
     assert!(rt; deltas == state.since(&name, *revision).expect(rt, "held"));
+}
+
+// a document's copy is held from the same revision on, with the same deltas, document and sources
+fn is_copied(rt: &(impl Abort + AllocGlobal), document: &DocState, name: &str, revision: u64) {
+    let copy = document.copy(rt.alloc()).expect(rt, "memory");
+    assert!(rt; copy.name().as_str() == name && copy.revision() == revision && copy.floor() == 0);
+    assert!(rt; document.revision() == revision && document.floor() == 0);
+    assert!(rt; copy.since(0) == document.since(0) && copy.sources() == document.sources());
+    let copied = copy.document().as_delta(rt.alloc()).expect(rt, "memory");
+    assert!(rt;
+        copied
+            == document
+                .document()
+                .as_delta(rt.alloc())
+                .expect(rt, "memory")
+    );
+}
+
+#[test]
+fn a_document_is_copied(rt: HostRuntime) {
+    let state = two(&rt);
+    match state.documents() {
+        [first, second] => {
+            is_copied(&rt, first, "d", 3);
+            is_copied(&rt, second, "e", 2);
+        }
+        _ => panic!(rt; "two documents"),
+    }
 }
 
 #[test]
