@@ -18,20 +18,15 @@ fn ring_of(rt: &(impl Abort + AllocGlobal), disk: &mut MemDisk) -> Ring {
     read.expect(rt, "a ring").ring
 }
 
-// A body of so many letters is appended or not.
-fn is_appended(
-    rt: &(impl Abort + AllocGlobal),
-    disk: &mut MemDisk,
-    len: u8,
-    wanted: Result<(), Refusal>,
-) {
-    let body = vec![in rt.alloc(); b'b'; usize::from(len)].expect(rt, "memory");
+// A body of so many letters is appended to the ring that a device of 512 bytes holds.
+fn append(rt: &(impl Abort + AllocGlobal), disk: &mut MemDisk, len: u8) -> Result<(), Refusal> {
     assert!(rt; 0 < len && len <= 241 && disk.len() == 512);
-    let read = Ring::read(rt.alloc(), disk, 0, 256, 2);
-    let mut ring = read.expect(rt, "a ring").ring;
-    let record = Record::of_body(rt.alloc(), &body).expect(rt, "memory");
+    let body = vec![in rt.alloc(); b'b'; usize::from(len)]?;
+    let record = Record::of_body(rt.alloc(), &body)?;
+    let read = Ring::read(rt.alloc(), disk, 0, 256, 2)?;
+    let mut ring = read.ring;
     assert_eq!(rt; disk.len(), 512);
-    is_answer(rt, ring.append(disk, &record), wanted);
+    ring.append(disk, &record)
 }
 
 // A record of so many letters.
@@ -61,7 +56,7 @@ fn holds(rt: &(impl Abort + AllocGlobal), disk: &MemDisk, first: &[u8], second: 
 // A device whose ring has taken 100 letters.
 fn with_a_hundred(rt: &(impl Abort + AllocGlobal)) -> MemDisk {
     let mut disk = MemDisk::new(rt.alloc(), 512).expect(rt, "memory");
-    is_appended(rt, &mut disk, 100, Ok(()));
+    is_answer(rt, append(rt, &mut disk, 100), Ok(()));
     disk
 }
 
@@ -69,7 +64,7 @@ fn with_a_hundred(rt: &(impl Abort + AllocGlobal)) -> MemDisk {
 #[test]
 fn a_slot_is_filled(rt: HostRuntime) {
     let mut disk = with_a_hundred(&rt);
-    is_appended(&rt, &mut disk, 136, Ok(()));
+    is_answer(&rt, append(&rt, &mut disk, 136), Ok(()));
     holds(&rt, &disk, &[100, 136], &[]);
 }
 
@@ -78,10 +73,11 @@ fn a_slot_is_filled(rt: HostRuntime) {
 #[test]
 fn a_body_too_long_by_one_goes_into_the_next_slot(rt: HostRuntime) {
     let mut disk = with_a_hundred(&rt);
-    is_appended(&rt, &mut disk, 137, Ok(()));
+    is_answer(&rt, append(&rt, &mut disk, 137), Ok(()));
     holds(&rt, &disk, &[100], &[137]);
     let ring = ring_of(&rt, &mut disk);
     assert!(rt; ring.fits_newest(99) && !ring.fits_newest(100));
-    is_appended(&rt, &mut disk, 137, Err(Refusal::JournalFull));
+    let full = Err(Refusal::JournalFull);
+    is_answer(&rt, append(&rt, &mut disk, 137), full);
     holds(&rt, &disk, &[100], &[137]);
 }
