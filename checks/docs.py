@@ -5,7 +5,7 @@ usage: checks/docs.py     in any folder; it prints a line for each finding, and 
 
 - A caller in the head of a crate's src/lib.rt stands in a crate of tests too, where it is proved: with the same text, however its lines are
   broken, and with what the head imports.
-- What README.md and the files of docs/ quote as code exists: each word of a name is a word of the crates, and a path is that of a file.
+- What README.md and the files of docs/ quote as code exists: one file has all words of a name as State::plan, and a path is that of a file.
 - Each `old:` of an edit stands once in its file, as the pairs before it leave that.
 - crates.txt lists each crate, behind those that it stands on.
 
@@ -121,8 +121,10 @@ def check_callers():
 def check_quoted():
     sources = files(CRATES, ".rt", ".antt", ".edit")
     words = ELSEWHERE | {it.stem for it in sources} | {it.name for it in [*CRATES.iterdir(), *TOP.iterdir()]}
+    together = [words]
     for path in [*sources, *files(TOP / "bench", ".py"), *files(TOP / "examples", ".py", ".mjs")]:
-        words.update(re.findall(r"\w+", path.read_text()))
+        together.append({*re.findall(r"\w+", path.read_text()), *path.with_suffix("").parts})
+        words = words | together[-1]
     paths = [it.relative_to(TOP).as_posix() for it in TOP.rglob("*") if not {"out", ".git"} & set(it.parts)]
     for document in [TOP / "README.md", *files(TOP / "docs", ".md")]:
         prose = re.sub(r"^    .*$", "", document.read_text(), flags=re.M)
@@ -134,8 +136,8 @@ def check_quoted():
                 if not any(it == edit or it == path or it.endswith("/" + path) for it in paths):
                     find(document, f"there is no file `{quoted}`")
             elif not is_path and re.fullmatch(r"[A-Za-z_]\w*((::|\.)[A-Za-z_]\w*)*", quoted):
-                gone = [it for it in re.findall(r"\w+", quoted) if it not in words]
-                if gone:
+                parts = set(re.findall(r"\w+", quoted))
+                if not parts <= words or "::" in quoted and not any(parts <= it for it in together):
                     find(document, f"there is no `{quoted}`")
 
 
