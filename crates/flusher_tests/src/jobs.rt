@@ -21,7 +21,10 @@ fn is_put<D: Disk, J: Site>(rt: &(impl Abort + AllocGlobal), flusher: &mut Flush
     match compose_job(alloc, job) {
         Ok(composed) => {
             assert_eq!(rt; flusher.put_milestone(alloc, &composed), Ok(()));
-            assert_eq!(rt; flusher.put_milestone(alloc, &composed), Err(Refusal::Stranger));
+            assert_eq!(rt;
+                flusher.put_milestone(alloc, &composed),
+                Err(Refusal::Stranger)
+            );
         }
         Err(back) => panic!(rt; "{}", back.refusal),
     }
