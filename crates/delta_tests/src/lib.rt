@@ -3,6 +3,7 @@
 //! `callers` has the callers that open each crate's `lib.rt`, proved.
 #![tactic(auto)]
 
+#[cfg(test)]
 pub mod callers;
 #[cfg(test)]
 mod tests;

@@ -11,6 +11,7 @@ mod adopting;
 mod asking;
 #[cfg(test)]
 mod batches;
+#[cfg(test)]
 pub mod callers;
 #[cfg(test)]
 mod copies;

@@ -1,0 +1,120 @@
+#!/usr/bin/env python3
+"""Lists public calls that may answer NoMemory, and that nothing calls which `rt ci` runs. It isn't part of the gate.
+
+usage: checks/uncalled.py [--direct]     in any folder; it prints a line for each call, and its status is 1 where there is one
+
+No clause can say that memory is there, so a body that always answers NoMemory meets each contract. Hence each public call that may answer
+it is to be made once with ample memory: by a test, by a program, or by what these call. With --direct the calls count alone that stand in
+crates of tests and in programs.
+
+It reads the sources of crates/, in the layout that `rt fmt` gives them. A call may answer NoMemory where its signature or its clauses name
+that or AllocError, or where it takes an allocator and returns a Result. It is called where its name stands before a bracket: a method behind
+a dot or its type's name. What type stands before a dot isn't known. So where several types have a method of one name, the file that calls
+it has to name the type too.
+"""
+import collections
+import pathlib
+import re
+import sys
+
+CRATES = pathlib.Path(__file__).resolve().parent.parent / "crates"
+
+# a function in its file: the type or trait that it belongs to (or None), its name, its signature with its clauses, and its body
+Function = collections.namedtuple("Function", "path owner name head body")
+
+HEAD = re.compile(r"( *)(?:pub(?:\(\w+\))? )?(?:const )?(?:final )?fn (\w+)")
+
+
+# The type of an `impl`, or the trait: what its first line names once all in <> is dropped.
+def owner_of(text):
+    while re.search(r"<[^<>]*>", text):
+        text = re.sub(r"<[^<>]*>", "", text)
+    return re.sub(r".* for |.*(?:impl|trait) ", "", re.split(r" (?:\{|where)|:(?!:)", text)[0]).split("::")[-1].lstrip("&").strip()
+
+
+def functions_of(path):
+    lines = path.read_text().splitlines()
+    owner, at = None, 0
+    while at < len(lines):
+        if re.match(r"(pub )?(impl|trait)\b", lines[at]):
+            owner = owner_of(" ".join(lines[at:at + 8]).replace("->", ""))
+        head = HEAD.match(lines[at])
+        at += 1
+        if not head:
+            continue
+        indent, first, with_clauses = head[1], at - 1, False
+        last = first
+        while lines[last] != indent + "{" and not lines[last].endswith((";", "{}")):
+            with_clauses = with_clauses or re.match(rf"{indent}    (ghost|requires|ensures)\b", lines[last])
+            if lines[last].endswith(" {") and not with_clauses:
+                break
+            last += 1
+        at = last + 1
+        if lines[last].endswith("{"):
+            at = lines.index(indent + "}", last)
+        yield Function(path, owner if indent else None, head[2], "\n".join(lines[first:last + 1]), "\n".join(lines[last + 1:at]))
+
+
+# Code without comments and texts.
+def code(text):
+    return re.sub(r'"(?:\\.|[^"\\\n])*"', '""', re.sub(r"//.*", "", text))
+
+
+def may_want_memory(function):
+    takes = re.search(r"\b(Global|AllocGlobal|Allocator)\b", function.head)
+    return re.search(r"\b(AllocError|AllocFailed|NoMemory)\b", function.head) or takes and "Result<" in function.head.split("->")[-1]
+
+
+paths = [it for it in sorted(CRATES.rglob("src/**/*.rt")) if "out" not in it.parts]
+texts = {it: code(it.read_text()) for it in paths}
+words = {it: set(re.findall(r"\w+", text)) for it, text in texts.items()}
+functions = [it for path in paths for it in functions_of(path)]
+named = collections.defaultdict(list)
+for it in functions:
+    named[it.name].append(it)
+
+
+# What a text in this file, within what belongs to this type, may call.
+def called(path, text, owner):
+    for before, name in re.findall(r"((?:\w+::)+(?:<[^()]*>::)?|\.)?\b(\w+)(?:::<[^()]*>)?\(", text):
+        for function in named[name]:
+            is_only = len({it.owner for it in named[name]}) == 1
+            if before == ".":
+                is_it = function.owner and (is_only or function.owner in words[path])
+            elif before and re.split("::", before.rstrip(":").split("::<")[0])[-1][0].isupper():
+                it = before.rstrip(":").split("::<")[0].split("::")[-1]
+                is_it = function.owner == (owner if it == "Self" else it)
+            else:
+                is_it = not function.owner
+            if is_it:
+                yield function
+
+
+# What others can name: by a `pub use` of its crate, or in a `pub mod`.
+def is_public(function):
+    crate = CRATES / function.path.relative_to(CRATES).parts[0]
+    if not function.head.lstrip().startswith("pub fn"):
+        return False
+    shown = " ".join(re.findall(r"^pub use [^;]*;", "".join(texts[it] for it in paths if crate in it.parents), re.M))
+    is_module = re.search(rf"^pub mod {function.path.stem};", texts[crate / "src/lib.rt"], re.M)
+    return is_module or re.search(rf"\b{function.owner or function.name}\b", shown)
+
+
+# The crates of tests, and the programs.
+def runs(path):
+    crate = CRATES / path.relative_to(CRATES).parts[0]
+    return crate.name.endswith("_tests") or (crate / "src/main.rt").exists()
+
+
+reached, todo = set(), [it for path in paths if runs(path) for it in called(path, texts[path], None)]
+while todo:
+    function = todo.pop()
+    if function not in reached:
+        reached.add(function)
+        if "--direct" not in sys.argv:
+            todo.extend(called(function.path, code(function.body), function.owner))
+
+missing = [it for it in functions if it not in reached and not runs(it.path) and may_want_memory(it) and is_public(it)]
+for it in missing:
+    print(f"{it.path.relative_to(CRATES.parent)}: {it.owner + '::' if it.owner else ''}{it.name}")
+sys.exit(1 if missing else 0)
