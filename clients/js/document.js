@@ -46,7 +46,8 @@ async function deltaClass() {
 }
 
 /**
- * Sends "change" for what others did, and "trouble" where something typed is lost.
+ * Sends "change" for what others did, "trouble" where something typed is lost, and "progress" where `revision` or `isSaved` may have
+ * changed.
  *
  * `base` is the document at `revision`. What is shown is `base`, with `sent` behind it, and `typed` behind that. News that comes while
  * `sent` has no answer is held until it has one: only then is it known which revision is its own.
@@ -107,6 +108,7 @@ export class Document extends EventTarget {
     this.#contents = this.#contents.compose(delta);
     this.#typed = this.#typed.compose(delta);
     queueMicrotask(() => this.#send()); // what is typed in one go is sent in one edit
+    this.dispatchEvent(new Event("progress"));
   }
 
   /** Waits until all that was typed is on the server's disk. @returns {Promise<number>} the revision then */
@@ -174,6 +176,7 @@ export class Document extends EventTarget {
     if (this.#isStale && !this.#isInDoubt) this.#fetchAnew();
     else this.#send();
     if (this.isSaved) for (const { resolve } of this.#waiting.splice(0)) resolve(this.#revision);
+    this.dispatchEvent(new Event("progress"));
   }
 
   // Takes over what was sent. Where its number made an older revision, somebody else had used it before, and it is sent anew.
