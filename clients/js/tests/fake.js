@@ -3,6 +3,11 @@
 import net from "node:net";
 import { Delta } from "../delta.js";
 
+/** Waits until something holds. */
+export async function until(holds) {
+  while (!holds()) await new Promise((resolve) => setTimeout(resolve, 5));
+}
+
 /**
  * Listens on a free port, and calls `onLine` with each message and its session. A session has `reply`, and `cut`.
  * @param {(message: any, session: any, sessions: any[]) => void} onLine
@@ -25,8 +30,7 @@ export async function scripted(onLine) {
   });
   await new Promise((resolve) => server.listen(0, "127.0.0.1", resolve));
   return {
-    host: "127.0.0.1",
-    port: server.address().port,
+    address: { host: "127.0.0.1", port: server.address().port },
     sessions,
     close() {
       for (const session of sessions) session.cut();
@@ -103,10 +107,11 @@ export class Documents {
 }
 
 /**
- * Serves documents. `spoil` may answer a message in place of the documents, once they have answered: it returns true where it did.
- * @param {(context: { message: any, session: any, reply: any }) => boolean} [spoil]
+ * Serves documents. `refuse` may give a reply in place of the documents, and nothing is done then. `spoil` is called once they have
+ * answered, and returns true where the reply isn't to be sent.
+ * @param {{ refuse?: (message: any) => any, spoil?: (message: any, session: any) => boolean }} [faults]
  */
-export async function served(spoil = () => false) {
+export async function served({ refuse = () => undefined, spoil = () => false } = {}) {
   const documents = new Documents();
   const tell = (session) => {
     for (const [doc, rev] of [...(session.follows ?? [])].sort()) {
@@ -125,8 +130,8 @@ export async function served(spoil = () => false) {
       session.follows = new Map();
       return session.reply({ ok: "hello" });
     }
-    const reply = documents.answer(message, session.source);
-    if (spoil({ message, session, reply })) return;
+    const reply = refuse(message) ?? documents.answer(message, session.source);
+    if (spoil(message, session)) return;
     session.reply(reply);
     if (reply.ok === "subscribed") session.follows.set(message.doc, reply.rev);
     if (reply.ok === "unsubscribed") session.follows.delete(message.doc);
