@@ -22,8 +22,8 @@ const SERVED = { "/clients/js/": HERE, [EDITOR]: path.join(HERE, "../../examples
 const TYPES = { ".html": "text/html", ".js": "text/javascript", ".css": "text/css", ".png": "image/png" };
 const MOST_BYTES = 65_537; // of a message: a line and its end
 
-// Debian's package lies where Node of another origin doesn't look.
-function webSockets() {
+/** The package ws. Debian's lies where a Node of another origin doesn't look. */
+export function webSockets() {
   const require = createRequire(import.meta.url);
   for (const name of ["ws", "/usr/share/nodejs/ws"]) {
     try {
@@ -62,7 +62,7 @@ export async function startBridge({ host, port, listenHost = "127.0.0.1", listen
   files.set(EDITOR, files.get(EDITOR + "index.html"));
 
   const server = http.createServer(async (request, response) => {
-    const { pathname } = new URL(request.url, "http://bridge");
+    const [pathname] = request.url.split("?");
     if (pathname === "/") return response.writeHead(302, { location: EDITOR }).end();
     const file = files.get(pathname);
     if (file === undefined) return response.writeHead(404).end("no such page\n");

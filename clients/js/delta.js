@@ -10,14 +10,18 @@
  * @property {Attributes} [attributes]
  */
 
-const isText = (op) => typeof op?.insert === "string";
-
 /**
  * How many units an operation inserts, retains or deletes.
  * @param {Op} op
+ * @returns {number}
  */
-export const lengthOf = (op) => op.delete ?? op.retain ?? (isText(op) ? op.insert.length : 1);
+export function lengthOf({ insert, retain, delete: deleted }) {
+  return deleted ?? retain ?? (typeof insert === "string" ? insert.length : 1);
+}
 
+const isText = (op) => typeof op.insert === "string";
+
+/** @param {Op} op */
 const kindOf = (op) => (op.delete !== undefined ? "delete" : op.retain !== undefined ? "retain" : "insert");
 
 /** Attributes without those for which `drops` holds; undefined where none are left. */
@@ -96,7 +100,10 @@ export class Delta {
     this.ops = Array.isArray(ops) ? ops : ops.ops;
   }
 
-  /** Adds an operation behind the others, and keeps the normal form: neighbours merge, an insert stands before a delete. */
+  /**
+   * Adds an operation behind the others, and keeps the normal form: neighbours merge, an insert stands before a delete.
+   * @param {Op} op
+   */
   push(op) {
     if (lengthOf(op) <= 0) return this;
     const added = withAttributes({ [kindOf(op)]: op[kindOf(op)] }, without(op.attributes, () => false));
@@ -114,14 +121,23 @@ export class Delta {
     return this;
   }
 
+  /**
+   * @param {string | Record<string, Value>} insert
+   * @param {Attributes} [attributes]
+   */
   insert(insert, attributes) {
     return this.push({ insert, attributes });
   }
 
+  /**
+   * @param {number} retain
+   * @param {Attributes} [attributes]
+   */
   retain(retain, attributes) {
     return this.push({ retain, attributes });
   }
 
+  /** @param {number} length */
   delete(length) {
     return this.push({ delete: length });
   }
@@ -149,7 +165,10 @@ export class Delta {
     return slice;
   }
 
-  /** The one delta for this one, and then the other. */
+  /**
+   * The one delta for this one, and then the other.
+   * @param {Delta} other
+   */
   compose(other) {
     const [first, second] = [new Parts(this.ops), new Parts(other.ops)];
     const delta = new Delta();
@@ -175,10 +194,18 @@ export class Delta {
 
   /**
    * The other delta as it is after this one, where both were made on one document. With priority, this one's inserts stand
-   * first, and the attributes that it sets stay.
+   * first, and the attributes that it sets stay. For a number, where that place is.
+   * @template {Delta | number} T
+   * @param {T} other
+   * @param {boolean} [priority]
+   * @returns {T}
    */
   transform(other, priority = false) {
-    if (typeof other === "number") return this.transformPosition(other, priority);
+    const moved = typeof other === "number" ? this.transformPosition(other, priority) : this.#transformDelta(other, priority);
+    return /** @type {T} */ (moved);
+  }
+
+  #transformDelta(other, priority) {
     const [first, second] = [new Parts(this.ops), new Parts(other.ops)];
     const delta = new Delta();
     while (!first.isAtEnd || !second.isAtEnd) {
@@ -197,7 +224,11 @@ export class Delta {
     return delta.chop();
   }
 
-  /** Where a place of the document is after this delta. With priority, an insert at the place itself stands behind it. */
+  /**
+   * Where a place of the document is after this delta. With priority, an insert at the place itself stands behind it.
+   * @param {number} index
+   * @param {boolean} [priority]
+   */
   transformPosition(index, priority = false) {
     let offset = 0;
     for (const op of this.ops) {
@@ -213,7 +244,10 @@ export class Delta {
     return index;
   }
 
-  /** The delta that takes this one back, on the document that it was made on. */
+  /**
+   * The delta that takes this one back, on the document that it was made on.
+   * @param {Delta} base
+   */
   invert(base) {
     const delta = new Delta();
     let at = 0;

@@ -20,15 +20,16 @@ const NEVER = { timeout: Infinity }; // an edit is sent until it is answered
 
 /** What others did: `delta` changes what was shown before to `contents`. */
 export class ChangeEvent extends Event {
+  /** @param {Delta} delta */
   constructor(delta) {
     super("change");
-    /** @type {Delta} */
     this.delta = delta;
   }
 }
 
 /** Something typed was refused for good, or the document can't be followed any more: `error` says why. */
 export class TroubleEvent extends Event {
+  /** @param {Error} error */
   constructor(error) {
     super("trouble");
     this.error = error;
@@ -38,7 +39,8 @@ export class TroubleEvent extends Event {
 async function deltaClass() {
   if (globalThis.Quill?.import) return globalThis.Quill.import("delta");
   try {
-    const found = await import("quill-delta");
+    const name = "quill-delta"; // which needn't be there
+    const found = await import(name);
     return found.default?.default ?? found.default;
   } catch {
     return OwnDelta;
@@ -69,12 +71,16 @@ export class Document extends EventTarget {
   #leave = () => {};
   #waiting = []; // those who wait in `flush`
 
-  /** @param {import("./richd.js").Client} client */
-  static async open(client, name, { Delta } = {}) {
+  /**
+   * @param {import("./richd.js").Client} client
+   * @param {string} name
+   * @param {OpenOptions} [options]
+   */
+  static async open(client, name, options) {
     const document = new Document();
     document.#client = client;
     document.#name = name;
-    document.#Delta = Delta ?? (await deltaClass());
+    document.#Delta = options?.Delta ?? (await deltaClass());
     document.#typed = new document.#Delta();
     const { rev, ops } = await client.fetch(name);
     document.#begin(rev, new document.#Delta(ops));

@@ -33,7 +33,7 @@ export class Line {
 
   /**
    * @param {string} doc
-   * @param {boolean} isNew  the source is used for the first time, so its first number is 1
+   * @param {boolean} [isNew]  the source is used for the first time, so its first number is 1
    */
   constructor(doc, isNew) {
     this.#doc = doc;

@@ -31,6 +31,7 @@ export function openLink(address, listener) {
   return openSocket(address, listener);
 }
 
+/** @param {Address} address @param {Listener} listener @returns {Promise<Link>} */
 async function openSocket({ host = "127.0.0.1", port }, { onBytes, onClose }) {
   const net = await import("node:net");
   const socket = net.connect({ host, port, noDelay: true });
@@ -42,6 +43,7 @@ async function openSocket({ host = "127.0.0.1", port }, { onBytes, onClose }) {
   return { send: (bytes) => socket.write(bytes), end: () => socket.end(), cut: () => socket.destroy() };
 }
 
+/** @param {Address} address @param {Listener} listener @returns {Promise<Link>} */
 async function openPipes({ command, args = [] }, { onBytes, onClose }) {
   const { spawn } = await import("node:child_process");
   const program = spawn(command, args, { stdio: ["pipe", "pipe", "inherit"] });
@@ -64,6 +66,7 @@ function opening(emitter, event) {
   });
 }
 
+/** @param {Address} address @param {Listener} listener @returns {Promise<Link>} */
 function openWebSocket({ url, WebSocket = globalThis.WebSocket }, { onBytes, onClose }) {
   const socket = new WebSocket(url);
   socket.binaryType = "arraybuffer";

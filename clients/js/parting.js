@@ -32,8 +32,8 @@ export function parted({ ops }, room) {
     free -= bytesOf(ops[index]);
   }
   const later = ops.slice(index);
-  if (index < MOST_OPS && typeof later[0]?.insert === "string") {
-    const [op] = later;
+  const [op] = later;
+  if (index < MOST_OPS && typeof op?.insert === "string") {
     const beginning = beginningOf(op.insert, free - bytesOf({ ...op, insert: "" }));
     first.push({ ...op, insert: beginning });
     later[0] = { ...op, insert: op.insert.slice(beginning.length) };

@@ -20,6 +20,7 @@ export function bind(quill, document) {
   const onTyped = (delta) => {
     if (!isShowing) document.apply(delta.ops);
   };
+  /** @param {any} event */
   const onChange = ({ delta }) => show(() => quill.updateContents({ ops: delta.ops }, "api"));
 
   const last = document.contents.ops.at(-1)?.insert;

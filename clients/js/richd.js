@@ -2,6 +2,7 @@
 
 import { Document } from "./document.js";
 import { Refusal, RichdError } from "./errors.js";
+import { follow } from "./follow.js";
 import { pause, within } from "./limits.js";
 import { Line } from "./line.js";
 import { News } from "./news.js";
@@ -18,6 +19,7 @@ const PATIENCE = 30_000; // milliseconds
  *
  * @typedef {object} Options
  * @property {string} [source]  the name of whoever makes the changes, which one program has at a time. Without it, a new one
+ * @property {boolean} [isNew]  the source was never used before, so its numbers needn't be asked for
  * @property {number} [timeout]  how many milliseconds a call may take that names no other, and `connect`: 30,000 if it isn't given
  * @property {AbortSignal} [signal]  closes the client
  */
@@ -27,8 +29,8 @@ const PATIENCE = 30_000; // milliseconds
  * @param {import("./links.js").Address & Options} options
  */
 export async function connect(options) {
-  const source = options.source ?? (await newSource());
-  const client = new Client({ timeout: PATIENCE, ...options, source }, options.source === undefined);
+  const made = options.source === undefined ? { source: await newSource(), isNew: true } : {};
+  const client = new Client({ timeout: PATIENCE, ...options, ...made });
   await client.connected();
   return client;
 }
@@ -42,7 +44,6 @@ async function newSource() {
 /** Sends the events "connected" and "cut". */
 export class Client extends EventTarget {
   #options;
-  #isNew; // the source, which has no numbers yet
   /** @type {Session | null} */
   #session = null;
   #beginning;
@@ -52,10 +53,9 @@ export class Client extends EventTarget {
   /** @type {Map<string, { line: Line, news: News }>} */
   #docs = new Map();
 
-  constructor(options, isNew) {
+  constructor(options) {
     super();
     this.#options = options;
-    this.#isNew = isNew;
     options.signal?.addEventListener("abort", () => this.#shut(options.signal.reason));
     this.#begin();
   }
@@ -75,23 +75,41 @@ export class Client extends EventTarget {
     }
   }
 
-  /** Creates a document. A source that created it before, and did nothing more, gets the same answer. */
+  /**
+   * Creates a document. A source that created it before, and did nothing more, gets the same answer.
+   * @param {string} doc
+   * @param {Op[]} ops
+   * @param {Limits} [limits]
+   */
   create(doc, ops, limits) {
     return this.#command(doc, { do: "create", ops }, limits);
   }
 
-  /** Changes a document by operations that were made on its revision `base`. */
+  /**
+   * Changes a document by operations that were made on its revision `base`.
+   * @param {string} doc
+   * @param {Op[]} ops
+   * @param {number} base
+   * @param {Limits} [limits]
+   */
   edit(doc, ops, base, limits) {
     return this.#command(doc, { do: "edit", base, ops }, limits);
   }
 
-  /** Takes this source's last change of a document back. */
+  /**
+   * Takes this source's last change of a document back.
+   * @param {string} doc
+   * @param {Limits} [limits]
+   */
   undo(doc, limits) {
     return this.#command(doc, { do: "undo" }, limits);
   }
 
   /**
    * A document at a revision, or at the newest.
+   * @param {string} doc
+   * @param {number} [at]
+   * @param {Limits} [limits]
    * @returns {Promise<{ rev: number, ops: Op[] }>}
    */
   async fetch(doc, at, limits) {
@@ -101,6 +119,9 @@ export class Client extends EventTarget {
 
   /**
    * What made each revision above one, up to the newest.
+   * @param {string} doc
+   * @param {number} at
+   * @param {Limits} [limits]
    * @returns {Promise<{ rev: number, deltas: Op[][] }>}
    */
   async since(doc, at, limits) {
@@ -113,34 +134,9 @@ export class Client extends EventTarget {
    * @param {string} doc
    * @param {number} fromRev
    * @param {{ signal?: AbortSignal }} [options]  the signal ends it with its reason
-   * @returns {AsyncGenerator<{ rev: number, ops: Op[] }, void, void>}
    */
-  async *follow(doc, fromRev, { signal } = {}) {
-    const arrived = [];
-    let wake, failure;
-    const end = (error) => {
-      failure = error;
-      wake?.();
-    };
-    const onNews = (ops, rev) => {
-      arrived.push({ rev, ops });
-      wake?.();
-    };
-    const abort = () => end(signal.reason);
-    signal?.addEventListener("abort", abort);
-    if (signal?.aborted) abort();
-    const leave = this.onNews(doc, { rev: fromRev, onNews, onEnd: end });
-    try {
-      for (;;) {
-        while (arrived.length > 0) yield arrived.shift();
-        if (failure?.name === "Closed") return;
-        if (failure !== undefined) throw failure;
-        await new Promise((resolve) => (wake = resolve));
-      }
-    } finally {
-      signal?.removeEventListener("abort", abort);
-      leave();
-    }
+  follow(doc, fromRev, options) {
+    return follow(this, doc, fromRev, options?.signal);
   }
 
   /**
@@ -175,6 +171,7 @@ export class Client extends EventTarget {
     await session?.ended;
   }
 
+  /** @returns {Promise<{ rev: number }>} */
   async #command(doc, message, limits) {
     const { rev } = await this.#ask(doc, message, true, limits);
     return { rev };
@@ -183,6 +180,7 @@ export class Client extends EventTarget {
   async #ask(doc, message, isCommand, limits) {
     this.#closing.signal.throwIfAborted();
     const { line } = this.#of(doc);
+    /** @type {any} */
     const item = { message: { ...message, doc }, isCommand };
     const answer = new Promise((resolve, reject) => {
       item.settle = (error, reply) => (error ? reject(error) : resolve(reply));
@@ -199,7 +197,7 @@ export class Client extends EventTarget {
 
   #of(doc) {
     if (!this.#docs.has(doc)) {
-      const line = new Line(doc, this.#isNew);
+      const line = new Line(doc, this.#options.isNew);
       const news = new News((message, settle) => line.add({ message: { ...message, doc }, isCommand: false, settle }));
       line.session = this.#session;
       this.#docs.set(doc, { line, news });

@@ -20,8 +20,11 @@ function isThere() {
   }
 }
 
+const MISSING = `${RICHD} isn't there: ./demo builds it, or name another program in RICHD`;
+if (process.env.RICHD !== undefined && !isThere()) throw new Error(MISSING);
+
 /** What a test that runs the program is given as its options. */
-export const needsRichd = { skip: isThere() ? false : `${RICHD} isn't there: ./demo builds it, or name another program in RICHD` };
+export const needsRichd = { skip: isThere() ? false : MISSING };
 
 /** A store in a folder of its own, and servers over it, until the test ends. */
 export class Store {
