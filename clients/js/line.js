@@ -59,6 +59,7 @@ export class Line {
 
   /** Settles all with one error, except for what was sent. */
   refuse(error) {
+    clearTimeout(this.#pause);
     const refused = this.#items.filter((item) => !item.isSent);
     this.#items = this.#items.filter((item) => item.isSent);
     for (const item of refused) item.settle(error);

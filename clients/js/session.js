@@ -34,7 +34,7 @@ export class Session {
    * @param {object} options
    * @param {(line: object) => void} options.onNews  is called with each line of news
    * @param {() => void} options.onEnd  is called when the session ends that was begun
-   * @param {number} options.patience  after so many milliseconds without a reply that is due, the session is cut
+   * @param {number} options.patience  after so many milliseconds in which nothing came, though a reply is due, the session is cut
    * @param {AbortSignal} [options.signal]  cuts the session while it begins
    */
   static async begin(address, source, { onNews, onEnd, patience, signal }) {
@@ -93,6 +93,7 @@ export class Session {
 
   #read(text) {
     if (this.#hasEnded) return;
+    this.#watch();
     const lines = text.split("\n");
     for (let index = 0; index + 1 < lines.length; index += 1) {
       const line = this.#part + lines[index];
@@ -117,7 +118,7 @@ export class Session {
     this.#watch();
   }
 
-  // Cuts the session where no reply comes for too long: the other end may be gone without a word.
+  // Cuts the session where nothing comes for too long that is due: the other end may be gone without a word.
   #watch() {
     clearTimeout(this.#timer);
     if (this.#hasEnded) return;

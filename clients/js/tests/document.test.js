@@ -2,6 +2,7 @@
 
 import assert from "node:assert/strict";
 import test from "node:test";
+import { Delta } from "../delta.js";
 import { connect } from "../richd.js";
 import { Draw } from "./draw.js";
 import { served, until } from "./fake.js";
@@ -128,6 +129,17 @@ test("what is too long for a line, or for the journal, is sent in parts", async 
   document.apply([{ insert: "\u{1f600}é\n".repeat(10_000) }, ...sizes]);
   await document.flush();
   assert.deepEqual(newest(), document.contents.ops);
+});
+
+test("it computes by the deltas of the page's Quill, or by those that it is given", async (t) => {
+  const { open } = await prepared(t);
+  class Other extends Delta {}
+  const document = await open();
+  assert.equal(document.contents.constructor, Delta);
+  assert.equal((await document.client.open("d", { Delta: Other })).contents.constructor, Other);
+  globalThis.Quill = { import: (name) => (name === "delta" ? Other : undefined) };
+  t.after(() => delete globalThis.Quill);
+  assert.equal((await document.client.open("d")).contents.constructor, Other);
 });
 
 test("a document that is closed is told no more, and says so", async (t) => {
