@@ -31,8 +31,15 @@ SECONDS = 10  # of typing
 PATIENCE = 30  # seconds, for whatever should come soon
 CONTROL, BACKSPACE, ENTER = "\ue009", "\ue003", "\ue007"
 
-ANN = "Dear bob, this is my line and that is yours. We write at the same time, and neither waits for the other. "
-BOB = "Dear ann, I see yours while I type mine. My connection breaks in between, and I go on all the same. "
+# What they type; a star begins and ends what is bold.
+ANN = (
+    "Dear bob, this is my line, and that below is yours. We write *at the same time*, and neither waits for the other. What I type "
+    "shows here at once, and then over there; what you type comes in between, and nothing is lost and *nothing twice*. "
+)
+BOB = (
+    "Dear ann, I see yours while I type mine. In the middle *my connection breaks*, and I go on all the same: what I wrote "
+    "meanwhile is sent again, under *the same number*, so it is taken once. Then both of us have one text, and so has the disk. "
+)
 
 
 class Proxy:
@@ -83,7 +90,7 @@ class Browser:
                 break
         self.connection = http.client.HTTPConnection("127.0.0.1", int(found[1]), timeout=PATIENCE)
         self.base = "/session"
-        options = {"args": ["--headless=new", "--no-sandbox", "--disable-dev-shm-usage", "--window-size=1100,700"]}
+        options = {"args": ["--headless=new", "--no-sandbox", "--disable-dev-shm-usage", "--window-size=1100,640"]}
         session = self.call("POST", "", {"capabilities": {"alwaysMatch": {"goog:chromeOptions": options}}})
         self.base += "/" + session["sessionId"]
 
@@ -154,14 +161,17 @@ class Writer:
         self.press(keys, share)
         self.typed.update(key for key in keys if len(key) == 1)
 
-    def turn(self):
-        letter = self.text[self.count % len(self.text)]
+    def next_letter(self):
         self.count += 1
+        return self.text[(self.count - 1) % len(self.text)]
+
+    def turn(self):
+        letter = self.next_letter()
+        self.type([CONTROL + "b", self.next_letter()] if letter == "*" else [letter])
         if self.count % 60 == 0:
             self.type(f"({self.name}) ", random.random())
         if self.count % 35 == 0:
             self.press(["#", BACKSPACE])
-        self.type([CONTROL + "b", letter] if self.count % 50 in (10, 20) else [letter])
 
 
 def contents(browser):
@@ -235,8 +245,8 @@ def main(picture):
     if failed:
         print(f"        both editors: {json.dumps(ops)}")
         return 1
-    print(f"ok      {ann.count} and {bob.count} keys in {SECONDS} seconds, a cut between; both editors and richd dump have the same")
-    print(f"        {len(text)} units at revision {revision}; the picture is {picture}")
+    print(f"ok      {sum(ann.typed.values())} and {sum(bob.typed.values())} characters in {SECONDS} seconds, with a cut in the middle")
+    print(f"        both editors and richd dump have the same {len(text)} at revision {revision}; the picture is {picture}")
     return 0
 
 

@@ -4,6 +4,7 @@ import { Delta as OwnDelta } from "./delta.js";
 import { difference } from "./difference.js";
 import { Refusal, RichdError } from "./errors.js";
 import { parted } from "./parting.js";
+import { Pauses } from "./pauses.js";
 
 const ROOM = 48 * 1024; // bytes of an edit's operations, in a line that may have 65,536
 const LEAST_ROOM = 64;
@@ -14,6 +15,7 @@ const NEVER = { timeout: Infinity }; // an edit is sent until it is answered
  * @typedef {import("./delta.js").Delta} Delta
  *
  * @typedef {object} OpenOptions
+ * @property {Op[]} [create]  what the document is created with where it isn't there
  * @property {typeof OwnDelta} [Delta]  what composes and transforms: quill-delta's class, by default that of the page's Quill or of the
  *     package where there is one
  */
@@ -44,6 +46,24 @@ async function deltaClass() {
     return found.default?.default ?? found.default;
   } catch {
     return OwnDelta;
+  }
+}
+
+// Somebody else may create it at the same time. Then the server says so before it shows the document, which a crash may yet take back.
+async function fetchCreated(client, name, ops) {
+  const pauses = new Pauses();
+  for (;;) {
+    try {
+      await client.create(name, ops);
+    } catch (error) {
+      if (error.code !== Refusal.Exists) throw error;
+    }
+    try {
+      return await client.fetch(name);
+    } catch (error) {
+      if (error.code !== Refusal.NoDocument) throw error;
+    }
+    await new Promise((resolve) => setTimeout(resolve, pauses.next()));
   }
 }
 
@@ -82,7 +102,7 @@ export class Document extends EventTarget {
     document.#name = name;
     document.#Delta = options?.Delta ?? (await deltaClass());
     document.#typed = new document.#Delta();
-    const { rev, ops } = await client.fetch(name);
+    const { rev, ops } = options?.create === undefined ? await client.fetch(name) : await fetchCreated(client, name, options.create);
     document.#begin(rev, new document.#Delta(ops));
     document.#contents = document.#base;
     return document;

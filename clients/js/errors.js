@@ -21,6 +21,7 @@ export class RichdError extends Error {
 export const Refusal = {
   TooManyOps: 4,
   NoDocument: 6,
+  Exists: 7,
   Gap: 9,
   OldNumber: 10,
   Future: 12,

@@ -135,17 +135,20 @@ export class Editable {
     this.#readBack();
   }
 
-  // Takes over what the browser itself did to the text.
+  // Takes over what the browser itself did to the text, and what was held meanwhile.
   #readBack() {
-    const shown = { ops: [{ insert: this.#element.textContent }] };
+    const text = this.#element.textContent;
+    const shown = { ops: [{ insert: text.endsWith("\n") ? text : text + "\n" }] };
     const typed = new Delta();
     for (const op of difference({ ops: [{ insert: textOf(this.#contents) }] }, shown).ops) {
       typed.push(op.insert === undefined ? op : { ...op, attributes: this.#attributesFor(typed.length()) });
     }
     const held = this.#held;
+    const selected = this.#selected()?.map((index) => held.transformPosition(index, true));
     this.#held = new Delta();
     this.#contents = this.#contents.compose(held);
-    this.#change(held.transform(typed, true), "user");
+    this.#render(selected);
+    this.#change(held.transform(typed, true), "user", selected);
   }
 
   // The selection, where it lies in this text.
@@ -157,7 +160,7 @@ export class Editable {
 
   // The end of the last line stays, so nothing lies behind it.
   #indexesOf({ startContainer, startOffset, endContainer, endOffset }) {
-    const last = this.getLength() - 1;
+    const last = Math.max(this.#element.textContent.length, this.getLength()) - 1;
     const indexOf = (node, offset) => {
       const range = document.createRange();
       range.selectNodeContents(this.#element);

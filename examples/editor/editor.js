@@ -5,7 +5,6 @@ import { connect } from "../../clients/js/richd.js";
 import { Editable } from "./editable.js";
 
 const DOC = "letter";
-const EXISTS = 7;
 const url = `ws://${location.host}/`;
 
 /** Quill's class where the bridge was given Quill's files, else undefined. */
@@ -39,10 +38,7 @@ function editorIn(section, Quill) {
 async function begin(section, Quill) {
   // Without a name the client has a new one each time the page is loaded. A page that has users takes theirs, for one tab at a time.
   const client = await connect({ url });
-  await client.create(DOC, [{ insert: "\n" }]).catch((error) => {
-    if (error.code !== EXISTS) throw error;
-  });
-  const shared = await client.open(DOC);
+  const shared = await client.open(DOC, { create: [{ insert: "\n" }] });
   const editor = editorIn(section, Quill);
   bind(editor, shared);
 
@@ -63,4 +59,11 @@ async function begin(section, Quill) {
 const Quill = await loadQuill();
 const sections = [...document.querySelectorAll("section")];
 /** For the console, and for checks/editor.py. */
-globalThis.editors = await Promise.all(sections.map((section) => begin(section, Quill)));
+globalThis.editors = await Promise.all(
+  sections.map((section) =>
+    begin(section, Quill).catch((error) => {
+      section.querySelector(".state").textContent = error.message;
+      throw error;
+    }),
+  ),
+);

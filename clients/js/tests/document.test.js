@@ -142,6 +142,21 @@ test("it computes by the deltas of the page's Quill, or by those that it is give
   assert.equal((await document.client.open("d")).contents.constructor, Other);
 });
 
+test("whoever opens a document first creates it, and the others wait until it is shown", async (t) => {
+  let hidden = 2; // so often the server says that it exists, before it shows it
+  const refuse = ({ do: kind, doc }) => {
+    if (doc === "e" && kind === "create" && hidden > 0) return { code: 7, error: "Exists" };
+    if (doc === "e" && kind === "fetch" && hidden > 0) return (hidden -= 1), { code: 6, error: "NoDocument" };
+    return undefined;
+  };
+  const { open } = await prepared(t, { refuse });
+  const { client } = await open();
+  for (const ops of [[{ insert: "first" }], [{ insert: "second" }]]) {
+    assert.deepEqual((await client.open("e", { create: ops })).contents.ops, [{ insert: "first" }]);
+  }
+  await assert.rejects(client.open("f"), { name: "NoDocument" });
+});
+
 test("a document that is closed is told no more, and says so", async (t) => {
   const { open, creator } = await prepared(t);
   const document = await open();

@@ -90,6 +90,16 @@ test("many calls at once, on many documents", needsRichd, async (t) => {
   }
 });
 
+test("two who create the same documents at the same time", needsRichd, async (t) => {
+  const address = await new Store(t).serve();
+  const clients = [await connected(t, address), await connected(t, address)];
+  for (let number = 0; number < 30; number += 1) {
+    const open = (client, index) => client.open(`d${number}`, { create: [{ insert: String(index) }] });
+    const [one, other] = await Promise.all(clients.map(open));
+    assert.deepEqual(one.contents.ops, other.contents.ops);
+  }
+});
+
 const KILLS = 2;
 
 test("two who type while the server is killed, twice: each character is there once", needsRichd, async (t) => {
