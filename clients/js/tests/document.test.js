@@ -103,12 +103,31 @@ test("where the past is no longer held, what was typed is moved onto what is fet
   for (const { contents } of [document, shown]) assert.deepEqual(contents.ops, newest());
 });
 
+test("an edit that was taken, but behind what is no longer held, is shown once", async (t) => {
+  const spoil = (message, session) => {
+    if (message.do === "edit" && session.source !== "creator") session.documents.raise("d", 3);
+    return false;
+  };
+  const { open, newest, server, creator } = await prepared(t, { spoil });
+  const document = await open();
+  const shown = shownBy(document);
+  server.sessions.at(-1).cut();
+  shown.type([{ insert: "mine " }]);
+  await creator.edit("d", [{ insert: "yours " }], 1); // the other has no connection yet
+  await until(() => document.revision === 3);
+  for (const { contents } of [document, shown]) assert.deepEqual(contents.ops, newest());
+  assert.deepEqual(newest(), [{ insert: "yours mine Hello\n" }]);
+});
+
 test("what is refused for good is taken back, and told", async (t) => {
   const isHeavy = (message) => message.do === "edit" && message.ops.some(({ insert }) => insert?.startsWith("heavy"));
-  const { open, newest } = await prepared(t, { refuse: (message) => (isHeavy(message) ? { code: 16, error: "TooHeavy" } : undefined) });
+  const { open, newest, creator } = await prepared(t, { refuse: (message) => (isHeavy(message) ? { code: 16, error: "TooHeavy" } : undefined) });
   const document = await open();
   const shown = shownBy(document);
   const told = [];
+  creator.edit("d", [{ insert: "first" }], 1);
+  shown.type([{ insert: "second" }]); // at the same place, and late
+  await document.flush();
   document.addEventListener("trouble", ({ error }) => told.push(error.name));
   shown.type([{ insert: "heavy" }]);
   await Promise.resolve(); // it is on its way

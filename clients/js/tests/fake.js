@@ -126,7 +126,7 @@ export async function served({ refuse = () => undefined, spoil = () => false } =
   };
   const server = await scripted((message, session, sessions) => {
     if (message.do === "hello") {
-      session.source = message.source;
+      Object.assign(session, { source: message.source, documents });
       session.follows = new Map();
       return session.reply({ ok: "hello" });
     }
