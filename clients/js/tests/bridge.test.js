@@ -20,7 +20,7 @@ async function bridged(t) {
 }
 
 async function connected(t, url) {
-  const client = await connect({ url, WebSocket, timeout: 5_000 });
+  const client = await connect({ url, WebSocket });
   t.after(() => client.close());
   return client;
 }

@@ -7,12 +7,11 @@ import { connect } from "../richd.js";
 import { scripted, served, until } from "./fake.js";
 
 const HELLO = { ok: "hello" };
-const quiet = { timeout: 5_000 };
 
 /** A server, and a client of it, until the test ends. */
 async function pair(t, faults, options = { source: "ann" }) {
   const server = await served(faults);
-  const client = await connect({ ...server.address, ...quiet, ...options });
+  const client = await connect({ ...server.address, ...options });
   t.after(async () => {
     await client.close();
     server.close();
@@ -29,7 +28,7 @@ async function scriptedPair(t, onLine, options = {}) {
     onLine(message, session, sessions);
   });
   t.after(() => server.close());
-  const client = await connect({ ...server.address, ...quiet, ...options });
+  const client = await connect({ ...server.address, ...options });
   t.after(() => client.close());
   return { client, lines, server };
 }
@@ -209,7 +208,7 @@ test("connect tries until its time ends, and at once where the name is none", as
   t.after(() => full.close());
   const cutting = setInterval(() => full.sessions.forEach((session) => session.cut()), 5);
   t.after(() => clearInterval(cutting));
-  await assert.rejects(connect({ ...full.address, source: "a", timeout: 300 }), { name: "Timeout" });
+  await assert.rejects(connect({ ...full.address, source: "a", timeout: 1_000 }), { name: "Timeout" });
   assert.ok(full.sessions.length >= 2);
   const server = await scripted((_, session) => session.reply({ code: 8, error: "BadName" }));
   t.after(() => server.close());

@@ -12,7 +12,7 @@ async function prepared(t, faults, ops = [{ insert: "Hello\n" }]) {
   const server = await served(faults);
   t.after(() => server.close());
   const open = async () => {
-    const client = await connect({ ...server.address, timeout: 5_000 });
+    const client = await connect(server.address);
     t.after(() => client.close());
     return Object.assign(await client.open("d"), { client });
   };

@@ -33,7 +33,7 @@ for (const ops of [[], [{ insert: "Hello" }], [{ insert: "Hello\n" }], [{ insert
     const server = await served();
     t.after(() => server.close());
     const opened = async () => {
-      const client = await connect({ ...server.address, timeout: 5_000 });
+      const client = await connect(server.address);
       t.after(() => client.close());
       if (server.documents.newest("d") === 0) await client.create("d", ops);
       return client.open("d");
