@@ -1,0 +1,297 @@
+// A document that types ahead: what is typed shows at once, and is sent one edit at a time.
+
+import { Delta as OwnDelta } from "./delta.js";
+import { difference } from "./difference.js";
+import { Refusal, RichdError } from "./errors.js";
+import { parted } from "./parting.js";
+import { Pauses } from "./pauses.js";
+
+const ROOM = 48 * 1024; // bytes of an edit's operations, in a line that may have 65,536
+const LEAST_ROOM = 64;
+const NEVER = { timeout: Infinity }; // an edit is sent until it is answered
+
+/**
+ * @typedef {import("./delta.js").Op} Op
+ * @typedef {import("./delta.js").Delta} Delta
+ *
+ * @typedef {object} OpenOptions
+ * @property {Op[]} [create]  what the document is created with where it isn't there
+ * @property {typeof OwnDelta} [Delta]  what composes and transforms: quill-delta's class, by default that of the page's Quill or of the
+ *     package where there is one
+ */
+
+/** What others did: `delta` changes what was shown before to `contents`. */
+export class ChangeEvent extends Event {
+  /** @param {Delta} delta */
+  constructor(delta) {
+    super("change");
+    this.delta = delta;
+  }
+}
+
+/** Something typed was refused for good, or the document can't be followed any more: `error` says why. */
+export class TroubleEvent extends Event {
+  /** @param {Error} error */
+  constructor(error) {
+    super("trouble");
+    this.error = error;
+  }
+}
+
+async function deltaClass() {
+  if (globalThis.Quill?.import) return globalThis.Quill.import("delta");
+  try {
+    const name = "quill-delta"; // which needn't be there
+    const found = await import(name);
+    return found.default?.default ?? found.default;
+  } catch {
+    return OwnDelta;
+  }
+}
+
+// Somebody else may create it at the same time. Then the server says so before it shows the document, which a crash may yet take back.
+async function fetchCreated(client, name, ops) {
+  const pauses = new Pauses();
+  for (;;) {
+    try {
+      await client.create(name, ops);
+    } catch (error) {
+      if (error.code !== Refusal.Exists) throw error;
+    }
+    try {
+      return await client.fetch(name);
+    } catch (error) {
+      if (error.code !== Refusal.NoDocument) throw error;
+    }
+    await new Promise((resolve) => setTimeout(resolve, pauses.next()));
+  }
+}
+
+/**
+ * Sends "change" for what others did, "trouble" where something typed is lost, and "progress" where `revision` or `isSaved` may have
+ * changed.
+ *
+ * `base` is the document at `revision`. What is shown is `base`, with `sent` behind it, and `typed` behind that. News that comes while
+ * `sent` has no answer is held until it has one: only then is it known which revision is its own.
+ */
+export class Document extends EventTarget {
+  #client;
+  #name;
+  #Delta;
+  #base;
+  #revision;
+  #contents;
+  #sent = null;
+  #taken = null; // the revision that `sent` made, once it is answered
+  #typed;
+  #news = [];
+  #isStale = false; // the next revision isn't held any more, so the document has to be fetched anew
+  #isClosed = false;
+  #room = ROOM;
+  #leave = () => {};
+  #waiting = []; // those who wait in `flush`
+
+  /**
+   * @param {import("./richd.js").Client} client
+   * @param {string} name
+   * @param {OpenOptions} [options]
+   */
+  static async open(client, name, options) {
+    const document = new Document();
+    document.#client = client;
+    document.#name = name;
+    document.#Delta = options?.Delta ?? (await deltaClass());
+    document.#typed = new document.#Delta();
+    const { rev, ops } = options?.create === undefined ? await client.fetch(name) : await fetchCreated(client, name, options.create);
+    document.#begin(rev, new document.#Delta(ops));
+    document.#contents = document.#base;
+    return document;
+  }
+
+  get name() {
+    return this.#name;
+  }
+
+  /** The last revision of the server's that is in what is shown. */
+  get revision() {
+    return this.#revision;
+  }
+
+  /** What is shown. @returns {Delta} */
+  get contents() {
+    return this.#contents;
+  }
+
+  /** Whether all that was typed is on the server's disk. */
+  get isSaved() {
+    return this.#sent === null && this.#typed.ops.length === 0;
+  }
+
+  /** Changes what is shown by something that was typed. @param {Op[] | { ops: Op[] }} ops */
+  apply(ops) {
+    if (this.#isClosed) throw new RichdError(0, "Closed");
+    const delta = new this.#Delta(ops);
+    this.#contents = this.#contents.compose(delta);
+    this.#typed = this.#typed.compose(delta);
+    queueMicrotask(() => this.#send()); // what is typed in one go is sent in one edit
+    this.dispatchEvent(new Event("progress"));
+  }
+
+  /** Waits until all that was typed is on the server's disk. @returns {Promise<number>} the revision then */
+  async flush() {
+    if (this.isSaved) return this.#revision;
+    if (this.#isClosed) throw new RichdError(0, "Closed");
+    return new Promise((resolve, reject) => this.#waiting.push({ resolve, reject }));
+  }
+
+  /** Follows it no longer. What was sent is still answered; what wasn't is dropped. */
+  close() {
+    this.#stop(new RichdError(0, "Closed"));
+  }
+
+  get #isInDoubt() {
+    return this.#sent !== null && this.#taken === null;
+  }
+
+  #begin(revision, base) {
+    this.#revision = revision;
+    this.#base = base;
+    this.#news = [];
+    this.#isStale = false;
+    this.#leave = this.#client.onNews(this.#name, {
+      rev: revision,
+      onNews: (ops, rev) => {
+        this.#news.push({ ops, rev });
+        this.#goOn();
+      },
+      onEnd: (error) => this.#onEnd(error),
+    });
+  }
+
+  #onEnd(error) {
+    if (error.code !== Refusal.TooOld && error.code !== Refusal.Future) return this.#fail(error);
+    this.#isStale = true;
+    this.#goOn();
+  }
+
+  #send() {
+    if (this.#sent !== null || this.#isStale || this.#isClosed || this.#typed.ops.length === 0) return;
+    const [first, rest] = parted(this.#typed, this.#room);
+    this.#sent = new this.#Delta(first.ops);
+    this.#typed = new this.#Delta(rest.ops);
+    this.#client.edit(this.#name, first.ops, this.#revision, NEVER).then(
+      ({ rev }) => {
+        this.#taken = rev;
+        this.#goOn();
+      },
+      (error) => this.#onRefusal(error),
+    );
+  }
+
+  // Takes over what has come, and sends what there is to be sent.
+  #goOn() {
+    while (!this.#isInDoubt && !this.#isStale) {
+      if (this.#taken !== null && this.#taken <= this.#revision + 1) {
+        this.#takeOverOwn();
+        continue;
+      }
+      const next = this.#news.shift();
+      if (next === undefined) break;
+      if (next.rev === this.#revision + 1) this.#takeOver(new this.#Delta(next.ops), next.rev);
+    }
+    if (this.#isStale && !this.#isInDoubt) this.#fetchAnew();
+    else this.#send();
+    if (this.isSaved) for (const { resolve } of this.#waiting.splice(0)) resolve(this.#revision);
+    this.dispatchEvent(new Event("progress"));
+  }
+
+  // Takes over what was sent. Where its number made an older revision, somebody else had used it before, and it is sent anew.
+  #takeOverOwn() {
+    if (this.#taken <= this.#revision) {
+      this.#typed = this.#sent.compose(this.#typed);
+    } else {
+      this.#base = this.#base.compose(this.#sent);
+      this.#revision = this.#taken;
+    }
+    this.#sent = this.#taken = null;
+  }
+
+  // Takes over what somebody else did: past what was sent, and past what was typed behind that.
+  #takeOver(change, revision) {
+    this.#base = this.#base.compose(change);
+    this.#revision = revision;
+    if (this.#sent !== null) {
+      const sent = change.transform(this.#sent, true);
+      change = this.#sent.transform(change, false);
+      this.#sent = sent;
+    }
+    this.#show(change);
+  }
+
+  // Changes what is shown, past what was typed.
+  #show(change) {
+    const shown = this.#typed.transform(change, false);
+    this.#typed = change.transform(this.#typed, true);
+    if (shown.ops.length === 0) return;
+    this.#contents = this.#contents.compose(shown);
+    this.dispatchEvent(new ChangeEvent(shown));
+  }
+
+  #onRefusal(error) {
+    if (error.name === "Closed") return this.#stop(error);
+    const isTooLong = [Refusal.TooManyOps, Refusal.TooWide, Refusal.LineTooLong].includes(error.code);
+    const isElsewhere = [Refusal.Future, Refusal.TooOld, Refusal.PastEnd].includes(error.code);
+    const typed = this.#sent.compose(this.#typed);
+    this.#sent = null;
+    if (isTooLong && this.#room > LEAST_ROOM) {
+      this.#typed = typed;
+      this.#room /= 2;
+    } else if (isElsewhere) {
+      this.#typed = typed;
+      this.#isStale = true;
+    } else {
+      this.#drop(typed, error);
+    }
+    this.#goOn();
+  }
+
+  // Takes back what was typed and can't be taken.
+  #drop(typed, error) {
+    const shown = typed.invert(this.#base);
+    this.#typed = new this.#Delta();
+    this.#contents = this.#base;
+    for (const { reject } of this.#waiting.splice(0)) reject(error);
+    this.dispatchEvent(new ChangeEvent(shown));
+    this.dispatchEvent(new TroubleEvent(error));
+  }
+
+  // Fetches the newest revision, and moves what was typed onto it as if one change had come.
+  async #fetchAnew() {
+    this.#leave();
+    if (this.#sent !== null) this.#base = this.#base.compose(this.#sent);
+    this.#sent = this.#taken = null;
+    try {
+      const { rev, ops } = await this.#client.fetch(this.#name, undefined, NEVER);
+      if (this.#isClosed) return;
+      const fetched = new this.#Delta(ops);
+      const change = new this.#Delta(difference(this.#base, fetched).ops);
+      this.#begin(rev, fetched);
+      this.#show(change);
+      this.#goOn();
+    } catch (error) {
+      this.#fail(error);
+    }
+  }
+
+  #fail(error) {
+    this.#stop(error);
+    if (error.name !== "Closed") this.dispatchEvent(new TroubleEvent(error));
+  }
+
+  #stop(error) {
+    if (this.#isClosed) return;
+    this.#isClosed = true;
+    this.#leave();
+    for (const { reject } of this.#waiting.splice(0)) reject(error);
+  }
+}

@@ -1,0 +1,34 @@
+// What may go wrong.
+
+/**
+ * A refusal of the server, with its number and name (13 and "TooOld"), or one of the client itself, with 0 for its number:
+ * "Timeout", "Closed", or "Cut", the cause of a call that had no connection.
+ */
+export class RichdError extends Error {
+  /**
+   * @param {number} code
+   * @param {string} name
+   * @param {unknown} [cause]
+   */
+  constructor(code, name, cause) {
+    super(code === 0 ? name : `${code} ${name}`, cause === undefined ? undefined : { cause });
+    this.code = code;
+    this.name = name;
+  }
+}
+
+/** The numbers of the refusals that the client itself answers in some way. */
+export const Refusal = {
+  TooManyOps: 4,
+  NoDocument: 6,
+  Exists: 7,
+  Gap: 9,
+  OldNumber: 10,
+  Future: 12,
+  TooOld: 13,
+  PastEnd: 14,
+  TooWide: 17,
+  StoreFailed: 21,
+  NoMemory: 22,
+  LineTooLong: 23,
+};

@@ -1,0 +1,38 @@
+// The revisions of a document, one after the other.
+
+/**
+ * @param {import("./richd.js").Client} client
+ * @param {string} doc
+ * @param {number} fromRev
+ * @param {AbortSignal} [signal]
+ * @returns {AsyncGenerator<{ rev: number, ops: import("./delta.js").Op[] }, void, void>}
+ */
+export async function* follow(client, doc, fromRev, signal) {
+  const arrived = [];
+  let wake = () => {};
+  /** @type {any} */
+  let failure;
+  const end = (error) => {
+    failure ??= error;
+    wake();
+  };
+  const onNews = (ops, rev) => {
+    arrived.push({ rev, ops });
+    wake();
+  };
+  const abort = () => end(signal.reason);
+  signal?.addEventListener("abort", abort);
+  if (signal?.aborted) abort();
+  const leave = client.onNews(doc, { rev: fromRev, onNews, onEnd: end });
+  try {
+    for (;;) {
+      while (arrived.length > 0) yield arrived.shift();
+      if (failure?.name === "Closed") return;
+      if (failure !== undefined) throw failure;
+      await new Promise((resolve) => (wake = () => resolve(undefined)));
+    }
+  } finally {
+    signal?.removeEventListener("abort", abort);
+    leave();
+  }
+}

@@ -1,0 +1,43 @@
+// How long something may take.
+
+/**
+ * @typedef {object} Limits
+ * @property {AbortSignal} [signal]  ends the call with the signal's reason
+ * @property {number} [timeout]  milliseconds, `Infinity` for no end
+ */
+
+/**
+ * What a promise comes to, unless the signal comes first, or the time ends.
+ * @template T
+ * @param {Promise<T>} promise
+ * @param {Limits} limits
+ * @param {() => Error} late  gives the error for the end of the time
+ * @returns {Promise<T>}
+ */
+export function within(promise, { signal, timeout }, late) {
+  let timer, abort;
+  const limited = new Promise((resolve, reject) => {
+    if (Number.isFinite(timeout)) timer = setTimeout(() => reject(late()), timeout);
+    abort = () => reject(signal.reason);
+    signal?.addEventListener("abort", abort);
+    if (signal?.aborted) abort();
+    promise.then(resolve, reject);
+  });
+  return limited.finally(() => {
+    clearTimeout(timer);
+    signal?.removeEventListener("abort", abort);
+  });
+}
+
+/** Waits so many milliseconds, or until the signal comes. */
+export function pause(milliseconds, signal) {
+  return new Promise((resolve) => {
+    const done = () => {
+      clearTimeout(timer);
+      signal.removeEventListener("abort", done);
+      resolve();
+    };
+    const timer = setTimeout(done, milliseconds);
+    signal.addEventListener("abort", done);
+  });
+}

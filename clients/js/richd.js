@@ -1,0 +1,264 @@
+// A client of richd: one session at a time, which is begun again after a cut, with any number of calls and documents in it.
+
+import { Document } from "./document.js";
+import { Refusal, RichdError } from "./errors.js";
+import { follow } from "./follow.js";
+import { pause, within } from "./limits.js";
+import { Line } from "./line.js";
+import { News } from "./news.js";
+import { Pauses } from "./pauses.js";
+import { Session } from "./session.js";
+
+export { Document, RichdError };
+
+const PATIENCE = 30_000; // milliseconds
+
+/**
+ * @typedef {import("./delta.js").Op} Op
+ * @typedef {import("./limits.js").Limits} Limits
+ *
+ * @typedef {object} Options
+ * @property {string} [source]  the name of whoever makes the changes, which one program has at a time. Without it, a new one
+ * @property {boolean} [isNew]  the source was never used before, so its numbers needn't be asked for
+ * @property {number} [timeout]  how many milliseconds a call may take that names no other, and `connect`: 30,000 if it isn't given
+ * @property {AbortSignal} [signal]  closes the client
+ */
+
+/**
+ * Connects to a server: `{ host, port }`, `{ command, args }` for a program of one's own, or `{ url }` for a WebSocket.
+ * @param {import("./links.js").Address & Options} options
+ */
+export async function connect(options) {
+  const made = options.source === undefined ? { source: await newSource(), isNew: true } : {};
+  const client = new Client({ timeout: PATIENCE, ...options, ...made });
+  await client.connected();
+  return client;
+}
+
+async function newSource() {
+  const crypto = globalThis.crypto ?? (await import("node:crypto")).webcrypto;
+  const bytes = crypto.getRandomValues(new Uint8Array(12));
+  return "js-" + [...bytes].map((byte) => byte.toString(16).padStart(2, "0")).join("");
+}
+
+/** Sends the events "connected" and "cut". */
+export class Client extends EventTarget {
+  #options;
+  /** @type {Session | null} */
+  #session = null;
+  #beginning;
+  #trouble; // the last one when a session was to begin
+  #pauses = new Pauses();
+  #closing = new AbortController();
+  /** @type {Map<string, { line: Line, news: News }>} */
+  #docs = new Map();
+
+  constructor(options) {
+    super();
+    this.#options = options;
+    options.signal?.addEventListener("abort", () => this.#shut(options.signal.reason));
+    this.#begin();
+  }
+
+  /** The source's name. */
+  get source() {
+    return this.#options.source;
+  }
+
+  /** Waits for the first session. */
+  async connected() {
+    try {
+      await within(this.#beginning, this.#options, () => new RichdError(0, "Timeout", this.#trouble));
+    } catch (error) {
+      this.#shut(error);
+      throw error;
+    }
+  }
+
+  /**
+   * Creates a document. A source that created it before, and did nothing more, gets the same answer.
+   * @param {string} doc
+   * @param {Op[]} ops
+   * @param {Limits} [limits]
+   */
+  create(doc, ops, limits) {
+    return this.#command(doc, { do: "create", ops }, limits);
+  }
+
+  /**
+   * Changes a document by operations that were made on its revision `base`.
+   * @param {string} doc
+   * @param {Op[]} ops
+   * @param {number} base
+   * @param {Limits} [limits]
+   */
+  edit(doc, ops, base, limits) {
+    return this.#command(doc, { do: "edit", base, ops }, limits);
+  }
+
+  /**
+   * Takes this source's last change of a document back.
+   * @param {string} doc
+   * @param {Limits} [limits]
+   */
+  undo(doc, limits) {
+    return this.#command(doc, { do: "undo" }, limits);
+  }
+
+  /**
+   * A document at a revision, or at the newest.
+   * @param {string} doc
+   * @param {number} [at]
+   * @param {Limits} [limits]
+   * @returns {Promise<{ rev: number, ops: Op[] }>}
+   */
+  async fetch(doc, at, limits) {
+    const { rev, ops } = await this.#ask(doc, at === undefined ? { do: "fetch" } : { do: "fetch", rev: at }, false, limits);
+    return { rev, ops };
+  }
+
+  /**
+   * What made each revision above one, up to the newest.
+   * @param {string} doc
+   * @param {number} at
+   * @param {Limits} [limits]
+   * @returns {Promise<{ rev: number, deltas: Op[][] }>}
+   */
+  async since(doc, at, limits) {
+    const { rev, deltas } = await this.#ask(doc, { do: "since", rev: at }, false, limits);
+    return { rev, deltas };
+  }
+
+  /**
+   * Each revision above one, as it comes, with what made it. It ends when the client is closed.
+   * @param {string} doc
+   * @param {number} fromRev
+   * @param {{ signal?: AbortSignal }} [options]  the signal ends it with its reason
+   */
+  follow(doc, fromRev, options) {
+    return follow(this, doc, fromRev, options?.signal);
+  }
+
+  /**
+   * Calls a follower for each revision above its own, as `follow` gives it. Returns what ends that.
+   * @param {string} doc
+   * @param {import("./news.js").Follower} follower
+   */
+  onNews(doc, follower) {
+    if (this.#closing.signal.aborted) {
+      follower.onEnd(this.#closing.signal.reason);
+      return () => {};
+    }
+    const { news } = this.#of(doc);
+    news.join(follower);
+    return () => news.leave(follower);
+  }
+
+  /**
+   * Opens a document that types ahead.
+   * @param {string} doc
+   * @param {import("./document.js").OpenOptions} [options]
+   */
+  open(doc, options) {
+    return Document.open(this, doc, options);
+  }
+
+  /** Ends the session, once all that was sent is answered. What wasn't sent ends with "Closed". */
+  async close() {
+    const session = this.#session;
+    this.#stop(new RichdError(0, "Closed"));
+    session?.end();
+    await session?.ended;
+  }
+
+  /** @returns {Promise<{ rev: number }>} */
+  async #command(doc, message, limits) {
+    const { rev } = await this.#ask(doc, message, true, limits);
+    return { rev };
+  }
+
+  async #ask(doc, message, isCommand, limits) {
+    this.#closing.signal.throwIfAborted();
+    const { line } = this.#of(doc);
+    /** @type {any} */
+    const item = { message: { ...message, doc }, isCommand };
+    const answer = new Promise((resolve, reject) => {
+      item.settle = (error, reply) => (error ? reject(error) : resolve(reply));
+    });
+    line.add(item);
+    try {
+      const late = () => item.trouble ?? new RichdError(0, "Timeout");
+      return await within(answer, { timeout: this.#options.timeout, ...limits }, late);
+    } catch (error) {
+      line.remove(item);
+      throw error;
+    }
+  }
+
+  #of(doc) {
+    if (!this.#docs.has(doc)) {
+      const line = new Line(doc, this.#options.isNew);
+      const news = new News((message, settle) => line.add({ message: { ...message, doc }, isCommand: false, settle }));
+      line.session = this.#session;
+      this.#docs.set(doc, { line, news });
+    }
+    return this.#docs.get(doc);
+  }
+
+  #begin() {
+    this.#beginning = this.#tryToBegin();
+    this.#beginning.catch((error) => this.#shut(error));
+  }
+
+  async #tryToBegin() {
+    const { signal } = this.#closing;
+    for (;;) {
+      try {
+        this.#session = await Session.begin(this.#options, this.source, {
+          onNews: (line) => this.#docs.get(line.doc)?.news.take(line),
+          onEnd: () => this.#onCut(),
+          patience: PATIENCE,
+          signal,
+        });
+        if (!signal.aborted) break;
+        this.#session.cut();
+      } catch (error) {
+        signal.throwIfAborted();
+        if (error.code === "ENOENT") throw error; // there is no such program
+        if (error.code > 0 && error.code !== Refusal.NoMemory) throw error; // the name is none
+        this.#trouble = error;
+        await pause(this.#pauses.next(), signal);
+        signal.throwIfAborted();
+      }
+    }
+    this.#pauses.reset();
+    for (const { line, news } of this.#docs.values()) {
+      line.session = this.#session;
+      news.renew();
+    }
+    this.dispatchEvent(new Event("connected"));
+  }
+
+  #onCut() {
+    this.#session = null;
+    for (const { line } of this.#docs.values()) line.session = null;
+    if (this.#closing.signal.aborted) return this.#stop(this.#closing.signal.reason);
+    this.dispatchEvent(new Event("cut"));
+    this.#begin();
+  }
+
+  // Sends nothing more, and ends what wasn't sent with an error.
+  #stop(error) {
+    this.#closing.abort(error);
+    for (const { line, news } of this.#docs.values()) {
+      line.session = null;
+      line.refuse(error);
+      news.end(error);
+    }
+  }
+
+  #shut(error) {
+    this.#stop(error);
+    this.#session?.cut();
+  }
+}

@@ -1,0 +1,137 @@
+// One session: a link, the lines that go over it, and the replies in the order of the messages.
+
+import { Refusal, RichdError } from "./errors.js";
+import { openLink } from "./links.js";
+
+const MAX_LINE = 65_536; // bytes, without the line's end
+
+/**
+ * @callback Settle  is called once for each message, in their order, before any later line is read
+ * @param {RichdError | null} error
+ * @param {object} [reply]
+ */
+
+export class Session {
+  #link;
+  #part = ""; // of the line that is still being read
+  #decoder = new TextDecoder();
+  /** @type {Settle[]} */
+  #waiting = [];
+  #timer;
+  #listener;
+  #patience;
+  #isEnding = false;
+  #hasEnded = false;
+  #end;
+
+  /** @type {Promise<void>} when the session has ended */
+  ended = new Promise((resolve) => (this.#end = resolve));
+
+  /**
+   * Opens a link, and says hello.
+   * @param {import("./links.js").Address} address
+   * @param {string} source
+   * @param {object} options
+   * @param {(line: object) => void} options.onNews  is called with each line of news
+   * @param {() => void} options.onEnd  is called when the session ends that was begun
+   * @param {number} options.patience  after so many milliseconds in which nothing came, though a reply is due, the session is cut
+   * @param {AbortSignal} [options.signal]  cuts the session while it begins
+   */
+  static async begin(address, source, { onNews, onEnd, patience, signal }) {
+    const session = new Session();
+    session.#listener = { onNews, onEnd: () => {} };
+    session.#patience = patience;
+    const link = await openLink(address, {
+      onBytes: (bytes) => session.#read(session.#decoder.decode(bytes, { stream: true })),
+      onClose: (cause) => session.#close(cause),
+    });
+    session.#link = link;
+    const cut = () => link.cut();
+    signal?.addEventListener("abort", cut);
+    if (signal?.aborted) cut();
+    try {
+      await new Promise((resolve, reject) => {
+        session.send({ do: "hello", source }, (error) => (error ? reject(error) : resolve()));
+      });
+    } catch (error) {
+      link.cut();
+      throw error;
+    } finally {
+      signal?.removeEventListener("abort", cut);
+    }
+    if (session.#hasEnded) throw new RichdError(0, "Cut");
+    session.#listener.onEnd = onEnd;
+    return session;
+  }
+
+  /**
+   * Sends a message. What it comes to is told to `settle`: a reply, a refusal, or "Cut" where the session ended before. A line that
+   * no server takes isn't sent, and is refused at once.
+   * @param {object} message
+   * @param {Settle} settle
+   */
+  send(message, settle) {
+    const line = new TextEncoder().encode(JSON.stringify(message) + "\n");
+    if (this.#hasEnded) return settle(new RichdError(0, "Cut"));
+    if (line.length > MAX_LINE + 1) return settle(new RichdError(Refusal.LineTooLong, "LineTooLong"));
+    this.#waiting.push(settle);
+    if (this.#waiting.length === 1) this.#watch();
+    this.#link.send(line);
+  }
+
+  /** Ends the session once all that was sent is answered. */
+  end() {
+    this.#isEnding = true;
+    this.#watch();
+  }
+
+  /** Ends the session at once. */
+  cut() {
+    this.#link.cut();
+    this.#close();
+  }
+
+  #read(text) {
+    if (this.#hasEnded) return;
+    this.#watch();
+    const lines = text.split("\n");
+    for (let index = 0; index + 1 < lines.length; index += 1) {
+      const line = this.#part + lines[index];
+      this.#part = "";
+      this.#take(line);
+    }
+    this.#part += lines.at(-1);
+  }
+
+  #take(text) {
+    let line;
+    try {
+      line = JSON.parse(text);
+    } catch {
+      return this.cut(); // no richd
+    }
+    if ("news" in line || "ended" in line) return this.#listener.onNews(line);
+    const settle = this.#waiting.shift();
+    if (settle === undefined) return this.cut();
+    if ("code" in line) settle(new RichdError(line.code, line.error));
+    else settle(null, line);
+    this.#watch();
+  }
+
+  // Cuts the session where nothing comes for too long that is due: the other end may be gone without a word.
+  #watch() {
+    clearTimeout(this.#timer);
+    if (this.#hasEnded) return;
+    if (this.#waiting.length > 0 || this.#isEnding) this.#timer = setTimeout(() => this.cut(), this.#patience);
+    if (this.#waiting.length === 0 && this.#isEnding) this.#link.end();
+  }
+
+  #close(cause) {
+    if (this.#hasEnded) return;
+    this.#hasEnded = true;
+    clearTimeout(this.#timer);
+    for (const settle of this.#waiting.splice(0)) settle(new RichdError(0, "Cut", cause));
+    this.#end();
+    this.#listener.onEnd();
+  }
+}

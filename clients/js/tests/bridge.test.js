@@ -1,0 +1,101 @@
+// The bridge: sessions over a WebSocket, and the files that it serves.
+
+import assert from "node:assert/strict";
+import http from "node:http";
+import test from "node:test";
+import { startBridge, webSockets } from "../bridge.js";
+import { connect } from "../richd.js";
+import { served, until } from "./fake.js";
+
+const { WebSocket } = webSockets();
+
+async function bridged(t) {
+  const server = await served();
+  const bridge = await startBridge(server.address);
+  t.after(() => {
+    bridge.close();
+    server.close();
+  });
+  return { server, bridge };
+}
+
+async function connected(t, url) {
+  const client = await connect({ url, WebSocket });
+  t.after(() => client.close());
+  return client;
+}
+
+test("a WebSocket carries a session, over a cut too", async (t) => {
+  const { server, bridge } = await bridged(t);
+  const [ann, bob] = [await connected(t, bridge.webSocketUrl), await connected(t, bridge.webSocketUrl)];
+  await ann.create("d", [{ insert: "é\u{1f600}\n".repeat(7_000) }]);
+  const [left, right] = [await ann.open("d"), await bob.open("d")];
+  left.apply([{ insert: "left " }]);
+  server.sessions[0].cut();
+  right.apply([{ insert: "right " }]);
+  await Promise.all([left.flush(), right.flush()]);
+  await until(() => left.revision === 3 && right.revision === 3);
+  assert.deepEqual(left.contents.ops, server.documents.at("d"));
+  assert.deepEqual(right.contents.ops, server.documents.at("d"));
+});
+
+test("the end of either side is the end of the other", async (t) => {
+  const { server, bridge } = await bridged(t);
+  const client = await connected(t, bridge.webSocketUrl);
+  await client.close();
+  await until(() => server.sessions[0].hasEnded);
+});
+
+test("a page of another origin may not connect", async (t) => {
+  const { bridge } = await bridged(t);
+  const opened = (origin) =>
+    new Promise((resolve) => {
+      const webSocket = new WebSocket(bridge.webSocketUrl, { origin });
+      webSocket.on("open", () => resolve(true));
+      webSocket.on("error", () => resolve(false));
+      t.after(() => webSocket.terminate());
+    });
+  assert.equal(await opened("http://elsewhere.example"), false);
+  assert.equal(await opened(bridge.url.slice(0, -1)), true);
+});
+
+/** The status and the content of a path, which is sent as it is. */
+function got(bridge, path) {
+  const { hostname: host, port } = new URL(bridge.url);
+  return new Promise((resolve, reject) => {
+    const request = http.request({ host, port, path }, (response) => {
+      let content = "";
+      response.on("data", (data) => (content += data));
+      response.on("end", () => resolve({ status: response.statusCode, content, location: response.headers.location }));
+    });
+    request.on("error", reject).end();
+  });
+}
+
+test("it serves the editor and the client, and nothing else", async (t) => {
+  const { bridge } = await bridged(t);
+  assert.equal((await got(bridge, "/")).location, "/examples/editor/");
+  for (const [path, part] of [
+    ["/examples/editor/", "<title>"],
+    ["/examples/editor/editor.js?1", "bind("],
+    ["/clients/js/richd.js", "export class Client"],
+  ]) {
+    const { status, content } = await got(bridge, path);
+    assert.equal(status, 200, path);
+    assert.ok(content.includes(part), path);
+  }
+  for (const path of [
+    "/clients/js/../../README.md",
+    "/clients/js/%2e%2e/%2e%2e/README.md",
+    "/clients/js/..%2f..%2fREADME.md",
+    "/clients/js/tests/fake.js",
+    "/clients/js/package.json",
+    "/clients/js/",
+    "/examples/editor/run",
+    "/etc/passwd",
+    "//",
+    "/quill/quill.js",
+  ]) {
+    assert.equal((await got(bridge, path)).status, 404, path);
+  }
+});

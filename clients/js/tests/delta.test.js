@@ -1,0 +1,100 @@
+// delta.js against the rows of quill-delta's published behaviour, and against `richd delta` over drawn cases.
+
+import assert from "node:assert/strict";
+import { execFile } from "node:child_process";
+import { readFileSync } from "node:fs";
+import os from "node:os";
+import test from "node:test";
+import { promisify } from "node:util";
+import { Delta } from "../delta.js";
+import { difference } from "../difference.js";
+import { parted } from "../parting.js";
+import { Draw } from "./draw.js";
+import { RICHD, ROOT, needsRichd } from "./program.js";
+
+const CASES = 2_000;
+
+/** A delta in normal form, as `richd` reads it. */
+function read(text) {
+  const value = JSON.parse(text);
+  return (value.ops ?? value).reduce((delta, op) => delta.push(op), new Delta());
+}
+
+const CALLS = {
+  compose: (first, second) => read(first).compose(read(second)),
+  apply: (document, delta) => read(document).compose(read(delta)),
+  transform: (first, second, priority) => read(first).transform(read(second), priority === "first"),
+  invert: (delta, base) => read(delta).invert(read(base)),
+  normal: (ops) => read(ops).chop(),
+  position: (delta, index, priority) => read(delta).transformPosition(Number(index), priority === "first"),
+};
+
+test("the rows of deltas", () => {
+  const [rows, answers] = ["stdin", "stdout"].map((name) => readFileSync(`${ROOT}/crates/rows/${name}`, "utf8").split("\n"));
+  let count = 0;
+  for (const [line, row] of rows.entries()) {
+    const [call, ...words] = row.split("\t");
+    if (!(call in CALLS) || answers[line].startsWith("error")) continue;
+    count += 1;
+    const result = CALLS[call](...words);
+    const wanted = JSON.parse(answers[line]);
+    assert.deepEqual(typeof result === "number" ? result : { ops: result.ops }, wanted, row);
+  }
+  assert.ok(count > 150, `${count} rows`);
+});
+
+/** What `richd delta` prints for a case: a composition, or a transformation with the first delta first or not. */
+async function asked(call, first, second, isFirst) {
+  const words = [first, second].map(({ ops }) => JSON.stringify({ ops }));
+  const { stdout } = await promisify(execFile)(RICHD, ["delta", call, ...words, ...(isFirst ? ["--first"] : [])]);
+  return JSON.parse(stdout);
+}
+
+test(`${CASES} drawn cases against richd delta`, needsRichd, async () => {
+  const draw = new Draw(1);
+  const cases = Array.from({ length: CASES }, (_, number) => {
+    const base = draw.document();
+    const first = draw.change(base);
+    const isCompose = number % 2 === 0;
+    const second = draw.change(isCompose ? base.compose(first) : base);
+    return { call: isCompose ? "compose" : "transform", first, second, isFirst: !isCompose && draw.below(2) === 0 };
+  });
+  const compare = async () => {
+    for (let one = cases.pop(); one !== undefined; one = cases.pop()) {
+      const { call, first, second, isFirst } = one;
+      const { ops } = call === "compose" ? first.compose(second) : first.transform(second, isFirst);
+      assert.deepEqual({ ops }, await asked(call, first, second, isFirst), JSON.stringify(one));
+    }
+  };
+  await Promise.all(Array.from({ length: Math.min(2, os.cpus().length) }, compare));
+});
+
+test("both orders of two changes come to the same, and an inverse takes a change back", () => {
+  const draw = new Draw(2);
+  for (let number = 0; number < CASES; number += 1) {
+    const base = draw.document();
+    const [one, other] = [draw.change(base), draw.change(base)];
+    const onFirst = base.compose(one).compose(one.transform(other, true));
+    const onSecond = base.compose(other).compose(other.transform(one, false));
+    assert.deepEqual(onFirst.ops, onSecond.ops);
+    assert.deepEqual(base.compose(one).compose(one.invert(base)).ops, base.ops);
+    assert.deepEqual(base.compose(difference(base, onFirst)).ops, onFirst.ops);
+  }
+});
+
+test("an edit in parts does the same", () => {
+  const draw = new Draw(3);
+  for (let number = 0; number < CASES; number += 1) {
+    const base = draw.document();
+    let rest = draw.change(base);
+    const whole = base.compose(rest);
+    let contents = base;
+    for (let parts = 0; rest.ops.length > 0; parts += 1) {
+      let first;
+      [first, rest] = parted(rest, 40 + draw.below(60));
+      contents = contents.compose(first);
+      assert.ok(parts < 100);
+    }
+    assert.deepEqual(contents.ops, whole.ops);
+  }
+});

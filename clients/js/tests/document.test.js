@@ -1,0 +1,206 @@
+// The document that types ahead, against a server in the test's hands.
+
+import assert from "node:assert/strict";
+import test from "node:test";
+import { Delta } from "../delta.js";
+import { connect } from "../richd.js";
+import { Draw } from "./draw.js";
+import { served, until } from "./fake.js";
+
+/** A server with a document, and how to open it, until the test ends. */
+async function prepared(t, faults, ops = [{ insert: "Hello\n" }]) {
+  const server = await served(faults);
+  t.after(() => server.close());
+  const open = async () => {
+    const client = await connect(server.address);
+    t.after(() => client.close());
+    return Object.assign(await client.open("d"), { client });
+  };
+  const creator = await connect({ ...server.address, source: "creator" });
+  t.after(() => creator.close());
+  await creator.create("d", ops);
+  return { server, creator, open, newest: () => server.documents.at("d") };
+}
+
+/** What an editor shows that is told of the changes alone. */
+function shownBy(document) {
+  const shown = { contents: document.contents };
+  document.addEventListener("change", ({ delta }) => (shown.contents = shown.contents.compose(delta)));
+  shown.type = (ops) => {
+    shown.contents = shown.contents.compose({ ops });
+    document.apply(ops);
+  };
+  return shown;
+}
+
+const isAt = (document, rev) => document.isSaved && document.revision === rev;
+
+test("what is typed shows at once, and is sent in one edit while another is on its way", async (t) => {
+  const { open, newest, server } = await prepared(t);
+  const document = await open();
+  document.apply([{ insert: "a" }]);
+  document.apply([{ retain: 1 }, { insert: "b" }]);
+  assert.deepEqual(document.contents.ops, [{ insert: "abHello\n" }]);
+  assert.equal(document.isSaved, false);
+  await Promise.resolve(); // "ab" is on its way
+  document.apply([{ retain: 2 }, { insert: "c" }]);
+  document.apply([{ retain: 3 }, { insert: "d" }]);
+  assert.equal(await document.flush(), 3);
+  assert.deepEqual(newest(), [{ insert: "abcdHello\n" }]);
+  assert.deepEqual([2, 3].map((rev) => server.documents.deltaOf("d", rev)), [[{ insert: "ab" }], [{ retain: 2 }, { insert: "cd" }]]);
+});
+
+test("two who type at once come to the same, and each is told of the other", async (t) => {
+  const { open, newest } = await prepared(t);
+  const documents = [await open(), await open()];
+  const shown = documents.map(shownBy);
+  shown[0].type([{ insert: "left " }]);
+  shown[1].type([{ retain: 5 }, { insert: "right", attributes: { bold: true } }]);
+  shown[1].type([{ delete: 1 }]);
+  await Promise.all(documents.map((document) => document.flush()));
+  await until(() => documents.every((document) => isAt(document, 3)));
+  for (const { contents } of [...documents, ...shown]) assert.deepEqual(contents.ops, newest());
+  assert.deepEqual(newest(), [{ insert: "left ello" }, { insert: "right", attributes: { bold: true } }, { insert: "\n" }]);
+});
+
+test("an edit whose reply is lost is taken once, though its news come before the answer", async (t) => {
+  const troubles = ["cut", 22, "cut"];
+  const spoil = (message, session) => {
+    if (message.do !== "edit" || troubles.length === 0) return false;
+    const trouble = troubles.shift();
+    if (trouble === "cut") session.cut();
+    // the edit was taken, the reply is lost for want of memory, and its news come
+    else session.reply({ code: 22, error: "NoMemory" }, { doc: "d", news: 2, ops: [{ insert: "x" }] });
+    return true;
+  };
+  const { open, newest, server } = await prepared(t, { spoil });
+  const document = await open();
+  const shown = shownBy(document);
+  shown.type([{ insert: "x" }]);
+  assert.equal(await document.flush(), 2);
+  assert.deepEqual(newest(), [{ insert: "xHello\n" }]);
+  assert.equal(server.documents.newest("d"), 2);
+  for (const { contents } of [document, shown]) assert.deepEqual(contents.ops, newest());
+});
+
+test("where the past is no longer held, what was typed is moved onto what is fetched", async (t) => {
+  const { open, newest, server, creator } = await prepared(t);
+  const document = await open();
+  const shown = shownBy(document);
+  server.sessions.at(-1).cut();
+  shown.type([{ retain: 5 }, { insert: " bob" }]);
+  await creator.edit("d", [{ retain: 5 }, { insert: "!" }], 1);
+  await creator.edit("d", [{ insert: "Oh. " }], 2);
+  server.documents.raise("d", 3);
+  await document.flush();
+  for (const { contents } of [document, shown]) assert.deepEqual(contents.ops, newest());
+  assert.ok(newest()[0].insert.includes(" bob"));
+  // and of one that has typed nothing
+  server.sessions.at(-1).cut();
+  await creator.edit("d", [{ insert: "So. " }], 4);
+  server.documents.raise("d", 5);
+  await until(() => isAt(document, 5));
+  for (const { contents } of [document, shown]) assert.deepEqual(contents.ops, newest());
+});
+
+test("an edit that was taken, but behind what is no longer held, is shown once", async (t) => {
+  const spoil = (message, session) => {
+    if (message.do === "edit" && session.source !== "creator") session.documents.raise("d", 3);
+    return false;
+  };
+  const { open, newest, server, creator } = await prepared(t, { spoil });
+  const document = await open();
+  const shown = shownBy(document);
+  server.sessions.at(-1).cut();
+  shown.type([{ insert: "mine " }]);
+  await creator.edit("d", [{ insert: "yours " }], 1); // the other has no connection yet
+  await until(() => document.revision === 3);
+  for (const { contents } of [document, shown]) assert.deepEqual(contents.ops, newest());
+  assert.deepEqual(newest(), [{ insert: "yours mine Hello\n" }]);
+});
+
+test("what is refused for good is taken back, and told", async (t) => {
+  const isHeavy = (message) => message.do === "edit" && message.ops.some(({ insert }) => insert?.startsWith("heavy"));
+  const { open, newest, creator } = await prepared(t, { refuse: (message) => (isHeavy(message) ? { code: 16, error: "TooHeavy" } : undefined) });
+  const document = await open();
+  const shown = shownBy(document);
+  const told = [];
+  creator.edit("d", [{ insert: "first" }], 1);
+  shown.type([{ insert: "second" }]); // at the same place, and late
+  await document.flush();
+  document.addEventListener("trouble", ({ error }) => told.push(error.name));
+  shown.type([{ insert: "heavy" }]);
+  await Promise.resolve(); // it is on its way
+  shown.type([{ retain: 5 }, { insert: "er" }, { retain: 5 }, { delete: 1 }]);
+  await assert.rejects(document.flush(), { name: "TooHeavy", code: 16 });
+  for (const { contents } of [document, shown]) assert.deepEqual(contents.ops, newest());
+  assert.deepEqual(told, ["TooHeavy"]);
+  shown.type([{ insert: "light " }]);
+  await document.flush();
+  for (const { contents } of [document, shown]) assert.deepEqual(contents.ops, newest());
+});
+
+test("what is too long for a line, or for the journal, is sent in parts", async (t) => {
+  const isWide = (message) => message.do === "edit" && JSON.stringify(message).length > 3_000;
+  const { open, newest } = await prepared(t, { refuse: (message) => (isWide(message) ? { code: 17, error: "TooWide" } : undefined) });
+  const document = await open();
+  const sizes = Array.from({ length: 2_000 }, (_, size) => ({ insert: "x", attributes: { size } }));
+  document.apply([{ insert: "\u{1f600}é\n".repeat(10_000) }, ...sizes]);
+  await document.flush();
+  assert.deepEqual(newest(), document.contents.ops);
+});
+
+test("it computes by the deltas of the page's Quill, or by those that it is given", async (t) => {
+  const { open } = await prepared(t);
+  class Other extends Delta {}
+  const document = await open();
+  assert.equal(document.contents.constructor, Delta);
+  assert.equal((await document.client.open("d", { Delta: Other })).contents.constructor, Other);
+  globalThis.Quill = { import: (name) => (name === "delta" ? Other : undefined) };
+  t.after(() => delete globalThis.Quill);
+  assert.equal((await document.client.open("d")).contents.constructor, Other);
+});
+
+test("whoever opens a document first creates it, and the others wait until it is shown", async (t) => {
+  let hidden = 2; // so often the server says that it exists, before it shows it
+  const refuse = ({ do: kind, doc }) => {
+    if (doc === "e" && kind === "create" && hidden > 0) return { code: 7, error: "Exists" };
+    if (doc === "e" && kind === "fetch" && hidden > 0) return (hidden -= 1), { code: 6, error: "NoDocument" };
+    return undefined;
+  };
+  const { open } = await prepared(t, { refuse });
+  const { client } = await open();
+  for (const ops of [[{ insert: "first" }], [{ insert: "second" }]]) {
+    assert.deepEqual((await client.open("e", { create: ops })).contents.ops, [{ insert: "first" }]);
+  }
+  await assert.rejects(client.open("f"), { name: "NoDocument" });
+});
+
+test("a document that is closed is told no more, and says so", async (t) => {
+  const { open, creator } = await prepared(t);
+  const document = await open();
+  document.close();
+  await creator.edit("d", [{ insert: "x" }], 1);
+  await creator.fetch("d");
+  assert.deepEqual(document.contents.ops, [{ insert: "Hello\n" }]);
+  assert.throws(() => document.apply([{ insert: "x" }]), { name: "Closed" });
+});
+
+test("three who type at random, with cuts and a past that is dropped, come to the same", async (t) => {
+  const draw = new Draw(Number(process.env.SEED ?? 4));
+  const spoil = (_, session) => draw.below(40) === 0 && (session.cut(), true);
+  const { open, newest, server } = await prepared(t, { spoil }, [{ insert: "The quick brown fox" }]);
+  const documents = [await open(), await open(), await open()];
+  const shown = documents.map(shownBy);
+  const pause = (milliseconds) => new Promise((resolve) => setTimeout(resolve, milliseconds));
+  for (let round = 0; round < 400; round += 1) {
+    const one = draw.of(shown);
+    one.type(draw.typing(one.contents).ops);
+    if (draw.below(4) === 0) await pause(draw.below(8));
+    if (draw.below(60) === 0) server.documents.raise("d", server.documents.newest("d"));
+  }
+  await Promise.all(documents.map((document) => document.flush()));
+  const newestRev = server.documents.newest("d");
+  await until(() => documents.every((document) => isAt(document, newestRev)));
+  for (const { contents } of [...documents, ...shown]) assert.deepEqual(contents.ops, newest());
+});

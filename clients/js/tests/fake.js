@@ -1,0 +1,141 @@
+// A server in the test's hands: what the real one says is fixed by its own tests, and what it says seldom can be had here.
+
+import net from "node:net";
+import { Delta } from "../delta.js";
+
+/** Waits until something holds. */
+export async function until(holds) {
+  while (!holds()) await new Promise((resolve) => setTimeout(resolve, 5));
+}
+
+/**
+ * Listens on a free port, and calls `onLine` with each message and its session. A session has `reply`, and `cut`.
+ * @param {(message: any, session: any, sessions: any[]) => void} onLine
+ */
+export async function scripted(onLine) {
+  const sessions = [];
+  const server = net.createServer((socket) => {
+    const session = { reply: (...lines) => socket.write(lines.map((line) => JSON.stringify(line) + "\n").join("")), cut: () => socket.destroy() };
+    sessions.push(session);
+    let text = "";
+    socket.setEncoding("utf8");
+    socket.on("error", () => {});
+    socket.on("close", () => (session.hasEnded = true));
+    socket.on("end", () => socket.end());
+    socket.on("data", (data) => {
+      const lines = (text + data).split("\n");
+      text = lines.pop();
+      for (const line of lines) if (!session.hasEnded) onLine(JSON.parse(line), session, sessions);
+    });
+  });
+  await new Promise((resolve) => server.listen(0, "127.0.0.1", resolve));
+  return {
+    address: { host: "127.0.0.1", port: server.address().port },
+    sessions,
+    close() {
+      for (const session of sessions) session.cut();
+      server.close();
+    },
+  };
+}
+
+const refusal = (code, error) => ({ code, error });
+
+/** Documents by the rule of docs/ACCEPTANCE.md, in memory and without limits. */
+export class Documents {
+  #docs = new Map();
+
+  /** The reply to a message, and what it did. */
+  answer(message, source) {
+    const doc = this.#docs.get(message.doc);
+    if (message.do === "create") return this.#create(doc, message, source);
+    if (doc === undefined) return refusal(6, "NoDocument");
+    const newest = doc.deltas.length;
+    if (message.do === "edit") return this.#edit(doc, message, source);
+    if (message.rev > newest) return refusal(12, "Future");
+    const rev = message.rev ?? newest;
+    if (rev < doc.floor) return refusal(13, "TooOld");
+    if (message.do === "fetch") return { doc: message.doc, ok: "doc", ops: this.at(message.doc, rev), rev };
+    if (message.do === "since") return { deltas: doc.deltas.slice(rev), doc: message.doc, ok: "since", rev: newest };
+    if (message.do === "subscribe") return { doc: message.doc, ok: "subscribed", rev };
+    return { doc: message.doc, ok: "unsubscribed" };
+  }
+
+  at(name, rev = Infinity) {
+    const deltas = this.#docs.get(name).deltas.slice(0, rev);
+    return deltas.reduce((contents, ops) => contents.compose(new Delta(ops)), new Delta()).ops;
+  }
+
+  newest(name) {
+    return this.#docs.get(name)?.deltas.length ?? 0;
+  }
+
+  deltaOf(name, rev) {
+    return this.#docs.get(name).deltas[rev - 1];
+  }
+
+  /** Forgets what is older. */
+  raise(name, floor) {
+    this.#docs.get(name).floor = floor;
+  }
+
+  floor(name) {
+    return this.#docs.get(name).floor;
+  }
+
+  #create(doc, { doc: name, n, ops }, source) {
+    const last = doc?.sources.get(source);
+    if (last?.n === n) return { doc: name, n, ok: "again", rev: last.rev };
+    if (doc !== undefined) return refusal(7, "Exists");
+    if (n > 1) return refusal(9, "Gap");
+    this.#docs.set(name, { deltas: [ops], sources: new Map([[source, { n, rev: 1 }]]), floor: 0 });
+    return { doc: name, n, ok: "taken", rev: 1 };
+  }
+
+  #edit(doc, { doc: name, n, base, ops }, source) {
+    const last = doc.sources.get(source) ?? { n: 0, rev: 0 };
+    if (last.n === n) return { doc: name, n, ok: "again", rev: last.rev };
+    if (n < last.n) return refusal(10, "OldNumber");
+    if (n > last.n + 1) return refusal(9, "Gap");
+    if (base > doc.deltas.length) return refusal(12, "Future");
+    if (base < doc.floor) return refusal(13, "TooOld");
+    const late = doc.deltas.slice(base).reduce((delta, done) => new Delta(done).transform(delta, true), new Delta(ops));
+    const rev = doc.deltas.push(late.ops);
+    doc.sources.set(source, { n, rev });
+    return { doc: name, n, ok: "taken", rev };
+  }
+}
+
+/**
+ * Serves documents. `refuse` may give a reply in place of the documents, and nothing is done then. `spoil` is called once they have
+ * answered, and returns true where the reply isn't to be sent.
+ * @param {{ refuse?: (message: any) => any, spoil?: (message: any, session: any) => boolean }} [faults]
+ */
+export async function served({ refuse = () => undefined, spoil = () => false } = {}) {
+  const documents = new Documents();
+  const tell = (session) => {
+    for (const [doc, rev] of [...(session.follows ?? [])].sort()) {
+      const newest = documents.newest(doc);
+      const isHeld = rev >= documents.floor(doc);
+      const lines = Array.from({ length: newest - rev }, (_, index) => rev + index + 1);
+      if (isHeld) session.reply(...lines.map((news) => ({ doc, news, ops: documents.deltaOf(doc, news) })));
+      else session.reply({ doc, ended: 13 });
+      if (isHeld) session.follows.set(doc, newest);
+      else session.follows.delete(doc);
+    }
+  };
+  const server = await scripted((message, session, sessions) => {
+    if (message.do === "hello") {
+      Object.assign(session, { source: message.source, documents });
+      session.follows = new Map();
+      return session.reply({ ok: "hello" });
+    }
+    const reply = refuse(message) ?? documents.answer(message, session.source);
+    if (spoil(message, session)) return;
+    session.reply(reply);
+    if (reply.ok === "subscribed") session.follows.set(message.doc, reply.rev);
+    if (reply.ok === "unsubscribed") session.follows.delete(message.doc);
+    for (const other of sessions) if (!other.hasEnded) tell(other);
+  });
+  return Object.assign(server, { documents });
+}

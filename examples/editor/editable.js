@@ -1,0 +1,186 @@
+// A text with bold and italic parts in a `contenteditable`, for pages without Quill. It has the methods of Quill that `bind` calls, and
+// keeps to its rule that a text ends with a line's end.
+
+import { Delta } from "../../clients/js/delta.js";
+import { difference } from "../../clients/js/difference.js";
+
+const TAGS = { bold: "b", italic: "i" };
+const EMBED = "\u25a3"; // stands for what this editor can't show; one unit
+
+const isEmbed = (op) => typeof op.insert !== "string";
+
+function nodeOf(op) {
+  let node = document.createTextNode(isEmbed(op) ? EMBED : op.insert);
+  for (const [name, tag] of Object.entries(TAGS)) {
+    if (op.attributes?.[name] !== true) continue;
+    const element = document.createElement(tag);
+    element.append(node);
+    node = element;
+  }
+  return node;
+}
+
+const textOf = ({ ops }) => ops.map((op) => (isEmbed(op) ? EMBED : op.insert)).join("");
+
+export class Editable {
+  #element;
+  #contents = new Delta([{ insert: "\n" }]);
+  #listeners = new Set();
+  #typing = {}; // attributes that were set with nothing selected, for what is typed next
+  #isComposing = false;
+  #held = new Delta(); // what the others did while a character is composed of several keys
+
+  constructor(element) {
+    this.#element = element;
+    element.classList.add("plain");
+    element.contentEditable = "true";
+    element.spellcheck = false;
+    element.addEventListener("beforeinput", (event) => this.#beforeInput(event));
+    element.addEventListener("input", () => this.#isComposing || this.#readBack());
+    element.addEventListener("compositionstart", () => (this.#isComposing = true));
+    element.addEventListener("compositionend", () => this.#afterComposition());
+    this.#render();
+  }
+
+  getContents() {
+    return new Delta([...this.#contents.ops]);
+  }
+
+  getLength() {
+    return this.#contents.length();
+  }
+
+  setContents({ ops }, source = "api") {
+    const change = new Delta([...ops]).push({ delete: this.getLength() });
+    if (!textOf({ ops }).endsWith("\n")) change.insert("\n");
+    this.updateContents(change.chop(), source);
+  }
+
+  updateContents({ ops }, source = "api") {
+    const change = new Delta([...ops]);
+    if (this.#isComposing) this.#held = this.#held.compose(change);
+    else this.#change(change, source);
+  }
+
+  on(name, listener) {
+    if (name === "text-change") this.#listeners.add(listener);
+  }
+
+  off(name, listener) {
+    this.#listeners.delete(listener);
+  }
+
+  setSelection(index, length = 0) {
+    this.#element.focus();
+    this.#select([index, index + length]);
+  }
+
+  /** Sets an attribute on what is selected, or removes it where all of that has it. */
+  toggle(name) {
+    const [start, end] = this.#selected() ?? [0, 0];
+    if (start === end) {
+      const isSet = this.#typing[name] ?? this.#attributesBefore(start)[name] === true;
+      this.#typing = { ...this.#typing, [name]: !isSet };
+      return;
+    }
+    const hasAll = this.#contents.slice(start, end).ops.every((op) => op.attributes?.[name] === true);
+    this.#change(new Delta().retain(start).retain(end - start, { [name]: hasAll ? null : true }), "user");
+  }
+
+  #beforeInput(event) {
+    if (!event.cancelable || this.#isComposing) return; // what the browser does is read back
+    event.preventDefault();
+    const { inputType } = event;
+    if (inputType === "formatBold") return this.toggle("bold");
+    if (inputType === "formatItalic") return this.toggle("italic");
+    const [range] = event.getTargetRanges();
+    if (range === undefined) return;
+    if (inputType.startsWith("delete")) this.#replace(range, "");
+    else if (inputType === "insertParagraph" || inputType === "insertLineBreak") this.#replace(range, "\n");
+    else if (inputType.startsWith("insert")) this.#replace(range, event.data ?? event.dataTransfer?.getData("text/plain") ?? "");
+  }
+
+  #replace(range, text) {
+    const [start, end] = this.#indexesOf(range);
+    const change = new Delta().retain(start).insert(text, this.#attributesFor(start)).delete(end - start);
+    this.#typing = {};
+    this.#change(change, "user", [start + text.length, start + text.length]);
+  }
+
+  // What is typed at a place has the attributes of what stands before it, and those that were set for it.
+  #attributesFor(start) {
+    const set = Object.entries({ ...this.#attributesBefore(start), ...this.#typing });
+    return Object.fromEntries(set.filter(([, value]) => value !== false));
+  }
+
+  #attributesBefore(index) {
+    return index > 0 ? (this.#contents.slice(index - 1, index).ops[0].attributes ?? {}) : {};
+  }
+
+  #change(change, source, selected = this.#selected()?.map((index) => change.transformPosition(index, true))) {
+    if (change.ops.length === 0) return;
+    const before = this.#contents;
+    this.#contents = before.compose(change);
+    this.#render(selected);
+    for (const listener of this.#listeners) listener(change, before, source);
+  }
+
+  #render(selected) {
+    this.#element.replaceChildren(...this.#contents.ops.map(nodeOf));
+    if (selected !== undefined) this.#select(selected);
+  }
+
+  #afterComposition() {
+    this.#isComposing = false;
+    this.#readBack();
+  }
+
+  // Takes over what the browser itself did to the text, and what was held meanwhile.
+  #readBack() {
+    const text = this.#element.textContent;
+    const shown = { ops: [{ insert: text.endsWith("\n") ? text : text + "\n" }] };
+    const typed = new Delta();
+    for (const op of difference({ ops: [{ insert: textOf(this.#contents) }] }, shown).ops) {
+      typed.push(op.insert === undefined ? op : { ...op, attributes: this.#attributesFor(typed.length()) });
+    }
+    const held = this.#held;
+    const selected = this.#selected()?.map((index) => held.transformPosition(index, true));
+    this.#held = new Delta();
+    this.#contents = this.#contents.compose(held);
+    this.#render(selected);
+    this.#change(held.transform(typed, true), "user", selected);
+  }
+
+  // The selection, where it lies in this text.
+  #selected() {
+    const selection = document.getSelection();
+    if (selection.rangeCount === 0 || !this.#element.contains(selection.anchorNode)) return undefined;
+    return this.#indexesOf(selection.getRangeAt(0));
+  }
+
+  // The end of the last line stays, so nothing lies behind it.
+  #indexesOf({ startContainer, startOffset, endContainer, endOffset }) {
+    const last = Math.max(this.#element.textContent.length, this.getLength()) - 1;
+    const indexOf = (node, offset) => {
+      const range = document.createRange();
+      range.selectNodeContents(this.#element);
+      range.setEnd(node, offset);
+      return Math.min(range.toString().length, last);
+    };
+    return [indexOf(startContainer, startOffset), indexOf(endContainer, endOffset)];
+  }
+
+  #select([start, end]) {
+    document.getSelection().setBaseAndExtent(...this.#placeOf(start), ...this.#placeOf(end));
+  }
+
+  #placeOf(index) {
+    const texts = document.createTreeWalker(this.#element, NodeFilter.SHOW_TEXT);
+    let left = Math.min(index, this.getLength() - 1);
+    while (texts.nextNode()) {
+      if (left <= texts.currentNode.length) return [texts.currentNode, left];
+      left -= texts.currentNode.length;
+    }
+    return [this.#element, 0];
+  }
+}
