@@ -60,9 +60,11 @@
 //! ```
 #![tactic(auto)]
 
+mod beside;
 mod connections;
 mod streams;
 mod writing;
+mod written;
 
 pub use connections::serve_on;
 pub use streams::serve_streams;
