@@ -1,6 +1,6 @@
 -- What a flusher's thread writes is what serving a store leaves of it.
 use Rattle.std.proofs.Common.{◌≡◌, ◌≤◌, ◌↔◌, ℕ, true, false, List, [], ◌∷◌, ◌++◌, length, length-append, append-nil, refl, sym, ◌∙◌, ap, subst, arith, Ok}
-use Rattle.std.specs.Prelude.{Result, OnOk, IsErrOf}
+use Rattle.std.specs.Prelude.{Bool, Result, Err, OnOk, IsErrOf, is_err}
 use Rattle.std.proofs.lemmas.Bool.{false≢true}
 use mathlib.Core.List.{IsPrefix}
 use Rattle.disk.specs.declared.device.Disk.{Ghosts}
@@ -19,7 +19,7 @@ use Rattle.flusher.specs.Holding.{store_of, told_of, committed_of, waiting_of}
 use Rattle.published.specs.Batches.{IsShorter}
 use Rattle.turns.specs.Writing.{WasAt, Writes, given_to, told_count}
 use Rattle.listening.specs.Served.{IsServed, IsStarted, WasServed, WasShown}
-use Rattle.listening.specs.Written.{HasRun}
+use Rattle.listening.specs.Written.{HasWritten, HasRun}
 
 -- what begins a state's batches begins those of a state that is the same, where no less was asked for
 within : (least less : ℕ) (start other : State) (batches : List (List Taken)) (content : List ℕ) → least ≡ less → start ≡ other
@@ -144,6 +144,27 @@ module _ {D J : Type 0} {disk : Ghosts D} where
     wrote = record { writes = writes; nothing = nothing; fails = fails };
     unbegun = λ not_begun. absurd (false≢true (sym not_begun));
   }
+
+  -- what was written where it ended well, and nothing kept the sessions from being served
+  pub shown_end : (start : State) (old new : Flusher D J disk) (written answer : Result (Unit {0}) Refusal) → IsStarted old → Kept start old → Kept start new → Few new
+      → HasWritten start old new written → OnOk answer (written ≡ Ok tt) → OnOk answer (WasShown (store_of old) (store_of new))
+  shown_end start old new written (Ok answer) started before kept few wrote well =
+      let none : (committed_of new ≡ []) × (waiting_of new ≡ []) =
+      subst (λ (r : Result (Unit {0}) Refusal). OnOk r ((committed_of new ≡ []) × (waiting_of new ≡ []))) well wrote.nothing in
+      was_shown start old new started before kept few wrote.writes none.0 none.1
+  shown_end start old new written (Err refusal) started before kept few wrote well = tt
+
+  pub fails_end : (start : State) (old new : Flusher D J disk) (written answer : Result (Unit {0}) Refusal) → HasWritten start old new written
+      → (IsErrOf answer Fault ↔ IsErrOf written Fault) → has_failed (store_of old) ≡ false → has_failed (store_of new) ≡ true ↔ IsErrOf answer Fault
+  fails_end start old new written answer wrote fault works =
+      let fails = wrote.fails works in
+      (λ failed. fault.1 (fails.0 failed), λ is. fails.1 (fault.0 is))
+
+-- a store that worked works where the writing ended well
+pub works_ended : (answer : Result (Unit {0}) Refusal) (old new : Bool) → is_err answer ≡ false → (old ≡ false → (new ≡ true ↔ IsErrOf answer Fault)) → old ≡ false → new ≡ false
+works_ended (Ok answer) old true well fails works = absurd (let is = (fails works).0 refl in cc)
+works_ended (Ok answer) old false well fails works = refl
+works_ended (Err refusal) old new well fails works = absurd (cc well)
 
 module _ {D : Type 0} {disk : Ghosts D} where
   -- a store that nothing was written to

@@ -1,5 +1,6 @@
 //! Writing in a thread of its own, beside what this thread does.
 ghost use Rattle.std.specs.Prelude.{◌≡◌, IfOk, IfErr};
+ghost use Rattle.std.specs.Thread.{IsSend, IsSync};
 ghost use Rattle.listening.specs.Served.{IsStarted};
 ghost use Rattle.listening.specs.Written.{HasWritten};
 
@@ -129,7 +130,8 @@ fn run_beside<
         thread::scope_env(),
         shared.rt,
         |scope| -> Result<Both<D, J, T::Output>, (Flusher<D, J>, T)>
-            requires { T.can_run task × IsStarted writing.flusher × (written_by.0.value ≡ writing.flusher) }
+            requires { T.can_run task × IsStarted writing.flusher × (written_by.0.value ≡ writing.flusher)
+                × IsSend D.row × IsSend J.row × IsSync J.row × IsSync R.row }
             ensures written { IfOk result (λ both. HasWritten J.start writing.entry.flusher both.flusher both.written) }
             ensures ran { IfOk result (λ both. T.run_gives task both.talked) }
             ensures refused { IfErr result (λ back. back.0 ≡ writing.entry.flusher) }

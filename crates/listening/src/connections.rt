@@ -150,7 +150,7 @@ fn serve_seats<
 }
 
 // Serves by desks at a hub beside the thread that writes, and gives the store back.
-#[tactic(auto, using(crate::proofs::Served::none_served, crate::proofs::Served::was_served, crate::proofs::Served::was_shown))]
+#[tactic(auto, using(crate::proofs::Served::none_served, crate::proofs::Served::was_served, crate::proofs::Served::shown_end, crate::proofs::Served::fails_end))]
 fn serve_at<
     J: Site + Sync + Send,
     R: Threads + Wait + Sync,
@@ -182,19 +182,20 @@ fn serve_at<
             None => Ok(()),
         },
     );
-    let (flusher, answer) = match both {
+    match both {
         Ok(
             Both {
                 flusher,
                 written,
                 talked,
             },
-        ) => (flusher, first_failure(written, talked)),
-        Err(flusher) => (flusher, Err(Refusal::NoMemory)),
-    };
-    flusher.kept();
-    flusher.few();
-    (flusher.end(shared.rt), answer)
+        ) => {
+            flusher.kept();
+            flusher.few();
+            (flusher.end(shared.rt), first_failure(written, talked))
+        }
+        Err(flusher) => (flusher.end(shared.rt), Err(Refusal::NoMemory)),
+    }
 }
 
 // What ended the writing, or else what kept it from serving.

@@ -50,7 +50,7 @@ impl<'a, D: Disk + Drop, J: Site, R: Wait> Writing<'a, D, J, R> {
     ghost use Rattle.listening.specs.Written.{HasRun};
 
     /// Makes turns until the hub is ended. Where there is no thread for it, it writes nothing.
-    #[tactic(auto, using(crate::proofs::Served::none_written))]
+    #[tactic(auto, using(crate::proofs::Served::unbegun_run, crate::proofs::Served::ended_run))]
     pub(crate) fn run(self) -> Written<'a, D, J, R>
         requires { IsStarted self.flusher }
         ensures { HasRun J.start self.entry.flusher result.flusher result.answer result.is_begun }

@@ -3,7 +3,6 @@ use clap::error::ErrorKind;
 use std::alloc::Global;
 use std::env::{Env, FillError};
 use std::io;
-use std::rt::Alloc;
 use words::given;
 
 /// Words that can't be used, and what the errors name.
