@@ -29,7 +29,7 @@ const PARTS: u64 = 65;
 
 /// Serves a store to those who connect, 64 at once, until the listener fails. Then each session ends within its next read, what was
 /// ordered is written, and the store is given back, with the refusal that kept it from serving or that ended the writing:
-/// `NoMemory`, or what failed the board. A milestone of a document is put where it passes a multiple of `every` revisions; 0 puts none.
+/// `NoMemory`, also where the system gives no thread to write in, or what failed the board. A milestone of a document is put where it passes a multiple of `every` revisions; 0 puts none.
 pub fn serve_on<
     R: Threads + Wait + Sync,
     N: OpenListener<Stream = TcpStream>,
