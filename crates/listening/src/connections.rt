@@ -27,9 +27,10 @@ const SEATS: u32 = 64;
 /// The parts of the ledger that counts what each seat took: one for each seat, and one that is left.
 const PARTS: u64 = 65;
 
-/// Serves a store to those who connect, 64 at once, until the listener fails. Then each session ends within its next read, what was
-/// ordered is written, and the store is given back, with the refusal that kept it from serving or that ended the writing:
-/// `NoMemory`, also where the system gives no thread to write in, or what failed the board. A milestone of a document is put where it passes a multiple of `every` revisions; 0 puts none.
+/// Serves a store to those who connect, 64 at once, until the listener fails. Then each session ends within its next read, what was ordered
+/// is written, and the store is given back, with the refusal that kept it from serving or that ended the writing: `NoMemory`, also where
+/// the system gives no thread to write in, or what failed the board. A milestone of a document is put where it passes a multiple of `every`
+/// revisions; 0 puts none.
 pub fn serve_on<
     R: Threads + Wait + Sync,
     N: OpenListener<Stream = TcpStream>,

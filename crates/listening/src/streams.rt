@@ -33,8 +33,8 @@ const PARTS: u64 = 2;
 /// is put where it passes a multiple of `every` revisions; 0 puts none.
 ///
 /// It ends at once where a stream fails (`Stream`), else with `StoreFailed` where the store has failed by then; and with `NoMemory` before
-/// it takes any of the input, also where the system gives no thread to write in. It would end with `Stranger` where the desk had been told of more than was written, for which the code has
-/// no room.
+/// it takes any of the input, also where the system gives no thread to write in. It would end with `Stranger` where the desk had been told
+/// of more than was written, for which the code has no room.
 pub fn serve_streams<R: Threads + Wait + Sync, I: Read, O: Output, D: Disk + Send + Drop>(
     rt: &R,
     alloc: Global,
