@@ -13,13 +13,13 @@ returns-in-Ok-Greet-clause-replied g c =
 pub returns-in-Ok-Ask-clause-replied : goal.returns-in-Ok-Ask-clause-replied
 returns-in-Ok-Ask-clause-replied g c =
     let session = c.args.self.now in
-    not_taken g.D.Desk.does (λ t. string_bytes t) session.line session c.refusal_reply-in-Ok-Ask.result c.args.desk.now c.refusal_reply-in-Ok-Ask.ensures
+    not_taken g.D.Desk.does (λ t. string_bytes t) session.line session c.refusal_reply.result c.args.desk.now c.refusal_reply.ensures
 
 pub returns-in-Err-clause-replied : goal.returns-in-Err-clause-replied
 returns-in-Err-clause-replied g c =
     let session = c.args.self.now in
-    refused_any g.D.Desk.does (λ t. string_bytes t) session.line session c.in-Err.refusal c.refusal_reply.result c.args.desk.now
-    (due_of session.line session.peer.source _ _ c.in-Err.is c.requires.due) c.refusal_reply.ensures
+    refused_any g.D.Desk.does (λ t. string_bytes t) session.line session c.in-Err.refusal c.refusal_reply-in-Err.result c.args.desk.now
+    (due_of session.line session.peer.source _ _ c.in-Err.is c.requires.due) c.refusal_reply-in-Err.ensures
 
 pub returns-in-Ok-Read-clause-replied : goal.returns-in-Ok-Read-clause-replied
 returns-in-Ok-Read-clause-replied g c =
