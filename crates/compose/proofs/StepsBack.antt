@@ -1,10 +1,10 @@
 -- What takes one operation back, on the units that it stands on.
-use Rattle.std.proofs.Common.{◌≡◌, ℕ, zero, suc, ◌+◌, true, false, List, [], ◌∷◌, ◌++◌, length, refl, sym, ap, subst, ◌∙◌, arith, length-append, append_assoc}
+use Rattle.std.proofs.Common.{◌≡◌, ℕ, suc, ◌+◌, true, false, List, [], ◌∷◌, ◌++◌, length, refl, sym, ap, subst, ◌∙◌, arith, length-append, append_assoc}
 use Rattle.attributes.specs.Map.{empty}
 use Rattle.attributes.specs.Attributes.{Attributes, Changes, reverted, reverted_by}
-use Rattle.delta.specs.Element.{Element, letters, lettered, embedded}
+use Rattle.delta.specs.Element.{Element, letters, embedded}
 use Rattle.delta.specs.Operation.{Operation, insert_text, insert_embed, retain, delete, op_len, op_base, op_out, base_of, out_of, is_insert}
-use Rattle.delta.specs.Gaps.{Gaps, End, Gap, Fate, Del, Keep, front, run, counted, joined}
+use Rattle.delta.specs.Gaps.{Gaps, End, Gap, Del, Keep, front, run, counted, joined}
 use Rattle.delta.specs.Normal.{settled}
 use Rattle.delta.proofs.CallerLemmas.{front-nil, front-front, run-parts, joined-joined, counted-append, settled-joined}
 use Rattle.document.specs.declared.run.Piece.{Piece}

@@ -1,5 +1,5 @@
 -- How far the way back has been made.
-use Rattle.std.proofs.Common.{◌≡◌, ℕ, zero, suc, ◌+◌, ◌≤◌, ◌<◌, List, [], ◌∷◌, ◌++◌, length, drop, get_or, inl, inr, refl, sym, ap, subst, ◌∙◌, arith, length-append, add-one}
+use Rattle.std.proofs.Common.{◌≡◌, ℕ, zero, suc, ◌+◌, ◌≤◌, ◌<◌, List, [], ◌∷◌, ◌++◌, length, drop, get_or, inl, inr, sym, ap, subst, ◌∙◌, arith, length-append, add-one}
 use Rattle.std.proofs.Math.Seq.{drop-cons, drop-append_seam}
 use Rattle.delta.specs.Element.{Element}
 use Rattle.delta.specs.Operation.{Operation, op_base, op_out, base_of, out_of}
@@ -9,7 +9,7 @@ use Rattle.delta.proofs.CallerLemmas.{front-nil, joined-End}
 use Rattle.document.specs.Pairs.{IsPairAt, IsWithinPair}
 use Rattle.document.specs.steps.Passes.{StopsInPair}
 use Rattle.compose.specs.Inverse.{inverse}
-use Rattle.compose.specs.steps.SteppingBack.{for_units, IsTakenBack}
+use Rattle.compose.specs.steps.SteppingBack.{IsTakenBack}
 
 -- the operation at a place and those after it
 pub drop-here : (ops : List Operation) (i : ℕ) (op : Operation) → i < length ops → op ≡ get_or ops i op → drop i ops ≡ op ∷ drop (i + 1) ops

@@ -1,7 +1,7 @@
 -- One step along the units of a document and a delta on it: what takes the delta back.
 use Rattle.std.specs.Prelude.{◌≡◌, ℕ, ◌+◌, List, [], ◌∷◌, ◌++◌, length}
 use Rattle.delta.specs.Element.{Element}
-use Rattle.delta.specs.Operation.{Operation, insert_text, insert_embed, retain, delete, op_base, op_out, base_of, out_of}
+use Rattle.delta.specs.Operation.{Operation, retain, delete, op_base, op_out, base_of, out_of}
 use Rattle.delta.specs.Gaps.{counted, joined}
 use Rattle.delta.specs.Normal.{settled}
 use Rattle.compose.specs.Inverse.{inverse}

@@ -1,5 +1,4 @@
 use Rattle.std.proofs.Common.{◌≡◌, ◌-◌, length, sym, subst, ◌∙◌, arith}
-use Rattle.delta.specs.Operation.{Operation, op_base, op_out}
 use Rattle.document.specs.Pieces.{piece_units}
 use Rattle.compose.specs.steps.SteppingBack.{for_units, TakesBack}
 use Rattle.compose.proofs.StepsBack.{one_back, base_for, out_parts}

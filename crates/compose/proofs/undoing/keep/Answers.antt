@@ -1,6 +1,6 @@
-use Rattle.std.proofs.Common.{◌≡◌, ◌∙◌, ap, arith}
+use Rattle.std.proofs.Common.{◌≡◌, ◌∙◌, ap}
 use Rattle.attributes.specs.Map.{empty}
-use Rattle.delta.specs.Operation.{Operation, retain}
+use Rattle.delta.specs.Operation.{retain}
 use Rattle.compose.proofs.StepsBack.{plain_back, one_back}
 use Rattle.compose.proofs.undoing.keep.Goals as goal
 
