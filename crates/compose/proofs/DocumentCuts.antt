@@ -1,54 +1,20 @@
 -- Where a pair of a document is cut, place by place.
-use Rattle.std.proofs.Common.{◌≡◌, ◌≢◌, ℕ, zero, suc, ◌≤◌, ◌<◌, ◌⊎◌, inl, inr, Bool, true, false, List, [], ◌∷◌, length, refl, sym, ap, subst, ◌∙◌, arith}
-use Rattle.std.specs.Prelude.{IsTrue, not, ◌&&◌, ◌||◌}
+use Rattle.std.proofs.Common.{◌≡◌, ◌≢◌, ℕ, zero, suc, ◌⊎◌, inl, inr, Bool, true, false, List, [], ◌∷◌, refl, sym, ap, ◌∙◌}
+use Rattle.std.specs.Prelude.{not, ◌&&◌, ◌||◌}
 use Rattle.std.specs.Char.Utf16.{is_high_surrogate, is_low_surrogate}
 use Rattle.std.proofs.lemmas.Bool.{and_parts, and_from}
 use Rattle.attributes.specs.Attributes.{same_attributes, same_attributes-Decides, same_changes-Decides}
 use Rattle.delta.specs.Element.{Element, Item, code_unit, embed}
-use Rattle.delta.specs.Operation.{Operation, insert_text, insert_embed, retain, delete, base_of, out_of}
+use Rattle.delta.specs.Operation.{Operation}
 use Rattle.delta.specs.Gaps.{Gaps, End, Gap, Fate, Del, Keep, counted}
-use Rattle.delta.specs.Normal.{IsNormal, is_built, nf}
-use Rattle.delta.proofs.CallerLemmas.{units_below-counted, out_of-spelled, built-parts, IsNormal-nf, counted-spelled}
 use Rattle.document.specs.Pairs.{IsHighItem, IsLowItem, IsPair, IsPairAt}
 use Rattle.document.specs.Places.{Cuts}
-use Rattle.delta.specs.Places.{IsDefined, fate_at, inserted_at}
-use Rattle.refusal.specs.declared.Refusal.{Refusal}
-use Rattle.refusal.specs.declared.Refusal.TheVariants.{CutsPair, NoMemory}
+use Rattle.delta.specs.Places.{fate_at, inserted_at}
 use Rattle.compose.specs.Composed.{beyond}
-use Rattle.compose.specs.Outcome.{IsInvertRefused}
 use Rattle.compose.specs.Laws.{CutsOfUnits, CutsOfInserted}
 use Rattle.compose.specs.Cuts.{CutsInserted, CutsText}
 use Rattle.compose.specs.Places.{inserts, fate, tail}
 use Rattle.compose.specs.steps.PairTest.{are_high_and_low, is_pair, same_fate, is_nothing, parts, cuts_units, cuts}
-use Rattle.compose.specs.steps.SteppingBack.{AllInsert, units_inserted}
-
--- the delta that makes a document inserts its units
-pub counted-made : (ops : List Operation) (d : List Element) → ops ≡ nf (End d) → counted ops ≡ End d
-counted-made ops d is = ap counted is ∙ counted-spelled (End d)
-
-pub units-made : (ops : List Operation) (d : List Element) → ops ≡ nf (End d) → units_inserted ops ≡ d
-units-made ops d is = ap inserts (counted-made ops d is)
-
-all-insert : (ops : List Operation) → IsTrue (is_built ops) → base_of ops ≡ 0 → AllInsert ops
-all-insert [] built none = tt
-all-insert (insert_text us a ∷ ops) built none = (refl, all-insert ops (built-parts (insert_text us a) ops built).2 (omega (arith, none)))
-all-insert (insert_embed key value a ∷ ops) built none = (refl, all-insert ops (built-parts (insert_embed key value a) ops built).2 (omega (arith, none)))
-all-insert (retain n c ∷ ops) built none = absurd (omega (arith, none, (built-parts (retain n c) ops built).0))
-all-insert (delete n ∷ ops) built none = absurd (omega (arith, none, (built-parts (delete n) ops built).0))
-
-pub inserts-made : (ops : List Operation) (d : List Element) → ops ≡ nf (End d) → base_of ops ≡ 0 → AllInsert ops
-inserts-made ops d is none =
-    let normal : IsNormal ops = subst IsNormal (sym is) (IsNormal-nf (End d)) in
-    all-insert ops (and_parts (is_built ops) _ normal).0 none
-
-pub defined-made : (ops delta : List Operation) (d : List Element) (n k : ℕ) → ops ≡ nf (End d) → n ≡ base_of delta → k ≡ length d → n ≤ k → base_of delta ≤ out_of ops
-defined-made ops delta d n k is n_is k_is le = omega (arith, ap out_of is, out_of-spelled (End d), n_is, k_is, le)
-
-pub past-end : (delta : List Operation) (d : List Element) (n k : ℕ) → n ≡ base_of delta → k ≡ length d → k < n → ¬ (IsDefined d (counted delta))
-past-end delta d n k n_is k_is less defined = omega (arith, n_is, k_is, less, defined, units_below-counted delta)
-
-pub not-past : (delta : List Operation) (d : List Element) (n k : ℕ) → n ≡ base_of delta → k ≡ length d → n ≤ k → IsDefined d (counted delta)
-not-past delta d n k n_is k_is le = omega (arith, n_is, k_is, le, units_below-counted delta)
 
 -- pairs, by tests and by facts
 pair-items : (i j : Item) → are_high_and_low i j ≡ true → IsHighItem i × IsLowItem j
@@ -216,15 +182,3 @@ cuts_of_inserted a b = (cut-text a b, text-there a b)
 
 pub text-cut : (first second : List Operation) → CutsText first second → cuts (counted first) (counted second) ≡ true
 text-cut first second cut = text-there (counted first) (counted second) cut
-
-pub cut-document : (ops delta : List Operation) (d : List Element) → ops ≡ nf (End d) → cuts (counted ops) (counted delta) ≡ true → Cuts d (counted delta)
-cut-document ops delta d is cut = cut-there d (counted delta) (ap (λ g. cuts g (counted delta)) (sym (counted-made ops d is)) ∙ cut)
-
-pub whole-document : (ops delta : List Operation) (d : List Element) → ops ≡ nf (End d) → ¬ (cuts (counted ops) (counted delta) ≡ true) → ¬ (Cuts d (counted delta))
-whole-document ops delta d is whole cut = whole (ap (λ g. cuts g (counted delta)) (counted-made ops d is) ∙ there-cut d (counted delta) cut.0 cut.1 cut.2)
-
--- what inverting is refused for
-pub refused-back : (ops delta : List Operation) (d : List Element) (e : Refusal) → ops ≡ nf (End d) → IsDefined d (counted delta)
-    → (e ≡ CutsPair → cuts (counted ops) (counted delta) ≡ true) → (e ≡ CutsPair) ⊎ (e ≡ NoMemory) → IsInvertRefused d (counted delta) e
-refused-back ops delta d e is defined told (inl cut) = subst (IsInvertRefused d (counted delta)) (sym cut) (defined, cut-document ops delta d is (told cut))
-refused-back ops delta d e is defined told (inr memory) = subst (IsInvertRefused d (counted delta)) (sym memory) defined

@@ -1,8 +1,8 @@
 -- What holds of an outcome, from what holds of it.
-use Rattle.std.proofs.Common.{◌≡◌, ◌⊎◌, inl, inr, refl, sym, subst}
+use Rattle.std.proofs.Common.{◌≡◌, ◌↔◌, ◌⊎◌, inl, inr, refl, sym, ap, subst}
 use Rattle.std.specs.Prelude.{Result, Ok, Err, IfOk, OnOk, IfErr}
 use Rattle.refusal.specs.declared.Refusal.{Refusal}
-use Rattle.refusal.specs.declared.Refusal.TheVariants.{PastEnd, CutsPair, NoMemory}
+use Rattle.refusal.specs.declared.Refusal.TheVariants.{PastEnd, CutsPair, BadOps, NoMemory}
 
 module _ {T E : Type 0} where
   pub on_ok : {P Q : Type 0} (r : Result T E) → (P → Q) → OnOk r P → OnOk r Q
@@ -38,3 +38,11 @@ module _ {T : Type 0} where
   never_past_end (Ok x) only past = absurd (cc)
   never_past_end (Err e) (inl cut) past = absurd (cc)
   never_past_end (Err e) (inr memory) past = absurd (cc)
+
+-- where a builder has room, memory alone refuses
+abbrev refused : Refusal → Result (Unit {0}) Refusal
+refused refusal = Err refusal
+
+pub only_memory : (refusal : Refusal) (P : Type 0) → P → ((refused refusal ≡ refused BadOps) ↔ ¬ P) → (refusal ≡ BadOps) ⊎ (refusal ≡ NoMemory) → refusal ≡ NoMemory
+only_memory refusal P p bad (inl e) = absurd (bad.0 (ap refused e) p)
+only_memory refusal P p bad (inr e) = e

@@ -1,128 +1,101 @@
 -- How far the way back has been made.
-use Rattle.std.proofs.Common.{◌≡◌, ℕ, zero, suc, ◌+◌, ◌≤◌, true, false, List, [], ◌∷◌, ◌++◌, length, refl, sym, ap, subst, ◌∙◌, arith}
+use Rattle.std.proofs.Common.{◌≡◌, ℕ, zero, suc, ◌+◌, ◌≤◌, ◌<◌, List, [], ◌∷◌, ◌++◌, length, drop, get_or, inl, inr, sym, ap, subst, ◌∙◌, arith, length-append, add-one}
+use Rattle.std.proofs.Math.Seq.{drop-cons, drop-append_seam}
 use Rattle.delta.specs.Element.{Element}
-use Rattle.delta.specs.Operation.{Operation, base_of, out_of, IsBounded}
-use Rattle.delta.specs.Gaps.{Gaps, End, Gap, Fate, Del, Keep, run, counted, joined, units_below, units_made, units_kept}
-use Rattle.delta.specs.Normal.{IsNormal, settled, trimmed, spelled, nf}
-use Rattle.delta.proofs.CallerLemmas.{front-nil, joined-End, units_below-counted, units_below-front, units_below-run, units_made-counted, base_of-append, out_of-append}
-use Rattle.compose.specs.Inverse.{inverse, unit_back}
-use Rattle.compose.specs.steps.PairTest.{cuts}
-use Rattle.compose.specs.steps.SteppingBack.{AllInsert, units_inserted, IsStepBack}
-use Rattle.compose.proofs.Lengths.{made-front, below-joined, made-joined, below-same, made-same}
-use Rattle.compose.proofs.Pairs.{cuts-nothing}
-use Rattle.compose.proofs.PartsComposed.{effect-step}
+use Rattle.delta.specs.Operation.{Operation, op_base, op_out, base_of, out_of}
+use Rattle.delta.specs.Gaps.{counted, joined}
+use Rattle.delta.specs.Normal.{settled, trimmed, spelled, nf}
+use Rattle.delta.proofs.CallerLemmas.{front-nil, joined-End}
+use Rattle.document.specs.Pairs.{IsPairAt, IsWithinPair}
+use Rattle.document.specs.steps.Passes.{StopsInPair}
+use Rattle.compose.specs.Inverse.{inverse}
+use Rattle.compose.specs.steps.SteppingBack.{IsTakenBack}
 
--- what was made, and then what takes back what is left, stand for the whole way back
-pub record IsPartlyUndone (base ops made before after : List Operation) : Type 0 where
-  pub effect : settled (joined (counted made) (inverse (counted after) (units_inserted before))) ≡ settled (inverse (counted ops) (units_inserted base))
-  pub cut : cuts (counted base) (counted ops) ≡ cuts (counted before) (counted after)
-  pub before_normal : IsNormal before
-  pub after_normal : IsNormal after
-  pub inserted : AllInsert before
-  pub defined : base_of after ≤ out_of before
+-- the operation at a place and those after it
+pub drop-here : (ops : List Operation) (i : ℕ) (op : Operation) → i < length ops → op ≡ get_or ops i op → drop i ops ≡ op ∷ drop (i + 1) ops
+drop-here ops i op within is =
+    drop-cons ops i op within ∙ (ap (λ x. x ∷ drop (suc i) ops) (sym is) ∙ ap (λ j. op ∷ drop j ops) (sym (add-one i)))
 
-made-deletes : (n : ℕ) (g : Gaps) → units_made (run n Del g) ≡ units_made g
-made-deletes zero g = refl
-made-deletes (suc n) g = omega (arith, made-deletes n g)
+-- a pair of units is one with more before it
+pair-later : (x : Element) (d : List Element) (i : ℕ) → IsPairAt d i → IsPairAt (x ∷ d) (suc i)
+pair-later x [] i at = absurd at
+pair-later x (y ∷ d) i at = at
 
--- the way back inserts and keeps no more than the delta stands on, and stands on what the delta makes
-below-back : (f : Fate) (x : Element) (g : Gaps) → units_below (unit_back f x g) ≡ units_kept f + units_below g
-below-back Del x g = units_below-front (x ∷ []) g ∙ omega arith
-below-back (Keep c) x g = omega arith
+pair-after : (a d : List Element) (i k : ℕ) → IsPairAt d i → k ≡ length a + i → IsPairAt (a ++ d) k
+pair-after [] d i k at e = subst (IsPairAt d) (let same : i ≡ k = omega (arith, e) in same) at
+pair-after (x ∷ a) d i zero at e = absurd (omega (arith, e))
+pair-after (x ∷ a) d i (suc k) at e = pair-later x (a ++ d) k (pair-after a d i k at (omega (arith, e)))
 
-made-back : (f : Fate) (x : Element) (g : Gaps) → units_made (unit_back f x g) ≡ suc (units_made g)
-made-back Del x g = made-front (x ∷ []) g ∙ omega arith
-made-back (Keep c) x g = omega arith
+within-after : (a d : List Element) (n k : ℕ) → IsWithinPair d n → k ≡ length a + n → IsWithinPair (a ++ d) k
+within-after a d zero k within e = absurd within
+within-after a d (suc i) zero within e = absurd (omega (arith, e))
+within-after a d (suc i) (suc k) within e = pair-after a d i k within (omega (arith, e))
 
-below-inverse : (g : Gaps) (d : List Element) → units_below (inverse g d) ≤ units_made g
-below-inverse (End xs) d = omega (arith, units_below-run (length xs) Del (End []))
-below-inverse (Gap xs f g) [] = omega (arith, units_below-run (length xs) Del (inverse g []), below-inverse g [])
-below-inverse (Gap xs f g) (x ∷ d) =
-    omega (arith, units_below-run (length xs) Del (unit_back f x (inverse g d)), below-back f x (inverse g d), below-inverse g d)
+-- what was stepped over is no longer there
+pub left_length : (old new taken : List Element) → old ≡ taken ++ new → length old ≡ length taken + length new
+left_length old new taken parts = ap length parts ∙ length-append taken new
 
-made-inverse : (g : Gaps) (d : List Element) → units_made (inverse g d) ≤ units_below g
-made-inverse (End xs) d = omega (arith, made-deletes (length xs) (End []))
-made-inverse (Gap xs f g) [] = omega (arith, made-deletes (length xs) (inverse g []), made-inverse g [])
-made-inverse (Gap xs f g) (x ∷ d) =
-    omega (arith, made-deletes (length xs) (unit_back f x (inverse g d)), made-back f x (inverse g d), made-inverse g d)
+pub left_whole : (old new taken : List Element) (n m : ℕ) → old ≡ taken ++ new → n ≡ length taken + m → ¬ (IsWithinPair old n) → ¬ (IsWithinPair new m)
+left_whole old new taken n m parts e whole within = whole (subst (λ d. IsWithinPair d n) (sym parts) (within-after taken new m n within e))
 
-at_start : (base ops : List Operation) → IsNormal base → IsNormal ops → AllInsert base → base_of ops ≤ out_of base → IsPartlyUndone base ops [] base ops
-at_start base ops normal_base normal_ops inserted defined = record {
-  effect = ap settled (front-nil (inverse (counted ops) (units_inserted base)));
-  cut = refl;
-  before_normal = normal_base;
-  after_normal = normal_ops;
-  inserted = inserted;
-  defined = defined;
+drop-taken : (old new taken : List Element) (n : ℕ) → old ≡ taken ++ new → length taken ≡ n → drop n old ≡ new
+drop-taken old new taken n parts count =
+    ap (drop n) parts ∙ (ap (λ m. drop m (taken ++ new)) (sym count) ∙ drop-append_seam taken new)
+
+-- what was made, and then what takes back what is left, lead to the same as the whole way back
+pub record IsPartlyUndone (document left : List Element) (ops rest made : List Operation) : Type 0 where
+  pub effect : settled (joined (counted made) (inverse (counted rest) left)) ≡ settled (inverse (counted ops) document)
+  pub there : base_of rest ≤ length left
+  pub whole : ¬ (StopsInPair left rest)
+  pub base : base_of made + out_of rest ≡ out_of ops
+  pub out : out_of made + base_of rest ≡ base_of ops
+
+start : (document : List Element) (ops : List Operation) → base_of ops ≤ length document → ¬ (StopsInPair document ops) → IsPartlyUndone document document ops ops []
+start document ops there whole = record {
+  effect = ap settled (front-nil (inverse (counted ops) document));
+  there = there;
+  whole = whole;
+  base = omega arith;
+  out = omega arith;
 }
 
-pub back-start : (base ops made before after : List Operation) → made ≡ [] → before ≡ base → after ≡ ops
-    → IsNormal base → IsNormal ops → AllInsert base → base_of ops ≤ out_of base → IsPartlyUndone base ops made before after
-back-start base ops made before after made_is before_is after_is normal_base normal_ops inserted defined =
-    subst (λ m. IsPartlyUndone base ops m before after) (sym made_is)
-    (subst (λ b. IsPartlyUndone base ops [] b after) (sym before_is)
-    (subst (λ a. IsPartlyUndone base ops [] base a) (sym after_is)
-    (at_start base ops normal_base normal_ops inserted defined)))
+pub back-start : (document left : List Element) (ops rest made : List Operation) → left ≡ document → rest ≡ ops → made ≡ []
+    → base_of ops ≤ length document → ¬ (StopsInPair document ops) → IsPartlyUndone document left ops rest made
+back-start document left ops rest made left_is rest_is made_is there whole =
+    subst (λ d. IsPartlyUndone document d ops rest made) (sym left_is)
+    (subst (λ r. IsPartlyUndone document document ops r made) (sym rest_is)
+    (subst (IsPartlyUndone document document ops ops) (sym made_is) (start document ops there whole)))
 
-pub back-step : (base ops now made next before after before_left after_left : List Operation) → IsPartlyUndone base ops now before after
-    → IsStepBack before after made before_left after_left → settled (counted next) ≡ settled (counted (now ++ made)) → IsPartlyUndone base ops next before_left after_left
-back-step base ops now made next before after before_left after_left so step added = record {
-  effect = effect-step (inverse (counted ops) (units_inserted base)) (inverse (counted after) (units_inserted before)) (inverse (counted after_left) (units_inserted before_left)) now made next so.effect step.effect added;
-  cut = so.cut ∙ step.cut;
-  before_normal = step.base_normal;
-  after_normal = step.ops_normal;
-  inserted = step.inserted;
-  defined = step.defined;
-}
+-- the next operation stands there, cuts no pair, and what takes it back stays within the bounds
+module _ (document left : List Element) (ops rest others made : List Operation) (op : Operation) (so : IsPartlyUndone document left ops rest made) (here : rest ≡ op ∷ others) where
+  pub next_there : op_base op ≤ length left
+  next_there = omega (arith, so.there, ap base_of here)
 
--- what is made never passes the bound, since the whole way back doesn't
-pub back-bounded : (base ops now made before after before_left after_left : List Operation) → IsBounded ops → IsPartlyUndone base ops now before after
-    → IsStepBack before after made before_left after_left → IsBounded (now ++ made)
-back-bounded base ops now made before after before_left after_left bounded so step =
-    let total : Gaps = inverse (counted ops) (units_inserted base) in
-    let whole : Gaps = inverse (counted after) (units_inserted before) in
-    let rest : Gaps = inverse (counted after_left) (units_inserted before_left) in
-    let base_bound = bounded.base in
-    let out_bound = bounded.out in
-    record {
-      base = omega (
-        arith,
-        below-same (joined (counted now) whole) total so.effect,
-        below-joined (counted now) whole,
-        below-same whole (joined (counted made) rest) step.effect,
-        below-joined (counted made) rest,
-        below-inverse (counted ops) (units_inserted base),
-        units_below-counted now,
-        units_below-counted made,
-        units_made-counted ops,
-        base_of-append now made,
-        out_bound,
-      );
-      out = omega (
-        arith,
-        made-same (joined (counted now) whole) total so.effect,
-        made-joined (counted now) whole,
-        made-same whole (joined (counted made) rest) step.effect,
-        made-joined (counted made) rest,
-        made-inverse (counted ops) (units_inserted base),
-        units_made-counted now,
-        units_made-counted made,
-        units_below-counted ops,
-        out_of-append now made,
-        base_bound,
-      );
-    }
+  pub next_whole : ¬ (IsWithinPair left (op_base op))
+  next_whole within = so.whole (subst (StopsInPair left) (sym here) (inl within))
+
+  pub next_base : base_of made + op_out op ≤ out_of ops
+  next_base = omega (arith, so.base, ap out_of here)
+
+  pub next_out : out_of made + op_base op ≤ base_of ops
+  next_out = omega (arith, so.out, ap base_of here)
+
+  pub back-next : (new : List Element) (next : List Operation) → IsTakenBack left new op made next → IsPartlyUndone document new ops others next
+  back-next new next taken = record {
+    effect =
+        sym (taken.effect others)
+        ∙ (ap (λ l. settled (joined (counted made) (inverse (counted l) left))) (sym here) ∙ so.effect);
+    there = omega (arith, so.there, ap base_of here, left_length left new taken.taken taken.parts, taken.count);
+    whole = λ stops.
+        so.whole (subst (StopsInPair left) (sym here) (inr (subst (λ d. StopsInPair d others) (sym (drop-taken left new taken.taken (op_base op) taken.parts taken.count)) stops)));
+    base = omega (arith, so.base, ap out_of here, taken.base);
+    out = omega (arith, so.out, ap base_of here, taken.out);
+  }
 
 -- where the delta has ended, all of it is taken back
-pub back-end : (base ops made before after : List Operation) → IsPartlyUndone base ops made before after → after ≡ []
-    → nf (counted made) ≡ nf (inverse (counted ops) (units_inserted base))
-back-end base ops made before after so after_is =
+pub back-end : (document left : List Element) (ops rest made : List Operation) → IsPartlyUndone document left ops rest made → rest ≡ []
+    → nf (counted made) ≡ nf (inverse (counted ops) document)
+back-end document left ops rest made so none =
     ap (λ s. spelled (trimmed s))
     (ap settled (sym (joined-End (counted made)))
-    ∙ (ap (λ a. settled (joined (counted made) (inverse (counted a) (units_inserted before)))) (sym after_is) ∙ so.effect))
-
-pub back-whole : (base ops made before after : List Operation) → IsPartlyUndone base ops made before after → after ≡ [] → ¬ (cuts (counted base) (counted ops) ≡ true)
-back-whole base ops made before after so after_is cut =
-    let none : cuts (counted before) (counted after) ≡ false = ap (λ a. cuts (counted before) (counted a)) after_is ∙ cuts-nothing (counted before) in
-    let same = so.cut in
-    absurd (cc)
+    ∙ (ap (λ a. settled (joined (counted made) (inverse (counted a) left))) (sym none) ∙ so.effect))

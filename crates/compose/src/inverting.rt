@@ -14,7 +14,9 @@ use std::alloc::Global;
 
 /// The delta that takes back another on a document: after both the document is as it was. Refused as PastEnd where the delta
 /// reaches past the end of the document, else as CutsPair where it parts a surrogate pair of it; and as NoMemory. (That the
-/// document would have more than 2^48 units after the delta is refused by `Document::apply` alone.) Linear in the runs of the document and the operations; the document's text is copied once.
+/// document would have more than 2^48 units after the delta is refused by `Document::apply` alone.) It looks only at what the delta
+/// deletes or changes, copies the text that it deletes once, and steps over the rest chunk by chunk: linear in the operations, the
+/// chunks, and the runs of those in which an operation begins or ends or which it deletes or changes.
 pub fn invert(alloc: Global, delta: &Delta, document: &Document) -> Result<Delta, Refusal>
     ensures one { IfOk result (λ back. back ≡ nf (inverse (counted delta.now) document.now)) }
     ensures undoes { IfOk result (λ back. apply (apply document.now (counted delta.now)) (counted back)
@@ -23,12 +25,8 @@ pub fn invert(alloc: Global, delta: &Delta, document: &Document) -> Result<Delta
     ensures accepted { OnOk result (CanInvert document.now (counted delta.now)) }
     ensures only { IfErr result (IsInvertRefused document.now (counted delta.now)) }
 {
-    if delta.base_len() > document.len16() {
-        return Err(Refusal::PastEnd);
+    match document.fits(delta) {
+        Ok(_) => undo(alloc, document, delta),
+        Err(refusal) => Err(refusal),
     }
-    let base = match document.as_delta(alloc) {
-        Ok(base) => base,
-        Err(refusal) => return Err(refusal),
-    };
-    undo(alloc, &base, delta)
 }

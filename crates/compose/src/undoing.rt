@@ -1,137 +1,163 @@
-//! The way back from a delta, over the inserts that make the document before it.
-ghost use Rattle.std.specs.Prelude.{◌≡◌, ◌≤◌, ◌⊎◌, [], ◌∷◌, true, false, IsTrue, IfOk, OnOk, IfErr, IsOkUnless, MatchOption};
-ghost use Rattle.std.specs.Option.{option_to_list};
-ghost use Rattle.delta.specs.Operation.{base_of, out_of, is_insert};
+//! The way back from a delta, over the units of the document before it.
+ghost use Rattle.std.specs.Prelude.{◌≡◌, ◌+◌, ◌≤◌, ◌<◌, ◌^◌, ◌++◌, [], ◌∷◌, true, false, length, IfOk, OnOk, IsOkUnless};
+ghost use Rattle.attributes.specs.Map.{empty};
+ghost use Rattle.delta.specs.Operation.{base_of, out_of, op_base, op_out, is_insert, retain};
 ghost use Rattle.delta.specs.Gaps.{counted};
-ghost use Rattle.delta.specs.Normal.{IsNormal, nf};
-ghost use Rattle.delta.specs.Cursor.{operation_of_part, operations_left};
+ghost use Rattle.delta.specs.Normal.{nf, settled};
+ghost use Rattle.document.specs.Pairs.{IsWithinPair};
+ghost use Rattle.document.specs.Pieces.{piece_units, IsCounted};
+ghost use Rattle.document.specs.steps.Passes.{StopsInPair};
 ghost use Rattle.compose.specs.Inverse.{inverse};
-ghost use Rattle.compose.specs.steps.PairTest.{cuts};
-ghost use Rattle.compose.specs.steps.SteppingBack.{AllInsert, units_inserted, turned_back, IsStepBack};
+ghost use Rattle.compose.specs.steps.SteppingBack.{for_units, TakesBack, IsTakenBack};
 
-use crate::stepping::{Step, add};
-use delta::{Builder, Cursor, Delta, Op, OpRef, Part};
+use attributes::Change;
+use delta::{Builder, Delta, Op, OpRef};
+use document::{Cursor, Document, Piece};
 use refusal::Refusal;
 use std::alloc::Global;
 
-/// The way back from a delta on the document that the inserts make. Refused as CutsPair where the delta cuts a pair of
-/// the document, and as NoMemory.
-pub fn undo(alloc: Global, base: &Delta, delta: &Delta) -> Result<Delta, Refusal>
-    requires inserted { AllInsert base.now }
-    requires defined { base_of delta.now ≤ out_of base.now }
-    ensures one { IfOk result (λ back. back ≡ nf (inverse (counted delta.now) (units_inserted base.now))) }
-    ensures whole { OnOk result (¬ (IsTrue (cuts (counted base.now) (counted delta.now)))) }
-    ensures cut { result ≡ Err Refusal.CutsPair → IsTrue (cuts (counted base.now) (counted delta.now)) }
-    ensures only { IfErr result (λ e. (e ≡ Refusal.CutsPair) ⊎ (e ≡ Refusal.NoMemory)) }
+/// The way back from a delta that is defined on the document and cuts no pair of it. What the delta leaves as it is isn't looked at.
+pub fn undo(alloc: Global, document: &Document, delta: &Delta) -> Result<Delta, Refusal>
+    requires there { base_of delta.now ≤ length document.now }
+    requires whole { ¬ (StopsInPair document.now delta.now) }
+    ensures one { IfOk result (λ back. back ≡ nf (inverse (counted delta.now) document.now)) }
+    ensures only { IsOkUnless result Refusal.NoMemory }
 {
-    let mut before = Cursor::new(base.ops());
-    let mut after = Cursor::new(delta.ops());
-    let mut out = Builder::new(alloc);
-    loop {
-        match next_step_back(alloc, before, after)? {
-            None => return Ok(out.finish()),
-            Some(step) => {
-                add(&mut out, step.made)?;
-                before = step.first;
-                after = step.second;
-            }
-        }
+    let mut left = document.cursor();
+    let mut made = Builder::new(alloc);
+    let ops = delta.ops();
+    for op in ops {
+        take_back(alloc, &mut left, op, &mut made)?;
     }
+    Ok(made.finish())
 }
 
-// one step along the inserts and the delta; None where the delta has ended
-fn next_step_back<'a>(
+// takes back what one operation does
+fn take_back(
     alloc: Global,
-    base: Cursor<'a>,
-    ops: Cursor<'a>,
-) -> Result<Option<Step<'a, 'a>>, Refusal>
-    requires base { IsNormal (operations_left base) }
-    requires ops { IsNormal (operations_left ops) }
-    requires inserted { AllInsert (operations_left base) }
-    requires defined { base_of (operations_left ops) ≤ out_of (operations_left base) }
-    ensures made { IfOk result (λ step. MatchOption step (operations_left ops.entry
-        ≡ []) (λ s. IsStepBack (operations_left base.entry) (operations_left ops.entry) (option_to_list s.made)
-        (operations_left s.first) (operations_left s.second))) }
-    ensures cut { result ≡ Err Refusal.CutsPair
-        → IsTrue (cuts (counted (operations_left base.entry)) (counted (operations_left ops.entry))) }
-    ensures only { IfErr result (λ e. (e ≡ Refusal.CutsPair) ⊎ (e ≡ Refusal.NoMemory)) }
+    left: &mut Cursor<'_>,
+    op: &Op,
+    made: &mut Builder,
+) -> Result<(), Refusal>
+    requires there { op_base op.now ≤ length left.old }
+    requires whole { ¬ (IsWithinPair left.old (op_base op.now)) }
+    requires base { base_of made.old + op_out op.now ≤ 2 ^ 48 }
+    requires out { out_of made.old + op_base op.now ≤ 2 ^ 48 }
+    ensures back { OnOk result (IsTakenBack left.old left.new op.now made.old made.new) }
+    ensures only { IsOkUnless result Refusal.NoMemory }
 {
-    match ops.split_first() {
-        None => Ok(None),
-        Some((next, rest)) => {
-            if next.is_insert() {
-                return Ok(Some(take_out(base, next, rest)));
-            }
-            match base.split_first() {
-                None => Ok(None),
-                Some((op, tail)) => Ok(Some(turn(alloc, op, tail, next, rest)?)),
-            }
+    if op.is_insert() {
+        put(made, Op::delete(op.len16()))?;
+        return Ok(());
+    }
+    if let Some(len) = op.plain_len() {
+        keep(alloc, left, len, made)?;
+        return Ok(());
+    }
+    bring_back(alloc, left, op, made)?;
+    Ok(())
+}
+
+// steps over units that stay as they are
+fn keep(alloc: Global, left: &mut Cursor<'_>, len: u64, made: &mut Builder) -> Result<(), Refusal>
+    requires there { len ≤ length left.old }
+    requires whole { ¬ (IsWithinPair left.old len) }
+    requires base { base_of made.old + len ≤ 2 ^ 48 }
+    requires out { out_of made.old + len ≤ 2 ^ 48 }
+    ensures back { OnOk result (IsTakenBack left.old left.new (retain len empty) made.old made.new) }
+    ensures only { IsOkUnless result Refusal.NoMemory }
+{
+    match left.skip(len) {
+        Ok(()) => {
+            put(made, Op::retain(len, Change::new(alloc)))?;
+            Ok(())
         }
+        Err(_) => unreachable!(),
     }
 }
 
-// what was inserted is deleted
-fn take_out<'a>(base: Cursor<'a>, next: Part<'a>, tail: &'a [Op]) -> Step<'a, 'a>
-    requires base { IsNormal (operations_left base) }
-    requires ops { IsNormal (operation_of_part next ∷ tail.now) }
-    requires inserted { AllInsert (operations_left base) }
-    requires defined { base_of (operation_of_part next ∷ tail.now) ≤ out_of (operations_left base) }
-    requires inserts { is_insert (operation_of_part next) ≡ true }
-    ensures { IsStepBack (operations_left base.entry) (operation_of_part next.entry ∷ tail.entry.now)
-        (option_to_list result.made) (operations_left result.first) (operations_left result.second) }
-{
-    Step {
-        made: Some(Op::delete(next.len16())),
-        first: base,
-        second: Cursor::new(tail),
-    }
-}
-
-// what was kept or deleted comes back, as far as both operations go
-fn turn<'a>(
+// brings back what an operation changes or deletes, piece by piece
+fn bring_back(
     alloc: Global,
-    op: Part<'a>,
-    tail: &'a [Op],
-    next: Part<'a>,
-    rest: &'a [Op],
-) -> Result<Step<'a, 'a>, Refusal>
-    requires base { IsNormal (operation_of_part op ∷ tail.now) }
-    requires ops { IsNormal (operation_of_part next ∷ rest.now) }
-    requires inserted { AllInsert (operation_of_part op ∷ tail.now) }
-    requires defined { base_of (operation_of_part next ∷ rest.now) ≤ out_of (operation_of_part op ∷ tail.now) }
-    requires stands { is_insert (operation_of_part next) ≡ false }
-    ensures made { IfOk result
-        (λ s. IsStepBack (operation_of_part op.entry ∷ tail.entry.now) (operation_of_part next.entry ∷ rest.entry.now)
-        (option_to_list s.made) (operations_left s.first) (operations_left s.second)) }
-    ensures cut { result ≡ Err Refusal.CutsPair
-        → IsTrue (cuts (counted (operation_of_part op.entry ∷ tail.entry.now))
-        (counted (operation_of_part next.entry ∷ rest.entry.now))) }
-    ensures only { IfErr result (λ e. (e ≡ Refusal.CutsPair) ⊎ (e ≡ Refusal.NoMemory)) }
+    left: &mut Cursor<'_>,
+    op: &Op,
+    made: &mut Builder,
+) -> Result<(), Refusal>
+    requires stands { is_insert op.now ≡ false }
+    requires there { op_base op.now ≤ length left.old }
+    requires whole { ¬ (IsWithinPair left.old (op_base op.now)) }
+    requires base { base_of made.old + op_out op.now ≤ 2 ^ 48 }
+    requires out { out_of made.old + op_base op.now ≤ 2 ^ 48 }
+    ensures back { OnOk result (IsTakenBack left.old left.new op.now made.old made.new) }
+    ensures only { IsOkUnless result Refusal.NoMemory }
 {
-    let len = op.len16().min(next.len16());
-    let (part, first) = op.take(len, tail)?;
-    Ok(Step {
-        made: back(alloc, part, next)?,
-        first,
-        second: next.past(len, rest),
-    })
+    let mut len = op.base_len();
+    while len > 0 {
+        len -= bring_next_back(alloc, left, len, op, made)?;
+    }
+    Ok(())
+}
+
+// brings the next piece back, of at most so many code units, and says how many it has
+fn bring_next_back(
+    alloc: Global,
+    left: &mut Cursor<'_>,
+    most: u64,
+    op: &Op,
+    made: &mut Builder,
+) -> Result<u64, Refusal>
+    requires stands { is_insert op.now ≡ false }
+    requires some { 0 < most }
+    requires there { most ≤ length left.old }
+    requires whole { ¬ (IsWithinPair left.old most) }
+    requires base { base_of made.old + op_out (for_units most op.now) ≤ 2 ^ 48 }
+    requires out { out_of made.old + most ≤ 2 ^ 48 }
+    ensures back { IfOk result (λ len. IsTakenBack left.old left.new (for_units len op.now) made.old made.new) }
+    ensures some { IfOk result (λ len. 0 < len) }
+    ensures most { IfOk result (λ len. len ≤ most) }
+    ensures only { IsOkUnless result Refusal.NoMemory }
+{
+    let piece = match left.next(most) {
+        Ok(piece) => piece,
+        Err(_) => unreachable!(),
+    };
+    let back = back_of(alloc, piece, op)?;
+    put(made, back)?;
+    Ok(piece.units())
 }
 
 // the change back, or the units again
-fn back(alloc: Global, op: Part<'_>, next: Part<'_>) -> Result<Option<Op>, Refusal>
-    ensures made { IfOk result (λ made. option_to_list made
-        ≡ turned_back (operation_of_part op.entry) (operation_of_part next.entry)) }
+fn back_of(alloc: Global, piece: Piece<'_>, op: &Op) -> Result<Op, Refusal>
+    requires stands { is_insert op.now ≡ false }
+    requires counted { IsCounted piece }
+    ensures back { IfOk result (λ back. TakesBack (for_units (length (piece_units piece.entry)) op.now) (piece_units piece.entry) back) }
     ensures only { IsOkUnless result Refusal.NoMemory }
 {
-    match (op.get(), next.get()) {
-        (OpRef::Text(_, attrs), OpRef::Retain(_, change)) => {
-            Ok(Some(Op::retain(op.len16(), attributes::invert(alloc, change, attrs)?)))
+    match op.get() {
+        OpRef::Retain(_, change) => {
+            let back = attributes::invert(alloc, change, piece.attrs())?;
+            Ok(Op::retain(piece.units(), back))
         }
-        (OpRef::Embed(_, _, attrs), OpRef::Retain(_, change)) => {
-            Ok(Some(Op::retain(1, attributes::invert(alloc, change, attrs)?)))
+        OpRef::Delete(_) => {
+            let back = piece.inserted(alloc)?;
+            Ok(back)
         }
-        (OpRef::Text(_, _), OpRef::Delete(_)) => Ok(Some(op.to_op(alloc)?)),
-        (OpRef::Embed(_, _, _), OpRef::Delete(_)) => Ok(Some(op.to_op(alloc)?)),
-        _ => Ok(None),
+        OpRef::Text(_, _) => unreachable!(),
+        OpRef::Embed(_, _, _) => unreachable!(),
+    }
+}
+
+// adds an operation that stays within the bounds
+fn put(made: &mut Builder, op: Op) -> Result<(), Refusal>
+    requires base { base_of made.old + op_base op ≤ 2 ^ 48 }
+    requires out { out_of made.old + op_out op ≤ 2 ^ 48 }
+    ensures added { OnOk result (settled (counted made.new) ≡ settled (counted (made.old ++ op ∷ []))) }
+    ensures base { OnOk result (base_of made.new ≡ base_of made.old + op_base op) }
+    ensures out { OnOk result (out_of made.new ≡ out_of made.old + op_out op) }
+    ensures only { IsOkUnless result Refusal.NoMemory }
+{
+    match made.push(op) {
+        Ok(()) => Ok(()),
+        Err(refusal) => Err(refusal),
     }
 }

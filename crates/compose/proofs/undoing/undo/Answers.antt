@@ -1,46 +1,39 @@
-use Rattle.std.proofs.Common.{◌≡◌, ◌⊎◌, ◌∙◌, ap, inr, ⊎_elim}
-use Rattle.std.specs.Prelude.{Err}
-use Rattle.std.proofs.lemmas.Result.{err_from_is_err_and}
-use Rattle.refusal.specs.declared.Refusal.{Refusal}
-use Rattle.refusal.specs.declared.Refusal.TheVariants.{BadOps, CutsPair, NoMemory}
-use Rattle.delta.specs.Cursor.{operations_left}
-use Rattle.std.specs.Option.{option_to_list}
-use Rattle.compose.proofs.Outcomes.{handed_on}
-use Rattle.compose.proofs.WayBack.{back-start, back-step, back-bounded, back-end, back-whole}
+use Rattle.std.proofs.Common.{◌+◌, drop, ◌∙◌, arith}
+use Rattle.std.proofs.lemmas.List.{drop_all}
+use Rattle.compose.proofs.WayBack.{drop-here, back-start, next_there, next_whole, next_base, next_out, back-next, back-end}
 use Rattle.compose.proofs.undoing.undo.Goals as goal
 
-pub loop-out-init : goal.loop-out-init
-loop-out-init c =
-    back-start c.args.base.now c.args.delta.now c.new-out.result (operations_left c.new-before.result) (operations_left c.new-after.result)
-    c.new-out.ensures (c.new-before.ensures ∙ c.ops.ensures.ops) (c.new-after.ensures ∙ c.ops-2.ensures.ops)
-    c.ops.ensures.normal c.ops-2.ensures.normal c.requires.inserted c.requires.defined
+pub loop-op-init : goal.loop-op-init
+loop-op-init c =
+    back-start c.args.document.now c.cursor-left.result c.args.delta.now c.ops-ops.result.now c.new-made.result c.cursor-left.ensures c.ops-ops.ensures.ops c.new-made.ensures
+    c.requires.there c.requires.whole
 
-pub returns-in-None-clause-one : goal.returns-in-None-clause-one
-returns-in-None-clause-one c =
-    let ended = rw c.in-None.is at c.in_ok-next_step_back.ensures.made in
-    c.finish.ensures ∙ back-end c.args.base.now c.args.delta.now c.loop-out.out (operations_left c.loop-out.before) (operations_left c.loop-out.after) c.loop-out.invariant ended
+pub take_back-requires : goal.take_back-requires
+take_back-requires c =
+    let ops = c.ops-ops.result.now in
+    let i = c.loop-op.op-index in
+    let op = c.op-item.result in
+    let here = drop-here ops i op c.loop-op-test.true c.op-item.is in
+    let so = c.loop-op.invariant in
+    let d = c.args.document.now in
+    let delta = c.args.delta.now in
+    record {
+      there = next_there d c.loop-op.left delta (drop i ops) (drop (i + 1) ops) c.loop-op.made op so here;
+      whole = next_whole d c.loop-op.left delta (drop i ops) (drop (i + 1) ops) c.loop-op.made op so here;
+      base = omega (arith, next_base d c.loop-op.left delta (drop i ops) (drop (i + 1) ops) c.loop-op.made op so here, c.ops-ops.ensures.bounded.out);
+      out = omega (arith, next_out d c.loop-op.left delta (drop i ops) (drop (i + 1) ops) c.loop-op.made op so here, c.ops-ops.ensures.bounded.base);
+    }
 
-pub returns-in-None-clause-whole : goal.returns-in-None-clause-whole
-returns-in-None-clause-whole c =
-    let ended = rw c.in-None.is at c.in_ok-next_step_back.ensures.made in
-    back-whole c.args.base.now c.args.delta.now c.loop-out.out (operations_left c.loop-out.before) (operations_left c.loop-out.after) c.loop-out.invariant ended
+pub loop-op-preserved : goal.loop-op-preserved
+loop-op-preserved c =
+    let ops = c.ops-ops.result.now in
+    let i = c.loop-op.op-index in
+    let op = c.op-item.result in
+    let here = drop-here ops i op c.loop-op-test.true c.op-item.is in
+    back-next c.args.document.now c.loop-op.left c.args.delta.now (drop i ops) (drop (i + 1) ops) c.loop-op.made op c.loop-op.invariant here _ _ c.in_ok-take_back.ensures.back
 
-pub returns-in_err-add-in-Some-clause-only : goal.returns-in_err-add-in-Some-clause-only
-returns-in_err-add-in-Some-clause-only c =
-    let step = rw c.in-Some.is at c.in_ok-next_step_back.ensures.made in
-    let p = err_from_is_err_and c.from_residual-in_err-add-in-Some.result c.from_residual-in_err-add-in-Some.ensures.1 in
-    handed_on (λ (e : Refusal). (e ≡ CutsPair) ⊎ (e ≡ NoMemory)) c.from_residual-in_err-add-in-Some.result p.0 c.in_err-add-in-Some.field-0.0 p.1 p.2
-    (⊎_elim
-    (λ (bad : c.in_err-add-in-Some.field-0.0 ≡ BadOps).
-    absurd
-    (c.in_err-add-in-Some.ensures.bad (ap Err bad)
-    (back-bounded c.args.base.now c.args.delta.now c.loop-out.out (option_to_list c.in-Some.step.made) (operations_left c.loop-out.before) (operations_left c.loop-out.after) (operations_left c.in-Some.step.first) (operations_left c.in-Some.step.second)
-    c.ops-2.ensures.bounded c.loop-out.invariant step)))
-    inr
-    c.in_err-add-in-Some.ensures.only)
-
-pub loop-out-preserved : goal.loop-out-preserved
-loop-out-preserved c =
-    let step = rw c.in-Some.is at c.in_ok-next_step_back.ensures.made in
-    back-step c.args.base.now c.args.delta.now c.loop-out.out (option_to_list c.in-Some.step.made) c.add.new.out (operations_left c.loop-out.before) (operations_left c.loop-out.after) (operations_left c.in-Some.step.first) (operations_left c.in-Some.step.second)
-    c.loop-out.invariant step c.in_ok-add-in-Some.ensures.added
+pub returns-clause-one : goal.returns-clause-one
+returns-clause-one c =
+    let ops = c.ops-ops.result.now in
+    let none = drop_all c.loop-op.op-index ops c.loop-op-test.false in
+    c.finish.ensures ∙ back-end c.args.document.now c.loop-op.left c.args.delta.now (drop c.loop-op.op-index ops) c.loop-op.made c.loop-op.invariant none
