@@ -102,12 +102,12 @@ impl ChunkBuilder {
         Ok(())
     }
 
-    /// Whether a chunk may stand at the end as it is: it doesn't merge with the last run, and the loose runs before it are
-    /// enough for a chunk.
+    /// Whether a chunk may stand at the end as it is: it doesn't merge with the last run, and it and the loose runs before it have
+    /// each enough runs for a chunk.
     pub fn goes_before(&self, chunk: &Chunk) -> bool
         ensures { IsTrue result → IsApart (last_attributes self.now) (first_attributes chunk.now) }
     {
-        let few = !self.loose.is_empty() && self.loose.len() < FEW;
+        let few = (!self.loose.is_empty() && self.loose.len() < FEW) || chunk.runs().len() < FEW;
         !few && self.is_apart(chunk.first())
     }
 
