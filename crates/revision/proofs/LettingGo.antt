@@ -1,9 +1,8 @@
 -- What is seen of a past that lets go of what lies below its floor.
 use Rattle.std.proofs.Common.{◌≡◌, ℕ, zero, suc, ◌+◌, ◌-◌, ◌≤◌, ◌<◌, List, [], ◌∷◌, length, take, drop, get_or, add-one, refl, sym, ap, ap₂, ◌∙◌, arith}
-use Rattle.std.proofs.lemmas.List.{drop-take, drop-drop, take-take, length-drop}
+use Rattle.std.proofs.lemmas.List.{drop-take, drop-drop, take-take, length-drop, length-take-le}
 use Rattle.delta.specs.Element.{Element}
 use Rattle.delta.specs.Operation.{Operation}
-use Rattle.delta.specs.Gaps.{counted, apply}
 use Rattle.compose.specs.Many.{applied}
 use Rattle.revision.specs.Sources.{Sources, with_last}
 use Rattle.revision.specs.declared.taker.Taker.{Taker}
@@ -11,7 +10,8 @@ use Rattle.revision.specs.Past.{Parts, AreParts, Past, Change, deltas_of, source
 use Rattle.revision.proofs.Replays.{stand-drop}
 use Rattle.revision.proofs.Kept.{short-drop}
 use Rattle.revision.proofs.Floors.{from-from}
-use Rattle.revision.proofs.Parts.{changes-take, whole-deltas}
+use Rattle.revision.proofs.KeptDocuments.{kept-later, sources-parts}
+use Rattle.revision.proofs.Parts.{changes-take, changes-length, whole-deltas}
 
 pub changes-drop : (n : ℕ) (takers : List Taker) (deltas : List (List Operation)) → changes_by (drop n takers) (drop n deltas) ≡ drop n (changes_by takers deltas)
 changes-drop zero takers deltas = refl
@@ -35,13 +35,6 @@ changes-here zero (u ∷ takers) (e ∷ deltas) taker delta same there t d =
 changes-here (suc i) (u ∷ takers) (e ∷ deltas) taker delta same there t d =
     changes-here i takers deltas taker delta (omega (arith, same)) (omega (arith, there)) t d
 
--- one delta more
-pub applied-next : (i : ℕ) (units : List Element) (deltas : List (List Operation)) (delta : List Operation) → i < length deltas → delta ≡ get_or deltas i delta
-    → applied units (take (suc i) deltas) ≡ apply (applied units (take i deltas)) (counted delta)
-applied-next i units [] delta there d = absurd (omega (arith, there))
-applied-next zero units (e ∷ deltas) delta there d = ap (λ f. apply units (counted f)) (sym d)
-applied-next (suc i) units (e ∷ deltas) delta there d = applied-next i (apply units (counted e)) deltas delta (omega (arith, there)) d
-
 -- the sources after the change at a place, and after those that come after it
 pub sources-here : (start i : ℕ) (sources : Sources) (takers : List Taker) (deltas : List (List Operation)) (taker : Taker) (delta : List Operation)
     → length takers ≡ length deltas → i < length deltas → taker ≡ get_or takers i taker → delta ≡ get_or deltas i delta
@@ -52,8 +45,8 @@ sources-here start i sources takers deltas taker delta same there t d =
     ∙ ap (λ n. sources_after (start + i + 1) (with_last taker.source taker.number (start + i + 1) sources) (drop n (changes_by takers deltas))) (sym (add-one i))
 
 -- the parts once the first changes are let go of
-abbrev pub later_parts : Parts → ℕ → Sources → Parts
-later_parts parts gone sources = record {
+abbrev pub later_parts : Parts → ℕ → Sources → ℕ → Parts
+later_parts parts gone sources passed = record {
   start = parts.start + gone;
   floor = parts.floor;
   units = applied parts.units (take gone parts.deltas);
@@ -61,13 +54,14 @@ later_parts parts gone sources = record {
   takers = drop gone parts.takers;
   deltas = drop gone parts.deltas;
   count = parts.count - gone;
+  kept = drop passed parts.kept;
 }
 
-module _ (parts : Parts) (is : AreParts parts) (gone : ℕ) (sources : Sources) (within : gone ≤ parts.floor - parts.start) where
+module _ (parts : Parts) (is : AreParts parts) (gone : ℕ) (sources : Sources) (passed : ℕ) (within : gone ≤ parts.floor - parts.start) where
   all : List Change
   all = changes_by parts.takers parts.deltas
 
-  pub later_are : AreParts (later_parts parts gone sources)
+  pub later_are : AreParts (later_parts parts gone sources passed)
   later_are = record {
     stand = stand-drop gone parts.units parts.deltas is.stand;
     short = short-drop gone parts.units parts.deltas is.short;
@@ -77,17 +71,18 @@ module _ (parts : Parts) (is : AreParts parts) (gone : ℕ) (sources : Sources) 
     floor = omega (arith, within, is.start, is.floor);
     held = omega (arith, within, is.start, is.floor, is.held);
     revision = omega (arith, within, is.start, is.floor, is.count, length-drop gone parts.deltas, is.revision);
+    kept = kept-later parts.start parts.count gone passed parts.units parts.deltas parts.kept (omega (arith, within, is.start, is.floor)) is.kept;
   }
 
   -- the changes that are left, of those taken
-  left : (whole_past (later_parts parts gone sources)).changes ≡ drop gone (whole_past parts).changes
+  left : (whole_past (later_parts parts gone sources passed)).changes ≡ drop gone (whole_past parts).changes
   unfolding all
   left =
       let sum : parts.count ≡ gone + (parts.count - gone) = omega (arith, within, is.start, is.floor) in
       ap (take (parts.count - gone)) (changes-drop gone parts.takers parts.deltas)
       ∙ (sym (drop-take gone (parts.count - gone) (changes_by parts.takers parts.deltas)) ∙ ap (λ n. drop gone (take n (changes_by parts.takers parts.deltas))) (sym sum))
 
-  prepared : (seen (later_parts parts gone sources)).next ≡ (seen parts).next
+  prepared : (seen (later_parts parts gone sources passed)).next ≡ (seen parts).next
   prepared =
       let sum : gone + (parts.count - gone) ≡ parts.count = omega (arith, within, is.start, is.floor) in
       ap (drop (parts.count - gone)) (changes-drop gone parts.takers parts.deltas)
@@ -98,7 +93,7 @@ module _ (parts : Parts) (is : AreParts parts) (gone : ℕ) (sources : Sources) 
     exact : Past
     exact = from_floor (whole_past parts) (parts.start + gone)
 
-    but_sources : (record (whole_past (later_parts parts gone sources)) { sources = exact.sources }) ≡ exact
+    but_sources : (record (whole_past (later_parts parts gone sources passed)) { sources = exact.sources }) ≡ exact
     unfolding exact
     but_sources =
         let here : parts.start + gone - parts.start ≡ gone = omega arith in
@@ -107,11 +102,11 @@ module _ (parts : Parts) (is : AreParts parts) (gone : ℕ) (sources : Sources) 
         ∙ (ap (λ l. applied parts.units (take gone l)) (sym (whole-deltas parts is)) ∙ ap (λ n. applied parts.units (take n (deltas_of (whole_past parts)))) (sym here)))
         (left ∙ ap (λ n. drop n (whole_past parts).changes) (sym here))
 
-    from_there : from_floor (record (whole_past (later_parts parts gone sources)) { sources = exact.sources }) parts.floor ≡ from_floor (whole_past parts) parts.floor
+    from_there : from_floor (record (whole_past (later_parts parts gone sources passed)) { sources = exact.sources }) parts.floor ≡ from_floor (whole_past parts) parts.floor
     unfolding exact
     from_there = ap (λ (p : Past). from_floor p parts.floor) but_sources ∙ from-from (whole_past parts) (parts.start + gone) (omega arith) parts.floor (omega (arith, within, is.start))
 
-    sources_there : sources_at (whole_past (later_parts parts gone sources)) parts.floor ≡ sources_at (whole_past parts) parts.floor
+    sources_there : sources_at (whole_past (later_parts parts gone sources passed)) parts.floor ≡ sources_at (whole_past parts) parts.floor
     unfolding all
     sources_there =
         let below : ℕ = parts.floor - parts.start in
@@ -119,13 +114,13 @@ module _ (parts : Parts) (is : AreParts parts) (gone : ℕ) (sources : Sources) 
         let changes : List Change = changes_by parts.takers parts.deltas in
         let sum : gone + more ≡ below = omega (arith, within, is.start) in
         let fewer = take-take below parts.count changes (omega (arith, is.floor)) in
-        let cut : take more (whole_past (later_parts parts gone sources)).changes ≡ drop gone (take below changes) =
+        let cut : take more (whole_past (later_parts parts gone sources passed)).changes ≡ drop gone (take below changes) =
         ap (take more) left ∙ (sym (drop-take gone more (take parts.count changes)) ∙ (ap (λ n. drop gone (take n (take parts.count changes))) sum ∙ ap (drop gone) fewer)) in
         let first = changes-take below parts.takers parts.deltas in
         ap (sources_after (parts.start + gone) sources) (cut ∙ ap (drop gone) (sym first))
         ∙ (noted ∙ ap (sources_after parts.start parts.sources) (first ∙ sym fewer))
 
-    pub later_is : seen (later_parts parts gone sources) ≡ seen parts
+    pub later_is : seen (later_parts parts gone sources passed) ≡ seen parts
     later_is = λ i. record {
       past = record {
         floor = parts.floor;
@@ -135,3 +130,19 @@ module _ (parts : Parts) (is : AreParts parts) (gone : ℕ) (sources : Sources) 
       };
       next = prepared i;
     }
+
+-- the sources after the changes that are let go of, and after those between them and the floor
+pub noted_there : (parts : Parts) → AreParts parts → (gone : ℕ) (sources : Sources) → gone ≤ parts.floor - parts.start
+    → sources ≡ sources_after parts.start parts.sources (changes_by (take gone parts.takers) (take gone parts.deltas))
+    → sources_after (parts.start + gone) sources (drop gone (changes_by (take (parts.floor - parts.start) parts.takers) (take (parts.floor - parts.start) parts.deltas)))
+    ≡ sources_after parts.start parts.sources (changes_by (take (parts.floor - parts.start) parts.takers) (take (parts.floor - parts.start) parts.deltas))
+noted_there parts is gone sources within sources_is =
+    let below : ℕ = parts.floor - parts.start in
+    let changes : List Change = changes_by parts.takers parts.deltas in
+    let some : List Change = changes_by (take below parts.takers) (take below parts.deltas) in
+    let some_is : some ≡ take below changes = changes-take below parts.takers parts.deltas in
+    let front : take gone some ≡ changes_by (take gone parts.takers) (take gone parts.deltas) =
+    ap (take gone) some_is ∙ (take-take gone below changes within ∙ sym (changes-take gone parts.takers parts.deltas)) in
+    let long : below ≤ length changes = omega (arith, changes-length parts.takers parts.deltas is.same, is.count, is.floor) in
+    ap (λ (s : Sources). sources_after (parts.start + gone) s (drop gone some)) (sources_is ∙ ap (sources_after parts.start parts.sources) (sym front))
+    ∙ sources-parts gone parts.start (parts.start + gone) parts.sources some refl (omega (arith, within, ap length some_is, length-take-le below changes long))

@@ -10,6 +10,8 @@ mod Outcomes
 mod Named
 mod Following
 mod Light
+mod KeptDocuments
+mod Beginnings
 mod LettingGo
 mod NewNames
 mod Raising

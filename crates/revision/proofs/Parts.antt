@@ -13,6 +13,7 @@ use Rattle.revision.specs.Past.{way_back_late}
 use Rattle.revision.specs.Late.{HasRoom, all_inserted}
 use Rattle.revision.proofs.Room.{room_for_undo}
 use Rattle.revision.proofs.Kept.{stand-more, short-more, short-take, room-since, stand-between, short-between, short-first, short-inserts}
+use Rattle.revision.proofs.KeptDocuments.{kept-prepared, kept-accepted, kept-cut}
 use Rattle.revision.proofs.Replays.{stand-take}
 use Rattle.revision.proofs.Floors.{newest-from, content-from, deltas-from, changes-from}
 
@@ -178,6 +179,7 @@ module _ (parts : Parts) (is : AreParts parts) where
         floor = is.floor;
         held = is.held;
         revision = omega (arith, deltas, bound, prepared-revision);
+        kept = kept-prepared parts.start parts.count parts.units parts.deltas (delta ∷ []) parts.kept is.count is.kept;
       }
 
   -- what is prepared is accepted
@@ -212,6 +214,7 @@ module _ (parts : Parts) (is : AreParts parts) where
     floor = omega (arith, floor_is, is.floor, is.count, some);
     held = omega (arith, floor_is, most);
     revision = is.revision;
+    kept = kept-accepted parts.start parts.count (length parts.deltas) parts.units parts.deltas parts.kept is.count is.kept;
   }
 
   -- nothing is prepared
@@ -245,6 +248,7 @@ module _ (parts : Parts) (is : AreParts parts) where
         floor = is.floor;
         held = is.held;
         revision = omega (arith, deltas, there, is.revision);
+        kept = kept-cut parts.start parts.count left parts.units parts.deltas parts.kept within is.kept;
       }
 
   -- the delta of the last that is prepared is the last delta

@@ -25,6 +25,7 @@ module _ (parts : Parts) (is : AreParts parts) (revision floor : ℕ) (floor_is 
     floor = omega (arith, floor_is, is.floor);
     held = omega (arith, floor_is, is.held);
     revision = is.revision;
+    kept = is.kept;
   }
 
   pub raise_is : seen (record parts { floor = floor }) ≡ record (seen parts) { past = raised revision (seen parts).past }

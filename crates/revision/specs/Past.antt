@@ -12,6 +12,7 @@ use Rattle.compose.specs.Inverse.{inverse}
 use Rattle.compose.specs.Many.{applied}
 use Rattle.revision.specs.Late.{late}
 use Rattle.revision.specs.Sources.{Sources, sources_code, with_last}
+use Rattle.revision.specs.declared.kept_document.Kept.{Kept}
 use Rattle.revision.specs.declared.taker.Taker.{Taker}
 
 -- each delta stands on what those before it leave: the document there has all units that it speaks of, it parts no pair, and
@@ -138,8 +139,8 @@ changes_by (first ∷ others) [] = []
 changes_by (first ∷ others) (delta ∷ deltas) =
     record { source = first.source; number = first.number; delta = delta } ∷ changes_by others deltas
 
--- What the program keeps of a past: the document and the sources at a revision that isn't above the floor, and the deltas after it with
--- their sources, of which so many are taken; the others are prepared.
+-- What the program keeps of a past: the document and the sources at a revision that isn't above the floor, the start; the deltas after it
+-- with their sources, of which so many are taken, and the others are prepared; and documents at some of the revisions taken.
 pub record Parts : Type 0 where
   pub start : ℕ
   pub floor : ℕ
@@ -148,6 +149,7 @@ pub record Parts : Type 0 where
   pub takers : List Taker
   pub deltas : List (List Operation)
   pub count : ℕ
+  pub kept : List Kept
 
 -- the past from the start on
 abbrev pub whole_past : Parts → Past
@@ -167,6 +169,14 @@ abbrev pub StayShort : List Element → List (List Operation) → Type 0
 StayShort units [] = length units ≤ 2 ^ 29
 StayShort units (taken ∷ others) = (length units ≤ 2 ^ 29) × StayShort (apply units (counted taken)) others
 
+-- a document that is kept is that of its revision, which was taken; of one from below the start nothing is said
+abbrev pub IsKept : ℕ → ℕ → List Element → List (List Operation) → Kept → Type 0
+IsKept start count units deltas k = (k.revision ≤ start + count) × (start ≤ k.revision → k.document ≡ applied units (take (k.revision - start) deltas))
+
+abbrev pub AreKept : ℕ → ℕ → List Element → List (List Operation) → List Kept → Type 0
+AreKept start count units deltas [] = Unit {0}
+AreKept start count units deltas (k ∷ ks) = IsKept start count units deltas k × AreKept start count units deltas ks
+
 -- what they keep: all deltas stand in turn on short documents, and at most 65,536 of those taken are above the floor
 pub record AreParts (parts : Parts) : Type 0 where
   pub stand : StandInTurn parts.units parts.deltas
@@ -177,6 +187,7 @@ pub record AreParts (parts : Parts) : Type 0 where
   pub floor : parts.floor ≤ parts.start + parts.count
   pub held : parts.start + parts.count ≤ parts.floor + 65536
   pub revision : parts.start + length parts.deltas < 2 ^ 53
+  pub kept : AreKept parts.start parts.count parts.units parts.deltas parts.kept
 
 -- how a past is told from another
 abbrev pub change_code : Coded Change

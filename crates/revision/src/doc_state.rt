@@ -132,6 +132,7 @@ impl DocState {
             Some(next) => note_on(alloc, &mut self.past, &mut self.sources, next, taken, near)?,
             None => {
                 let after = after_taken(alloc, &self.document, delta)?;
+                self.past.keep(alloc, &self.document);
                 note(alloc, &mut self.past, &mut self.sources, taken, near)?;
                 self.next = Some(after);
             }

@@ -40,6 +40,7 @@ mod copying;
 mod doc_state;
 mod documents;
 mod growing;
+mod kept_document;
 mod late;
 pub mod laws;
 mod limits;

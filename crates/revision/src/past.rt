@@ -1,17 +1,19 @@
 //! A document's past, as far back as it is held.
-ghost use Rattle.std.specs.Prelude.{◌≡◌, ◌+◌, ◌≤◌, ◌<◌, ◌^◌, ◌∷◌, ◌++◌, [], true, List, length, take, drop, IfOk, OnOk, OnErr, IsOkUnless};
-ghost use Rattle.delta.specs.Operation.{base_of, out_of};
+ghost use Rattle.std.specs.Prelude.{◌≡◌, ◌+◌, ◌≤◌, ◌<◌, ◌^◌, ◌∷◌, ◌++◌, [], true, ℕ, ◌-◌, List, length, take, drop, IfOk, IfSome, OnOk, OnErr, IsOkUnless};
+ghost use Rattle.delta.specs.Element.{Element};
+ghost use Rattle.delta.specs.Operation.{Operation, base_of, out_of};
 ghost use Rattle.delta.specs.Gaps.{End, counted, apply};
 ghost use Rattle.delta.specs.Normal.{nf};
 ghost use Rattle.document.specs.Outcome.{IsAccepted};
 ghost use Rattle.compose.specs.Many.{applied};
 ghost use Rattle.revision.specs.Floors.{raised};
 ghost use Rattle.revision.specs.Late.{late as late_edit, all_inserted, HasCommandRoom};
-ghost use Rattle.revision.specs.Past.{Change, StandInTurn, newest, content_at, deltas_of, deltas_above, undo_of, way_back, way_back_late, with_changes, prepared_units, prepared_revision, without_last, sources_after, sources_at, changes_by};
+ghost use Rattle.revision.specs.Past.{Change, StandInTurn, IsKept, AreKept, newest, newest_units, content_at, deltas_of, deltas_above, undo_of, way_back, way_back_late, with_changes, prepared_units, prepared_revision, without_last, sources_after, sources_at, changes_by};
 ghost use Rattle.revision.specs.Name.{is_source_name};
 ghost use Rattle.revision.specs.Replay.{deltas_to};
 ghost use Rattle.revision.specs.Sources.{with_last};
 
+use crate::kept_document::Kept;
 use crate::late::{late, past_all};
 use crate::name::Name;
 use crate::sources::Sources;
@@ -26,8 +28,12 @@ use std::marker::Model;
 /// So many revisions lie below the floor at most before they are let go of.
 const MOST_BELOW: u64 = 512;
 
+/// So many revisions at least lie between two documents that are kept.
+const APART: u64 = 256;
+
 /// The lowest revision that is held, the floor, with the document and the sources there, and the changes of the revisions after
-/// it. The document that is kept may be older: what is seen is computed from it, so that the floor rises without a copy.
+/// it. The first document that is kept may be older: what is seen is computed from it, so that the floor rises without a copy. Further
+/// documents are kept at every 256th revision or so, which share what they have in common, so that the way to a revision is short.
 ///
 /// A change is first prepared, which leaves what is seen as it is, and may find no memory. What is prepared is then accepted,
 /// which needs none.
@@ -40,6 +46,7 @@ pub struct Past {
     takers: Vec<Taker>,
     deltas: Vec<Delta>,
     count: usize,
+    kept: Vec<Kept>,
 }
 
 /// What leads from the empty document to a revision: deltas in turn, of which the first inserts what stands in an older revision,
@@ -84,6 +91,7 @@ impl Past {
             takers: Vec::new(alloc),
             deltas: Vec::new(alloc),
             count: 0,
+            kept: Vec::new(alloc),
         }
     }
 
@@ -113,15 +121,17 @@ impl Past {
         &self.deltas.as_slice()[from..self.count]
     }
 
-    /// The document at a revision that is held. Refused for want of memory alone.
+    /// The document at a revision that is held: it applies the deltas since the last document that is kept. Refused for want of memory
+    /// alone.
     pub fn document_at(&self, alloc: Global, revision: u64) -> Result<Document, Refusal>
         requires held { self.now.past.floor ≤ revision }
         requires there { revision ≤ newest self.now.past }
         ensures document { IfOk result (λ document. document ≡ (content_at self.now.past revision).units) }
         ensures only { IsOkUnless result Refusal.NoMemory }
     {
-        let count = (revision - self.start) as usize;
-        document_after(alloc, &self.document, self.deltas.as_slice(), count)
+        let (from, base) = beginning(self.start, &self.document, self.kept.as_slice(), revision);
+        let deltas = &self.deltas.as_slice()[(from - self.start) as usize..];
+        document_after(alloc, base, deltas, (revision - from) as usize)
     }
 
     /// What leads from the empty document to a revision that is held: what stands at the floor as one delta, and a copy of each delta
@@ -194,12 +204,14 @@ impl Past {
             ≡ undo_of self.now.past.floor self.now.past.content.units (deltas_of self.now.past) revision) }
         ensures only { IsOkUnless result Refusal.NoMemory }
     {
-        let place = (revision - 1 - self.start) as usize;
+        let before = revision - 1;
+        let (from, base) = beginning(self.start, &self.document, self.kept.as_slice(), before);
+        let first = (from - self.start) as usize;
         undo_one(
             alloc,
-            &self.document,
-            &self.deltas.as_slice()[..self.count],
-            place,
+            base,
+            &self.deltas.as_slice()[first..self.count],
+            (before - from) as usize,
         )
     }
 
@@ -271,30 +283,53 @@ impl Past {
         }
     }
 
-    /// Lets go of the revisions below the floor, once there are 512 of them, as far as memory goes. What is seen stays as it is.
+    /// Keeps a copy of the document at the newest revision, once 256 revisions have come since the last that is kept, as far as memory
+    /// goes. What is seen stays as it is.
+    pub(crate) fn keep(&mut self, alloc: Global, document: &Document)
+        requires newest { document.now ≡ newest_units self.old.past }
+        ensures { self.new ≡ self.old }
+    {
+        let revision = self.start + self.count as u64;
+        let last = last_kept(self.kept.as_slice(), self.start);
+        if revision.saturating_sub(last) >= APART {
+            push_kept(alloc, &mut self.kept, revision, document);
+        }
+    }
+
+    /// Lets go of the revisions below the floor, once there are 512 of them, up to the last document that is kept from there, as far
+    /// as memory goes. What is seen stays as it is.
     ///
-    /// With fewer a call costs nothing. Else it applies their deltas to the document that is kept, each in time linear in the
-    /// document, notes their sources, and moves the changes that stay: one change is so applied once more in all, but the call
-    /// that comes to it applies 512 or more.
+    /// With fewer a call costs nothing. Else it applies no delta: the document that is kept takes the place of the first one, and the
+    /// sources of the changes up to it are noted.
     pub fn let_go(&mut self, alloc: Global)
         ensures { self.new ≡ self.old }
     {
-        let below = self.floor - self.start;
-        if below < MOST_BELOW {
+        if self.floor - self.start < MOST_BELOW {
             return;
         }
-        let gone = advance(
+        let (from, base) = beginning(self.start, &self.document, self.kept.as_slice(), self.floor);
+        let gone = (from - self.start) as usize;
+        if gone == 0 {
+            return;
+        }
+        let later = moved_on(
             alloc,
-            &mut self.document,
-            &mut self.sources,
+            base,
+            &self.sources,
             self.start,
-            &self.takers.as_slice()[..below as usize],
-            &self.deltas.as_slice()[..below as usize],
+            &self.takers.as_slice()[..gone],
+            &self.deltas.as_slice()[..gone],
         );
-        drop_first(&mut self.takers, gone);
-        drop_first(&mut self.deltas, gone);
-        self.start += gone as u64;
-        self.count -= gone;
+        if let Ok((document, sources)) = later {
+            let passed = count_up_to(self.kept.as_slice(), from);
+            self.document = document;
+            self.sources = sources;
+            drop_first(&mut self.takers, gone);
+            drop_first(&mut self.deltas, gone);
+            drop_first(&mut self.kept, passed);
+            self.start = from;
+            self.count -= gone;
+        }
     }
 
     /// An equal past, of which nothing is prepared. Refused for want of memory alone.
@@ -306,6 +341,7 @@ impl Past {
         let sources = self.sources.copy(alloc)?;
         let takers = copies_of_takers(alloc, &self.takers.as_slice()[..self.count])?;
         let deltas = copies_of_deltas(alloc, &self.deltas.as_slice()[..self.count])?;
+        let kept = copies_of_kept(alloc, self.kept.as_slice())?;
         Ok(Past {
             start: self.start,
             floor: self.floor,
@@ -314,6 +350,7 @@ impl Past {
             takers,
             deltas,
             count: self.count,
+            kept,
         })
     }
 
@@ -355,6 +392,29 @@ fn copy_of_taker(alloc: Global, taker: &Taker) -> Result<Taker, Refusal>
     Ok(Taker {
         source: taker.source.copy(alloc)?,
         number: taker.number,
+    })
+}
+
+// equal documents at the same revisions, or `NoMemory`
+fn copies_of_kept(alloc: Global, kept: &[Kept]) -> Result<Vec<Kept>, Refusal>
+    ensures same { IfOk result (λ copies. copies.items ≡ kept.now) }
+    ensures only { IsOkUnless result Refusal.NoMemory }
+{
+    let mut copies = Vec::with_capacity(alloc, kept.len())?;
+    for one in kept {
+        copies.push(copy_of_kept(alloc, one)?)?;
+    }
+    Ok(copies)
+}
+
+// an equal document at the same revision, or `NoMemory`
+fn copy_of_kept(alloc: Global, one: &Kept) -> Result<Kept, Refusal>
+    ensures same { IfOk result (λ copy. copy ≡ one.now) }
+    ensures only { IsOkUnless result Refusal.NoMemory }
+{
+    Ok(Kept {
+        revision: one.revision,
+        document: one.document.copy(alloc)?,
     })
 }
 
@@ -466,55 +526,95 @@ fn drop_first<T: Drop>(items: &mut Vec<T>, count: usize)
     drop(items.drain(..count));
 }
 
-// Moves a document and its sources on by the first of these changes, as many as memory goes for, and tells how many. The sources
-// may have noted one change more than the document has taken: it is noted again in its turn.
-fn advance(
+// Where the way to a revision begins, with the document there: at the last that is kept up to it, or at the start.
+fn beginning<'a>(
+    start: u64,
+    document: &'a Document,
+    kept: &'a [Kept],
+    revision: u64,
+) -> (u64, &'a Document)
+    requires { start ≤ revision }
+    ensures above { start ≤ result.0 }
+    ensures below { result.0 ≤ revision }
+    ensures there { (count : ℕ) (deltas : List (List Operation)) → AreKept start count document.now deltas kept.now
+        → result.1.now ≡ applied document.now (take (result.0 - start) deltas) }
+{
+    match nearest(kept, start, revision) {
+        Some(found) => (found.revision, &found.document),
+        None => (start, document),
+    }
+}
+
+// The last document that is kept from the start up to a revision; what holds of all holds of it.
+fn nearest(kept: &[Kept], start: u64, revision: u64) -> Option<&Kept>
+    ensures above { IfSome result (λ k. start ≤ k.now.revision) }
+    ensures below { IfSome result (λ k. k.now.revision ≤ revision) }
+    ensures kept { IfSome result (λ k. (count : ℕ) (units : List Element) (deltas : List (List Operation))
+        → AreKept start count units deltas kept.now → IsKept start count units deltas k.now) }
+{
+    let mut left = kept.len();
+    while left > 0 {
+        left -= 1;
+        let one = &kept[left];
+        if start <= one.revision && one.revision <= revision {
+            return Some(one);
+        }
+    }
+    None
+}
+
+// The revision of the last document that is kept, or the start.
+fn last_kept(kept: &[Kept], start: u64) -> u64 {
+    match kept.last() {
+        Some(last) => last.revision,
+        None => start,
+    }
+}
+
+// Keeps a copy of a document at a revision, as far as memory goes.
+fn push_kept(alloc: Global, kept: &mut Vec<Kept>, revision: u64, document: &Document)
+    ensures { (start count : ℕ) (units : List Element) (deltas : List (List Operation))
+        → AreKept start count units deltas kept.old.items
+        → IsKept start count units deltas (record { revision = revision; document = document.now })
+        → AreKept start count units deltas kept.new.items }
+{
+    let Ok(document) = document.copy(alloc) else {
+        return;
+    };
+    // where the list can't grow the copy is dropped
+    let _ = kept.push(Kept { revision, document });
+}
+
+// How many of the first documents that are kept lie no higher than a revision.
+fn count_up_to(kept: &[Kept], revision: u64) -> usize
+    ensures { result ≤ length kept.now }
+{
+    for (count, one) in kept.iter().enumerate() {
+        if one.revision > revision {
+            return count;
+        }
+    }
+    kept.len()
+}
+
+// A copy of a document, and the sources after the changes that lead to it. Refused for want of memory alone.
+fn moved_on(
     alloc: Global,
-    document: &mut Document,
-    sources: &mut Sources,
+    document: &Document,
+    sources: &Sources,
     start: u64,
     takers: &[Taker],
     deltas: &[Delta],
-) -> usize
-    requires stand { StandInTurn document.old deltas.now }
+) -> Result<(Document, Sources), Refusal>
     requires same { length takers.now ≡ length deltas.now }
     requires revision { start + length deltas.now < 2 ^ 53 }
-    ensures count { result ≤ length deltas.now }
-    ensures document { document.new ≡ applied document.old (take result deltas.now) }
-    ensures sources { sources_after (start + result) sources.new (drop result (changes_by takers.now deltas.now))
-        ≡ sources_after start sources.old (changes_by takers.now deltas.now) }
-{
-    for i in 0..deltas.len() {
-        let revision = start + i as u64 + 1;
-        match take_on(alloc, document, sources, &takers[i], &deltas[i], revision) {
-            Ok(()) => {}
-            Err(_) => return i,
-        }
-    }
-    deltas.len()
-}
-
-// Takes a change on a document and its sources. Refused for want of memory alone; the document is unchanged then, and the
-// sources are but for the change, which they may have noted.
-fn take_on(
-    alloc: Global,
-    document: &mut Document,
-    sources: &mut Sources,
-    taker: &Taker,
-    taken: &Delta,
-    revision: u64,
-) -> Result<(), Refusal>
-    requires { IsAccepted document.old (counted taken.now) }
-    ensures document { OnOk result (document.new ≡ apply document.old (counted taken.now)) }
-    ensures document_unchanged { OnErr result (document.new ≡ document.old) }
-    ensures noted { OnOk result (sources.new ≡ with_last taker.now.source taker.now.number revision sources.old) }
-    ensures again { with_last taker.now.source taker.now.number revision sources.new
-        ≡ with_last taker.now.source taker.now.number revision sources.old }
+    ensures document { IfOk result (λ later. later.0 ≡ document.now) }
+    ensures sources { IfOk result (λ later. later.1 ≡ sources_after start sources.now (changes_by takers.now deltas.now)) }
     ensures only { IsOkUnless result Refusal.NoMemory }
 {
-    let source = taker.source.copy(alloc)?;
-    sources.set(source, taker.number, revision)?;
-    apply_taken(alloc, document, taken)
+    let document = document.copy(alloc)?;
+    let sources = noted_all(alloc, sources, start, takers, deltas)?;
+    Ok((document, sources))
 }
 
 // The sources after these changes. Refused for want of memory alone.

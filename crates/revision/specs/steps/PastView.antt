@@ -11,4 +11,5 @@ parts_of p = record {
   takers = p.takers.items;
   deltas = p.deltas.items;
   count = p.count;
+  kept = p.kept.items;
 }

@@ -41,14 +41,16 @@ after_taken-requires c =
 pub note-requires-clause-accepted : goal.note-requires-clause-accepted
 note-requires-clause-accepted c =
     let taken = c.args.taken in
-    subst (λ (d : PendingDocument). IsAccepted (prepared_units d.past) (counted taken.delta)) (sym c.self.view_is)
-    (next_accepted c.args.limits c.args.self.now taken c.requires.limits c.requires.follows).0
+    rw c.keep.ensures
+    (subst (λ (d : PendingDocument). IsAccepted (prepared_units d.past) (counted taken.delta)) (sym c.self.view_is)
+    (next_accepted c.args.limits c.args.self.now taken c.requires.limits c.requires.follows).0)
 
 pub note-requires-clause-short : goal.note-requires-clause-short
 note-requires-clause-short c =
     let taken = c.args.taken in
-    subst (λ (d : PendingDocument). length (apply (prepared_units d.past) (counted taken.delta)) ≤ 2 ^ 29) (sym c.self.view_is)
-    (next_accepted c.args.limits c.args.self.now taken c.requires.limits c.requires.follows).1
+    rw c.keep.ensures
+    (subst (λ (d : PendingDocument). length (apply (prepared_units d.past) (counted taken.delta)) ≤ 2 ^ 29) (sym c.self.view_is)
+    (next_accepted c.args.limits c.args.self.now taken c.requires.limits c.requires.follows).1)
 
 pub invariant_of-self : goal.invariant_of-self
 invariant_of-self c =

@@ -2,6 +2,7 @@ use Rattle.std.proofs.Common.{[], ◌≡◌, List, take, sym, ap, ap₂, subst, 
 use Rattle.delta.specs.Element.{Element}
 use Rattle.delta.specs.Operation.{Operation}
 use Rattle.revision.specs.Sources.{Sources}
+use Rattle.revision.specs.declared.kept_document.Kept.{Kept}
 use Rattle.revision.specs.declared.taker.Taker.{Taker}
 use Rattle.revision.specs.Past.{Parts, Prepared, AreParts, seen}
 use Rattle.revision.specs.steps.PastView.{parts_of}
@@ -16,7 +17,9 @@ invariant_of-result c =
     let lists = ap₂ (λ (t : List Taker) (d : List (List Operation)). record parts { takers = t; deltas = d }) (sym takers) (sym deltas) in
     let others = ap₂ (λ (u : List Element) (s : Sources). record parts { units = u; sources = s; takers = c.in_ok-takers.takers.items; deltas = c.in_ok-deltas.deltas.items })
     (sym c.in_ok-document.ensures.same) (sym c.in_ok-sources.ensures.same) in
-    subst AreParts (lists ∙ others) (forget_are parts c.self.invariant)
+    let kept : c.in_ok-kept.kept.items ≡ c.self.inside.kept.items = c.in_ok-kept.ensures.same ∙ c.as_slice-3.ensures.value in
+    let keeps = ap (λ (k : List Kept). record parts { units = c.in_ok-document.document; sources = c.in_ok-sources.sources; takers = c.in_ok-takers.takers.items; deltas = c.in_ok-deltas.deltas.items; kept = k }) (sym kept) in
+    subst AreParts (lists ∙ (others ∙ keeps)) (forget_are parts c.self.invariant)
 
 pub returns-clause-same : goal.returns-clause-same
 returns-clause-same c =
