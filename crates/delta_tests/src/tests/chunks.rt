@@ -63,6 +63,27 @@ fn letters_are_deleted_from_chunks(rt: HostRuntime) -> Result<(), Fail> {
     Ok(())
 }
 
+// the delta that puts numbered letters behind so many code units
+fn puts(alloc: Global, kept: u64, first: u32, end: u32) -> Result<Delta, Refusal> {
+    let mut builder = Builder::new(alloc);
+    builder.push(Op::retain(kept, Change::new(alloc)))?;
+    for number in first..end {
+        builder.push(run(alloc, "x", number)?)?;
+    }
+    Ok(builder.finish())
+}
+
+#[test]
+fn a_chunk_of_few_runs_takes_those_beside_it(rt: HostRuntime) -> Result<(), Fail> {
+    let mut document = Document::from_delta(rt.alloc(), &puts(rt.alloc(), 0, 0, 5)?)?;
+    document.apply(rt.alloc(), &puts(rt.alloc(), 5, 5, 45)?)?;
+    assert_eq!(rt; (document.chunks().len(), runs_of(&document)), (1, 45));
+    let mut document = Document::from_delta(rt.alloc(), &puts(rt.alloc(), 0, 0, 5)?)?;
+    document.apply(rt.alloc(), &puts(rt.alloc(), 0, 5, 37)?)?;
+    assert_eq!(rt; (document.chunks().len(), runs_of(&document)), (1, 37));
+    Ok(())
+}
+
 // letters with a pair among them, at this place
 fn paired(alloc: Global, place: u32) -> Result<Document, Refusal> {
     let mut builder = Builder::new(alloc);
@@ -119,6 +140,15 @@ fn edit(
     Ok(())
 }
 
+// how many runs the smallest chunk has
+fn fewest_runs(document: &Document) -> usize {
+    let mut fewest = usize::MAX;
+    for chunk in document.chunks() {
+        fewest = fewest.min(chunk.runs().len());
+    }
+    fewest
+}
+
 // as many edits as there are runs, whose places are drawn (Knuth's MMIX generator)
 fn edit_all(alloc: Global, document: &mut Document, numbers: &mut Vec<u32>) -> Result<(), Refusal> {
     let mut drawn: u64 = 1;
@@ -141,5 +171,6 @@ fn drawn_edits_leave_chunks_of_32_runs_or_more(rt: HostRuntime) -> Result<(), Fa
     assert_eq!(rt; runs, numbers.len());
     let chunks = document.chunks().len();
     assert!(rt; runs / 128 <= chunks && chunks <= runs / 32);
+    assert!(rt; fewest_runs(&document) >= 32);
     Ok(())
 }
