@@ -208,8 +208,12 @@ test("connect tries until its time ends, and at once where the name is none", as
   t.after(() => full.close());
   const cutting = setInterval(() => full.sessions.forEach((session) => session.cut()), 5);
   t.after(() => clearInterval(cutting));
-  await assert.rejects(connect({ ...full.address, source: "a", timeout: 1_000 }), { name: "Timeout" });
-  assert.ok(full.sessions.length >= 2);
+  await assert.rejects(connect({ ...full.address, source: "a", timeout: 50 }), { name: "Timeout" });
+  const trying = new AbortController();
+  const tried = connect({ ...full.address, source: "a", signal: trying.signal });
+  await until(() => full.sessions.length >= 3);
+  trying.abort(new Error("tried often"));
+  await assert.rejects(tried, { message: "tried often" });
   const server = await scripted((_, session) => session.reply({ code: 8, error: "BadName" }));
   t.after(() => server.close());
   await assert.rejects(connect({ ...server.address, source: "a b" }), { name: "BadName", code: 8 });
