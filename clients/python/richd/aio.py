@@ -1,0 +1,317 @@
+"""The client for programs with asyncio: the same calls as coroutines, over the same core.
+
+    async with await richd.aio.connect("127.0.0.1", 7000, source="ann") as client:
+        async for change in client.follow("letter", 1):
+            ...
+
+Any number of tasks may call at once. What a cancelled task has asked for stays on its way.
+"""
+
+from __future__ import annotations
+
+import asyncio
+import socket
+from typing import Any, Awaitable, Callable, Dict, List, Optional, Sequence, Tuple, Union
+
+from .core import Core, Done, Follower, Pauses, Trace, new_source
+from .delta import Delta
+from .draft import Draft
+from .messages import Change, Closed, Contents, Refused, Since, Taken, Unexpected
+
+LAST_WAIT = 5.0  # seconds that `close` gives the server to answer what was sent
+PIECE = 65_536  # bytes that are taken at a time
+
+Streams = Tuple[asyncio.StreamReader, asyncio.StreamWriter, Callable[[], Awaitable[None]]]  # to read, to write, and to end both
+
+
+async def connect(
+    host: Optional[str] = None,
+    port: Optional[int] = None,
+    *,
+    command: Optional[Sequence[str]] = None,
+    source: Optional[str] = None,
+    numbers: Optional[Dict[str, int]] = None,
+    timeout: Optional[float] = None,
+    trace: Optional[Trace] = None,
+) -> Client:
+    """A client of the server at a host's port, or of one that this command starts. All is as with `richd.connect`."""
+    if (command is None) == (host is None or port is None):
+        raise TypeError("connect takes a host and a port, or a command")
+
+    async def opened() -> Streams:
+        return await (_over_tcp(host, port) if command is None else _over_pipes(command))
+
+    client = Client(opened, command is None, source or new_source(), numbers or {}, timeout, trace)
+    await client._begin()
+    return client
+
+
+async def _over_tcp(host: Any, port: Any) -> Streams:
+    reader, writer = await asyncio.open_connection(host, port)
+    writer.get_extra_info("socket").setsockopt(socket.IPPROTO_TCP, socket.TCP_NODELAY, 1)
+
+    async def end() -> None:
+        writer.close()
+
+    return reader, writer, end
+
+
+async def _over_pipes(command: Sequence[str]) -> Streams:
+    process = await asyncio.create_subprocess_exec(*command, stdin=asyncio.subprocess.PIPE, stdout=asyncio.subprocess.PIPE)
+    reader, writer = process.stdout, process.stdin
+    assert reader is not None and writer is not None
+
+    async def end() -> None:
+        writer.close()
+        try:
+            await asyncio.wait_for(process.wait(), LAST_WAIT)
+        except asyncio.TimeoutError:
+            process.kill()
+            await process.wait()
+
+    return reader, writer, end
+
+
+class Client:
+    """A session with a server, which begins anew on a new connection where one is cut. `connect` makes one.
+
+    Each call raises `Refused` where the server refuses, TimeoutError where it takes longer than the client's timeout, `Closed` once
+    the client is closed. After a TimeoutError a command is still on its way, and is sent again where it has to be.
+    """
+
+    def __init__(
+        self,
+        opened: Callable[[], Awaitable[Streams]],
+        waits_for_place: bool,
+        source: str,
+        numbers: Dict[str, int],
+        timeout: Optional[float],
+        trace: Optional[Trace],
+    ):
+        self.timeout = timeout
+        self._opened, self._waits_for_place = opened, waits_for_place
+        self._core = Core(source, numbers, self._later, trace)
+        self._writer: Optional[asyncio.StreamWriter] = None
+        self._was_greeted = False  # on any connection
+        self._closing = asyncio.Event()
+        self._changed: List[asyncio.Future[None]] = []  # of those who wait until something has come
+        self._task = asyncio.get_running_loop().create_task(self._live())
+
+    @property
+    def source(self) -> str:
+        """The name under which the changes of this client are taken."""
+        return self._core.source
+
+    async def create(self, doc: str, ops: Delta) -> Taken:
+        """Makes a document of these inserts, at revision 1."""
+        return await self._answer(lambda done: self._core.create(doc, ops, done))
+
+    async def edit(self, doc: str, ops: Delta, base: int) -> Taken:
+        """Changes a document by what was made on its revision `base`. The server adapts it to what was taken since."""
+        return await self._answer(lambda done: self._core.edit(doc, ops, base, done))
+
+    async def undo(self, doc: str) -> Taken:
+        """Takes back this source's last change of a document, past what others did since."""
+        return await self._answer(lambda done: self._core.undo(doc, done))
+
+    async def fetch(self, doc: str, rev: Optional[int] = None) -> Contents:
+        """A document at a revision, or at the newest."""
+        return await self._answer(lambda done: self._core.fetch(doc, rev, done))
+
+    async def since(self, doc: str, rev: int) -> Since:
+        """What changed a document after a revision."""
+        return await self._answer(lambda done: self._core.since(doc, rev, done))
+
+    def follow(self, doc: str, rev: int) -> Following:
+        """The changes of a document after a revision, as they come: `async for change in client.follow(doc, rev)`. Where a revision
+        isn't held any more it raises `Refused` with code 13: fetch the document then, and follow it from there."""
+        return Following(self, doc, rev)
+
+    async def open(self, doc: str) -> Document:
+        """A document to type into."""
+        return Document(self, doc, await self.fetch(doc))
+
+    def numbers(self) -> Dict[str, int]:
+        """For each document that this client changed the number of its next command, for `connect` after the program's end."""
+        return self._core.numbers()
+
+    async def close(self) -> None:
+        """Ends the session. What was sent is still answered; what wasn't raises `Closed`."""
+        self._closing.set()
+        if self._writer is not None:
+            self._writer.write_eof()
+        done, _ = await asyncio.wait([self._task], timeout=LAST_WAIT)
+        if not done:
+            self._task.cancel()
+            await asyncio.wait([self._task])
+        self._fail(Closed("the client was closed"))
+
+    async def __aenter__(self) -> Client:
+        return self
+
+    async def __aexit__(self, *cause: object) -> None:
+        await self.close()
+
+    def _do(self, action: Callable[[], Any]) -> Any:
+        """Does something with the core, and sends what it has to send then."""
+        result = action()
+        if self._writer is not None and not self._closing.is_set() and self._core.has_to_send:
+            self._writer.write(self._core.to_send())
+        waiting, self._changed = self._changed, []
+        for future in waiting:
+            if not future.done():
+                future.set_result(None)
+        return result
+
+    async def _answer(self, ask: Callable[[Done], None]) -> Any:
+        future = asyncio.get_running_loop().create_future()
+
+        def done(value: Any, error: Optional[Exception]) -> None:
+            if future.done():
+                return  # nobody waits any more
+            if error is not None:
+                future.set_exception(error)
+            else:
+                future.set_result(value)
+
+        self._do(lambda: ask(done))
+        return await _in_time(future, self.timeout, "no answer")
+
+    async def _until(self, holds: Callable[[], Any]) -> None:
+        """Waits until something holds."""
+        while not holds():
+            future = asyncio.get_running_loop().create_future()
+            self._changed.append(future)
+            await future
+
+    def _later(self, seconds: float, action: Callable[[], None]) -> None:
+        asyncio.get_running_loop().call_later(seconds, self._do, action)
+
+    async def _begin(self) -> None:
+        """Waits until the server greets for the first time."""
+        try:
+            await _in_time(self._until(lambda: self._was_greeted or self._core.failure), self.timeout, "no greeting")
+        except TimeoutError:
+            await self.close()
+            raise
+        if self._core.failure is not None:
+            raise self._core.failure
+
+    # The client's own task
+
+    async def _live(self) -> None:
+        pauses = Pauses()
+        while self._core.failure is None:
+            try:
+                await self._converse(pauses)
+            except (Refused, Unexpected) as error:
+                self._fail(error)
+            if self._closing.is_set():
+                self._fail(Closed("the client was closed"))
+            elif self._core.failure is None:
+                try:
+                    await asyncio.wait_for(self._closing.wait(), pauses.next())
+                except asyncio.TimeoutError:
+                    pass
+
+    def _fail(self, error: Exception) -> None:
+        self._do(lambda: self._core.fail(error))
+
+    async def _converse(self, pauses: Pauses) -> None:
+        """One connection, from its beginning to its end."""
+        try:
+            reader, writer, end = await self._opened()
+        except OSError as error:
+            if not self._was_greeted:
+                self._fail(error)  # at first it is a fault, and later a server that is started anew
+            return
+        self._writer = writer
+        self._do(self._core.connected)
+        try:
+            await self._read(reader, pauses)
+        except OSError:
+            pass
+        finally:
+            self._writer = None
+            self._do(self._core.cut)
+            await end()
+        if not (self._was_greeted or self._waits_for_place):
+            self._fail(ConnectionError("the server ended before it greeted"))
+
+    async def _read(self, reader: asyncio.StreamReader, pauses: Pauses) -> None:
+        while True:
+            data = await reader.read(PIECE)
+            if not data:
+                return
+            self._do(lambda: self._received(data, pauses))
+
+    def _received(self, data: bytes, pauses: Pauses) -> None:
+        self._core.received(data)
+        if self._core.greeted:
+            self._was_greeted = True
+            pauses.begin_anew()
+
+
+async def _in_time(answer: Awaitable[Any], seconds: Optional[float], what: str) -> Any:
+    try:
+        return await asyncio.wait_for(answer, seconds)
+    except asyncio.TimeoutError:
+        raise TimeoutError(f"{what} in {seconds} seconds") from None
+
+
+class Following(Follower):
+    """The changes of a document, as an iterator that waits for the next one. It ends with the client; `close` ends it before."""
+
+    def __init__(self, client: Client, doc: str, rev: int):
+        super().__init__(rev)
+        self._client, self._doc = client, doc
+        self._queue: asyncio.Queue[Union[Change, Exception]] = asyncio.Queue()
+        client._do(lambda: client._core.follow(doc, self))
+
+    async def next(self, timeout: Optional[float] = None) -> Change:
+        """The next change. Raises TimeoutError where none comes in so many seconds."""
+        told = await _in_time(self._queue.get(), timeout, "no change")
+        if isinstance(told, Exception):
+            self._queue.put_nowait(told)  # it stays the answer
+            raise told
+        return told
+
+    def close(self) -> None:
+        self._client._do(lambda: self._client._core.unfollow(self._doc, self))
+        self.end(Closed("it is followed no longer"))
+
+    def change(self, change: Change) -> None:
+        self._queue.put_nowait(change)
+
+    def end(self, error: Exception) -> None:
+        self._queue.put_nowait(error)
+
+    def __aiter__(self) -> Following:
+        return self
+
+    async def __anext__(self) -> Change:
+        try:
+            return await self.next()
+        except Closed:
+            raise StopAsyncIteration from None
+
+
+class Document(Draft):
+    """A document that one types into, and that others change meanwhile. `Client.open` makes one."""
+
+    def __init__(self, client: Client, doc: str, contents: Contents):
+        self._client = client
+        client._do(lambda: Draft.__init__(self, client._core, doc, contents))
+
+    def apply(self, ops: Delta) -> None:
+        self._client._do(lambda: Draft.apply(self, ops))
+
+    async def flush(self, timeout: Optional[float] = None) -> None:
+        """Waits until all that was typed is taken. Raises what the server refused it with."""
+        timeout = self._client.timeout if timeout is None else timeout
+        await _in_time(self._client._until(lambda: self.is_settled), timeout, "not all was taken")
+        self.raise_fault()
+
+    def close(self) -> None:
+        """Follows the document no longer. What was typed and isn't sent is dropped, so `flush` first."""
+        self._client._do(lambda: Draft.close(self))

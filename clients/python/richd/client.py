@@ -1,0 +1,352 @@
+"""A client for programs with threads. Its calls wait for the answer, and any number of threads may call at once."""
+
+from __future__ import annotations
+
+import queue
+import threading
+from concurrent.futures import Future
+from concurrent.futures import TimeoutError as FutureTimeout
+from typing import Any, Callable, Dict, Optional, Sequence, Union
+
+from .core import Core, Done, Follower, Pauses, Trace, new_source
+from .delta import Delta
+from .draft import Draft
+from .link import Link, PipeLink, TcpLink
+from .messages import Change, Closed, Contents, Refused, Since, Taken, Unexpected
+
+LAST_WAIT = 5.0  # seconds that `close` gives the server to answer what was sent
+
+
+def connect(
+    host: Optional[str] = None,
+    port: Optional[int] = None,
+    *,
+    command: Optional[Sequence[str]] = None,
+    link: Optional[Callable[[], Link]] = None,
+    source: Optional[str] = None,
+    numbers: Optional[Dict[str, int]] = None,
+    timeout: Optional[float] = None,
+    trace: Optional[Trace] = None,
+) -> Client:
+    """A client of the server at a host's port, or of one that this command starts (`["richd", "serve", "notes"]`), or over what a
+    function opens. Leave it by `with`, or call `close`.
+
+    `source` is the name under which its changes are taken; no other client may have it. Without one it makes up one that is new. A
+    client that goes on under its name after its program's end gives the `numbers` that its next commands have, by document.
+    `timeout` is for how many seconds a call waits, this one too; without it, as long as it takes. `trace(way, line)` is told each line,
+    with way `>` for one that is sent and `<` for one that comes.
+    """
+    openers = [
+        (lambda: TcpLink(host, port)) if host is not None and port is not None else None,
+        (lambda: PipeLink(command)) if command is not None else None,
+        link,
+    ]
+    given = [opener for opener in openers if opener is not None]
+    if len(given) != 1:
+        raise TypeError("connect takes a host and a port, or a command, or a link")
+    return Client(given[0], source or new_source(), numbers or {}, timeout, trace)
+
+
+class Client:
+    """A session with a server, which begins anew on a new connection where one is cut. `connect` makes one.
+
+    Each call raises `Refused` where the server refuses, TimeoutError where it takes longer than the client's timeout, `Closed` once
+    the client is closed. After a TimeoutError a command is still on its way, and is sent again where it has to be.
+    """
+
+    def __init__(
+        self,
+        open_link: Callable[[], Link],
+        source: str,
+        numbers: Dict[str, int],
+        timeout: Optional[float],
+        trace: Optional[Trace],
+    ):
+        self.timeout = timeout
+        self._open_link = open_link
+        self._changed = threading.Condition(threading.RLock())  # its lock is for all that follows
+        self._core = Core(source, numbers, self._later, trace)
+        self._link: Optional[Link] = None
+        self._was_greeted = False  # on any connection
+        self._is_closing = False
+        self.ahead = Ahead(self)
+        self._thread = threading.Thread(target=self._live, name="richd", daemon=True)
+        self._thread.start()
+        with self._changed:
+            is_there = self._changed.wait_for(lambda: self._core.greeted or self._core.failure, timeout)
+            failure = self._core.failure
+        if failure is not None:
+            raise failure
+        if not is_there:
+            self.close()
+            raise TimeoutError("the server didn't greet in time")
+
+    @property
+    def source(self) -> str:
+        """The name under which the changes of this client are taken."""
+        return self._core.source
+
+    def create(self, doc: str, ops: Delta) -> Taken:
+        """Makes a document of these inserts, at revision 1."""
+        return self._wait(self.ahead.create(doc, ops))
+
+    def edit(self, doc: str, ops: Delta, base: int) -> Taken:
+        """Changes a document by what was made on its revision `base`. The server adapts it to what was taken since."""
+        return self._wait(self.ahead.edit(doc, ops, base))
+
+    def undo(self, doc: str) -> Taken:
+        """Takes back this source's last change of a document, past what others did since."""
+        return self._wait(self.ahead.undo(doc))
+
+    def fetch(self, doc: str, rev: Optional[int] = None) -> Contents:
+        """A document at a revision, or at the newest."""
+        return self._wait(self.ahead.fetch(doc, rev))
+
+    def since(self, doc: str, rev: int) -> Since:
+        """What changed a document after a revision."""
+        return self._wait(self.ahead.since(doc, rev))
+
+    def follow(self, doc: str, rev: int) -> Following:
+        """The changes of a document after a revision, as they come: `for change in client.follow(doc, rev)`. Where a revision isn't
+        held any more it raises `Refused` with code 13: fetch the document then, and follow it from there."""
+        return Following(self, doc, rev)
+
+    def open(self, doc: str) -> Document:
+        """A document to type into."""
+        return Document(self, doc, self.fetch(doc))
+
+    def numbers(self) -> Dict[str, int]:
+        """For each document that this client changed the number of its next command, for `connect` after the program's end."""
+        with self._changed:
+            return self._core.numbers()
+
+    def close(self) -> None:
+        """Ends the session. What was sent is still answered; what wasn't raises `Closed`."""
+        with self._changed:
+            self._is_closing = True
+            self._changed.notify_all()
+        if threading.current_thread() is self._thread:
+            return
+        self._thread.join(LAST_WAIT)
+        with self._changed:
+            link = self._link
+        if link is not None:
+            link.close()
+        self._thread.join()
+
+    def __enter__(self) -> Client:
+        return self
+
+    def __exit__(self, *cause: object) -> None:
+        self.close()
+
+    def _do(self, action: Callable[[], Any]) -> Any:
+        """Does something with the core, and sends what it has to send then."""
+        with self._changed:
+            result = action()
+            self._changed.notify_all()
+            return result
+
+    def _wait(self, future: Future) -> Any:
+        try:
+            return future.result(self.timeout)
+        except FutureTimeout:
+            raise TimeoutError(f"no answer in {self.timeout} seconds") from None
+
+    def _later(self, seconds: float, action: Callable[[], None]) -> None:
+        timer = threading.Timer(seconds, self._do, [action])
+        timer.daemon = True
+        timer.start()
+
+    # The client's own threads: one reads, and one for each connection writes.
+
+    def _live(self) -> None:
+        pauses = Pauses()
+        while True:
+            try:
+                self._converse(pauses)
+            except (Refused, Unexpected) as error:
+                self._fail(error)
+            with self._changed:
+                if self._is_closing:
+                    self._fail(Closed("the client was closed"))
+                if self._core.failure is not None:
+                    return
+                self._changed.wait_for(lambda: self._is_closing, pauses.next())
+
+    def _fail(self, error: Exception) -> None:
+        self._do(lambda: self._core.fail(error))
+
+    def _converse(self, pauses: Pauses) -> None:
+        """One connection, from its beginning to its end."""
+        try:
+            link = self._open_link()
+        except OSError as error:
+            if not self._was_greeted:
+                self._fail(error)  # at first it is a fault, and later a server that is started anew
+            return
+        with self._changed:
+            self._link = link
+            self._core.connected()
+        writer = threading.Thread(target=self._write, args=[link], name="richd writer", daemon=True)
+        writer.start()
+        try:
+            self._read(link, pauses)
+        except OSError:
+            pass
+        finally:
+            with self._changed:
+                self._link = None
+                self._core.cut()
+                self._changed.notify_all()
+            link.close()
+            writer.join()
+        if not (self._was_greeted or link.waits_for_place):
+            self._fail(ConnectionError("the server ended before it greeted"))
+
+    def _read(self, link: Link, pauses: Pauses) -> None:
+        while True:
+            data = link.receive()
+            if not data:
+                return
+            self._do(lambda: self._core.received(data))
+            if self._core.greeted:
+                self._was_greeted = True
+                pauses.begin_anew()
+
+    def _write(self, link: Link) -> None:
+        while True:
+            with self._changed:
+                self._changed.wait_for(lambda: self._link is not link or self._core.has_to_send or self._is_closing)
+                if self._link is not link:
+                    return
+                data = self._core.to_send()
+            try:
+                if not data:
+                    link.finish()
+                    return
+                link.send(data)
+            except OSError:
+                link.close()  # who reads finds it closed
+                return
+
+
+class Ahead:
+    """The calls of a client that don't wait. Each gives a future, so that the next can be sent before the answer comes."""
+
+    def __init__(self, client: Client):
+        self._client = client
+
+    def create(self, doc: str, ops: Delta) -> Future[Taken]:
+        return self._begin(lambda core, done: core.create(doc, ops, done))
+
+    def edit(self, doc: str, ops: Delta, base: int) -> Future[Taken]:
+        return self._begin(lambda core, done: core.edit(doc, ops, base, done))
+
+    def undo(self, doc: str) -> Future[Taken]:
+        return self._begin(lambda core, done: core.undo(doc, done))
+
+    def fetch(self, doc: str, rev: Optional[int] = None) -> Future[Contents]:
+        return self._begin(lambda core, done: core.fetch(doc, rev, done))
+
+    def since(self, doc: str, rev: int) -> Future[Since]:
+        return self._begin(lambda core, done: core.since(doc, rev, done))
+
+    def _begin(self, ask: Callable[[Core, Done], None]) -> Future[Any]:
+        future: Future[Any] = Future()
+
+        def done(value: Any, error: Optional[Exception]) -> None:
+            if not future.set_running_or_notify_cancel():
+                return  # nobody waits any more
+            if error is not None:
+                future.set_exception(error)
+            else:
+                future.set_result(value)
+
+        self._client._do(lambda: ask(self._client._core, done))
+        return future
+
+
+class _Queued(Follower):
+    """Keeps what it is told until somebody asks for it."""
+
+    def __init__(self, rev: int):
+        super().__init__(rev)
+        self.queue: queue.Queue[Union[Change, Exception]] = queue.Queue()
+
+    def change(self, change: Change) -> None:
+        self.queue.put(change)
+
+    def end(self, error: Exception) -> None:
+        self.queue.put(error)
+
+
+class Following:
+    """The changes of a document, as an iterator that waits for the next one. It ends with the client; `close` ends it before."""
+
+    def __init__(self, client: Client, doc: str, rev: int):
+        self._client, self._doc = client, doc
+        self._follower = _Queued(rev)
+        client._do(lambda: client._core.follow(doc, self._follower))
+
+    def next(self, timeout: Optional[float] = None) -> Change:
+        """The next change. Raises TimeoutError where none comes in so many seconds."""
+        try:
+            told = self._follower.queue.get(timeout=timeout)
+        except queue.Empty:
+            raise TimeoutError(f"no change in {timeout} seconds") from None
+        if isinstance(told, Exception):
+            self._follower.queue.put(told)  # it stays the answer
+            raise told
+        return told
+
+    def close(self) -> None:
+        self._client._do(lambda: self._client._core.unfollow(self._doc, self._follower))
+        self._follower.end(Closed("it is followed no longer"))
+
+    def __iter__(self) -> Following:
+        return self
+
+    def __next__(self) -> Change:
+        try:
+            return self.next()
+        except Closed:
+            raise StopIteration from None
+
+    def __enter__(self) -> Following:
+        return self
+
+    def __exit__(self, *cause: object) -> None:
+        self.close()
+
+
+class Document(Draft):
+    """A document that one types into, and that others change meanwhile. `Client.open` makes one.
+
+    The functions that are given to `on_change` and `on_reset` are called in a thread of the client, and may not wait for its calls.
+    """
+
+    def __init__(self, client: Client, doc: str, contents: Contents):
+        self._client = client
+        client._do(lambda: Draft.__init__(self, client._core, doc, contents))
+
+    def apply(self, ops: Delta) -> None:
+        self._client._do(lambda: Draft.apply(self, ops))
+
+    def flush(self, timeout: Optional[float] = None) -> None:
+        """Waits until all that was typed is taken. Raises what the server refused it with."""
+        timeout = self._client.timeout if timeout is None else timeout
+        with self._client._changed:
+            if not self._client._changed.wait_for(lambda: self.is_settled, timeout):
+                raise TimeoutError(f"not all was taken in {timeout} seconds")
+            self.raise_fault()
+
+    def close(self) -> None:
+        """Follows the document no longer. What was typed and isn't sent is dropped, so `flush` first."""
+        self._client._do(lambda: Draft.close(self))
+
+    def __enter__(self) -> Document:
+        return self
+
+    def __exit__(self, *cause: object) -> None:
+        self.close()

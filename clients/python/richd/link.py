@@ -1,0 +1,92 @@
+"""Streams of bytes to a server: a connection over TCP, or the pipes of a `richd serve` of one's own."""
+
+from __future__ import annotations
+
+import os
+import socket
+import struct
+import subprocess
+from typing import Optional, Sequence
+
+PIECE = 65_536  # bytes that are taken at a time
+PATIENCE = 5.0  # seconds for a program to end, once its input has
+
+
+class Link:
+    """A stream each way. Each method but `close` raises OSError where the stream is broken."""
+
+    waits_for_place = False  # whether a server that has no place ends the stream at once, so that one tries again
+
+    def send(self, data: bytes) -> None:
+        """Sends all of these bytes."""
+        raise NotImplementedError
+
+    def receive(self) -> bytes:
+        """The bytes that came, at least one; none once the server has ended the stream."""
+        raise NotImplementedError
+
+    def finish(self) -> None:
+        """Ends what is sent. The server still answers what it has in whole lines, and then ends what it sends."""
+        raise NotImplementedError
+
+    def close(self) -> None:
+        """Ends both streams at once, also under a `send` or `receive` of another thread."""
+        raise NotImplementedError
+
+
+class TcpLink(Link):
+    """A connection to a `richd serve --listen`."""
+
+    waits_for_place = True
+
+    def __init__(self, host: str, port: int, timeout: Optional[float] = None):
+        self.socket = socket.create_connection((host, port), timeout)
+        self.socket.setsockopt(socket.IPPROTO_TCP, socket.TCP_NODELAY, 1)
+
+    def send(self, data: bytes) -> None:
+        self.socket.sendall(data)
+
+    def receive(self) -> bytes:
+        return self.socket.recv(PIECE)
+
+    def finish(self) -> None:
+        self.socket.shutdown(socket.SHUT_WR)
+
+    def close(self) -> None:
+        try:
+            self.socket.shutdown(socket.SHUT_RDWR)  # wakes who waits in `receive`
+        except OSError:
+            pass  # it is closed at the other end
+        self.socket.close()
+
+    def reset(self) -> None:
+        """Ends the connection as a machine does that fails: what the server reads or writes next fails."""
+        self.socket.setsockopt(socket.SOL_SOCKET, socket.SO_LINGER, struct.pack("ii", 1, 0))
+        self.socket.close()
+
+
+class PipeLink(Link):
+    """The pipes of a `richd serve STORE`, which ends when its input does."""
+
+    def __init__(self, command: Sequence[str]):
+        self.process = subprocess.Popen(command, stdin=subprocess.PIPE, stdout=subprocess.PIPE, bufsize=0)
+
+    def send(self, data: bytes) -> None:
+        rest = memoryview(data)
+        while rest:
+            rest = rest[os.write(self.process.stdin.fileno(), rest) :]
+
+    def receive(self) -> bytes:
+        return os.read(self.process.stdout.fileno(), PIECE)
+
+    def finish(self) -> None:
+        self.process.stdin.close()
+
+    def close(self) -> None:
+        self.process.stdin.close()
+        try:
+            self.process.wait(PATIENCE)
+        except subprocess.TimeoutExpired:
+            self.process.kill()
+            self.process.wait()
+        self.process.stdout.close()

@@ -1,0 +1,107 @@
+"""Messages and replies as docs/PROTOCOL.md has them: what is sent as lines, what comes as values."""
+
+from __future__ import annotations
+
+import json
+from typing import Any, Dict, List, NamedTuple, Optional
+
+from .delta import Delta
+
+Message = Dict[str, Any]
+
+TOO_OLD = 13
+STORE_FAILED = 21
+NO_MEMORY = 22
+
+
+class Refused(Exception):
+    """The server refused a request: `code` is its number, as 13, and `name` its name, as TooOld."""
+
+    def __init__(self, code: int, name: str):
+        super().__init__(f"{code} {name}")
+        self.code, self.name = code, name
+
+
+class Closed(ConnectionError):
+    """The client was closed, or gave up, before the reply came. A command may have been taken or not."""
+
+
+class Unexpected(Exception):
+    """The server sent what the protocol doesn't have, or the source's name is used by another client too."""
+
+
+class Taken(NamedTuple):
+    """A create, an edit or an undo was taken, made revision `rev`, and is on the disk. `again` says that it had been taken before it
+    was sent the last time, as after a cut that took the reply along."""
+
+    rev: int
+    again: bool = False
+
+
+class Contents(NamedTuple):
+    """A document at a revision."""
+
+    rev: int
+    ops: Delta
+
+
+class Since(NamedTuple):
+    """The changes of a document after a revision, in order. The last of them made revision `rev`, which is the newest."""
+
+    rev: int
+    deltas: List[Delta]
+
+
+class Change(NamedTuple):
+    """What made revision `rev` of the one before."""
+
+    rev: int
+    ops: Delta
+
+
+def hello(source: str) -> Message:
+    return {"do": "hello", "source": source}
+
+
+def create(doc: str, n: int, ops: Delta) -> Message:
+    return {"do": "create", "doc": doc, "n": n, "ops": ops}
+
+
+def edit(doc: str, n: int, base: int, ops: Delta) -> Message:
+    return {"do": "edit", "doc": doc, "n": n, "base": base, "ops": ops}
+
+
+def undo(doc: str, n: int) -> Message:
+    return {"do": "undo", "doc": doc, "n": n}
+
+
+def fetch(doc: str, rev: Optional[int] = None) -> Message:
+    return {"do": "fetch", "doc": doc} if rev is None else {"do": "fetch", "doc": doc, "rev": rev}
+
+
+def since(doc: str, rev: int) -> Message:
+    return {"do": "since", "doc": doc, "rev": rev}
+
+
+def subscribe(doc: str, rev: int) -> Message:
+    return {"do": "subscribe", "doc": doc, "rev": rev}
+
+
+def unsubscribe(doc: str) -> Message:
+    return {"do": "unsubscribe", "doc": doc}
+
+
+def spelled(message: Message) -> bytes:
+    """A message as a line. Raises ValueError where a text holds half of a surrogate pair, which no message can."""
+    return json.dumps(message, ensure_ascii=False, separators=(",", ":")).encode() + b"\n"
+
+
+def read(line: bytes) -> Message:
+    """A line of the server. Raises Unexpected where it is none."""
+    try:
+        message = json.loads(line)
+    except ValueError:
+        message = None
+    if not isinstance(message, dict):
+        raise Unexpected(f"no line of the protocol: {line[:100]!r}")
+    return message

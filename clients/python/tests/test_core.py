@@ -1,0 +1,430 @@
+"""The core and a document that is typed into, by lines that are written here: no server, no time."""
+
+import json
+import unittest
+
+from richd.core import Core, Follower
+from richd.draft import Draft
+from richd.messages import Change, Closed, Contents, Refused, Since, Taken, Unexpected
+
+
+class Answer:
+    """Keeps what a request was answered."""
+
+    def __init__(self):
+        self.given = []
+
+    def __call__(self, value, error):
+        self.given.append(value if error is None else error)
+
+    @property
+    def only(self):
+        (answer,) = self.given
+        return answer
+
+
+class Told(Follower):
+    """Keeps what it is told of a document."""
+
+    def __init__(self, rev):
+        super().__init__(rev)
+        self.told = []
+
+    def change(self, change):
+        self.told.append(change)
+
+    def end(self, error):
+        self.told.append(error)
+
+
+class CoreTest(unittest.TestCase):
+    def setUp(self):
+        self.numbers = {}
+        self.begin()
+
+    def begin(self, **numbers):
+        self.later = []
+        self.core = Core("ann", numbers, lambda seconds, action: self.later.append((seconds, action)))
+        self.greet()
+
+    def greet(self):
+        self.core.connected()
+        self.sends({"do": "hello", "source": "ann"})
+        self.comes({"ok": "hello"})
+
+    def sends(self, *messages):
+        """The core has just these messages to send."""
+        self.assertEqual([json.loads(line) for line in self.core.to_send().splitlines()], list(messages))
+
+    def comes(self, *messages):
+        self.core.received(b"".join(json.dumps(message).encode() + b"\n" for message in messages))
+
+    def refusal(self, code, name):
+        return {"code": code, "error": name}
+
+    def edit(self, n, base=1, doc="d", text="x"):
+        return {"do": "edit", "doc": doc, "n": n, "base": base, "ops": [{"insert": text}]}
+
+    def taken(self, n, rev, doc="d", how="taken"):
+        return {"doc": doc, "n": n, "ok": how, "rev": rev}
+
+    def news(self, rev, *ops, doc="d"):
+        return {"doc": doc, "news": rev, "ops": list(ops)}
+
+
+class Requests(CoreTest):
+    def test_replies_go_to_their_requests_in_order_with_news_between(self):
+        one, two, follower = Answer(), Answer(), Told(1)
+        self.core.follow("d", follower)
+        self.sends({"do": "subscribe", "doc": "d", "rev": 1})
+        self.core.fetch("d", None, one)
+        self.core.since("e", 3, two)
+        self.sends({"do": "fetch", "doc": "d"}, {"do": "since", "doc": "e", "rev": 3})
+        self.comes(
+            {"doc": "d", "ok": "subscribed", "rev": 1},
+            self.news(2, {"insert": "a"}),
+            {"doc": "d", "ok": "doc", "ops": [{"insert": "a"}], "rev": 2},
+            self.news(3, {"delete": 1}),
+            {"deltas": [[{"insert": "b"}]], "doc": "e", "ok": "since", "rev": 4},
+        )
+        self.assertEqual(one.only, Contents(2, [{"insert": "a"}]))
+        self.assertEqual(two.only, Since(4, [[{"insert": "b"}]]))
+        self.assertEqual(follower.told, [Change(2, [{"insert": "a"}]), Change(3, [{"delete": 1}])])
+
+    def test_it_doesnt_matter_in_which_pieces_a_line_comes(self):
+        answer = Answer()
+        self.core.fetch("d", 1, answer)
+        self.sends({"do": "fetch", "doc": "d", "rev": 1})
+        for byte in b'{"doc":"d","ok":"doc","ops":[{"insert":"\xc3\xa9"}],"rev":1}\n':
+            self.core.received(bytes([byte]))
+        self.assertEqual(answer.only, Contents(1, [{"insert": "é"}]))
+
+    def test_a_refusal_has_its_code_and_its_name(self):
+        answer = Answer()
+        self.core.fetch("d", None, answer)
+        self.comes(self.refusal(6, "NoDocument"))
+        self.assertEqual((answer.only.code, answer.only.name), (6, "NoDocument"))
+
+    def test_what_comes_before_a_connection_is_sent_on_it(self):
+        core = Core("ann", {}, lambda seconds, action: None)
+        core.fetch("d", None, Answer())
+        core.connected()
+        self.assertEqual(core.to_send(), b'{"do":"hello","source":"ann"}\n')
+        core.received(b'{"ok":"hello"}\n')
+        self.assertEqual(core.to_send(), b'{"do":"fetch","doc":"d"}\n')
+
+    def test_half_a_character_is_refused_before_it_is_sent(self):
+        with self.assertRaises(ValueError):
+            self.core.create("d", [{"insert": "\ud83d"}], Answer())
+        self.sends()
+
+    def test_what_is_no_reply_is_an_error(self):
+        for line in (b"[]\n", b"{\n", b'{"ok":"hello"}\n'):
+            with self.assertRaises(Unexpected):
+                self.core.received(line)
+
+    def test_a_refused_hello_is_told(self):
+        core = Core("a b", {}, lambda seconds, action: None)
+        core.connected()
+        with self.assertRaises(Refused):
+            core.received(b'{"code":8,"error":"BadName"}\n')
+
+    def test_after_the_end_everybody_is_told(self):
+        one, two, three, follower = Answer(), Answer(), Answer(), Told(1)
+        self.core.edit("d", [], 1, one)
+        self.core.edit("d", [], 1, two)
+        self.core.follow("d", follower)
+        self.core.fail(Closed("closed"))
+        self.core.undo("d", three)
+        for answer in (one, two, three):
+            self.assertIsInstance(answer.only, Closed)
+        self.assertIsInstance(follower.told[0], Closed)
+
+
+class Numbers(CoreTest):
+    def test_commands_of_a_document_go_one_by_one_and_those_of_others_beside(self):
+        answers = [Answer() for _ in range(4)]
+        self.core.create("d", [{"insert": "x"}], answers[0])
+        self.core.edit("d", [{"insert": "x"}], 1, answers[1])
+        self.core.create("e", [], answers[2])
+        self.core.undo("d", answers[3])
+        create = {"do": "create", "doc": "d", "n": 1, "ops": [{"insert": "x"}]}
+        self.sends(create, {"do": "create", "doc": "e", "n": 1, "ops": []})
+        self.comes(self.taken(1, 1), self.taken(1, 1, doc="e"))
+        self.sends(self.edit(2))
+        self.comes(self.taken(2, 5))
+        self.sends({"do": "undo", "doc": "d", "n": 3})
+        self.comes(self.taken(3, 6))
+        self.assertEqual([answer.only for answer in answers], [Taken(1), Taken(5), Taken(1), Taken(6)])
+        self.assertEqual(self.core.numbers(), {"d": 4, "e": 2})
+
+    def test_a_refused_command_leaves_its_number_to_the_next(self):
+        one, two = Answer(), Answer()
+        self.core.edit("d", [{"insert": "x"}], 9, one)
+        self.core.edit("d", [{"insert": "x"}], 1, two)
+        self.sends(self.edit(1, base=9))
+        self.comes(self.refusal(12, "Future"))
+        self.assertEqual(one.only.name, "Future")
+        self.sends(self.edit(1))
+
+    def test_what_is_unanswered_at_a_cut_is_sent_again_with_its_number(self):
+        one, two, read = Answer(), Answer(), Answer()
+        self.core.edit("d", [{"insert": "x"}], 1, one)
+        self.core.fetch("d", None, read)
+        self.core.edit("d", [{"insert": "x"}], 1, two)
+        self.sends(self.edit(1), {"do": "fetch", "doc": "d"})
+        self.core.cut()
+        self.greet()
+        self.sends(self.edit(1), {"do": "fetch", "doc": "d"})
+        self.comes(self.taken(1, 7, how="again"))
+        self.assertEqual(one.only, Taken(7, again=True))
+        self.sends(self.edit(2))
+
+    def test_part_of_a_line_that_came_before_a_cut_is_dropped(self):
+        answer = Answer()
+        self.core.edit("d", [{"insert": "x"}], 1, answer)
+        self.core.received(b'{"doc":"d","n":1,"ok":"taken","re')
+        self.core.cut()
+        self.core.to_send()
+        self.greet()
+        self.comes(self.taken(1, 7, how="again"))
+        self.assertEqual(answer.only, Taken(7, again=True))
+
+    def test_a_source_that_somebody_has_used_is_found_out(self):
+        answer = Answer()
+        self.core.edit("d", [{"insert": "x"}], 1, answer)
+        self.comes(self.taken(1, 1, how="again"))
+        self.assertIsInstance(answer.only, Unexpected)
+
+    def test_a_client_with_numbers_may_send_its_last_command_again(self):
+        self.begin(d=5)
+        answer = Answer()
+        self.core.edit("d", [{"insert": "x"}], 1, answer)
+        self.sends(self.edit(5))
+        self.comes(self.taken(5, 8, how="again"))
+        self.assertEqual(answer.only, Taken(8, again=True))
+
+    def test_without_memory_it_is_sent_again_and_the_pause_doubles(self):
+        answer = Answer()
+        self.core.edit("d", [{"insert": "x"}], 1, answer)
+        pauses = []
+        for _ in range(8):
+            self.sends(self.edit(1))
+            self.comes(self.refusal(22, "NoMemory"))
+            self.sends()
+            ((seconds, resume),) = self.later
+            pauses.append(seconds)
+            self.later.clear()
+            resume()
+        self.assertEqual(pauses, [0.1, 0.2, 0.4, 0.8, 1.6, 3.2, 5.0, 5.0])
+        self.comes(self.taken(1, 2))
+        self.assertEqual(answer.only, Taken(2))
+
+    def test_where_the_store_failed_the_command_is_kept(self):
+        one, two, three = Answer(), Answer(), Answer()
+        self.core.edit("d", [{"insert": "x"}], 1, one)
+        self.core.edit("d", [{"insert": "y"}], 1, two)
+        self.sends(self.edit(1))
+        self.comes(self.refusal(21, "StoreFailed"))
+        self.assertEqual([one.only.code, two.only.code], [21, 21])  # the second was never sent
+        self.sends()
+        # The server is started anew. It had taken the edit.
+        self.core.cut()
+        self.greet()
+        self.sends(self.edit(1))
+        self.core.edit("d", [{"insert": "z"}], 1, three)
+        self.comes(self.taken(1, 2, how="again"))
+        self.sends(self.edit(2, text="z"))
+        self.comes(self.taken(2, 3))
+        self.assertEqual(three.only, Taken(3))
+        self.assertEqual(len(one.given), 1)
+
+
+class Followers(CoreTest):
+    def test_after_a_cut_it_follows_on_behind_what_it_was_told(self):
+        follower = Told(1)
+        self.core.follow("d", follower)
+        self.core.to_send()
+        self.comes({"doc": "d", "ok": "subscribed", "rev": 1}, self.news(2), self.news(3))
+        self.core.cut()
+        self.greet()
+        self.sends({"do": "subscribe", "doc": "d", "rev": 3})
+        self.comes({"doc": "d", "ok": "subscribed", "rev": 3}, self.news(4))
+        self.assertEqual([change.rev for change in follower.told], [2, 3, 4])
+
+    def test_two_followers_share_a_subscription_and_each_is_told_once(self):
+        ahead, behind = Told(5), Told(2)
+        self.core.follow("d", ahead)
+        self.comes({"doc": "d", "ok": "subscribed", "rev": 5}, self.news(6))
+        self.core.follow("d", behind)
+        self.sends({"do": "subscribe", "doc": "d", "rev": 5}, {"do": "subscribe", "doc": "d", "rev": 2})
+        self.comes(self.news(7), {"doc": "d", "ok": "subscribed", "rev": 2}, *[self.news(rev) for rev in range(3, 9)])
+        self.assertEqual([change.rev for change in ahead.told], [6, 7, 8])
+        self.assertEqual([change.rev for change in behind.told], [3, 4, 5, 6, 7, 8])
+        self.core.unfollow("d", ahead)
+        self.sends()
+        self.core.unfollow("d", behind)
+        self.sends({"do": "unsubscribe", "doc": "d"})
+
+    def test_one_that_is_too_old_ends_and_the_other_follows_on(self):
+        ahead, behind = Told(5), Told(2)
+        self.core.follow("d", ahead)
+        self.core.follow("d", behind)
+        self.core.to_send()
+        self.comes({"doc": "d", "ok": "subscribed", "rev": 5}, self.refusal(13, "TooOld"))
+        self.assertEqual(behind.told[0].code, 13)
+        self.sends({"do": "subscribe", "doc": "d", "rev": 5})
+        self.comes({"doc": "d", "ok": "subscribed", "rev": 5}, self.news(6))
+        self.assertEqual([change.rev for change in ahead.told], [6])
+
+    def test_it_ends_where_a_revision_is_no_longer_held(self):
+        follower = Told(1)
+        self.core.follow("d", follower)
+        self.comes({"doc": "d", "ok": "subscribed", "rev": 1}, {"doc": "d", "ended": 13})
+        self.assertEqual(follower.told[0].name, "TooOld")
+
+
+class Drafts(CoreTest):
+    """A document that is typed into."""
+
+    def setUp(self):
+        super().setUp()
+        self.draft = Draft(self.core, "d", Contents(1, [{"insert": "Hello world"}]))
+        self.changes, self.lost = [], []
+        self.draft.on_change(self.changes.append)
+        self.draft.on_reset(self.lost.append)
+        self.sends({"do": "subscribe", "doc": "d", "rev": 1})
+        self.comes({"doc": "d", "ok": "subscribed", "rev": 1})
+
+    def sends_edit(self, n, base, *ops):
+        self.sends({"do": "edit", "doc": "d", "n": n, "base": base, "ops": list(ops)})
+
+    def test_one_edit_is_on_its_way_and_the_rest_is_composed(self):
+        self.draft.apply([{"retain": 11}, {"insert": "!"}])
+        self.sends_edit(1, 1, {"retain": 11}, {"insert": "!"})
+        self.draft.apply([{"retain": 12}, {"insert": "a"}])
+        self.draft.apply([{"retain": 13}, {"insert": "b"}])
+        self.sends()
+        self.assertEqual(self.draft.text, "Hello world!ab")
+        self.comes(self.taken(1, 2))
+        self.sends_edit(2, 2, {"retain": 12}, {"insert": "ab"})
+        self.assertFalse(self.draft.is_settled)
+        self.comes(self.news(2, {"retain": 11}, {"insert": "!"}), self.taken(2, 3))
+        self.assertTrue(self.draft.is_settled)
+        self.assertEqual((self.draft.text, self.draft.revision, self.changes), ("Hello world!ab", 3, []))
+
+    def test_what_others_did_is_moved_past_both(self):
+        self.draft.apply([{"retain": 11}, {"insert": "!"}])
+        self.draft.apply([{"insert": "Oh. "}])
+        self.core.to_send()
+        # Somebody put "> " in front, at revision 2, before the edit made revision 3.
+        self.comes(self.taken(1, 3), self.news(2, {"insert": "> "}))
+        self.assertEqual(self.draft.text, "> Oh. Hello world!")
+        self.assertEqual(self.changes, [[{"insert": "> "}]])
+        self.sends_edit(2, 3, {"retain": 2}, {"insert": "Oh. "})
+        self.comes(self.news(3, {"retain": 13}, {"insert": "!"}), self.taken(2, 4), self.news(4, {"retain": 2}, {"insert": "Oh. "}))
+        self.assertEqual((self.draft.text, self.draft.revision), ("> Oh. Hello world!", 4))
+
+    def test_after_a_cut_the_edit_is_sent_as_it_was(self):
+        self.draft.apply([{"retain": 11}, {"insert": "!"}])
+        self.core.to_send()
+        self.draft.apply([{"insert": "a"}])
+        self.core.cut()
+        self.greet()
+        self.sends(
+            {"do": "edit", "doc": "d", "n": 1, "base": 1, "ops": [{"retain": 11}, {"insert": "!"}]},
+            {"do": "subscribe", "doc": "d", "rev": 1},
+        )
+        # It had been taken as revision 2, and somebody deleted the first word since.
+        self.comes(
+            self.taken(1, 2, how="again"),
+            {"doc": "d", "ok": "subscribed", "rev": 1},
+            self.news(2, {"retain": 11}, {"insert": "!"}),
+            self.news(3, {"delete": 6}),
+        )
+        self.sends_edit(2, 2, {"insert": "a"})
+        self.comes(self.taken(2, 4))
+        self.assertEqual(self.draft.text, "aworld!")
+        self.assertTrue(self.draft.is_settled)
+
+    def test_where_nothing_that_it_knows_is_held_it_is_fetched_anew(self):
+        self.draft.apply([{"retain": 11}, {"insert": "!"}])
+        self.core.to_send()
+        self.core.cut()
+        self.greet()
+        self.core.to_send()
+        # The server was started anew, and holds revision 1 no longer.
+        self.comes(self.refusal(13, "TooOld"), {"doc": "d", "ok": "subscribed", "rev": 1}, {"doc": "d", "ended": 13})
+        self.sends({"do": "unsubscribe", "doc": "d"}, {"do": "fetch", "doc": "d"})
+        self.comes({"doc": "d", "ok": "unsubscribed"}, {"doc": "d", "ok": "doc", "ops": [{"insert": "Bye"}], "rev": 9})
+        self.sends({"do": "subscribe", "doc": "d", "rev": 9})
+        self.assertEqual((self.draft.text, self.draft.revision), ("Bye", 9))
+        self.assertEqual(self.lost, [[{"retain": 11}, {"insert": "!"}]])
+        self.draft.apply([{"retain": 3}, {"insert": "!"}])
+        self.sends_edit(1, 9, {"retain": 3}, {"insert": "!"})
+
+    def test_an_edit_whose_base_is_no_longer_held_is_sent_on_a_newer_revision(self):
+        self.draft.apply([{"retain": 11}, {"insert": "!"}])
+        self.core.to_send()
+        self.comes(self.news(2, {"insert": "> "}))
+        self.core.cut()
+        self.greet()
+        self.sends(
+            {"do": "edit", "doc": "d", "n": 1, "base": 1, "ops": [{"retain": 11}, {"insert": "!"}]},
+            {"do": "subscribe", "doc": "d", "rev": 2},
+        )
+        # The server was started anew, and holds revision 1 no longer, but it holds revision 2.
+        self.comes(self.refusal(13, "TooOld"))
+        self.sends_edit(1, 2, {"retain": 13}, {"insert": "!"})
+        self.comes({"doc": "d", "ok": "subscribed", "rev": 2}, self.taken(1, 3))
+        self.assertEqual((self.draft.text, self.draft.revision, self.lost), ("> Hello world!", 3, []))
+
+    def test_a_refused_edit_is_told_and_the_document_fetched(self):
+        self.draft.apply([{"insert": "heavy"}])
+        self.core.to_send()
+        self.comes(self.refusal(16, "TooHeavy"))
+        self.sends({"do": "unsubscribe", "doc": "d"}, {"do": "fetch", "doc": "d"})
+        self.comes({"doc": "d", "ok": "unsubscribed"}, {"doc": "d", "ok": "doc", "ops": [{"insert": "Hello world"}], "rev": 1})
+        self.assertEqual(self.draft.text, "Hello world")
+        self.assertEqual(self.lost, [[{"insert": "heavy"}]])
+        with self.assertRaises(Refused):
+            self.draft.raise_fault()
+        self.draft.raise_fault()
+
+    def test_where_the_store_failed_it_waits_for_the_server(self):
+        self.draft.apply([{"insert": "a"}])
+        self.core.to_send()
+        self.comes(self.refusal(21, "StoreFailed"))
+        self.assertFalse(self.draft.is_settled)
+        self.core.cut()
+        self.greet()
+        self.sends(
+            {"do": "edit", "doc": "d", "n": 1, "base": 1, "ops": [{"insert": "a"}]}, {"do": "subscribe", "doc": "d", "rev": 1}
+        )
+        self.comes(self.taken(1, 2))
+        self.assertTrue(self.draft.is_settled)
+
+    def test_a_long_text_goes_in_parts(self):
+        self.draft.apply([{"retain": 5}, {"insert": "x" * 100_000}])
+        taken = 0
+        for n in range(1, 9):
+            lines = self.core.to_send().splitlines()
+            if not lines:
+                break
+            (line,) = lines
+            self.assertLess(len(line), 65_536)
+            self.comes(self.taken(n, n + 1))
+            taken = n
+        self.assertTrue(self.draft.is_settled)
+        self.assertEqual(taken, 3)
+
+    def test_what_reaches_past_the_end_changes_nothing(self):
+        for ops in ([{"retain": 12}, {"insert": "x"}], [{"delete": 12}], [{"insert": "\udc00"}]):
+            with self.assertRaises(ValueError):
+                self.draft.apply(ops)
+        self.assertEqual(self.draft.text, "Hello world")
+        self.sends()
+
+
+if __name__ == "__main__":
+    unittest.main()
