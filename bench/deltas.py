@@ -3,16 +3,19 @@
 
 usage: bench/deltas.py [ROUNDS]     (default: 20 calls of each)
 
-Run ./demo first, which builds crates/richd/out/richd. Each call is a process of its own, so the time of an empty
+Run ./demo first, which builds crates/richd/out/richd, or name another program in RICHD. Each call is a process of its own, so the time of an empty
 `richd delta compose` is printed first: what is above it is reading the words, the command, and printing.
 """
 import json
-import os
 import subprocess
 import sys
 import time
+from pathlib import Path
 
-richd = os.path.join(os.path.dirname(os.path.abspath(__file__)), "../crates/richd/out/richd")
+sys.path.insert(0, str(Path(__file__).resolve().parent.parent / "clients/python"))
+
+from richd.program import find
+
 rounds = int(sys.argv[1]) if len(sys.argv) > 1 else 20
 
 
@@ -23,7 +26,7 @@ def word(operations):
 def milliseconds(*words):
     start = time.monotonic()
     for _ in range(rounds):
-        subprocess.run([richd, "delta", *words], check=True, stdout=subprocess.DEVNULL)
+        subprocess.run([find(), "delta", *words], check=True, stdout=subprocess.DEVNULL)
     return 1000 * (time.monotonic() - start) / rounds
 
 

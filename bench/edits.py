@@ -8,18 +8,22 @@ kept, where the letters are typed (at the beginning, in the middle or at the end
 edit lies. The time of a run that takes the document alone is measured first, and taken off. The last line compares letters typed
 at the end of 30,000 letters of one byte with letters typed at the beginning.
 
-Run ./demo first, which builds crates/richd/out/richd. The store lies in a temporary folder (TMPDIR); the time depends on how
+Run ./demo first, which builds crates/richd/out/richd, or name another program in RICHD. The store lies in a temporary folder (TMPDIR); the time depends on how
 long that disk takes to sync. The processor's time is that of the program, whatever else runs on the machine.
 """
-import json
 import os
 import resource
 import subprocess
 import sys
 import tempfile
 import time
+from pathlib import Path
 
-richd = os.path.join(os.path.dirname(os.path.abspath(__file__)), "../crates/richd/out/richd")
+sys.path.insert(0, str(Path(__file__).resolve().parent.parent / "clients/python"))
+
+from richd import messages
+from richd.program import find, format_store
+
 count = int(sys.argv[1]) if len(sys.argv) > 1 else 5000
 line_bound = 60_000
 
@@ -39,16 +43,12 @@ rows = [
 ]
 
 
-def spelled(messages):
-    return "".join(json.dumps(message, ensure_ascii=False) + "\n" for message in messages)
-
-
 def create(length, letter):
     """The document, in as many messages as its length asks for."""
     first = min(length, line_bound)
-    yield {"do": "create", "doc": "d", "n": 1, "ops": [{"insert": letter * first}]}
+    yield messages.create("d", 1, [{"insert": letter * first}])
     for n in range(2, 2 + (length - first) // line_bound):
-        yield {"do": "edit", "doc": "d", "n": n, "base": n - 1, "ops": [{"insert": letter * line_bound}]}
+        yield messages.edit("d", n, n - 1, [{"insert": letter * line_bound}])
 
 
 def typed(length, letter, number, where, back):
@@ -56,18 +56,18 @@ def typed(length, letter, number, where, back):
     base = max(1, revision - back)
     at = {"beginning": 0, "middle": length // 2, "end": length + (base - 1)}[where]
     ops = ([{"retain": at}] if at else []) + [{"insert": letter}]
-    return {"do": "edit", "doc": "d", "n": number, "base": base, "ops": ops}
+    return messages.edit("d", number, base, ops)
 
 
-def serve(store, messages):
+def serve(store, commands):
     """The time by the clock and the processor's, and how many were taken."""
-    text = spelled([{"do": "hello", "source": "bench"}] + messages)
+    lines = b"".join(map(messages.spelled, [messages.hello("bench"), *commands]))
     before = resource.getrusage(resource.RUSAGE_CHILDREN)
     start = time.monotonic()
-    served = subprocess.run([richd, "serve", store], input=text, capture_output=True, text=True)
+    served = subprocess.run([find(), "serve", store], input=lines, capture_output=True)
     took = time.monotonic() - start
     after = resource.getrusage(resource.RUSAGE_CHILDREN)
-    return took, after.ru_utime - before.ru_utime + after.ru_stime - before.ru_stime, served.stdout.count('"ok":"taken"')
+    return took, after.ru_utime - before.ru_utime + after.ru_stime - before.ru_stime, served.stdout.count(b'"ok":"taken"')
 
 
 with tempfile.TemporaryDirectory() as folder:
@@ -75,7 +75,7 @@ with tempfile.TemporaryDirectory() as folder:
     for place, (length, letter, keep, where, back) in enumerate(rows):
         store = os.path.join(folder, str(place))
         words = ["--docs", "1", "--cell", "16777216", "--slots", "2", "--slot", "16777216", "--keep", str(keep)]
-        subprocess.run([richd, "format", store] + words, check=True)
+        format_store(store, *words)
         alone, alone_cpu, _ = serve(store, list(create(length, letter)))
         took, took_cpu, taken = serve(store, [typed(length, letter, n, where, back) for n in range(2, 2 + count)])
         clock = (took - alone) / max(1, taken) * 1e6

@@ -3,21 +3,25 @@
 
 usage: bench/open.py [SLOTS] [BYTES] [EVERY]     (default: 64 slots of 1,048,576 bytes, and 65536)
 
-Run ./demo first, which builds crates/richd/out/richd. Single letters are typed at the end of 64 documents in turn until the
+Run ./demo first, which builds crates/richd/out/richd, or name another program in RICHD. Single letters are typed at the end of 64 documents in turn until the
 journal is nearly full. The store is served with `--every EVERY`: by default so that no milestone is put, and all that was typed
 has to be read again; with 256, which is what `serve` does by itself, a milestone of each document spares most of it. The store
 is opened once `dump` writes its first byte. It lies in a temporary folder (TMPDIR); with TMPDIR=/dev/shm its syncs cost next
 to nothing.
 """
-import json
 import os
 import subprocess
 import sys
 import tempfile
 import threading
 import time
+from pathlib import Path
 
-richd = os.path.join(os.path.dirname(os.path.abspath(__file__)), "../crates/richd/out/richd")
+sys.path.insert(0, str(Path(__file__).resolve().parent.parent / "clients/python"))
+
+from richd import messages
+from richd.program import find, format_store
+
 slots = int(sys.argv[1]) if len(sys.argv) > 1 else 64
 size = int(sys.argv[2]) if len(sys.argv) > 2 else 1_048_576
 every = sys.argv[3] if len(sys.argv) > 3 else "65536"
@@ -27,40 +31,40 @@ EDITS = (size - 10) // RECORD * slots // DOCUMENTS - 1  # of each document, so t
 
 
 def lines():
-    yield {"do": "hello", "source": "bench"}
+    yield messages.hello("bench")
     for i in range(DOCUMENTS):
-        yield {"do": "create", "doc": f"d{i}", "n": 1, "ops": []}
+        yield messages.create(f"d{i}", 1, [])
     for n in range(2, EDITS + 1):
         for i in range(DOCUMENTS):
             ops = [{"retain": n - 2}, {"insert": "x"}] if n > 2 else [{"insert": "x"}]
-            yield {"base": n - 1, "do": "edit", "doc": f"d{i}", "n": n, "ops": ops}
+            yield messages.edit(f"d{i}", n, n - 1, ops)
 
 
 with tempfile.TemporaryDirectory() as folder:
     store = os.path.join(folder, "store")
     shape = ["--slots", str(slots), "--slot", str(size), "--docs", str(DOCUMENTS), "--cell", "1048576"]
-    subprocess.run([richd, "format", store, *shape], check=True)
-    words = [richd, "serve", store, "--every", every]
-    serve = subprocess.Popen(words, stdin=subprocess.PIPE, stdout=subprocess.PIPE, stderr=subprocess.DEVNULL, text=True)
+    format_store(store, *shape)
+    words = [find(), "serve", store, "--every", every]
+    serve = subprocess.Popen(words, stdin=subprocess.PIPE, stdout=subprocess.PIPE, stderr=subprocess.DEVNULL)
     taken = 0
 
     def count():
         global taken
         for line in serve.stdout:
-            taken += '"ok":"taken"' in line
+            taken += b'"ok":"taken"' in line
 
     reader = threading.Thread(target=count)
     reader.start()
     start = time.monotonic()
     for line in lines():
-        serve.stdin.write(json.dumps(line) + "\n")
+        serve.stdin.write(messages.spelled(line))
     serve.stdin.close()
     serve.wait()
     reader.join()
     filled = time.monotonic() - start
     print(f"{taken} commands taken in {filled:.1f} s: {taken / filled:.0f} a second")
     start = time.monotonic()
-    dump = subprocess.Popen([richd, "dump", store], stdout=subprocess.PIPE)
+    dump = subprocess.Popen([find(), "dump", store], stdout=subprocess.PIPE)
     first = dump.stdout.read(1)
     took = time.monotonic() - start
     documents = (first + dump.stdout.read()).count(b"\n")

@@ -8,18 +8,22 @@ Each row is a new store, and each edit puts a letter in place of another one, al
 depends less on what else the machine does. Milestones lie 16, 256 (the default) and 65,536 revisions apart, where the last
 means none. In the last rows the journal is that of two small slots, which is freed again and again.
 
-Run ./demo first, which builds crates/richd/out/richd. The store lies in a temporary folder (TMPDIR); the time depends on how
+Run ./demo first, which builds crates/richd/out/richd, or name another program in RICHD. The store lies in a temporary folder (TMPDIR); the time depends on how
 long that disk takes to sync. With TMPDIR=/dev/shm its syncs cost next to nothing, and the milestones' share is the largest.
 """
-import json
 import os
 import resource
 import subprocess
 import sys
 import tempfile
 import time
+from pathlib import Path
 
-richd = os.path.join(os.path.dirname(os.path.abspath(__file__)), "../crates/richd/out/richd")
+sys.path.insert(0, str(Path(__file__).resolve().parent.parent / "clients/python"))
+
+from richd import messages
+from richd.program import find, format_store
+
 count = int(sys.argv[1]) if len(sys.argv) > 1 else 4096
 letters = int(sys.argv[2]) if len(sys.argv) > 2 else 8192
 rounds = int(sys.argv[3]) if len(sys.argv) > 3 else 3
@@ -33,13 +37,9 @@ rows = [
 spacings = [("65536", "none"), ("16", "16"), ("256", "256")]
 
 
-def spelled(messages):
-    return "".join(json.dumps(message) + "\n" for message in messages)
-
-
 def creations(documents):
     for k in range(documents):
-        yield {"do": "create", "doc": f"d{k}", "n": 1, "ops": [{"insert": "x" * letters}]}
+        yield messages.create(f"d{k}", 1, [{"insert": "x" * letters}])
 
 
 def edits(documents):
@@ -47,16 +47,16 @@ def edits(documents):
         number = 2 + k // documents
         at = (37 * k) % letters
         ops = ([{"retain": at}] if at else []) + [{"insert": "y"}, {"delete": 1}]
-        yield {"base": number - 1, "do": "edit", "doc": f"d{k % documents}", "n": number, "ops": ops}
+        yield messages.edit(f"d{k % documents}", number, number - 1, ops)
 
 
-def serve(store, messages, spacing):
-    text = spelled([{"do": "hello", "source": "bench"}] + list(messages))
+def serve(store, commands, spacing):
+    lines = b"".join(map(messages.spelled, [messages.hello("bench"), *commands]))
     before = processor_time()
     start = time.monotonic()
-    served = subprocess.run([richd, "serve", store, "--every", spacing], input=text, capture_output=True, text=True)
+    served = subprocess.run([find(), "serve", store, "--every", spacing], input=lines, capture_output=True)
     took = time.monotonic() - start
-    return took, processor_time() - before, served.stdout.count('"ok":"taken"')
+    return took, processor_time() - before, served.stdout.count(b'"ok":"taken"')
 
 
 def processor_time():
@@ -68,7 +68,7 @@ def measured(folder, documents, slot, spacing):
     store = os.path.join(folder, "store")
     cell = 12 * letters + 1_024
     words = ["--docs", str(documents), "--cell", str(cell), "--slots", "2", "--slot", str(slot)]
-    subprocess.run([richd, "format", store] + words, check=True)
+    format_store(store, *words)
     _, _, made = serve(store, creations(documents), spacing)
     took, used, taken = serve(store, edits(documents), spacing)
     os.remove(store)

@@ -4,34 +4,39 @@
     python3 examples/together.py HOST:PORT
 
 HOST:PORT is the address of a `richd serve STORE --listen HOST:PORT` over a store without a document "letter". Ann and bob have a
-session each, and follow the document. Then each writes something on what he saw last, before he has seen the other's; the server
-puts both in, and each is told what the other wrote. Each line that is sent is printed behind `> `, each that comes behind `< `.
+session each, and type into the document, each before he has seen what the other typed; the server puts both in, and each is shown
+what the other wrote. Each line that is sent is printed behind `> `, each that comes behind `< `.
 """
 
 import sys
+import time
+from pathlib import Path
 
-from richd_client import Editor, text_of
+sys.path.insert(0, str(Path(__file__).resolve().parent.parent / "clients/python"))
+
+import richd
+
+
+def session(address, source):
+    host, port = address.rsplit(":", 1)
+    return richd.connect(host, int(port), source=source, timeout=30, trace=lambda way, line: print(f"{source} {way} {line}"))
 
 
 def write_together(address):
-    ann = Editor([address], "ann", "letter")
-    bob = Editor([address], "bob", "letter")
-    ann.connect()
-    bob.connect()
-    ann.create({"insert": "Dear all, good night"})
-    for editor in (ann, bob):
-        editor.fetch()
-        editor.subscribe()
+    with session(address, "ann") as ann, session(address, "bob") as bob:
+        ann.create("letter", [{"insert": "Dear all, good night"}])
+        for_ann, for_bob = ann.open("letter"), bob.open("letter")
 
-    # Both edits are made on revision 1, so bob's is late.
-    ann.edit({"retain": 15}, {"insert": "morning"}, {"delete": 5})
-    bob.edit({"retain": 20}, {"insert": "!"})
+        # Both type into what they see, which is revision 1. One of the edits is late, and is moved behind the other.
+        for_ann.apply([{"retain": 15}, {"insert": "morning"}, {"delete": 5}])
+        for_bob.apply([{"retain": 20}, {"insert": "!"}])
 
-    for editor in (ann, bob):
-        editor.take_news(3)
-        editor.disconnect()
-    assert (ann.revision, ann.units) == (bob.revision, bob.units)
-    print(f"both have revision {ann.revision}: {text_of(ann.units)}")
+        for document in (for_ann, for_bob):
+            document.flush()
+            while document.revision < 3:
+                time.sleep(0.01)  # until what the other typed has come
+        assert for_ann.contents == for_bob.contents
+        print(f"both have revision {for_ann.revision}: {for_ann.text}")
 
 
 if __name__ == "__main__":

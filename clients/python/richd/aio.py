@@ -102,6 +102,11 @@ class Client:
         """The name under which the changes of this client are taken."""
         return self._core.source
 
+    @property
+    def is_connected(self) -> bool:
+        """Whether there is a connection. Where there is none, what is asked for is sent once there is one."""
+        return self._core.greeted
+
     async def create(self, doc: str, ops: Delta) -> Taken:
         """Makes a document of these inserts, at revision 1."""
         return await self._answer(lambda done: self._core.create(doc, ops, done))
@@ -246,10 +251,10 @@ class Client:
             self._do(lambda: self._received(data, pauses))
 
     def _received(self, data: bytes, pauses: Pauses) -> None:
-        self._core.received(data)
         if self._core.greeted:
-            self._was_greeted = True
-            pauses.begin_anew()
+            pauses.begin_anew()  # more came than a greeting: the next attempt may be soon
+        self._core.received(data)
+        self._was_greeted = self._was_greeted or self._core.greeted
 
 
 async def _in_time(answer: Awaitable[Any], seconds: Optional[float], what: str) -> Any:

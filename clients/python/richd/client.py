@@ -86,6 +86,11 @@ class Client:
         """The name under which the changes of this client are taken."""
         return self._core.source
 
+    @property
+    def is_connected(self) -> bool:
+        """Whether there is a connection. Where there is none, what is asked for is sent once there is one."""
+        return self._core.greeted
+
     def create(self, doc: str, ops: Delta) -> Taken:
         """Makes a document of these inserts, at revision 1."""
         return self._wait(self.ahead.create(doc, ops))
@@ -209,10 +214,13 @@ class Client:
             data = link.receive()
             if not data:
                 return
-            self._do(lambda: self._core.received(data))
-            if self._core.greeted:
-                self._was_greeted = True
-                pauses.begin_anew()
+            self._do(lambda: self._received(data, pauses))
+
+    def _received(self, data: bytes, pauses: Pauses) -> None:
+        if self._core.greeted:
+            pauses.begin_anew()  # more came than a greeting: the next attempt may be soon
+        self._core.received(data)
+        self._was_greeted = self._was_greeted or self._core.greeted
 
     def _write(self, link: Link) -> None:
         while True:

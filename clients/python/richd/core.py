@@ -286,6 +286,9 @@ class Core:
             self._subscribe(doc)
 
     def _reply(self, request: Request, reply: Message) -> None:
+        for member in ("doc", "n"):
+            if member in reply and reply[member] != request.message.get(member):
+                raise Unexpected(f"{reply} replies to {request.message}")
         error = Refused(reply["code"], reply["error"]) if "code" in reply else None
         if error is not None and error.code == messages.NO_MEMORY:
             self._postponed.append(request)

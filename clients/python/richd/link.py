@@ -6,7 +6,9 @@ import os
 import socket
 import struct
 import subprocess
-from typing import Optional, Sequence
+from typing import Optional, Sequence, TypeVar
+
+LinkType = TypeVar("LinkType", bound="Link")
 
 PIECE = 65_536  # bytes that are taken at a time
 PATIENCE = 5.0  # seconds for a program to end, once its input has
@@ -32,6 +34,12 @@ class Link:
     def close(self) -> None:
         """Ends both streams at once, also under a `send` or `receive` of another thread."""
         raise NotImplementedError
+
+    def __enter__(self: LinkType) -> LinkType:
+        return self
+
+    def __exit__(self, *cause: object) -> None:
+        self.close()
 
 
 class TcpLink(Link):
@@ -62,6 +70,10 @@ class TcpLink(Link):
     def reset(self) -> None:
         """Ends the connection as a machine does that fails: what the server reads or writes next fails."""
         self.socket.setsockopt(socket.SOL_SOCKET, socket.SO_LINGER, struct.pack("ii", 1, 0))
+        try:
+            self.socket.shutdown(socket.SHUT_RD)  # wakes who waits in `receive`
+        except OSError:
+            pass  # it is closed at the other end
         self.socket.close()
 
 

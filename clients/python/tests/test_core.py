@@ -123,6 +123,14 @@ class Requests(CoreTest):
             with self.assertRaises(Unexpected):
                 self.core.received(line)
 
+    def test_the_reply_to_another_request_is_an_error(self):
+        self.core.undo("d", Answer())
+        for reply in (self.taken(2, 5), self.taken(1, 5, doc="e")):
+            with self.assertRaises(Unexpected):
+                self.comes(reply)
+            self.begin()
+            self.core.undo("d", Answer())
+
     def test_a_refused_hello_is_told(self):
         core = Core("a b", {}, lambda seconds, action: None)
         core.connected()

@@ -1,7 +1,7 @@
 #!/usr/bin/env python3
 """Plays rows of sessions over standard input and over TCP, and checks that the same bytes come.
 
-usage: bench/rows.py
+usage: checks/rows.py
 
 A row is an input over a new store. `richd serve` has it over standard input, and `richd serve --listen` over a connection whose sending
 half is closed behind it: whole, in pieces of 7 bytes, and a byte at a time. What is written has to be the same bytes each time, and one
@@ -9,14 +9,17 @@ line for each line of the input. Which bytes these are, server_tests and session
 
 Run ./demo first, which builds crates/richd/out/richd, or name another program in RICHD. The stores lie in a temporary folder (TMPDIR).
 """
-import json
 import os
-import socket
 import subprocess
 import sys
 import tempfile
+from pathlib import Path
 
-from serving import richd, served
+sys.path.insert(0, str(Path(__file__).resolve().parent.parent / "clients/python"))
+
+from richd.link import TcpLink
+from richd.messages import spelled
+from richd.program import Server, find, format_store
 
 PATIENCE = 30  # seconds
 SMALL = ["--slots", "2", "--slot", "256", "--docs", "2", "--cell", "256", "--sources", "4", "--keep", "2"]
@@ -24,7 +27,7 @@ DEEP = ["--slots", "2", "--slot", "4096", "--docs", "2", "--cell", "4096", "--so
 
 
 def line(**message):
-    return json.dumps(message).encode() + b"\n"
+    return spelled(message)
 
 
 def edit(n, base, *ops):
@@ -120,31 +123,21 @@ ROWS = [
 
 
 def over_pipes(store, data):
-    return subprocess.run([richd, "serve", store], input=data, capture_output=True, timeout=PATIENCE).stdout
+    return subprocess.run([find(), "serve", store], input=data, capture_output=True, timeout=PATIENCE).stdout
 
 
 def over_tcp(store, data, size):
-    server, address = served(store)
-    try:
-        with socket.create_connection(address, PATIENCE) as stream:
-            stream.setsockopt(socket.IPPROTO_TCP, socket.TCP_NODELAY, 1)
-            for at in range(0, len(data), size):
-                stream.sendall(data[at : at + size])
-            stream.shutdown(socket.SHUT_WR)
-            got = b""
-            while piece := stream.recv(65_536):
-                got += piece
-            return got
-    finally:
-        server.kill()
-        server.wait()
-        server.stdout.close()
+    with Server(store) as server, TcpLink(*server.address, timeout=PATIENCE) as link:
+        for at in range(0, len(data), size):
+            link.send(data[at : at + size])
+        link.finish()
+        return b"".join(iter(link.receive, b""))
 
 
 def anew(folder, shape, play, *more):
     """What comes of playing something over a new store."""
     store = os.path.join(folder, "store")
-    subprocess.run([richd, "format", store, *shape], check=True)
+    format_store(store, *shape)
     try:
         return play(store, *more)
     finally:
@@ -161,5 +154,6 @@ with tempfile.TemporaryDirectory() as folder:
             if got != wanted:
                 wrong.append(f"pieces of {size} bytes: {got[-200:]!r} for {wanted[-200:]!r}")
         failed += bool(wrong)
-        print(f"FAILED  {name}: {'; '.join(wrong)}" if wrong else f"ok      {name}, {wanted.count(bytes([10]))} replies")
+        print(f"FAILED  {name}: {'; '.join(wrong)}" if wrong else f"ok      {name}, {wanted.count(bytes([10]))} replies", flush=True)
+print(f"{'FAILED' if failed else 'ok'}: {len(ROWS)} rows, {failed} failed")
 sys.exit(1 if failed else 0)

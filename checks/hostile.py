@@ -1,7 +1,7 @@
 #!/usr/bin/env python3
 """Connects to `richd serve --listen` in the ways that a client shouldn't, and checks that it answers as docs/PROTOCOL.md says.
 
-usage: bench/hostile.py [NAME..]     (default: each row)
+usage: checks/hostile.py [NAME..]     (default: each row)
 
 A row is one way, over one server for all rows. After each row a plain session has to create a document, edit it and fetch it, and
 before the end of the script 64 sessions have to find places again. No row may take the server above the memory that it had at the
@@ -9,14 +9,19 @@ beginning by more than MOST for each place (Linux tells it). A row that fails sa
 
 Run ./demo first, which builds crates/richd/out/richd, or name another program in RICHD. The store lies in a temporary folder (TMPDIR).
 """
-import json
+import os
 import socket
-import struct
 import sys
 import tempfile
 import time
+from pathlib import Path
 
-from serving import served_anew
+sys.path.insert(0, str(Path(__file__).resolve().parent.parent / "clients/python"))
+
+import richd
+from richd.link import TcpLink
+from richd.messages import spelled, subscribe
+from richd.program import Server, format_store
 
 PLACES = 64
 PATIENCE = 30  # seconds
@@ -29,45 +34,37 @@ TOO_MANY_OPS = b'{"code":4,"error":"TooManyOps"}\n'
 
 
 def connect():
-    stream = socket.create_connection(address, PATIENCE)
-    stream.setsockopt(socket.IPPROTO_TCP, socket.TCP_NODELAY, 1)
-    return stream
+    return TcpLink(*server.address, timeout=PATIENCE)
 
 
-def read_up_to(stream, count):
+def read_up_to(link, count):
     """What comes until so many bytes have come, or the stream ends."""
     got = b""
     while len(got) < count:
-        piece = stream.recv(count - len(got))
+        piece = link.socket.recv(count - len(got))
         if not piece:
             break
         got += piece
     return got
 
 
-def is_closed(stream):
+def is_closed(link):
     """Whether the server closes a connection on which nothing more is due."""
     try:
-        return stream.recv(1) == b""
+        return link.receive() == b""
     except ConnectionError:
         return True
 
 
-def reset(stream):
-    """Ends a connection as a machine does that fails: the peer's next read or write fails."""
-    stream.setsockopt(socket.SOL_SOCKET, socket.SO_LINGER, struct.pack("ii", 1, 0))
-    stream.close()
-
-
-def expect(stream, sent, wanted):
-    stream.sendall(sent)
-    got = read_up_to(stream, len(wanted))
+def expect(link, sent, wanted):
+    link.send(sent)
+    got = read_up_to(link, len(wanted))
     assert got == wanted, (got, wanted)
 
 
 def memory(name):
     """The bytes of memory that the server has now (VmRSS), or had at most (VmHWM)."""
-    with open(f"/proc/{server.pid}/status") as status:
+    with open(f"/proc/{server.process.pid}/status") as status:
         (size,) = (line.split()[1] for line in status if line.startswith(name + ":"))
     return int(size) * 1024
 
@@ -75,11 +72,11 @@ def memory(name):
 def session():
     """A session for which a place was free, or none."""
     try:
-        stream = connect()
-        stream.sendall(HELLO)
-        if read_up_to(stream, len(GREETING)) == GREETING:
-            return stream
-        stream.close()
+        link = connect()
+        link.send(HELLO)
+        if read_up_to(link, len(GREETING)) == GREETING:
+            return link
+        link.close()
     except ConnectionError:
         pass
     return None
@@ -88,9 +85,9 @@ def session():
 def session_soon():
     """A session, once there is a place."""
     for _ in range(PATIENCE * 10):
-        stream = session()
-        if stream is not None:
-            return stream
+        link = session()
+        if link is not None:
+            return link
         time.sleep(0.1)
     raise AssertionError("no place came free")
 
@@ -112,7 +109,7 @@ def byte_by_byte():
     """A byte at a time."""
     with connect() as stream:
         for byte in HELLO[:-1]:
-            stream.sendall(bytes([byte]))
+            stream.send(bytes([byte]))
             time.sleep(0.005)
         expect(stream, b"\n", GREETING)
 
@@ -131,10 +128,10 @@ def no_text():
 def cut_lines():
     """Connections that end in the middle of a line, by a close and by a reset: nothing comes of the line."""
     line = b'{"do":"create","doc":"cut","n":1,"ops":[{"insert":"cut"}]}'
-    for end in (socket.socket.close, reset):
+    for end in (TcpLink.close, TcpLink.reset):
         for length in range(0, len(line) + 1, 3):
             stream = session_soon()
-            stream.sendall(line[:length])
+            stream.send(line[:length])
             end(stream)
     with session_soon() as stream:
         expect(stream, b'{"do":"fetch","doc":"cut"}\n', b'{"code":6,"error":"NoDocument"}\n')
@@ -143,8 +140,8 @@ def cut_lines():
 def half_open():
     """Connections that send nothing keep their places, those whose peer closes its sending half are answered and closed."""
     with connect() as silent, session_soon() as stream:
-        stream.sendall(b"{\n" * 100)
-        stream.shutdown(socket.SHUT_WR)
+        stream.send(b"{\n" * 100)
+        stream.finish()
         assert read_up_to(stream, 100 * len(BAD_LINE)) == 100 * BAD_LINE
         assert is_closed(stream)
         time.sleep(1)
@@ -156,8 +153,8 @@ def vanished():
     for round in range(3):
         streams = [session_soon() for _ in range(PLACES)]
         for number, stream in enumerate(streams):
-            stream.sendall(b"{" * (number % 2))
-            reset(stream)
+            stream.send(b"{" * (number % 2))
+            stream.reset()
 
 
 def two_hundred():
@@ -165,7 +162,7 @@ def two_hundred():
     streams = [connect() for _ in range(200)]
     for stream in streams:
         try:
-            stream.sendall(HELLO)
+            stream.send(HELLO)
         except ConnectionError:
             pass
     served = closed = 0
@@ -185,14 +182,14 @@ def two_hundred():
 def never_reads():
     """A peer that sends ahead and never reads is closed 5 to 15 seconds after the server could write last, while others are answered."""
     with session_soon() as stream, session_soon() as other:
-        stream.settimeout(1)
+        stream.socket.settimeout(1)
         last = time.monotonic()
         try:
             while time.monotonic() < last + 30:
                 try:
-                    stream.send(b"{\n" * 10_000)
+                    stream.socket.send(b"{\n" * 10_000)
                     last = time.monotonic()  # the server still reads, so it still writes
-                except TimeoutError:
+                except socket.timeout:
                     pass
                 expect(other, b"{\n", BAD_LINE)
             raise AssertionError("it was never closed")
@@ -204,21 +201,17 @@ def never_reads():
 def never_reads_news():
     """A peer that follows a document and never reads is closed, while who writes the document is answered."""
     text, number = "x" * 15_000, 1
-    with session_soon() as stream, session_soon() as writer:
-        replies = writer.makefile("rb")
-        expect(writer, b'{"do":"create","doc":"loud","n":1,"ops":[]}\n', b'{"doc":"loud","n":1,"ok":"taken","rev":1}\n')
-        expect(stream, b'{"do":"subscribe","doc":"loud","rev":1}\n', b'{"doc":"loud","ok":"subscribed","rev":1}\n')
-        stream.settimeout(1)
+    with session_soon() as stream, server.connect("loud", timeout=PATIENCE) as writer:
+        assert writer.create("loud", []) == richd.Taken(1)
+        expect(stream, spelled(subscribe("loud", 1)), b'{"doc":"loud","ok":"subscribed","rev":1}\n')
+        stream.socket.settimeout(1)
         until = time.monotonic() + 90
         try:
             while time.monotonic() < until:
                 for ops in ([{"insert": text}], [{"delete": len(text)}]):
                     number += 1
-                    message = {"do": "edit", "doc": "loud", "n": number, "base": number - 1, "ops": ops}
-                    writer.sendall(json.dumps(message).encode() + b"\n")
-                    reply = json.loads(replies.readline())
-                    assert reply == {"doc": "loud", "n": number, "ok": "taken", "rev": number}, reply
-                stream.send(b"\n")  # its reply isn't read either; once the server has closed this fails
+                    assert writer.edit("loud", ops, number - 1) == richd.Taken(number)
+                stream.socket.send(b"\n")  # its reply isn't read either; once the server has closed this fails
                 if number > 1_000:
                     time.sleep(0.1)  # by now the news that nobody reads are about as much as the system takes
             raise AssertionError("it was never closed")
@@ -232,7 +225,7 @@ def dear_lines():
     streams = [session_soon() for _ in range(PLACES)]
     for _ in range(3):
         for stream in streams:
-            stream.sendall(line)
+            stream.send(line)
         for stream in streams:
             got = read_up_to(stream, len(TOO_MANY_OPS))
             assert got == TOO_MANY_OPS, got
@@ -258,41 +251,33 @@ rows = [
 def use(number):
     """A plain session, which has to be served as if nothing had been, once there is a place."""
     doc = f"plain{number}"
-    with session_soon() as stream:
-        lines = stream.makefile("rb")
-        for message, wanted in [
-            ({"do": "create", "doc": doc, "n": 1, "ops": [{"insert": "a"}]}, {"ok": "taken", "doc": doc, "n": 1, "rev": 1}),
-            ({"do": "edit", "doc": doc, "n": 2, "base": 1, "ops": [{"insert": "b"}]}, {"ok": "taken", "doc": doc, "n": 2, "rev": 2}),
-            ({"do": "fetch", "doc": doc}, {"ok": "doc", "doc": doc, "ops": [{"insert": "ba"}], "rev": 2}),
-        ]:
-            stream.sendall(json.dumps(message).encode() + b"\n")
-            reply = json.loads(lines.readline())
-            assert reply == wanted, (reply, wanted)
+    with server.connect("plain", timeout=PATIENCE) as client:
+        assert client.create(doc, [{"insert": "a"}]) == richd.Taken(1)
+        assert client.edit(doc, [{"insert": "b"}], 1) == richd.Taken(2)
+        assert client.fetch(doc) == richd.Contents(2, [{"insert": "ba"}])
 
 
+chosen = [row for row in rows if len(sys.argv) == 1 or row.__name__ in sys.argv[1:]]
 failed = 0
 with tempfile.TemporaryDirectory() as folder:
-    server, address = served_anew(folder)
+    format_store(os.path.join(folder, "store"))
+    server = Server(os.path.join(folder, "store"))
     first = memory("VmRSS")
-    for number, row in enumerate(rows):
-        if len(sys.argv) > 1 and row.__name__ not in sys.argv[1:]:
-            continue
+    for number, row in enumerate(chosen):
         begin = time.monotonic()
         try:
             row()
             use(number)
             took, more = time.monotonic() - begin, memory("VmHWM") - first
             assert more <= PLACES * MOST, f"{more >> 10} KiB more than at the beginning"
-            print(f"ok      {row.__name__}, {took:.1f} s; so far at most {more >> 10} KiB more than at the beginning")
-        except (AssertionError, OSError, ValueError) as error:
+            print(f"ok      {row.__name__}, {took:.1f} s; so far at most {more >> 10} KiB more than at the beginning", flush=True)
+        except (AssertionError, OSError, ValueError, richd.Refused) as error:
             failed += 1
-            print(f"FAILED  {row.__name__}: {error!r}")
-    streams = [session_soon() for _ in range(PLACES)]
-    print(f"at the end {len(streams)} sessions have a place")
-    alive = server.poll() is None
+            print(f"FAILED  {row.__name__}: {error!r}", flush=True)
+    places = [session_soon() for _ in range(PLACES)]
+    if server.process.poll() is not None:
+        failed += 1
+        print("FAILED  the server ended")
     server.kill()
-    server.wait()
-    server.stdout.close()
-if not alive:
-    print("FAILED  the server ended")
-sys.exit(1 if failed or not alive else 0)
+print(f"{'FAILED' if failed else 'ok'}: {len(chosen)} rows, {failed} failed; at the end {len(places)} sessions have a place")
+sys.exit(1 if failed or not chosen else 0)

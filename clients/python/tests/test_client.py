@@ -1,0 +1,377 @@
+"""The client and its twin for asyncio, against the program."""
+
+import asyncio
+import os
+import random
+import tempfile
+import threading
+import time
+import unittest
+
+import richd
+import richd.aio
+from richd import delta
+from richd.link import TcpLink
+from richd.program import Server, format_store
+from tests.program import richd_or_skip
+
+SECONDS = 30  # that anything may take
+
+
+class CutLink(TcpLink):
+    """A connection that `cut` ends, as a cable does that is pulled."""
+
+    def __init__(self, host, port, links):
+        super().__init__(host, port)
+        links.append(self)
+
+    cut = TcpLink.close
+
+
+class DeafLink(TcpLink):
+    """A connection that is cut once a line with an edit was sent, after the server had time to take it: its reply is never read."""
+
+    is_armed = False
+
+    def send(self, data):
+        super().send(data)
+        if DeafLink.is_armed and b'"edit"' in data:
+            DeafLink.is_armed = False
+            self.is_deaf = True
+
+    is_deaf = False
+
+    def receive(self):
+        data = super().receive()
+        if self.is_deaf:
+            raise ConnectionResetError
+        return data
+
+
+class Served(unittest.TestCase):
+    """Has a server over a store of its own."""
+
+    def setUp(self):
+        richd_or_skip(self)
+        folder = tempfile.TemporaryDirectory()
+        self.addCleanup(folder.cleanup)
+        self.store = os.path.join(folder.name, "store")
+        format_store(self.store)
+        self.server = Server(self.store)
+        self.addCleanup(lambda: self.server.kill())
+
+    def connect(self, source=None, **more):
+        client = self.server.connect(source, timeout=SECONDS, **more)
+        self.addCleanup(client.close)
+        return client
+
+
+class Calls(Served):
+    def test_what_each_call_gives(self):
+        ann = self.connect("ann")
+        self.assertEqual(ann.create("d", [{"insert": "Hello "}, {"insert": "world"}]), richd.Taken(1))
+        self.assertEqual(ann.edit("d", [{"retain": 6}, {"retain": 5, "attributes": {"bold": True}}], base=1), richd.Taken(2))
+        bold = [{"insert": "Hello "}, {"insert": "world", "attributes": {"bold": True}}]
+        self.assertEqual(ann.fetch("d"), richd.Contents(2, bold))
+        self.assertEqual(ann.fetch("d", 1), richd.Contents(1, [{"insert": "Hello world"}]))
+        self.assertEqual(ann.undo("d"), richd.Taken(3))
+        changed = [[{"retain": 6}, {"retain": 5, "attributes": {"bold": value}}] for value in (True, None)]
+        self.assertEqual(ann.since("d", 1), richd.Since(3, changed))
+        self.assertEqual(ann.numbers(), {"d": 4})
+
+    def test_a_refusal(self):
+        with self.assertRaises(richd.Refused) as caught:
+            self.connect().fetch("nothing")
+        self.assertEqual((caught.exception.code, caught.exception.name), (6, "NoDocument"))
+
+    def test_a_late_edit_is_moved(self):
+        ann, bob = self.connect("ann"), self.connect("bob")
+        ann.create("d", [{"insert": "Dear all, good night"}])
+        ann.edit("d", [{"retain": 15}, {"insert": "morning"}, {"delete": 5}], base=1)
+        bob.edit("d", [{"retain": 20}, {"insert": "!"}], base=1)
+        self.assertEqual(delta.text(bob.fetch("d").ops), "Dear all, good morning!")
+
+    def test_requests_overlap_and_replies_are_not_swapped(self):
+        ann, bob = self.connect("ann"), self.connect("bob")
+        for doc in ("d", "e"):
+            ann.create(doc, [{"insert": doc}])
+        with ann.follow("d", 1) as changes:
+            answers = []
+            for number in range(50):
+                bob.ahead.edit("d", [{"insert": "x"}], base=1)
+                answers += [(doc, ann.ahead.fetch(doc)) for doc in ("d", "e")]
+            for doc, answer in answers:
+                self.assertTrue(delta.text(answer.result(SECONDS).ops).endswith(doc))
+            self.assertEqual([changes.next(SECONDS).rev for _ in range(50)], list(range(2, 52)))
+
+    def test_many_threads_use_one_client(self):
+        ann = self.connect("ann")
+        ann.create("d", [])
+        revisions = []
+
+        def type_letters():
+            for _ in range(20):
+                revisions.append(ann.edit("d", [{"insert": "x"}], base=1).rev)
+
+        threads = [threading.Thread(target=type_letters) for _ in range(8)]
+        for thread in threads:
+            thread.start()
+        for thread in threads:
+            thread.join()
+        self.assertEqual(sorted(revisions), list(range(2, 162)))
+
+    def test_following_ends_with_the_loop_and_with_the_client(self):
+        ann = self.connect("ann")
+        ann.create("d", [])
+        for number in range(3):
+            ann.edit("d", [{"insert": str(number)}], base=1)
+        seen = []
+        for change in ann.follow("d", 1):
+            seen.append(change.rev)
+            if change.rev == 4:
+                break
+        self.assertEqual(seen, [2, 3, 4])
+        changes = ann.follow("d", 2)
+        threading.Timer(0.5, ann.close).start()
+        self.assertEqual([change.rev for change in changes], [3, 4])
+
+    def test_over_pipes(self):
+        self.server.kill()
+        with richd.connect(command=[richd_or_skip(self), "serve", self.store], source="ann", timeout=SECONDS) as ann:
+            ann.create("d", [{"insert": "x"}])
+            self.assertEqual(ann.fetch("d").ops, [{"insert": "x"}])
+        self.server = Server(self.store)
+        self.assertEqual(self.connect("bob").fetch("d").ops, [{"insert": "x"}])
+
+
+class Faults(Served):
+    def test_nobody_listens(self):
+        self.server.kill()
+        with self.assertRaises(ConnectionRefusedError):
+            self.connect()
+
+    def test_a_program_that_ends_at_once(self):
+        with self.assertRaises(ConnectionError):
+            richd.connect(command=["false"], timeout=SECONDS)
+
+    def test_a_name_that_is_none(self):
+        with self.assertRaises(richd.Refused) as caught:
+            self.connect("a b")
+        self.assertEqual(caught.exception.name, "BadName")
+
+    def test_after_the_end(self):
+        ann = self.connect()
+        ann.close()
+        with self.assertRaises(richd.Closed):
+            ann.fetch("d")
+
+    def test_the_server_ends_and_another_begins(self):
+        ann = self.connect("ann")
+        ann.create("d", [])
+        follower = ann.follow("d", 1)
+        ann.edit("d", [{"insert": "a"}], base=1)
+        port = self.server.address[1]
+        self.server.kill()
+        answer = ann.ahead.edit("d", [{"insert": "b"}], base=2)
+        time.sleep(0.3)
+        self.assertFalse(answer.done())
+        self.server = Server(self.store, port=port)
+        self.assertEqual(answer.result(SECONDS), richd.Taken(3))
+        self.assertEqual([follower.next(SECONDS).rev for _ in range(2)], [2, 3])
+
+    def test_a_reply_that_is_lost(self):
+        ann = self.connect("ann")
+        ann.create("d", [])
+        bob = richd.connect(link=lambda: DeafLink(*self.server.address), source="bob", timeout=SECONDS)
+        with bob:
+            DeafLink.is_armed = True
+            self.assertEqual(bob.edit("d", [{"insert": "a"}], base=1), richd.Taken(2, again=True))
+        self.assertEqual(ann.fetch("d").ops, [{"insert": "a"}])
+
+    def test_a_source_that_was_used_before(self):
+        with self.connect("ann") as ann:
+            ann.create("d", [])
+        with self.assertRaises(richd.Unexpected):
+            self.connect("ann").edit("d", [{"insert": "a"}], base=1)
+        self.assertEqual(self.connect("ann", numbers={"d": 2}).edit("d", [{"insert": "a"}], base=1), richd.Taken(2))
+
+
+class Typing(Served):
+    def test_two_type_at_once_while_connections_are_cut(self):
+        links = []
+        self.connect("first").create("d", [{"insert": "begin"}])
+        clients = [
+            richd.connect(link=lambda: CutLink(*self.server.address, links), source=source, timeout=SECONDS)
+            for source in ("ann", "bob")
+        ]
+        for client in clients:
+            self.addCleanup(client.close)
+        documents = [client.open("d") for client in clients]
+        shown = [list(document.contents) for document in documents]
+        for place, document in enumerate(documents):
+
+            def show(ops, place=place):
+                shown[place] = delta.compose(shown[place], ops)
+
+            document.on_change(show)
+        draw = random.Random(41)
+        for step in range(400):
+            place = step % 2
+            document = documents[place]
+            with clients[place]._changed:  # nothing comes while the place is chosen
+                ops = typed(draw, delta.after(document.contents))
+                shown[place] = delta.compose(shown[place], ops)
+                document.apply(ops)
+            if step % 57 == 56:
+                links[-1 - draw.randrange(2)].cut()
+            time.sleep(0.001)
+        for document in documents:
+            document.flush(SECONDS)
+        wanted = self.connect("last").fetch("d")
+        for place, document in enumerate(documents):
+            wait_until(lambda: document.revision == wanted.rev)
+            self.assertEqual(document.contents, wanted.ops)
+            self.assertEqual(shown[place], wanted.ops)
+        self.assertGreater(len(links), 4)
+
+    def test_a_text_that_is_longer_than_a_line(self):
+        ann = self.connect("ann")
+        ann.create("d", [])
+        document = ann.open("d")
+        text = "0123456789" * 2_000
+        document.apply([{"insert": text}])
+        document.flush()
+        self.assertEqual(ann.fetch("d").ops, [{"insert": text}])
+
+    def test_a_refused_edit_is_told(self):
+        ann = self.connect("ann")
+        ann.create("d", [{"insert": "a"}])
+        document, lost = ann.open("d"), []
+        document.on_reset(lost.append)
+        document.apply([{"insert": "x" * 30_000}])  # weighs more than a cell holds
+        with self.assertRaises(richd.Refused) as caught:
+            document.flush()
+        self.assertEqual(caught.exception.name, "TooHeavy")
+        document.flush()
+        self.assertEqual((document.text, len(lost)), ("a", 1))
+
+
+class Twin(Served):
+    """The client for asyncio."""
+
+    def run_with(self, action, count=1):
+        async def run():
+            host, port = self.server.address
+            clients = [await richd.aio.connect(host, port, source=f"s{number}", timeout=SECONDS) for number in range(count)]
+            try:
+                await asyncio.wait_for(action(*clients), SECONDS)
+            finally:
+                for client in clients:
+                    await client.close()
+
+        asyncio.run(run())
+
+    def test_what_each_call_gives(self):
+        async def action(ann):
+            self.assertEqual(await ann.create("d", [{"insert": "a"}]), richd.Taken(1))
+            self.assertEqual(await ann.edit("d", [{"insert": "b"}], base=1), richd.Taken(2))
+            self.assertEqual(await ann.undo("d"), richd.Taken(3))
+            self.assertEqual(await ann.fetch("d", 2), richd.Contents(2, [{"insert": "ba"}]))
+            self.assertEqual(await ann.since("d", 1), richd.Since(3, [[{"insert": "b"}], [{"delete": 1}]]))
+            seen = []
+            async for change in ann.follow("d", 1):
+                seen.append(change.rev)
+                if change.rev == 3:
+                    break
+            self.assertEqual(seen, [2, 3])
+            with self.assertRaises(richd.Refused):
+                await ann.fetch("nothing")
+
+        self.run_with(action)
+
+    def test_requests_overlap(self):
+        async def action(ann, bob):
+            await ann.create("d", [])
+            edits = [bob.edit("d", [{"insert": "x"}], base=1) for _ in range(50)]
+            revisions = [taken.rev for taken in await asyncio.gather(*edits)]
+            self.assertEqual(revisions, list(range(2, 52)))
+
+        self.run_with(action, 2)
+
+    def test_the_server_ends_and_another_begins(self):
+        async def action(ann):
+            await ann.create("d", [])
+            following = ann.follow("d", 1)
+            port = self.server.address[1]
+            self.server.kill()
+            answer = asyncio.ensure_future(ann.edit("d", [{"insert": "b"}], base=1))
+            await asyncio.sleep(0.3)
+            self.assertFalse(answer.done())
+            self.server = Server(self.store, port=port)
+            self.assertEqual(await answer, richd.Taken(2))
+            self.assertEqual((await following.next(SECONDS)).rev, 2)
+
+        self.run_with(action)
+
+    def test_two_type_at_once(self):
+        async def action(ann, bob):
+            await ann.create("d", [{"insert": "begin"}])
+            documents = [await ann.open("d"), await bob.open("d")]
+            draw = random.Random(41)
+            for step in range(200):
+                document = documents[step % 2]
+                document.apply(typed(draw, delta.after(document.contents)))
+                await asyncio.sleep(0.001)
+            for document in documents:
+                await document.flush()
+            wanted = await ann.fetch("d")
+            for document in documents:
+                while document.revision < wanted.rev:
+                    await asyncio.sleep(0.01)
+                self.assertEqual(document.contents, wanted.ops)
+
+        self.run_with(action, 2)
+
+    def test_over_pipes(self):
+        self.server.kill()
+
+        async def run():
+            client = await richd.aio.connect(command=[richd_or_skip(self), "serve", self.store], timeout=SECONDS)
+            async with client:
+                await client.create("d", [{"insert": "x"}])
+                return await client.fetch("d")
+
+        self.assertEqual(asyncio.run(run()), richd.Contents(1, [{"insert": "x"}]))
+
+    def test_after_the_end(self):
+        async def action(ann):
+            await ann.close()
+            with self.assertRaises(richd.Closed):
+                await ann.fetch("d")
+
+        self.run_with(action)
+
+
+def typed(draw, length):
+    """What somebody types into a text of so many units."""
+    at = draw.randrange(length + 1)
+    kind = draw.random()
+    if kind < 0.6 or at == length:
+        change = {"insert": draw.choice("abc \n")}
+    elif kind < 0.8:
+        change = {"delete": min(length - at, draw.randrange(1, 4))}
+    else:
+        change = {"retain": min(length - at, draw.randrange(1, 6)), "attributes": {draw.choice(["bold", "italic"]): draw.choice([True, None])}}
+    return ([{"retain": at}] if at else []) + [change]
+
+
+def wait_until(holds):
+    until = time.monotonic() + SECONDS
+    while not holds():
+        if time.monotonic() > until:
+            raise TimeoutError
+        time.sleep(0.01)
+
+
+if __name__ == "__main__":
+    unittest.main()
