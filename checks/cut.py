@@ -46,8 +46,7 @@ class Wire(TcpLink):
     """A connection that can be cut. `sending`, where it is set, sends the next bytes in its own way."""
 
     def __init__(self):
-        super().__init__(*server.address, timeout=PATIENCE)
-        self.socket.settimeout(None)
+        super().__init__(*server.address)
         self.sending = None
         self.is_deaf = False  # what comes is not read
 

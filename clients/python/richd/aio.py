@@ -264,32 +264,39 @@ async def _in_time(answer: Awaitable[Any], seconds: Optional[float], what: str) 
         raise TimeoutError(f"{what} in {seconds} seconds") from None
 
 
-class Following(Follower):
+class _Queued(Follower):
+    """Keeps what it is told until somebody asks for it."""
+
+    def __init__(self, rev: int):
+        super().__init__(rev)
+        self.queue: asyncio.Queue[Union[Change, Exception]] = asyncio.Queue()
+
+    def change(self, change: Change) -> None:
+        self.queue.put_nowait(change)
+
+    def end(self, error: Exception) -> None:
+        self.queue.put_nowait(error)
+
+
+class Following:
     """The changes of a document, as an iterator that waits for the next one. It ends with the client; `close` ends it before."""
 
     def __init__(self, client: Client, doc: str, rev: int):
-        super().__init__(rev)
         self._client, self._doc = client, doc
-        self._queue: asyncio.Queue[Union[Change, Exception]] = asyncio.Queue()
-        client._do(lambda: client._core.follow(doc, self))
+        self._follower = _Queued(rev)
+        client._do(lambda: client._core.follow(doc, self._follower))
 
     async def next(self, timeout: Optional[float] = None) -> Change:
         """The next change. Raises TimeoutError where none comes in so many seconds."""
-        told = await _in_time(self._queue.get(), timeout, "no change")
+        told = await _in_time(self._follower.queue.get(), timeout, "no change")
         if isinstance(told, Exception):
-            self._queue.put_nowait(told)  # it stays the answer
+            self._follower.end(told)  # it stays the answer
             raise told
         return told
 
     def close(self) -> None:
-        self._client._do(lambda: self._client._core.unfollow(self._doc, self))
-        self.end(Closed("it is followed no longer"))
-
-    def change(self, change: Change) -> None:
-        self._queue.put_nowait(change)
-
-    def end(self, error: Exception) -> None:
-        self._queue.put_nowait(error)
+        self._client._do(lambda: self._client._core.unfollow(self._doc, self._follower))
+        self._follower.end(Closed("it is followed no longer"))
 
     def __aiter__(self) -> Following:
         return self
@@ -299,6 +306,10 @@ class Following(Follower):
             return await self.next()
         except Closed:
             raise StopAsyncIteration from None
+
+    def __del__(self) -> None:
+        if not self._client._closing.is_set():
+            self.close()  # as where a loop was left by `break`
 
 
 class Document(Draft):

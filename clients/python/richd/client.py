@@ -3,6 +3,7 @@
 from __future__ import annotations
 
 import queue
+import sys
 import threading
 from concurrent.futures import Future
 from concurrent.futures import TimeoutError as FutureTimeout
@@ -326,6 +327,10 @@ class Following:
 
     def __exit__(self, *cause: object) -> None:
         self.close()
+
+    def __del__(self) -> None:
+        if not sys.is_finalizing():  # at the program's end the client's threads may stand still
+            self.close()  # as where a loop was left by `break`
 
 
 class Document(Draft):

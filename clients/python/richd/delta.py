@@ -6,8 +6,8 @@ A document is a delta of inserts alone. All lengths count UTF-16 code units, as 
 counts two, an embed (an `insert` that is no text) one. `compose` and `transform` do what quill-delta's functions of these names do.
 
 What they return is in normal form: neighbours that can be one operation are one, an insert stands before a delete at the same
-place, no operation is empty, and no retain without attributes stands at the end. What they are given may be in any form, and is
-never changed.
+place, no operation is empty, and no retain without attributes stands at the end. What they are given may be in any form, is taken for
+its normal form, as the server takes it, and is never changed.
 """
 
 from __future__ import annotations
@@ -136,23 +136,19 @@ def _pieces(operation: Operation) -> Iterator[Operation]:
 
 
 class _Reader:
-    """Reads a delta in pieces of any length. After its last operation it is a retain without end."""
+    """Reads a delta, in normal form, in pieces of any length. After its last operation it is a retain without end."""
 
     def __init__(self, delta: Delta):
-        self._operations = iter(delta)
+        self._operations = iter(normal(delta))
         self._next()
 
     def _next(self) -> None:
-        """Goes on to the next operation that isn't empty."""
-        self._offset = 0
-        for operation in self._operations:
-            self._operation, self.left = operation, length(operation)
-            if self.left:
-                self.has_more = True
-                self.inserts, self.deletes = "insert" in operation, "delete" in operation
-                return
-        self._operation, self.left = {"retain": _ENDLESS}, _ENDLESS
-        self.has_more = self.inserts = self.deletes = False
+        """Goes on to the next operation."""
+        operation = next(self._operations, None)
+        self.has_more = operation is not None
+        self._operation = {"retain": _ENDLESS} if operation is None else operation
+        self._offset, self.left = 0, length(self._operation)
+        self.inserts, self.deletes = "insert" in self._operation, "delete" in self._operation
 
     def take(self, count: Optional[int] = None) -> Operation:
         """The next so many units of the operation that is read, or all that is left of it."""

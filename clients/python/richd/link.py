@@ -11,6 +11,7 @@ from typing import Optional, Sequence, TypeVar
 LinkType = TypeVar("LinkType", bound="Link")
 
 PIECE = 65_536  # bytes that are taken at a time
+CONNECTING = 10.0  # seconds for a connection to be made
 PATIENCE = 5.0  # seconds for a program to end, once its input has
 
 
@@ -43,12 +44,13 @@ class Link:
 
 
 class TcpLink(Link):
-    """A connection to a `richd serve --listen`."""
+    """A connection to a `richd serve --listen`. `timeout` is for each call that sends or receives."""
 
     waits_for_place = True
 
     def __init__(self, host: str, port: int, timeout: Optional[float] = None):
-        self.socket = socket.create_connection((host, port), timeout)
+        self.socket = socket.create_connection((host, port), CONNECTING)
+        self.socket.settimeout(timeout)
         self.socket.setsockopt(socket.IPPROTO_TCP, socket.TCP_NODELAY, 1)
 
     def send(self, data: bytes) -> None:

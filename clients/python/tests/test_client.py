@@ -56,7 +56,7 @@ class Served(unittest.TestCase):
         folder = tempfile.TemporaryDirectory()
         self.addCleanup(folder.cleanup)
         self.store = os.path.join(folder.name, "store")
-        format_store(self.store)
+        format_store(self.store, "--docs", "4", "--slots", "2")  # small, so that it is opened soon
         self.server = Server(self.store)
         self.addCleanup(lambda: self.server.kill())
 
@@ -131,6 +131,7 @@ class Calls(Served):
             if change.rev == 4:
                 break
         self.assertEqual(seen, [2, 3, 4])
+        self.assertEqual(ann._core._followers, {})
         changes = ann.follow("d", 2)
         threading.Timer(0.5, ann.close).start()
         self.assertEqual([change.rev for change in changes], [3, 4])
