@@ -15,7 +15,7 @@ from richd.link import TcpLink
 from richd.program import Server, format_store
 from tests.program import richd_or_skip
 
-SECONDS = 30  # that anything may take
+SECONDS = 120  # that anything may take
 
 
 class CutLink(TcpLink):
