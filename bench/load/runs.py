@@ -211,5 +211,10 @@ def medians(folder, pairs, rounds, seconds):
     return {key: Measured(*map(statistics.median, zip(*measured))) for key, measured in runs.items()}
 
 
+def milliseconds(measured):
+    """p50 and p99, with two digits that count."""
+    return ", ".join(f"{time:.{2 if time < 1 else 1 if time < 10 else 0}f}" for time in (measured.p50, measured.p99))
+
+
 def temporary_folder():
     return tempfile.TemporaryDirectory(prefix="richd-load-")

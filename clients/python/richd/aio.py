@@ -16,7 +16,7 @@ from typing import Any, Awaitable, Callable, Dict, List, Optional, Sequence, Tup
 from .core import Core, Done, Follower, Pauses, Trace, new_source
 from .delta import Delta
 from .draft import Draft
-from .messages import Change, Closed, Contents, Refused, Since, Taken, Unexpected
+from .messages import Change, Closed, Contents, Since, Taken
 
 LAST_WAIT = 5.0  # seconds that `close` gives the server to answer what was sent
 PIECE = 65_536  # bytes that are taken at a time
@@ -209,7 +209,7 @@ class Client:
         while self._core.failure is None:
             try:
                 await self._converse(pauses)
-            except (Refused, Unexpected) as error:
+            except Exception as error:  # no line of the protocol, a refused hello, or a fault of a function that is told of changes
                 self._fail(error)
             if self._closing.is_set():
                 self._fail(Closed("the client was closed"))

@@ -13,7 +13,7 @@ from .core import Core, Done, Follower, Pauses, Trace, new_source
 from .delta import Delta
 from .draft import Draft
 from .link import Link, PipeLink, TcpLink
-from .messages import Change, Closed, Contents, Refused, Since, Taken, Unexpected
+from .messages import Change, Closed, Contents, Since, Taken
 
 LAST_WAIT = 5.0  # seconds that `close` gives the server to answer what was sent
 
@@ -171,7 +171,7 @@ class Client:
         while True:
             try:
                 self._converse(pauses)
-            except (Refused, Unexpected) as error:
+            except Exception as error:  # no line of the protocol, a refused hello, or a fault of a function that is told of changes
                 self._fail(error)
             with self._changed:
                 if self._is_closing:

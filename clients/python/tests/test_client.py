@@ -244,6 +244,15 @@ class Typing(Served):
         document.flush()
         self.assertEqual(ann.fetch("d").ops, [{"insert": text}])
 
+    def test_a_fault_of_who_is_told_ends_the_client(self):
+        ann, bob = self.connect("ann"), self.connect("bob")
+        ann.create("d", [])
+        ann.open("d").on_change(lambda ops: 1 // 0)
+        bob.edit("d", [{"insert": "a"}], base=1)
+        wait_until(lambda: not ann.is_connected)
+        with self.assertRaises(ZeroDivisionError):
+            ann.fetch("d")
+
     def test_a_refused_edit_is_told(self):
         ann = self.connect("ann")
         ann.create("d", [{"insert": "a"}])
