@@ -6,7 +6,7 @@ import os
 import socket
 import struct
 import subprocess
-from typing import Optional, Sequence, TypeVar
+from typing import Any, Optional, Sequence, TypeVar
 
 LinkType = TypeVar("LinkType", bound="Link")
 
@@ -88,10 +88,10 @@ class PipeLink(Link):
     def send(self, data: bytes) -> None:
         rest = memoryview(data)
         while rest:
-            rest = rest[os.write(self.process.stdin.fileno(), rest) :]
+            rest = rest[os.write(_descriptor(self.process.stdin), rest) :]
 
     def receive(self) -> bytes:
-        return os.read(self.process.stdout.fileno(), PIECE)
+        return os.read(_descriptor(self.process.stdout), PIECE)
 
     def finish(self) -> None:
         self.process.stdin.close()
@@ -104,3 +104,11 @@ class PipeLink(Link):
             self.process.kill()
             self.process.wait()
         self.process.stdout.close()
+
+
+def _descriptor(pipe: Any) -> int:
+    """A pipe's number. Raises OSError where another thread has closed it."""
+    try:
+        return pipe.fileno()
+    except ValueError:
+        raise BrokenPipeError("the pipe is closed") from None
