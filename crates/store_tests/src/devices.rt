@@ -92,11 +92,12 @@ fn is_open_once<R: Files<File = File> + AllocGlobal + Abort>(rt: &R, path: &str)
     let mut disk = made(rt, path, 8);
     assert!(rt; FileDisk::open(rt, path).is_err());
     try_out(rt, &mut disk);
+    assert!(rt; FileDisk::open(rt, path).is_err());
     assert!(rt; FileDisk::create(rt, path, 8).is_err());
     drop(disk);
     let mut again = FileDisk::open(rt, path).expect(rt, "the file");
-    assert!(rt; FileDisk::open(rt, path).is_err());
     holds_what_was_written(rt, &mut again);
+    assert!(rt; FileDisk::open(rt, path).is_err());
     fs::remove_file(rt, path).expect(rt, "the file goes");
 }
 

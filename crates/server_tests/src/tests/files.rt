@@ -1,5 +1,6 @@
 use super::edits::FULL_LINES;
 use super::{CREATE, HELLO, format_small, is_served, path, prints, remove, runs};
+use disk::FileDisk;
 use std::fs::{self, File};
 use std::io::{self, Read};
 use std::net::{Net, TcpListener, TcpStream};
@@ -152,6 +153,20 @@ fn command_runs<
         + Abort,
 >(rt: &R, command: &str, path: &str, wanted: (u8, &str, &str)) {
     runs(rt, &["richd", command, path], &mut io::empty(), wanted);
+}
+
+#[test]
+fn a_file_in_use_is_a_fault(rt: HostRuntime) {
+    let path = path(&rt, "used").expect(&rt, "a path");
+    let path = path.as_str();
+    format_small(&rt, path);
+    let disk = FileDisk::open(&rt, path).expect(&rt, "the file");
+    for command in &["format", "serve", "dump"] {
+        command_runs(&rt, *command, path, (1, "", "error 34 Fault\n"));
+    }
+    drop(disk);
+    command_runs(&rt, "dump", path, (0, "", ""));
+    remove(&rt, path);
 }
 
 /// Serves a store at an address that can't be had, and ends with this error.
