@@ -10,7 +10,7 @@ mod freeing;
 #[cfg(test)]
 mod jobs;
 #[cfg(test)]
-mod rows;
+mod made;
 #[cfg(test)]
 mod runs;
 #[cfg(test)]

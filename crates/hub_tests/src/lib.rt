@@ -6,7 +6,7 @@ mod board;
 #[cfg(test)]
 pub mod callers;
 #[cfg(test)]
-mod rows;
+mod made;
 #[cfg(test)]
 mod seats;
 #[cfg(test)]

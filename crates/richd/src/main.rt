@@ -2,8 +2,10 @@
 #![tactic(auto)]
 
 use std::process::ExitCode;
+use std::{env, io};
 
-fn main(rt: HostRuntime) -> ExitCode {
+fn main(rt: HostRuntime) -> io::Result<ExitCode> {
+    let words: Vec<String> = env::args(&rt)?.collect(rt.alloc())?;
     let (mut input, mut output, mut errors) = (rt.stdin(), rt.stdout(), rt.stderr());
-    ExitCode::from(server::run_given(&rt, &mut input, &mut output, &mut errors))
+    Ok(ExitCode::from(server::run(&rt, words.as_slice(), &mut input, &mut output, &mut errors)))
 }

@@ -1,1 +1,6 @@
+mod Fronts
+mod Dumps
 mod Streams
+mod Asking
+mod Worked
+mod KeptUp
