@@ -28,7 +28,7 @@ import time
 ROOT = pathlib.Path(__file__).resolve().parent.parent
 RICHD = os.environ.get("RICHD") or str(ROOT / "crates/richd/out/richd")
 SECONDS = 10  # of typing
-PATIENCE = 30  # seconds, for whatever should come soon
+PATIENCE = 120  # seconds, for whatever should come soon, on a busy machine too
 CONTROL, BACKSPACE, ENTER = "\ue009", "\ue003", "\ue007"
 
 # What they type; a star begins and ends what is bold.
@@ -91,7 +91,11 @@ class Browser:
         self.connection = http.client.HTTPConnection("127.0.0.1", int(found[1]), timeout=PATIENCE)
         self.base = "/session"
         options = {"args": ["--headless=new", "--no-sandbox", "--disable-dev-shm-usage", "--window-size=1100,640"]}
-        session = self.call("POST", "", {"capabilities": {"alwaysMatch": {"goog:chromeOptions": options}}})
+        try:
+            session = self.call("POST", "", {"capabilities": {"alwaysMatch": {"goog:chromeOptions": options}}})
+        except BaseException:
+            self.driver.terminate()
+            raise
         self.base += "/" + session["sessionId"]
 
     def call(self, method, path, body=None):
