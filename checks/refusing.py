@@ -1,0 +1,154 @@
+"""What no_memory.py and faults.py share: runs of the program of which one request is refused, by refuse.c, and the count of what they show."""
+import concurrent.futures
+import os
+import subprocess
+import sys
+import tempfile
+import threading
+import time
+
+HERE = os.path.dirname(os.path.abspath(__file__))
+richd = os.environ.get("RICHD") or os.path.join(HERE, "../crates/richd/out/richd")
+PATIENCE = 10  # seconds: no answer and no end of the program takes longer
+
+NO_MEMORY, STORE_FAILED, FAULT = b"error 22 NoMemory\n", b"error 21 StoreFailed\n", b"error 34 Fault\n"
+S = ["--slots", "2", "--slot", "256", "--docs", "2", "--cell", "256", "--sources", "4", "--keep", "2"]
+
+
+class Disagreement(Exception):
+    """The program did what it must not."""
+
+
+def agree(truth, what):
+    if not truth:
+        raise Disagreement(what)
+
+
+class Refusal:
+    """One request that is refused, over all programs that are started under it; none where `at` is 0."""
+
+    def __init__(self, library, folder, kind, at, how="none"):
+        self.kind, self.at, self.how = kind, at, how
+        self.count_path, self.store = os.path.join(folder, "count"), os.path.join(folder, "store")
+        with open(self.count_path, "wb") as file:
+            file.write(bytes(8))
+        self.variables = {
+            **os.environ,
+            "LD_PRELOAD": library,
+            "REFUSE_KIND": kind,
+            "REFUSE_AT": str(at),
+            "REFUSE_HOW": how,
+            "REFUSE_STORE": self.store,
+            "REFUSE_COUNT": self.count_path,
+        }
+
+    def count(self):
+        """How many requests of the kind were made so far."""
+        with open(self.count_path, "rb") as file:
+            return int.from_bytes(file.read(8), "little")
+
+    def met(self):
+        """Whether the request was made, and so refused."""
+        return 0 < self.at <= self.count()
+
+    def is_seen(self):
+        """Whether the refusal may show."""
+        return self.how not in ("short", "interrupted")
+
+    def start(self, words, **streams):
+        return subprocess.Popen([richd, *words], env=self.variables, stderr=subprocess.PIPE, bufsize=0, **streams)
+
+    def run(self, words):
+        """Runs the program to its end: its status, its output and its errors."""
+        process = self.start(words, stdout=subprocess.PIPE, stdin=subprocess.DEVNULL)
+        try:
+            output, errors = process.communicate(timeout=PATIENCE)
+        except subprocess.TimeoutExpired:
+            process.kill()
+            process.communicate()
+            raise Disagreement(f"`{words[0]}` didn't end within {PATIENCE} s") from None
+        return process.returncode, output, errors
+
+
+def undisturbed(*words):
+    """The output of a run of which nothing is refused."""
+    ended = subprocess.run([richd, *words], capture_output=True, timeout=6 * PATIENCE)
+    agree(ended.returncode == 0, f"`{words[0]}` ended with status {ended.returncode}: {ended.stderr[:200]!r}")
+    return ended.stdout
+
+
+def content_of(path):
+    with open(path, "rb") as file:
+        return file.read()
+
+
+def spread(count, most):
+    """At most so many of the numbers 1 to `count`, with its first and its last."""
+    if count <= most:
+        return list(range(1, count + 1))
+    return sorted({1 + number * (count - 1) // (most - 1) for number in range(most)})
+
+
+class Tally:
+    """What a check has tried and found. It prints a line for each disagreement, with what was refused."""
+
+    def __init__(self):
+        self.began, self.lock = time.monotonic(), threading.Lock()
+        self.refused, self.disagreements = 0, 0
+
+    def disagree(self, row, refusal, what):
+        with self.lock:
+            self.disagreements += 1
+            print(f"DISAGREES  {row}, {refusal}: {what}", flush=True)
+
+    def end(self, what):
+        took = time.monotonic() - self.began
+        print(f"{self.refused} {what}, {self.disagreements} disagreements, {took:.0f} s")
+        sys.exit(1 if self.disagreements else 0)
+
+
+def try_each(tally, rows, kinds, most, workers):
+    """Runs each row with the first, second, .. request of each kind refused, until none is met; of more than `most` only so many.
+
+    A row has a name and a call that takes a Refusal, whose folder is empty but for the count, and raises Disagreement.
+    """
+
+    def once(library, name, row, kind, how, at):
+        with tempfile.TemporaryDirectory() as folder:
+            refusal = Refusal(library, folder, kind, at, how)
+            what = f"{kind} {at}" + ("" if how == "none" else f" ({how})")
+            try:
+                row(refusal)
+            except Disagreement as disagreement:
+                tally.disagree(name, what, disagreement)
+            except Exception as error:  # the check itself can't go on: this is shown, and counts
+                tally.disagree(name, what, repr(error))
+            if refusal.met():
+                with tally.lock:
+                    tally.refused += 1
+            return refusal
+
+    with tempfile.TemporaryDirectory() as folder, concurrent.futures.ThreadPoolExecutor(workers) as pool:
+        library = os.path.join(folder, "refuse.so")
+        subprocess.run(["cc", "-O2", "-shared", "-fPIC", "-o", library, os.path.join(HERE, "refuse.c"), "-ldl"], check=True)
+        for name, row in rows:
+            for kind, how in kinds:
+                began, before, wrong = time.monotonic(), tally.refused, tally.disagreements
+                count = once(library, name, row, kind, how, 0).count()
+                for run in [pool.submit(once, library, name, row, kind, how, at) for at in spread(count, most)]:
+                    run.result()
+                beyond = count + 1  # runs beside threads may make more requests than the one that was counted
+                while count < most and once(library, name, row, kind, how, beyond).met():
+                    beyond += 1
+                took = time.monotonic() - began
+                print(
+                    f"{name}, {kind}{'' if how == 'none' else ' (' + how + ')'}: {tally.refused - before} of {count} refused, "
+                    f"{tally.disagreements - wrong} disagreements, {took:.1f} s",
+                    flush=True,
+                )
+
+
+def arguments():
+    """How many requests of a row are refused at most, and how many runs go on at once."""
+    words = [int(word) for word in sys.argv[1:]]
+    return (words[0] if words else 1 << 62), (words[1] if len(words) > 1 else os.cpu_count() or 1)
