@@ -126,7 +126,7 @@ def try_each(tally, rows, kinds, most, workers):
             if refusal.met():
                 with tally.lock:
                     tally.refused += 1
-            return refusal
+            return refusal.count()
 
     with tempfile.TemporaryDirectory() as folder, concurrent.futures.ThreadPoolExecutor(workers) as pool:
         library = os.path.join(folder, "refuse.so")
@@ -134,11 +134,11 @@ def try_each(tally, rows, kinds, most, workers):
         for name, row in rows:
             for kind, how in kinds:
                 began, before, wrong = time.monotonic(), tally.refused, tally.disagreements
-                count = once(library, name, row, kind, how, 0).count()
+                count = once(library, name, row, kind, how, 0)
                 for run in [pool.submit(once, library, name, row, kind, how, at) for at in spread(count, most)]:
                     run.result()
                 beyond = count + 1  # runs beside threads may make more requests than the one that was counted
-                while count < most and once(library, name, row, kind, how, beyond).met():
+                while count < most and once(library, name, row, kind, how, beyond) >= beyond:
                     beyond += 1
                 took = time.monotonic() - began
                 print(

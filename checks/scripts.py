@@ -271,7 +271,7 @@ class Play:
         self.states = [{}]  # of an undisturbed run: the documents after so many commands that were taken
         self.taken = 0  # how many commands were taken, as was acknowledged
         self.last = {}  # of each source and document, the commands that were taken last, with their revisions
-        self.starts = 0
+        self.restarts = 0
         self.seen = False  # whether the refusal has shown in a reply or an end
 
     def all(self):
@@ -291,7 +291,6 @@ class Play:
 
     def begin(self):
         """Starts the program until it serves."""
-        self.starts += 1
         follows = self.session.next if self.session and self.source == self.session.source else {}
         for _ in range(3):
             before = content_of(self.refusal.store)
@@ -326,7 +325,7 @@ class Play:
 
     def settle(self, message):
         """Asks a message until it has an answer that isn't of the refusal, and compares that."""
-        number, tries, starts = len(self.replies), 0, self.starts
+        number, tries = len(self.replies), 0
         while True:
             tries += 1
             agree(tries <= 4, f"{message['do']} got no answer in four tries")
@@ -334,8 +333,7 @@ class Play:
                 reply = self.session.ask(message)
             except Ended:
                 self.check_stop(None, message)
-                self.begin()
-                self.resend()
+                self.begin_again()
                 continue
             code = reply.get("code")
             if code == 22 and self.refusal.kind == "memory":
@@ -344,8 +342,7 @@ class Play:
             if code == 21 and self.refusal.kind != "memory":
                 self.shows(reply)
                 self.check_failed(message)
-                self.begin()
-                self.resend()
+                self.begin_again()
                 continue
             break
         self.compare(number, message, reply, tries > 1)
@@ -358,7 +355,7 @@ class Play:
             may_be = [wanted]
             if asked_again and wanted.get("ok") == "taken":
                 may_be.append({**wanted, "ok": "again"})
-            if self.starts > len(self.script.sessions) and message["do"] in ("fetch", "since") and "rev" in message:
+            if self.restarts and message["do"] in ("fetch", "since") and "rev" in message:
                 may_be.append({"code": 13, "error": "TooOld"})  # the past is held from the newest milestone on
             agree(reply in may_be, f"message {number}, {message['do']}: {reply} and not {wanted}")
             reply = wanted
@@ -372,15 +369,18 @@ class Play:
                 replies = {doc: self.session.ask(fetch(doc)) for doc in sorted(docs)}
                 self.states.append({doc: (it["rev"], it["ops"]) for doc, it in replies.items()})
 
-    def resend(self):
-        """After a start: the source's last commands that were acknowledged are known."""
+    def begin_again(self):
+        """Starts the program again. It knows the source's last commands that were acknowledged."""
+        self.restarts += 1
+        self.begin()
         for (source, doc), mine in self.last.items():
             if source == self.source:
                 for message, rev in mine:
                     reply = self.ask_till_done(message)
                     wanted = {"doc": doc, "n": message["n"], "ok": "again", "rev": rev}
                     # the command whose reply is missing may have been taken: then this one is no longer in the window
-                    agree(reply == wanted or reply.get("code") == 10, f"sent again: {reply} and not {wanted}")
+                    dropped = 7 if message["do"] == "create" else 10
+                    agree(reply == wanted or reply.get("code") == dropped, f"sent again: {reply} and not {wanted}")
 
     def documents(self, pending):
         """What the store may hold now: what was acknowledged, or that and the command that is pending."""
@@ -448,15 +448,17 @@ class Play:
             lines = [{"do": "hello", "source": source}, *(message for message, _ in mine), undo(doc, mine[-1][0]["n"] + 2)]
             wanted = [{"ok": "hello"}, *({"doc": doc, "n": it["n"], "ok": "again", "rev": rev} for it, rev in mine)]
             wanted.append({"code": 9, "error": "Gap"})
-            self.session = Session(self.refusal, self.script.options, source)
-            try:
-                replies = [self.ask_till_done(line) for line in lines]
-                agree(replies == wanted, f"at the end {source} is answered {replies}")
-                self.session.end()
-            except Ended:
-                self.check_stop(content_of(self.refusal.store))
-            finally:
-                self.session.close()
+            for _ in range(2):  # once more where the refusal ends the program
+                self.session = Session(self.refusal, self.script.options, source)
+                try:
+                    replies = [self.ask_till_done(line) for line in lines]
+                    agree(replies == wanted, f"at the end {source} is answered {replies}")
+                    self.close()
+                    break
+                except Ended:
+                    self.check_stop(content_of(self.refusal.store))
+                finally:
+                    self.session.close()
         if self.script.wanted is not None:
             for key, ops in self.told.items():
                 agree(self.script.wanted.told.get(key, ops) == ops, f"news of {key}: {ops}")

@@ -214,7 +214,7 @@ class Client(threading.Thread):
             self.server.shows(reply)
             self.failed = True
         elif code == 13 and message["do"] == "edit" and tries > 0:
-            message["base"] = self.ask([{"do": "fetch", "doc": message["doc"]}])[0]["rev"]  # the base isn't held after a start
+            message["base"] = self.settle([{"do": "fetch", "doc": message["doc"]}])[0]["rev"]  # the base isn't held after a start
         else:
             raise Disagreement(f"{message['do']}: {reply}")
         return None
