@@ -73,6 +73,12 @@ def refuse_constant(word):
     raise ValueError(word)
 
 
+def number(word):
+    if abs(float(word)) == float("inf"):
+        raise Open  # a reader of JSON may bound its numbers
+    return Number(word)
+
+
 def whole(value, least, most):
     """Whether a value is a whole number in a range."""
     if isinstance(value, Number):
@@ -134,7 +140,7 @@ def refusal_of(line):
     if re.search(r"\\u[dD][89a-fA-F]|(?<![\d.eE+-])-0(?![\d.eE])", text):
         return None  # halves of a pair as escapes, and -0
     try:
-        message = json.loads(text, object_pairs_hook=pairs, parse_constant=refuse_constant, parse_float=Number)
+        message = json.loads(text, object_pairs_hook=pairs, parse_constant=refuse_constant, parse_float=number)
     except Open:
         return None
     except (ValueError, RecursionError):
