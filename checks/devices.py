@@ -5,8 +5,8 @@ usage: checks/devices.py [IMAGES] [SEED] [RUNS]     (default: 100,000 images; as
 
 An image is drawn from a real store, as the sessions of scripts.py leave it after each of their messages: bytes of it are changed, numbers
 put to their edges, parts filled, copied, moved, left out or put in, slots and cells exchanged, the end cut off or made longer. `dump` by
-either pick has to print documents, status 0, or end with status 1 and `error 30 NotFormatted` or `error 32 Damaged`, within a second; and
-the file has to be the same afterwards, and not written. An image that disagrees is kept, in a folder that is named.
+either pick has to print documents, status 0, or end with status 1 and `error 30 NotFormatted` or `error 32 Damaged`, within a second of a
+processor; and the file has to be the same afterwards, and not written. An image that disagrees is kept, in a folder that is named.
 
 Run ./demo first, which builds crates/richd/out/richd, or name another program in RICHD. The images lie in a temporary folder (TMPDIR).
 """
@@ -26,10 +26,12 @@ import time
 from refusing import richd
 from scripts import SCRIPTS
 
-SLOWEST = 1.0  # seconds
+SLOWEST = 1.0  # seconds of a processor
+PATIENCE = 20  # seconds, after which a run hangs
 LARGEST = 1 << 16  # bytes of a store that images are drawn from
 DOCUMENT = re.compile(rb'[A-Za-z0-9._-]{1,64} ([0-9]+) ([0-9]+) (\{"ops":\[.*\]\})')
-EDGES = [0, 1, 2, 3, 4, 9, 0x7F, 0x80, 0xFF, 0xA5, 0xFFFF, (1 << 31) - 1, 1 << 31, (1 << 32) - 1, (1 << 48) + 1, (1 << 53) - 1, 1 << 53, (1 << 64) - 1]
+EDGES = [0, 1, 2, 3, 4, 9, 0x7F, 0x80, 0xFF, 0xA5, 0xFFFF]
+EDGES += [(1 << 31) - 1, 1 << 31, (1 << 32) - 1, (1 << 48) + 1, (1 << 53) - 1, 1 << 53, (1 << 64) - 1]
 FILLS = [b"\x00", b"\xa5", b"\xff", b"\x3c", b"\x01"]
 
 
@@ -128,30 +130,36 @@ def is_dump(output):
     return True
 
 
+def run(words):
+    """Runs the program: its status, its output, its errors, and the seconds of a processor that it took. One that hangs is killed."""
+    with tempfile.TemporaryFile() as output, tempfile.TemporaryFile() as errors:
+        process = subprocess.Popen([richd, *words], stdin=subprocess.DEVNULL, stdout=output, stderr=errors)
+        killer = threading.Timer(PATIENCE, process.kill)
+        killer.start()
+        _, status, used = os.wait4(process.pid, 0)
+        killer.cancel()
+        process.returncode = os.waitstatus_to_exitcode(status)
+        output.seek(0)
+        errors.seek(0)
+        return process.returncode, output.read(), errors.read(), used.ru_utime + used.ru_stime
+
+
 def wrong_of(path, content, ends):
     """What is wrong with the answers on an image, or none."""
     with open(path, "wb") as file:
         file.write(content)
     written = os.stat(path).st_mtime_ns
     for pick in ("newer", "older"):
-        for _ in range(3):  # it is the program that may be slow, and not the machine
-            began = time.monotonic()
-            try:
-                ended = subprocess.run([richd, "dump", path, "--pick", pick], capture_output=True, timeout=10 * SLOWEST)
-            except subprocess.TimeoutExpired:
-                return f"{pick} takes above {10 * SLOWEST} s"
-            took = time.monotonic() - began
-            if took <= SLOWEST:
-                break
-        end = ended.returncode, ended.stderr
+        status, output, errors, took = run(["dump", path, "--pick", pick])
         if took > SLOWEST:
-            return f"{pick} takes {took:.1f} s"
+            return f"{pick} takes {took:.1f} s of a processor, and ends with status {status}"
+        end = status, errors
         if end == (0, b""):
-            if not is_dump(ended.stdout):
-                return f"{pick} prints {ended.stdout[:300]!r}"
-        elif end not in ((1, b"error 30 NotFormatted\n"), (1, b"error 32 Damaged\n")) or ended.stdout:
-            return f"{pick} ends with status {end[0]}, {end[1][:300]!r}, {ended.stdout[:300]!r}"
-        ends[f"{pick} {ended.stderr.decode().strip() or 'printed'}"] += 1
+            if not is_dump(output):
+                return f"{pick} prints {output[:300]!r}"
+        elif end not in ((1, b"error 30 NotFormatted\n"), (1, b"error 32 Damaged\n")) or output:
+            return f"{pick} ends with status {status}, {errors[:300]!r}, {output[:300]!r}"
+        ends[f"{pick} {errors.decode().strip() or 'printed'}"] += 1
         with open(path, "rb") as file:
             if file.read() != content or os.stat(path).st_mtime_ns != written:
                 return f"{pick} writes the file"

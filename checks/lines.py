@@ -24,7 +24,8 @@ import tempfile
 import threading
 import time
 
-richd = os.environ.get("RICHD") or os.path.join(os.path.dirname(os.path.abspath(__file__)), "../crates/richd/out/richd")
+from refusing import richd
+
 PATIENCE = 30  # seconds
 LONGEST = 65_536
 MOST = 16 << 20  # bytes of memory
@@ -177,12 +178,17 @@ def refusal_of(line):
 
 DOCS = ["d0", "d1", "d2", "d3"]
 NUMBERS = [
-    "-1", "0", "1", "2", "3", "1.0", "1e0", "0.5", "-0", "01", "+1", ".5", "1.", "0x1", "NaN", "Infinity", "1e400", "4294967295", "4294967296",
-    "9007199254740990", "9007199254740991", "9007199254740992", "9223372036854775807", "9223372036854775808", "18446744073709551615",
-    "18446744073709551616", "1" + "0" * 40,
+    "-1", "0", "1", "2", "3", "1.0", "1e0", "0.5", "-0", "01", "+1", ".5", "1.", "0x1", "NaN", "Infinity", "1e400", "4294967295",
+    "4294967296", "9007199254740990", "9007199254740991", "9007199254740992", "9223372036854775807", "9223372036854775808",
+    "18446744073709551615", "18446744073709551616", "1" + "0" * 40,
 ]  # fmt: skip
-OTHERS = ["null", "true", "false", '""', '"1"', "[]", "{}", "[1]", '{"a":1}', '"\\u0000"', "nul", "tru", "'a'", '"a', "[1,]", '{"a":1,}', "[,]"]
-TEXTS = ["", "d0", "d4", "no", "a b", "é", "a/b", "😀", "a" * 64, "a" * 65, "x" * 32, "..", "-", "\\u0064\\u0030", "\\ud83d\\ude00", "\\ud800"]
+OTHERS = [
+    "null", "true", "false", '""', '"1"', "[]", "{}", "[1]", '{"a":1}', '"\\u0000"', "nul", "tru", "'a'", '"a', "[1,]", '{"a":1,}', "[,]",
+]  # fmt: skip
+TEXTS = [
+    "", "d0", "d4", "no", "a b", "é", "a/b", "😀", "a" * 64, "a" * 65, "x" * 32, "..", "-", "\\u0064\\u0030",
+    "\\ud83d\\ude00", "\\ud800",
+]  # fmt: skip
 OPERATIONS = [
     '{"insert":""}', '{"insert":"x"}', '{"insert":"a😀b"}', '{"insert":"\\ud83d"}', '{"insert":{"image":"a.png"}}', '{"insert":{}}',
     '{"insert":{"a":1,"b":2}}', '{"insert":{"a":null}}', '{"insert":{"a":{}}}', '{"insert":{"":1}}', '{"insert":1}', '{"insert":null}',
@@ -192,11 +198,14 @@ OPERATIONS = [
     '{}', '[]', 'null', '1', '"x"', '{"attributes":{"b":true}}', '{"insert":"x","attributes":{"b":true}}',
     '{"insert":"x","attributes":{"b":null}}', '{"retain":1,"attributes":{"b":null}}', '{"retain":1,"attributes":{"b":9007199254740991}}',
     '{"retain":1,"attributes":{"b":9007199254740992}}', '{"retain":1,"attributes":{"b":-9007199254740991}}',
-    '{"retain":1,"attributes":{"b":0.5}}', '{"retain":1,"attributes":{"b":[]}}', '{"retain":1,"attributes":[]}', '{"retain":1,"attributes":null}',
-    '{"retain":1,"attributes":{"":1}}', '{"retain":1,"attributes":{"%s":1}}' % ("n" * 64), '{"retain":1,"attributes":{"%s":1}}' % ("n" * 65),
+    '{"retain":1,"attributes":{"b":0.5}}', '{"retain":1,"attributes":{"b":[]}}', '{"retain":1,"attributes":[]}',
+    '{"retain":1,"attributes":null}', '{"retain":1,"attributes":{"":1}}', '{"retain":1,"attributes":{"%s":1}}' % ("n" * 64),
+    '{"retain":1,"attributes":{"%s":1}}' % ("n" * 65),
     '{"insert":"x","insert":"y"}', '{"insert":"x","other":1}', '{"Insert":"x"}',
 ]  # fmt: skip
-BYTES = [b"\xff", b"\x80", b"\xc3", b"\xc0\xaf", b"\xed\xa0\x80", b"\xf4\x90\x80\x80", b"\xf0\x9f\x98", b"\x00", b"\x0b", b"\r", b"\xef\xbb\xbf"]
+BYTES = [
+    b"\xff", b"\x80", b"\xc3", b"\xc0\xaf", b"\xed\xa0\x80", b"\xf4\x90\x80\x80", b"\xf0\x9f\x98", b"\x00", b"\x0b", b"\r", b"\xef\xbb\xbf",
+]  # fmt: skip
 
 
 class Lines:
@@ -303,7 +312,8 @@ class Lines:
             line = line[:place] + self.pick(BYTES) + line[place + self.pick((0, 1)) :]
         if self.chance(1_500):
             length = self.pick((65_535, 65_536, 65_537, 65_538, 70_000, 200_000))
-            line = self.pick((line + b" " * (length - len(line)), b" " * (length - len(line)) + line, line[:-1] + b"x" * (length - len(line)) + line[-1:]))
+            more = length - len(line)
+            line = self.pick((line + b" " * more, b" " * more + line, line[:-1] + b"x" * more + line[-1:]))
         if self.chance(20):
             line += b"\r"
         return line.replace(b"\n", b"")
@@ -327,14 +337,16 @@ class Lines:
             self.last[doc] = max(self.last[doc], reply["n"])
         elif reply.get("ok") == "doc":
             self.rev[doc] = max(self.rev[doc], reply["rev"])
-            self.length[doc] = sum(len(it["insert"].encode("utf-16-le")) // 2 if isinstance(it["insert"], str) else 1 for it in reply["ops"])
+            inserts = [it["insert"] for it in reply["ops"]]
+            self.length[doc] = sum(len(it.encode("utf-16-le")) // 2 if isinstance(it, str) else 1 for it in inserts)
 
 
 class Server:
     """One session over pipes. What it writes is read by a thread of its own."""
 
     def __init__(self, store):
-        self.process = subprocess.Popen([richd, "serve", store], stdin=subprocess.PIPE, stdout=subprocess.PIPE, stderr=subprocess.PIPE, bufsize=0)
+        streams = {"stdin": subprocess.PIPE, "stdout": subprocess.PIPE, "stderr": subprocess.PIPE}
+        self.process = subprocess.Popen([richd, "serve", store], **streams, bufsize=0)
         self.lines = queue.Queue()
         threading.Thread(target=self.read, daemon=True).start()
 
@@ -467,7 +479,8 @@ def main():
         while (rest := server.lines.get(timeout=PATIENCE)) is not None:
             if b'"news":' not in rest and b'"ended":' not in rest:
                 check.disagree(f"a reply too many, {rest[:200]!r}")
-    print("by answer:", ", ".join(f"{NAMES.get(code, 'ok')} {number}" for code, number in sorted(check.codes.items())), f"; news {check.news}")
+    by_answer = ", ".join(f"{NAMES.get(code, 'ok')} {number}" for code, number in sorted(check.codes.items()))
+    print(f"by answer: {by_answer}; news {check.news}")
     print(
         f"{sent} lines (seed {seed}), {check.disagreements} disagreements, memory {(most - first) >> 10} KiB more than after the first, "
         f"{time.monotonic() - began:.0f} s"

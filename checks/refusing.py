@@ -1,4 +1,4 @@
-"""What no_memory.py and faults.py share: runs of the program of which one request is refused, by refuse.c, and the count of what they show."""
+"""What no_memory.py and faults.py share: runs of the program of which refuse.c refuses one request, and the count of what they show."""
 import concurrent.futures
 import os
 import subprocess

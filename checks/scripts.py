@@ -66,7 +66,7 @@ def delete(length):
 LONG = "Durable rich text. " * 1_000
 WIDE = {f"attribute{letter}": None for letter in "abcdefghijklmno"}  # 15 removals of ten bytes each: an entry of 236 bytes of 237
 
-# In turn a letter is put behind the first one and taken away, in two documents. Each entry has 50 or 51 bytes, so a slot holds four of them.
+# In turn a letter is put behind the first one and taken away, in two documents. Each entry has 50 or 51 bytes: a slot holds four of them.
 TURNS = [
     message
     for n in range(2, 14)

@@ -58,11 +58,11 @@ class Server:
         agree(status == 1 and errors in wanted, f"the server ended with status {status}, {errors[:200]!r}")
         self.shows("an end")
 
-    def has_closed(self):
-        """A connection is closed behind its hello only by a server that ends."""
+    def has_closed(self, starts):
+        """A connection to the server of so many starts was closed behind its hello, which only a server does that ends."""
         with self.lock:
             try:
-                if self.process is not None:
+                if self.process is not None and starts == self.starts:
                     self.process.wait(1)
             except subprocess.TimeoutExpired:
                 raise Disagreement("a session was closed, and the server goes on") from None
@@ -197,7 +197,7 @@ class Client(threading.Thread):
             except ConnectionError:
                 self.socket.close()
                 self.socket = None
-                self.server.has_closed()
+                self.server.has_closed(self.starts)
             if None not in settled:
                 return settled
         raise Disagreement(f"{messages} in eight tries: {settled}")
