@@ -86,7 +86,7 @@ def spread(count, most):
     """At most so many of the numbers 1 to `count`, with its first and its last."""
     if count <= most:
         return list(range(1, count + 1))
-    return sorted({1 + number * (count - 1) // (most - 1) for number in range(most)})
+    return sorted({1 + number * (count - 1) // max(1, most - 1) for number in range(most)})
 
 
 class Tally:
@@ -132,9 +132,12 @@ def try_each(tally, rows, kinds, most, workers):
         library = os.path.join(folder, "refuse.so")
         subprocess.run(["cc", "-O2", "-shared", "-fPIC", "-o", library, os.path.join(HERE, "refuse.c"), "-ldl"], check=True)
         for name, row in rows:
+            counts = {}  # of each kind, how many requests an undisturbed run makes
             for kind, how in kinds:
                 began, before, wrong = time.monotonic(), tally.refused, tally.disagreements
-                count = once(library, name, row, kind, how, 0)
+                if kind not in counts:
+                    counts[kind] = once(library, name, row, kind, how, 0)
+                count = counts[kind]
                 for run in [pool.submit(once, library, name, row, kind, how, at) for at in spread(count, most)]:
                     run.result()
                 beyond = count + 1  # runs beside threads may make more requests than the one that was counted
