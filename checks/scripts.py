@@ -309,8 +309,9 @@ class Play:
         raise Disagreement("the program can't be started")
 
     def shows(self, what):
-        """A refusal shows once, and only where one was met."""
+        """A refusal shows only where a request was refused, and one request that finds no memory shows once."""
         agree(self.refusal.met() and self.refusal.is_seen(), f"{what} where nothing was refused")
+        agree(self.refusal.kind != "memory" or not self.seen, f"{what}, and one request was refused, which has shown before")
         self.seen = True
 
     def ask_till_done(self, message):
@@ -423,7 +424,11 @@ class Play:
         """All news of what is followed come with the next lines."""
         for doc, nexts in list(self.session.next.items()):
             for _ in range(4):
-                newest = self.ask_till_done(fetch(doc))["rev"]
+                reply = self.ask_till_done(fetch(doc))
+                if reply.get("code") == 21 and self.refusal.kind != "memory":
+                    self.shows(reply)
+                    break  # the store has failed behind the last command
+                newest = reply["rev"]
                 if self.session.next.get(doc) == {newest + 1} or doc not in self.session.next:
                     break
             else:
