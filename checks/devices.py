@@ -5,8 +5,9 @@ usage: checks/devices.py [IMAGES] [SEED] [RUNS]     (default: 100,000 images; as
 
 An image is drawn from a real store, as the sessions of scripts.py leave it after each of their messages: bytes of it are changed, numbers
 put to their edges, parts filled, copied, moved, left out or put in, slots and cells exchanged, the end cut off or made longer. `dump` by
-either pick has to print documents, status 0, or end with status 1 and `error 30 NotFormatted` or `error 32 Damaged`, within a second of a
-processor; and the file has to be the same afterwards, and not written. An image that disagrees is kept, in a folder that is named.
+either pick has to print documents, status 0, or end with status 1 and `error 30 NotFormatted` or `error 32 Damaged`: just what reading.py
+finds by docs/FORMATS.md. It has a second of a processor for it; and the file has to be the same afterwards, and not written. An image that
+disagrees is kept, in a folder that is named.
 
 Run ./demo first, which builds crates/richd/out/richd, or name another program in RICHD. The images lie in a temporary folder (TMPDIR).
 """
@@ -23,13 +24,14 @@ import tempfile
 import threading
 import time
 
+import reading
 from refusing import richd
 from scripts import SCRIPTS
 
 SLOWEST = 1.0  # seconds of a processor
 PATIENCE = 20  # seconds, after which a run hangs
 LARGEST = 1 << 16  # bytes of a store that images are drawn from
-DOCUMENT = re.compile(rb'[A-Za-z0-9._-]{1,64} ([0-9]+) ([0-9]+) (\{"ops":\[.*\]\})')
+DOCUMENT = re.compile(rb'([A-Za-z0-9._-]{1,64}) ([0-9]+) ([0-9]+) (\{"ops":\[.*\]\})\n')
 EDGES = [0, 1, 2, 3, 4, 9, 0x7F, 0x80, 0xFF, 0xA5, 0xFFFF]
 EDGES += [(1 << 31) - 1, 1 << 31, (1 << 32) - 1, (1 << 48) + 1, (1 << 53) - 1, 1 << 53, (1 << 64) - 1]
 FILLS = [b"\x00", b"\xa5", b"\xff", b"\x3c", b"\x01"]
@@ -119,15 +121,24 @@ def drawn_image(images, seed, number):
     return bytes(content)
 
 
-def is_dump(output):
-    """Whether an output is lines of documents."""
+def wanted_of(content, pick):
+    """The status, the documents and the errors that are due for an image."""
+    found = reading.found(content, pick == "newer")
+    if isinstance(found, int):
+        return 1, [], b"error 30 NotFormatted\n" if found == reading.NOT_FORMATTED else b"error 32 Damaged\n"
+    return 0, [(name, rev, floor, json.dumps(ops, sort_keys=True)) for name, rev, floor, ops in found], b""
+
+
+def documents_of(output):
+    """The documents of an output, which is lines of them, or None."""
+    documents = []
     for line in output.splitlines(True):
-        found = DOCUMENT.fullmatch(line[:-1])
-        if not (line.endswith(b"\n") and found and int(found[2]) <= int(found[1])):
-            return False
-        if not all("insert" in operation for operation in json.loads(found[3])["ops"]):
-            return False
-    return True
+        found = DOCUMENT.fullmatch(line)
+        if not found:
+            return None
+        ops = json.loads(found[4])["ops"]
+        documents.append((found[1].decode(), int(found[2]), int(found[3]), json.dumps(ops, sort_keys=True)))
+    return documents
 
 
 def run(words):
@@ -153,12 +164,9 @@ def wrong_of(path, content, ends):
         status, output, errors, took = run(["dump", path, "--pick", pick])
         if took > SLOWEST:
             return f"{pick} takes {took:.1f} s of a processor, and ends with status {status}"
-        end = status, errors
-        if end == (0, b""):
-            if not is_dump(output):
-                return f"{pick} prints {output[:300]!r}"
-        elif end not in ((1, b"error 30 NotFormatted\n"), (1, b"error 32 Damaged\n")) or output:
-            return f"{pick} ends with status {status}, {errors[:300]!r}, {output[:300]!r}"
+        ended, wanted = (status, documents_of(output), errors), wanted_of(content, pick)
+        if ended != wanted:
+            return f"{pick} gives {str(ended)[:300]} and not {str(wanted)[:300]}"
         ends[f"{pick} {errors.decode().strip() or 'printed'}"] += 1
         with open(path, "rb") as file:
             if file.read() != content or os.stat(path).st_mtime_ns != written:
@@ -195,8 +203,8 @@ def main():
                 ends.update(mine)
 
         with concurrent.futures.ThreadPoolExecutor(runs) as pool:
-            for run in [pool.submit(work, worker) for worker in range(runs)]:
-                run.result()
+            for begun in [pool.submit(work, worker) for worker in range(runs)]:
+                begun.result()
     print("by end:", ", ".join(f"{end} {number}" for end, number in sorted(ends.items())))
     print(f"{count} images of {len(images)} stores (seed {seed}), {len(wrong)} disagreements, {time.monotonic() - began:.0f} s")
     sys.exit(1 if wrong else 0)
