@@ -102,6 +102,8 @@ class Tally:
             print(f"DISAGREES  {row}, {refusal}: {what}", flush=True)
 
     def end(self, what):
+        if self.refused == 0:
+            self.disagree("all rows", "none", "nothing was refused: is the program one that calls the C library which is preloaded?")
         took = time.monotonic() - self.began
         print(f"{self.refused} {what}, {self.disagreements} disagreements, {took:.0f} s")
         sys.exit(1 if self.disagreements else 0)
