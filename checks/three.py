@@ -16,7 +16,7 @@ class Server:
 
     def __init__(self, refusal, options):
         self.refusal, self.options = refusal, options
-        self.lock, self.process, self.address, self.starts, self.stops = threading.Lock(), None, None, 0, False
+        self.lock, self.process, self.address, self.starts = threading.Lock(), None, None, 0
 
     def shows(self, what):
         agree(self.refusal.met() and self.refusal.is_seen(), f"{what} where nothing was refused")
@@ -95,8 +95,8 @@ class Client(threading.Thread):
             agree(self.there.wait(6 * PATIENCE), "the shared document isn't made")
             self.next[SHARED], self.base[SHARED] = self.next.get(SHARED, 1), 1
             if self.number == 0:
-                self.settle([{"do": "subscribe", "doc": SHARED, "rev": 1}])
                 self.follows = True
+                self.connect(False)
             for number in range(EDITS):
                 self.edit_both(f"{self.source}.{number};")
             if self.number == 0:
@@ -141,12 +141,7 @@ class Client(threading.Thread):
                 self.socket = socket.create_connection(address, PATIENCE)
                 self.socket.setsockopt(socket.IPPROTO_TCP, socket.TCP_NODELAY, 1)
                 self.input = self.socket.makefile("rb")
-                if self.answers({"do": "hello", "source": self.source}, {"ok": "hello"}) and (
-                    not self.follows
-                    or self.answers(
-                        {"do": "subscribe", "doc": SHARED, "rev": self.told}, {"doc": SHARED, "ok": "subscribed", "rev": self.told}
-                    )
-                ):
+                if self.greets() and (not self.follows or self.subscribes()):
                     return
             except TimeoutError:
                 raise Disagreement(f"no reply within {PATIENCE} s to hello") from None
@@ -155,14 +150,22 @@ class Client(threading.Thread):
             time.sleep(0.05)  # as where all places are taken; or the server is about to end
         raise Disagreement("no session in ten tries")
 
-    def answers(self, message, wanted):
+    def greets(self):
+        """Whether the session begins. A hello that finds no memory is said again."""
+        return any(self.is_answered({"do": "hello", "source": self.source}, {"ok": "hello"}) for _ in range(2))
+
+    def subscribes(self):
+        """Whether the session follows the shared document. One whose subscription finds no memory is given up, since it may follow."""
+        told = self.told
+        return self.is_answered({"do": "subscribe", "doc": SHARED, "rev": told}, {"doc": SHARED, "ok": "subscribed", "rev": told})
+
+    def is_answered(self, message, wanted):
         """Whether a message gets the reply that is wanted, and not a refusal of what it needs."""
-        for _ in range(2):
-            reply = self.ask([message])[0]
-            if reply == wanted:
-                return True
-            agree(reply.get("code") == (22 if self.server.refusal.kind == "memory" else 21), f"{message['do']}: {reply}")
-            self.server.shows(reply)
+        reply = self.ask([message])[0]
+        if reply == wanted:
+            return True
+        agree(reply.get("code") == (22 if self.server.refusal.kind == "memory" else 21), f"{message['do']}: {reply}")
+        self.server.shows(reply)
         return False
 
     def ask(self, messages):
