@@ -8,8 +8,6 @@ pub mod callers;
 #[cfg(test)]
 mod freeing;
 #[cfg(test)]
-mod jobs;
-#[cfg(test)]
 mod made;
 #[cfg(test)]
 mod runs;

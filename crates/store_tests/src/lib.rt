@@ -19,8 +19,6 @@ mod deltas;
 #[cfg(test)]
 mod devices;
 #[cfg(test)]
-mod filling;
-#[cfg(test)]
 mod freeing;
 #[cfg(test)]
 mod heaviest;
@@ -50,7 +48,5 @@ mod scripts;
 mod stopping;
 #[cfg(test)]
 mod stores;
-#[cfg(test)]
-mod third_batch;
 #[cfg(test)]
 mod upkeep;
