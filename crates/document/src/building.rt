@@ -154,6 +154,9 @@ impl ChunkBuilder {
         ensures ok { OnOk result (self.new ≡ self.old ++ runs_of_chunks chunks.now) }
         ensures only { IsOkUnless result Refusal.NoMemory }
     {
+        if chunks.is_empty() {
+            return Ok(());
+        }
         close(alloc, &mut self.made, &mut self.loose)?;
         self.made.reserve(chunks.len())?;
         extend_made(&mut self.made, chunks)?;
