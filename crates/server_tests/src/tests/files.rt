@@ -49,6 +49,13 @@ const COMMANDS: [(&str, u8, &str); 6] = [
     ("dump", 0, ""),
 ];
 
+/// Commands on a file over which a device is, each with its status and its error.
+const IN_USE: [(&str, u8, &str); 3] = [
+    ("format", 1, "error 34 Fault\n"),
+    ("serve", 1, "error 34 Fault\n"),
+    ("dump", 1, "error 34 Fault\n"),
+];
+
 /// The open gate and the number of slot 0, then the record: its gate, its length, the batch, the next gate.
 const SLOT: &[u8] =
     b"\xa5\x01\0\0\0\0\0\0\0\xa5\x2d\0\0\0\x01\0\0\0\x01\0\0\0\0\x01\0\0\0\0\0\0\0\x01\0a\x01\0\0\0\0\0\0\0\x01\0d\x01\0\0\0\x01\x01\0\0\0z\0\0\0\0\0";
@@ -161,8 +168,8 @@ fn a_file_in_use_is_a_fault(rt: HostRuntime) {
     let path = path.as_str();
     format_small(&rt, path);
     let disk = FileDisk::open(&rt, path).expect(&rt, "the file");
-    for command in &["format", "serve", "dump"] {
-        command_runs(&rt, *command, path, (1, "", "error 34 Fault\n"));
+    for (command, status, errors) in &IN_USE {
+        command_runs(&rt, *command, path, (*status, "", *errors));
     }
     drop(disk);
     command_runs(&rt, "dump", path, (0, "", ""));
