@@ -6,7 +6,7 @@ mod board;
 #[cfg(test)]
 pub mod callers;
 #[cfg(test)]
-mod made;
+mod rows;
 #[cfg(test)]
 mod seats;
 #[cfg(test)]

@@ -1,7 +1,7 @@
 //! Seats of a board: so many are given, and one that is given back can be given again.
 ghost use Rattle.std.specs.Prelude.{◌≡◌};
 
-use crate::made::SHAPE;
+use crate::rows::SHAPE;
 use disk::MemDisk;
 use hub::{Board, Seat};
 use published::{Opened, Site};

@@ -1,11 +1,12 @@
 //! A hub between threads: one orders commands and waits for each, another writes what was ordered in batches.
 ghost use Rattle.std.specs.Prelude.{◌≡◌};
 
-use crate::made::{CAP, SHAPE, command, commit, new_store};
+use crate::rows::{CAP, SHAPE};
 use disk::MemDisk;
+use fixtures::{command, commit, new_store};
 use hub::{Board, Closer, Hub, Seat, Ticket, Writer};
 use published::{Log, Opened, Site, Told};
-use recovery::{Receipt, Store};
+use recovery::{Receipt, Shape, Store};
 use refusal::Refusal;
 use revision::State;
 use std::alloc::Global;
@@ -168,7 +169,7 @@ fn both<J: Site + Send + Sync, R: Threads + Wait + Abort + AllocGlobal + Sync>(
     requires start { state ≡ J.start }
 {
     let alloc = rt.alloc();
-    let store = new_store(rt, slots);
+    let store = new_store(alloc, Shape { slots, ..SHAPE }).expect(rt, "a store");
     let (log, told) = opened.named::<_, J>();
     let mut board = Board::new(alloc, state, told.copy(), blank, 64);
     let mut seat = board.seat().expect(rt, "a seat");

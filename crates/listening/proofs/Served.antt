@@ -1,20 +1,25 @@
 -- What a flusher's thread writes is what serving a store leaves of it.
-use Rattle.std.proofs.Common.{◌≡◌, ◌≤◌, ℕ, List, [], ◌∷◌, ◌++◌, length, refl, sym, ◌∙◌, ap, subst, arith}
+use Rattle.std.proofs.Common.{◌≡◌, ◌≤◌, ◌↔◌, ℕ, true, false, List, [], ◌∷◌, ◌++◌, length, length-append, append-nil, refl, sym, ◌∙◌, ap, subst, arith, Ok}
+use Rattle.std.specs.Prelude.{Bool, Result, Err, OnOk, IsErrOf, is_err}
+use Rattle.std.proofs.lemmas.Bool.{false≢true}
 use mathlib.Core.List.{IsPrefix}
 use Rattle.disk.specs.declared.device.Disk.{Ghosts}
 use Rattle.revision.specs.Command.{Taken}
-use Rattle.revision.specs.State.{State, fold}
+use Rattle.refusal.specs.declared.Refusal.{Refusal}
+use Rattle.refusal.specs.declared.Refusal.TheVariants.{Fault}
+use Rattle.revision.specs.State.{State, fold, all_grow}
 use Rattle.recovery.specs.declared.store.Store.{Store}
-use Rattle.recovery.specs.Found.{commands_of}
-use Rattle.recovery.specs.Open.{state_of}
+use Rattle.recovery.specs.Found.{commands_of, FoundAs}
+use Rattle.recovery.specs.Open.{state_of, has_failed}
 use Rattle.recovery.specs.Goes.{Goes}
-use Rattle.recovery.proofs.CallerLemmas.{goes_none, goes_map, found_as, found_open}
+use Rattle.recovery.proofs.CallerLemmas.{goes_none, goes_map, found_as, found_open, found_now}
 use Rattle.flusher.specs.declared.flusher.Flusher.{Flusher}
 use Rattle.flusher.specs.Batches.{IsBeginning}
 use Rattle.flusher.specs.Holding.{store_of, told_of, committed_of, waiting_of}
 use Rattle.published.specs.Batches.{IsShorter}
 use Rattle.turns.specs.Writing.{WasAt, Writes, given_to, told_count}
 use Rattle.listening.specs.Served.{IsServed, IsStarted, WasServed, WasShown}
+use Rattle.listening.specs.Written.{HasWritten, HasRun}
 
 -- what begins a state's batches begins those of a state that is the same, where no less was asked for
 within : (least less : ℕ) (start other : State) (batches : List (List Taken)) (content : List ℕ) → least ≡ less → start ≡ other
@@ -91,6 +96,75 @@ module _ {D J : Type 0} {disk : Ghosts D} where
         (subst (λ (l : List (List Taken)). IsServed (told_of new) (committed_of new) l (store_of old) (store_of new)) rest
         (served_by start old new started before kept few writes));
   }
+
+-- what stands for batches of which none is committed and not shown begins all of them, as many commands as were shown
+begins_shown : (start : State) (told committed waiting : List (List Taken)) (content : List ℕ) → committed ≡ [] → FoundAs content (fold start (commands_of (told ++ committed)))
+    → IsBeginning (length (commands_of told)) start (told ++ (committed ++ waiting)) content
+begins_shown start told committed waiting content none found =
+    let all : told ++ committed ≡ told = ap (λ (l : List (List Taken)). told ++ l) none ∙ append-nil told in
+    record {
+      first = told;
+      more = waiting;
+      whole = ap (λ (l : List (List Taken)). told ++ (l ++ waiting)) (sym none);
+      enough = omega arith;
+      found = subst (λ (l : List (List Taken)). FoundAs content (fold start (commands_of l))) all found;
+    }
+
+module _ {D J : Type 0} {disk : Ghosts D} where
+  -- a flusher that was just started, and writes nothing
+  writes_nothing : (start : State) (here : Flusher D J disk) → IsStarted here → Kept start here → Writes start here here
+  writes_nothing start here started kept = record {
+    told = ([], sym (append-nil (told_of here)));
+    more = ([], sym (append-nil (given_to here)));
+    goes = goes_none (store_of here) (λ is_open. shown _ (found_as _ _ (found_open (store_of here) is_open)));
+    each = λ first shorter begins. absurd (omega (arith, shorter.1, ap (λ (l : List (List Taken)). length l) begins.1, length-append first begins.0));
+    lasts = λ works is_open content left. shown content (found_now (store_of here) is_open content left);
+  }
+    where
+      shown : (content : List ℕ) → FoundAs content (state_of (store_of here)) → IsBeginning (told_count here) start (given_to here) content
+      shown content found =
+          begins_shown start (told_of here) (committed_of here) (waiting_of here) content started.none (subst (λ (s : State). FoundAs content s) kept found)
+
+  -- it has run where there was no thread for it, and where there was one
+  pub unbegun_run : (start : State) (here : Flusher D J disk) → IsStarted here → Kept start here → HasRun start here here (Ok tt) false
+  unbegun_run start here started kept = record {
+    wrote =
+        record {
+          writes = writes_nothing start here started kept;
+          nothing = (started.none, started.idle);
+          fails = λ works. (λ failed. absurd (false≢true (sym works ∙ failed)), λ is. absurd cc);
+        };
+    unbegun = λ not_begun. refl;
+  }
+
+  pub ended_run : (start : State) (old new : Flusher D J disk) (answer : Result (Unit {0}) Refusal) → Writes start old new
+      → OnOk answer ((committed_of new ≡ []) × (waiting_of new ≡ []))
+      → (has_failed (store_of old) ≡ false → (has_failed (store_of new) ≡ true ↔ IsErrOf answer Fault)) → HasRun start old new answer true
+  ended_run start old new answer writes nothing fails = record {
+    wrote = record { writes = writes; nothing = nothing; fails = fails };
+    unbegun = λ not_begun. absurd (false≢true (sym not_begun));
+  }
+
+  -- what was written where it ended well, and nothing kept the sessions from being served
+  pub shown_end : (start : State) (old new : Flusher D J disk) (written answer : Result (Unit {0}) Refusal) → IsStarted old → Kept start old → Kept start new → Few new
+      → HasWritten start old new written → OnOk answer (written ≡ Ok tt) → OnOk answer (WasShown (store_of old) (store_of new))
+  shown_end start old new written (Ok answer) started before kept few wrote well =
+      let none : (committed_of new ≡ []) × (waiting_of new ≡ []) =
+      subst (λ (r : Result (Unit {0}) Refusal). OnOk r ((committed_of new ≡ []) × (waiting_of new ≡ []))) well wrote.nothing in
+      was_shown start old new started before kept few wrote.writes none.0 none.1
+  shown_end start old new written (Err refusal) started before kept few wrote well = tt
+
+  pub fails_end : (start : State) (old new : Flusher D J disk) (written answer : Result (Unit {0}) Refusal) → HasWritten start old new written
+      → (IsErrOf answer Fault ↔ IsErrOf written Fault) → has_failed (store_of old) ≡ false → has_failed (store_of new) ≡ true ↔ IsErrOf answer Fault
+  fails_end start old new written answer wrote fault works =
+      let fails = wrote.fails works in
+      (λ failed. fault.1 (fails.0 failed), λ is. fails.1 (fault.0 is))
+
+-- a store that worked works where the writing ended well
+pub works_ended : (answer : Result (Unit {0}) Refusal) (old new : Bool) → is_err answer ≡ false → (old ≡ false → (new ≡ true ↔ IsErrOf answer Fault)) → old ≡ false → new ≡ false
+works_ended (Ok answer) old true well fails works = absurd (let is = (fails works).0 refl in cc)
+works_ended (Ok answer) old false well fails works = refl
+works_ended (Err refusal) old new well fails works = absurd (cc well)
 
 module _ {D : Type 0} {disk : Ghosts D} where
   -- a store that nothing was written to

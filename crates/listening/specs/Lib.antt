@@ -1,2 +1,3 @@
 pub mod Served
 pub mod Streams
+pub mod Written

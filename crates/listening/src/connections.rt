@@ -1,11 +1,11 @@
 //! A store over connections.
-ghost use Rattle.std.specs.Prelude.{◌≡◌, ◌≢◌, ◌↔◌, [], true, false, OnOk, IfErr, IsErrOf, IsOkUnless};
+ghost use Rattle.std.specs.Prelude.{◌≡◌, ◌≢◌, ◌↔◌, true, false, OnOk, IfErr, IsErrOf, IsOkUnless};
 ghost use Rattle.recovery.specs.Open.{state_of, has_failed};
-ghost use Rattle.flusher.specs.Holding.{store_of, committed_of, waiting_of};
-ghost use Rattle.turns.specs.Writing.{Writes};
+ghost use Rattle.flusher.specs.Holding.{store_of};
 ghost use Rattle.listening.specs.Served.{IsStarted, WasServed, WasShown};
 
-use crate::writing::{Shared, write_all};
+use crate::beside::{Both, write_beside};
+use crate::writing::Shared;
 use disk::Disk;
 use flusher::{Flusher, StartFault, start};
 use hub::{Board, Closer, Hub, Seat, Writer};
@@ -19,7 +19,7 @@ use std::marker::Brand;
 use std::net::{OpenListener, TcpStream};
 use std::sync::Wait;
 use std::sync::ledger::Blank;
-use std::thread::{self, Threads};
+use std::thread::Threads;
 
 /// How many sessions run at once.
 const SEATS: u32 = 64;
@@ -27,12 +27,13 @@ const SEATS: u32 = 64;
 /// The parts of the ledger that counts what each seat took: one for each seat, and one that is left.
 const PARTS: u64 = 65;
 
-/// Serves a store to those who connect, 64 at once, until the listener fails. Then each session ends within its next read, what was
-/// ordered is written, and the store is given back, with the refusal that kept it from serving or that ended the writing:
-/// `NoMemory`, or what failed the board. A milestone of a document is put where it passes a multiple of `every` revisions; 0 puts none.
+/// Serves a store to those who connect, 64 at once, until the listener fails. Then each session ends within its next read, what was ordered
+/// is written, and the store is given back, with the refusal that kept it from serving or that ended the writing: `NoMemory`, also where
+/// the system gives no thread to write in, or what failed the board. A milestone of a document is put where it passes a multiple of `every`
+/// revisions; 0 puts none.
 pub fn serve_on<
     R: Threads + Wait + Sync,
-    N: OpenListener<Stream = TcpStream> + Sync,
+    N: OpenListener<Stream = TcpStream>,
     D: Disk + Send + Drop,
 >(
     rt: &R,
@@ -58,7 +59,7 @@ pub fn serve_on<
 fn serve_run<
     J: Site + Sync + Send,
     R: Threads + Wait + Sync,
-    N: OpenListener<Stream = TcpStream> + Sync,
+    N: OpenListener<Stream = TcpStream>,
     D: Disk + Send + Drop,
 >(
     rt: &R,
@@ -89,7 +90,7 @@ fn serve_run<
 fn serve_board<
     J: Site + Sync + Send,
     R: Threads + Wait + Sync,
-    N: OpenListener<Stream = TcpStream> + Sync,
+    N: OpenListener<Stream = TcpStream>,
     D: Disk + Send + Drop,
 >(
     rt: &R,
@@ -117,7 +118,7 @@ fn serve_board<
 fn serve_seats<
     J: Site + Sync + Send,
     R: Threads + Wait + Sync,
-    N: OpenListener<Stream = TcpStream> + Sync,
+    N: OpenListener<Stream = TcpStream>,
     D: Disk + Send + Drop,
 >(
     rt: &R,
@@ -149,12 +150,12 @@ fn serve_seats<
     }
 }
 
-// Serves by desks at a hub, and gives the store back.
-#[tactic(auto, using(crate::proofs::Served::was_served, crate::proofs::Served::was_shown))]
+// Serves by desks at a hub beside the thread that writes, and gives the store back.
+#[tactic(auto, using(crate::proofs::Served::none_served, crate::proofs::Served::was_served, crate::proofs::Served::shown_end, crate::proofs::Served::fails_end))]
 fn serve_at<
     J: Site + Sync + Send,
     R: Threads + Wait + Sync,
-    N: OpenListener<Stream = TcpStream> + Sync,
+    N: OpenListener<Stream = TcpStream>,
     D: Disk + Send + Drop,
 >(
     shared: &Shared<'_, D, J, R>,
@@ -170,21 +171,42 @@ fn serve_at<
     ensures fails { has_failed (store_of flusher) ≡ false
         → (has_failed result.0 ≡ true ↔ IsErrOf result.1 Refusal.Fault) }
 {
-    let mut flusher = flusher;
-    let mut writer = writer;
+    flusher.kept();
     let mut closer = closer;
-    flusher.kept();
-    let served = serve_hub(
+    let mut desks = Some(desks);
+    let both = write_beside(
         shared,
-        desks,
-        listener,
-        &mut closer,
-        &mut flusher,
-        &mut writer,
+        flusher,
+        writer,
+        &mut || match desks.take() {
+            Some(desks) => serve_all(shared, desks, listener, &mut closer),
+            None => Ok(()),
+        },
     );
-    flusher.kept();
-    flusher.few();
-    (flusher.end(shared.rt), served)
+    match both {
+        Ok(
+            Both {
+                flusher,
+                written,
+                talked,
+            },
+        ) => {
+            flusher.kept();
+            flusher.few();
+            (flusher.end(shared.rt), first_failure(written, talked))
+        }
+        Err(flusher) => (flusher.end(shared.rt), Err(Refusal::NoMemory)),
+    }
+}
+
+// What ended the writing, or else what kept it from serving.
+fn first_failure(written: Result<(), Refusal>, served: Result<(), Refusal>) -> Result<(), Refusal>
+    requires { IsOkUnless served Refusal.NoMemory }
+    ensures ok { OnOk result (written ≡ Ok tt) }
+    ensures fault { IsErrOf result Refusal.Fault ↔ IsErrOf written Refusal.Fault }
+{
+    written?;
+    served
 }
 
 // All seats of the board.
@@ -198,43 +220,11 @@ fn seats_of<J: Site, D>(alloc: Global, board: &mut Board<D, J>) -> Result<Vec<Se
     Ok(seats)
 }
 
-// Writes in this thread, beside those of the sessions, until they have ended and all that was ordered is settled.
-fn serve_hub<
-    J: Site + Sync + Send,
-    R: Threads + Wait + Sync,
-    N: OpenListener<Stream = TcpStream> + Sync,
-    D: Disk + Send + Drop,
->(
-    shared: &Shared<'_, D, J, R>,
-    desks: Vec<HubDesk<'_, D, J, R>>,
-    listener: &N,
-    closer: &mut Closer<J>,
-    flusher: &mut Flusher<D, J>,
-    writer: &mut Writer<J>,
-) -> Result<(), Refusal>
-    ensures writes { Writes J.start flusher.old flusher.new }
-    ensures nothing { OnOk result ((committed_of flusher.new ≡ []) × (waiting_of flusher.new ≡ [])) }
-    ensures fails { has_failed (store_of flusher.old) ≡ false
-        → (has_failed (store_of flusher.new) ≡ true ↔ IsErrOf result Refusal.Fault) }
-{
-    let mut desks = Some(desks);
-    let (served, flushed) = thread::join_mut(
-        shared.rt,
-        &mut || match desks.take() {
-            Some(desks) => serve_all(shared, desks, listener, closer),
-            None => Ok(()),
-        },
-        &mut || write_all(shared, flusher, writer),
-    );
-    flushed?;
-    served
-}
-
 // Takes connections until the listener fails, and ends the hub once each session has ended.
 fn serve_all<
     J: Site + Sync + Send,
     R: Threads + Wait + Sync,
-    N: OpenListener<Stream = TcpStream> + Sync,
+    N: OpenListener<Stream = TcpStream>,
     D: Send + Drop,
 >(
     shared: &Shared<'_, D, J, R>,

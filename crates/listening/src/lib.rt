@@ -1,5 +1,8 @@
 //! A store served by threads: one writes, and each session has its own.
 //!
+//! The thread that writes is asked for before anybody is served. Where the system gives none, nobody is; `serve_streams` says that the
+//! store comes back unchanged then.
+//!
 //! `serve_on` puts together what the crates below have, for those who connect to a listener: a flusher and a board from `start`, a hub of
 //! that board, a desk at it for each of 64 seats, `serve_desks` of `sockets`, and `flush_all` of `turns`. When the listener fails each
 //! session ends, then the hub is ended, the flusher writes what is left, and the store is given back. `specs/Served.antt` says what that
@@ -60,9 +63,11 @@
 //! ```
 #![tactic(auto)]
 
+mod beside;
 mod connections;
 mod streams;
 mod writing;
+mod written;
 
 pub use connections::serve_on;
 pub use streams::serve_streams;

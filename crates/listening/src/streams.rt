@@ -1,13 +1,14 @@
 //! A store over a pair of streams.
-ghost use Rattle.std.specs.Prelude.{◌≡◌, ◌⊎◌, ◌↔◌, [], true, false, OnOk, OnErr, IfOk, IfErr, IsErrOf, IsOkUnless};
+ghost use Rattle.std.specs.Prelude.{◌≡◌, ◌⊎◌, [], false, OnOk, OnErr, IfOk, IfErr, IsErrOf, IsOkUnless};
 ghost use Rattle.recovery.specs.Open.{state_of, has_failed};
-ghost use Rattle.flusher.specs.Holding.{store_of, told_of, committed_of, waiting_of};
-ghost use Rattle.turns.specs.Writing.{Writes};
+ghost use Rattle.flusher.specs.Holding.{store_of, told_of};
 ghost use Rattle.serving.specs.Serving.{beginning};
 ghost use Rattle.listening.specs.Served.{IsStarted, WasServed};
+ghost use Rattle.listening.specs.Written.{HasWritten};
 ghost use Rattle.listening.specs.Streams.{IsAnsweredAtHub, StopsAtHub, IsEndedAtHub, WasAnswered, WasAnsweredWhole, IsAhead, first_desk};
 
-use crate::writing::{Shared, write_all};
+use crate::beside::{Both, write_beside};
+use crate::writing::Shared;
 use disk::Disk;
 use flusher::{Flusher, StartFault, start};
 use hub::{Board, Closer, Hub, Seat, Writer};
@@ -15,15 +16,14 @@ use hub_desk::HubDesk;
 use published::{Opened, Site};
 use recovery::Store;
 use refusal::Refusal;
-use serving::Failure;
-use serving::serve::serve_session;
+use serving::{Failure, serve_session};
 use session::{Output, Session, Shelf};
 use std::alloc::Global;
 use std::io::Read;
 use std::marker::Brand;
 use std::sync::Wait;
 use std::sync::ledger::Blank;
-use std::thread::{self, Threads};
+use std::thread::Threads;
 
 /// The parts of the ledger that counts what the one seat took: one for it, and one that is left.
 const PARTS: u64 = 2;
@@ -33,8 +33,8 @@ const PARTS: u64 = 2;
 /// is put where it passes a multiple of `every` revisions; 0 puts none.
 ///
 /// It ends at once where a stream fails (`Stream`), else with `StoreFailed` where the store has failed by then; and with `NoMemory` before
-/// it takes any of the input. It would end with `Stranger` where the desk had been told of more than was written, for which the code has
-/// no room.
+/// it takes any of the input, also where the system gives no thread to write in. It would end with `Stranger` where the desk had been told
+/// of more than was written, for which the code has no room.
 pub fn serve_streams<R: Threads + Wait + Sync, I: Read, O: Output, D: Disk + Send + Drop>(
     rt: &R,
     alloc: Global,
@@ -216,8 +216,8 @@ fn seated_at<'a, J: Site, R: Wait, D: Disk + Drop>(
     })
 }
 
-// Serves the session, and gives the store back once all is written.
-#[tactic(auto, using(crate::proofs::Served::was_served))]
+// Serves the session beside the thread that writes, and gives the store back once all is written.
+#[tactic(auto, using(crate::proofs::Served::none_served, crate::proofs::Served::was_served))]
 fn serve_seated<
     J: Site + Sync + Send,
     R: Threads + Wait + Sync,
@@ -251,25 +251,38 @@ fn serve_seated<
     ensures ahead { IsErrOf result.1 (Failure.Refused Refusal.Stranger)
         → IsAhead (IsEndedAtHub J.start (I.remaining input.old) (I.remaining input.new)
         (O.contents output.old) (O.contents output.new) (O.has_failed output.new)) (store_of flusher) result.0 }
+    ensures no_memory { IsErrOf result.1 (Failure.Refused Refusal.NoMemory) → (result.0 ≡ store_of flusher)
+        × (input.new ≡ input.old) × (output.new ≡ output.old) }
     ensures only { IfErr result.1 (λ e. ((e ≡ Failure.Stream) ⊎ (e ≡ Failure.Refused Refusal.StoreFailed))
-        ⊎ (e ≡ Failure.Refused Refusal.Stranger)) }
+        ⊎ ((e ≡ Failure.Refused Refusal.Stranger) ⊎ (e ≡ Failure.Refused Refusal.NoMemory))) }
     ensures any_moment { WasServed (store_of flusher) result.0 }
     ensures works { OnOk result.1 (has_failed (store_of flusher) ≡ false → has_failed result.0 ≡ false) }
 {
-    let mut flusher = flusher;
-    let mut writer = writer;
     let mut closer = closer;
     let mut seated = seated;
     flusher.kept();
-    let (flushed, answered) = serve_both(
+    let both = serve_both(
         shared,
-        &mut flusher,
-        &mut writer,
+        flusher,
+        writer,
         &mut seated,
         &mut closer,
         input,
         output,
     );
+    let (flusher, written, answered) = match both {
+        Ok(
+            Both {
+                flusher,
+                written,
+                talked,
+            },
+        ) => (flusher, written, talked),
+        Err(flusher) => {
+            let store = flusher.end(shared.rt);
+            return (store, Err(Failure::Refused(Refusal::NoMemory)));
+        }
+    };
     flusher.kept();
     flusher.grown();
     flusher.few();
@@ -282,13 +295,14 @@ fn serve_seated<
     if let Err(failure) = answered {
         return (store, Err(failure));
     }
-    if flushed.is_err() {
+    if written.is_err() {
         return (store, Err(Failure::Refused(Refusal::StoreFailed)));
     }
     (store, Ok(()))
 }
 
-// Serves the session in this thread, and writes in another one until the session has ended and all that was ordered is settled.
+// Serves the session in this thread, and writes in another one until the session has ended and all that was ordered is settled. Where the
+// system gives no thread the session isn't begun, and the flusher is given back as it was.
 fn serve_both<
     J: Site + Sync + Send,
     R: Threads + Wait + Sync,
@@ -297,33 +311,35 @@ fn serve_both<
     D: Disk + Send + Drop,
 >(
     shared: &Shared<'_, D, J, R>,
-    flusher: &mut Flusher<D, J>,
-    writer: &mut Writer<J>,
+    flusher: Flusher<D, J>,
+    writer: Writer<J>,
     seated: &mut Seated<'_, D, J, R>,
     closer: &mut Closer<J>,
     input: &mut I,
     output: &mut O,
-) -> (Result<(), Refusal>, Result<(), Failure>)
+) -> Result<Both<D, J, Result<(), Failure>>, Flusher<D, J>>
+    requires started { IsStarted flusher }
     requires session { seated.old.session ≡ beginning }
     requires shelf { seated.old.shelf ≡ [] }
     requires desk { seated.old.desk ≡ first_desk }
-    ensures writes { Writes J.start flusher.old flusher.new }
-    ensures nothing { OnOk result.0 ((committed_of flusher.new ≡ []) × (waiting_of flusher.new ≡ [])) }
-    ensures fails { has_failed (store_of flusher.old) ≡ false
-        → (has_failed (store_of flusher.new) ≡ true ↔ IsErrOf result.0 Refusal.Fault) }
-    ensures served { OnOk result.1 (IsAnsweredAtHub J.start (I.remaining input.old) (I.remaining input.new)
-        (O.contents output.old) (O.contents output.new) seated.new.desk) }
-    ensures stopped { OnErr result.1 (StopsAtHub J.start (I.remaining input.old) (I.remaining input.new)
-        (O.contents output.old) (O.contents output.new) (O.has_failed output.new) seated.new.desk) }
-    ensures sent { OnOk result.1 (O.has_failed output.new ≡ false) }
-    ensures only { IfErr result.1 (λ e. e ≡ Failure.Stream) }
+    ensures written { IfOk result (λ both. HasWritten J.start flusher both.flusher both.written) }
+    ensures served { IfOk result (λ both. OnOk both.talked (IsAnsweredAtHub J.start
+        (I.remaining input.old) (I.remaining input.new)
+        (O.contents output.old) (O.contents output.new) seated.new.desk)) }
+    ensures stopped { IfOk result (λ both. OnErr both.talked (StopsAtHub J.start
+        (I.remaining input.old) (I.remaining input.new)
+        (O.contents output.old) (O.contents output.new) (O.has_failed output.new) seated.new.desk)) }
+    ensures sent { IfOk result (λ both. OnOk both.talked (O.has_failed output.new ≡ false)) }
+    ensures only { IfOk result (λ both. IfErr both.talked (λ e. e ≡ Failure.Stream)) }
+    ensures refused { IfErr result (λ back. back ≡ flusher) }
+    ensures silent { OnErr result ((input.new ≡ input.old) × (output.new ≡ output.old)) }
 {
-    let (flushed, answered) = thread::join_mut(
-        shared.rt,
-        &mut || write_all(shared, flusher, writer),
+    write_beside(
+        shared,
+        flusher,
+        writer,
         &mut || serve_one(shared, seated, closer, input, output),
-    );
-    (flushed, answered)
+    )
 }
 
 // Serves the session, and ends the hub once it has ended.

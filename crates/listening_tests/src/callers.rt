@@ -20,7 +20,7 @@ use std::net::{OpenListener, TcpStream};
 use std::sync::Wait;
 use std::thread::Threads;
 
-/// Answers a command at a hub once it is settled: what the desk shows from then on holds it.
+/// Answers a command at a hub once it is settled and shown: what the desk shows from then on has it.
 pub fn answer<D, J: Site, R: Wait>(
     alloc: Global,
     desk: &mut HubDesk<'_, D, J, R>,

@@ -19,6 +19,8 @@ mod deltas;
 #[cfg(test)]
 mod devices;
 #[cfg(test)]
+mod filling;
+#[cfg(test)]
 mod freeing;
 #[cfg(test)]
 mod heaviest;
@@ -48,5 +50,7 @@ mod scripts;
 mod stopping;
 #[cfg(test)]
 mod stores;
+#[cfg(test)]
+mod third_batch;
 #[cfg(test)]
 mod upkeep;

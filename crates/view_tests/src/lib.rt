@@ -4,8 +4,17 @@
 #[cfg(test)]
 pub mod callers;
 #[cfg(test)]
-mod made;
-#[cfg(test)]
 mod shows;
 #[cfg(test)]
 mod threads;
+
+/// Slots of 4,096 bytes, and small cells.
+#[cfg(test)]
+const SHAPE: recovery::Shape = recovery::Shape {
+    slots: 2,
+    slot: 4_096,
+    docs: 2,
+    cell: 4_096,
+    sources: 4,
+    keep: 64,
+};

@@ -1,24 +1,18 @@
 //! A viewer shows what was published, and nothing else; what it was told of, it shows.
 ghost use Rattle.std.specs.Prelude.{◌≡◌, []};
 
-use crate::made::{SHAPE, new_store, write};
+use crate::SHAPE;
 use disk::MemDisk;
+use fixtures::{new_store, newest, write};
 use published::{Log, NotAdded, Opened, Site, Told};
 use recovery::{Receipt, Store};
 use refusal::Refusal;
 use revision::{Name, State};
+use std::alloc::Global;
 use std::marker::Brand;
 use std::process::Abort;
 use std::sync::Wait;
 use view::{Publisher, Viewer};
-
-// the newest revision of the only document, 0 where there is none
-fn newest(state: &State) -> u64 {
-    match state.documents().first() {
-        Some(document) => document.revision(),
-        None => 0,
-    }
-}
 
 fn shows<J: Site, R: Abort>(rt: &R, viewer: &mut Viewer<MemDisk, J>, revision: u64) {
     assert!(rt; viewer.read(newest) == Ok(revision), "revision {revision}");
@@ -48,70 +42,55 @@ fn published<J: Site, R: Abort + AllocGlobal + Wait>(
     }
 }
 
-// the name of a document
-fn name_of(rt: &(impl Abort + AllocGlobal), name: &str) -> Name {
-    Name::doc(rt.alloc(), name).expect(rt, "a name")
+/// What is asked of the documents that are shown: the units of one at a revision, or how many deltas it has since.
+enum Ask {
+    At(&'static str, u64),
+    Since(&'static str, u64),
 }
 
-// the document z has so many units at a revision
-fn has_units<J: Site, R: Abort + AllocGlobal>(
-    rt: &R,
+/// What stands at the revisions, and what was taken since.
+const READS: [(Ask, Result<u64, Refusal>); 7] = [
+    (Ask::At("z", 1), Ok(3)),
+    (Ask::At("z", 2), Ok(5)),
+    (Ask::Since("z", 1), Ok(1)),
+    (Ask::Since("z", 0), Ok(2)),
+    (Ask::At("z", 3), Err(Refusal::Future)),
+    (Ask::At("y", 1), Err(Refusal::NoDocument)),
+    (Ask::Since("z", 3), Err(Refusal::Future)),
+];
+
+fn units<J: Site>(
+    alloc: Global,
     viewer: &mut Viewer<MemDisk, J>,
+    name: &Name,
     revision: u64,
-    units: u64,
-) {
-    let document = viewer.at(rt.alloc(), &name_of(rt, "z"), revision);
-    assert!(rt; document.expect(rt, "held").len16() == units);
+) -> Result<u64, Refusal> {
+    Ok(viewer.at(alloc, name, revision)?.len16())
 }
 
-// so many deltas of it were taken since a revision
-fn has_deltas<J: Site, R: Abort + AllocGlobal>(
-    rt: &R,
+fn deltas<J: Site>(
+    alloc: Global,
     viewer: &mut Viewer<MemDisk, J>,
+    name: &Name,
     revision: u64,
-    count: usize,
-) {
-    let deltas = viewer.since(rt.alloc(), &name_of(rt, "z"), revision);
-    assert!(rt; deltas.expect(rt, "held").len() == count);
+) -> Result<u64, Refusal> {
+    Ok(viewer.since(alloc, name, revision)?.len() as u64)
 }
 
-// a document has no such revision
-fn has_no_revision<J: Site, R: Abort + AllocGlobal>(
-    rt: &R,
+// What is asked is answered so.
+fn reads<J: Site>(
+    rt: &(impl Abort + AllocGlobal),
     viewer: &mut Viewer<MemDisk, J>,
-    name: &str,
-    revision: u64,
-    refusal: Refusal,
+    row: &(Ask, Result<u64, Refusal>),
 ) {
-    let name = name_of(rt, name);
-    match viewer.at(rt.alloc(), &name, revision) {
-        Ok(_) => panic!(rt; "it is there"),
-        Err(found) => assert_eq!(rt; found, refusal),
-    }
-}
-
-// none were taken since one that isn't there
-fn has_no_deltas<J: Site, R: Abort + AllocGlobal>(
-    rt: &R,
-    viewer: &mut Viewer<MemDisk, J>,
-    revision: u64,
-    refusal: Refusal,
-) {
-    match viewer.since(rt.alloc(), &name_of(rt, "z"), revision) {
-        Ok(_) => panic!(rt; "it is there"),
-        Err(found) => assert_eq!(rt; found, refusal),
-    }
-}
-
-// what stands at the revisions, and what was taken since
-fn reads_back<J: Site, R: Abort + AllocGlobal>(rt: &R, viewer: &mut Viewer<MemDisk, J>) {
-    has_units(rt, viewer, 1, 3);
-    has_units(rt, viewer, 2, 5);
-    has_deltas(rt, viewer, 1, 1);
-    has_deltas(rt, viewer, 0, 2);
-    has_no_revision(rt, viewer, "z", 3, Refusal::Future);
-    has_no_revision(rt, viewer, "y", 1, Refusal::NoDocument);
-    has_no_deltas(rt, viewer, 3, Refusal::Future);
+    let alloc = rt.alloc();
+    let (Ask::At(text, _) | Ask::Since(text, _)) = &row.0;
+    let name = Name::doc(alloc, text).expect(rt, "a name");
+    let found = match &row.0 {
+        Ask::At(_, revision) => units(alloc, viewer, &name, *revision),
+        Ask::Since(_, revision) => deltas(alloc, viewer, &name, *revision),
+    };
+    assert!(rt; found == row.1);
 }
 
 // The first batch is shown once it is published.
@@ -124,7 +103,7 @@ fn first_batch<J: Site, R: Abort + AllocGlobal + Wait>(
     requires { publisher.old.unpublished ≡ [] }
     ensures { publisher.new.unpublished ≡ [] }
 {
-    publisher.accept(write(rt, store, 1, 3));
+    publisher.accept(write(rt.alloc(), store, 1, 3).expect(rt, "room"));
     assert!(rt; publisher.holds());
     shows(rt, viewer, 0);
     let first = published(rt, publisher, 1);
@@ -141,7 +120,7 @@ fn late_viewer<J: Site, R: Abort + AllocGlobal>(
 ) -> Viewer<MemDisk, J>
     requires { publisher.old.unpublished ≡ [] }
 {
-    publisher.accept(write(rt, store, 2, 2));
+    publisher.accept(write(rt.alloc(), store, 2, 2).expect(rt, "room"));
     shows(rt, viewer, 1);
     publisher.viewer().expect(rt, "a place")
 }
@@ -157,7 +136,9 @@ fn catches_up<J: Site, R: Abort + AllocGlobal>(
     shows(rt, late, 2);
     late.learn(first);
     shows(rt, late, 2);
-    reads_back(rt, late);
+    for row in &READS {
+        reads(rt, late, row);
+    }
     assert_eq!(rt; late.told().len(), 2);
 }
 
@@ -211,7 +192,7 @@ fn both_batches<J: Site, R: Abort + AllocGlobal + Wait>(
 )
     requires { publisher.old.unpublished ≡ [] }
 {
-    let mut store = new_store(rt);
+    let mut store = new_store(rt.alloc(), SHAPE).expect(rt, "a store");
     let first = first_batch(rt, &mut store, publisher, viewer);
     let mut late = late_viewer(rt, &mut store, publisher, viewer);
     second_batch(rt, publisher, &mut late, &first);
@@ -259,11 +240,6 @@ fn is_behind<J: Site, R: Abort>(
     assert!(rt; matches!(told.add(log, receipt), Err(NotAdded::Behind(_))));
 }
 
-// one token is a beginning of another, or isn't
-fn begins<J: Site, R: Abort>(rt: &R, one: &Told<MemDisk, J>, two: &Told<MemDisk, J>, wanted: bool) {
-    assert!(rt; one.begins(two) == wanted);
-}
-
 // Of two tokens the longer is kept.
 fn are_beginnings<J: Site, R: Abort>(
     rt: &R,
@@ -271,16 +247,12 @@ fn are_beginnings<J: Site, R: Abort>(
     one: &Told<MemDisk, J>,
     two: &Told<MemDisk, J>,
 ) {
-    begins(rt, start, two, true);
-    begins(rt, one, two, true);
-    begins(rt, two, two, true);
-    begins(rt, two, one, false);
-    assert_eq!(rt; two.longer(one).len(), 2);
-    assert_eq!(rt; one.longer(two).len(), 2);
+    assert!(rt; start.begins(two) && one.begins(two) && two.begins(two) && !two.begins(one));
+    assert!(rt; two.longer(one).len() == 2 && one.longer(two).len() == 2);
 }
 
 // Only the end of the log is added to.
-fn added_at_the_end<J: Site, R: Abort + AllocGlobal>(
+fn added_at_the_end<J: Site, R: Abort>(
     rt: &R,
     log: &Log<MemDisk, J>,
     start: &Told<MemDisk, J>,
@@ -296,9 +268,11 @@ fn tokens<J: Site, R: Abort + AllocGlobal>(rt: &R, opened: Opened)
     requires { opened ≡ J.book }
 {
     let (log, start) = opened.named::<MemDisk, J>();
-    let mut store = new_store(rt);
-    let one = added(rt, &start, &log, &write(rt, &mut store, 1, 3));
-    added_at_the_end(rt, &log, &start, &one, &write(rt, &mut store, 2, 2));
+    let mut store = new_store(rt.alloc(), SHAPE).expect(rt, "a store");
+    let first = write(rt.alloc(), &mut store, 1, 3).expect(rt, "room");
+    let one = added(rt, &start, &log, &first);
+    let next = write(rt.alloc(), &mut store, 2, 2).expect(rt, "room");
+    added_at_the_end(rt, &log, &start, &one, &next);
 }
 
 #[test]

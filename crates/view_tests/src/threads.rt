@@ -1,8 +1,9 @@
 //! Publishing beside a thread that reads.
 ghost use Rattle.std.specs.Prelude.{◌≡◌, []};
 
-use crate::made::{SHAPE, new_store, write};
+use crate::SHAPE;
 use disk::MemDisk;
+use fixtures::{new_store, newest, write};
 use published::{Opened, Site};
 use recovery::Store;
 use revision::State;
@@ -25,7 +26,7 @@ fn publish_one<J: Site, R: Abort + AllocGlobal + Wait>(
     requires { publisher.old.unpublished ≡ [] }
     ensures { publisher.new.unpublished ≡ [] }
 {
-    publisher.accept(write(rt, store, number, 1));
+    publisher.accept(write(rt.alloc(), store, number, 1).expect(rt, "room"));
     match publisher.publish(rt, rt.alloc()) {
         Ok(Some((_receipt, told))) => assert_eq!(rt; told.len(), number),
         Ok(None) => panic!(rt; "nothing was given"),
@@ -43,13 +44,6 @@ fn publish_all<J: Site, R: Abort + AllocGlobal + Wait>(
 {
     for number in 1..COUNT + 1 {
         publish_one(rt, store, publisher, number);
-    }
-}
-
-fn newest(state: &State) -> u64 {
-    match state.documents().first() {
-        Some(document) => document.revision(),
-        None => 0,
     }
 }
 
@@ -76,7 +70,7 @@ fn beside<J: Site + Send + Sync, R: Threads + Wait + Abort + AllocGlobal + Sync>
     requires book { opened ≡ J.book }
     requires start { state ≡ J.start }
 {
-    let mut store = new_store(rt);
+    let mut store = new_store(rt.alloc(), SHAPE).expect(rt, "a store");
     let (mut publisher, _start) = Publisher::<MemDisk, J>::new(rt.alloc(), opened, &state).expect(
         rt, "memory",
     );

@@ -1,7 +1,19 @@
-//! Schedules on an empty store, step by step. What comes of each is worked out by hand.
-use std::alloc::{AllocError, Global};
-use std::test::Fail;
+//! Schedules on an empty store, as rows of events and what is seen behind them. It is worked out by hand.
+use std::process::Abort;
 use world::{Follower, Happening, Waiting};
+
+/// What is seen of a follower.
+#[derive(Clone, Copy)]
+enum Seen {
+    Tickets(&'static [Waiting]),
+    Acks(&'static [Waiting]),
+    /// The two lengths of the order of which a crash leaves one.
+    Left(u64, u64),
+    /// How long the order is.
+    Ordered(usize),
+}
+
+type Row = (&'static [Happening], Seen);
 
 // A creation is sent and sent again while its batch is being written.
 const RETRIED: [Happening; 3] = [
@@ -70,90 +82,91 @@ const AGAIN: Waiting = Waiting {
     length: 1,
 };
 
-// goes on with these events
-fn go_on(follower: &mut Follower, events: &[Happening]) -> Result<(), AllocError> {
-    for event in events {
-        follower.step(*event)?;
+const BEING_WRITTEN: Row = (&RETRIED, Seen::Tickets(&[TAKEN, AGAIN]));
+
+// A retry waits for its edit.
+const WAITING: [Row; 2] = [BEING_WRITTEN, (&[Happening::Ack(1)], Seen::Acks(&[]))];
+
+// A lost edit is taken anew.
+const ANEW: [Row; 2] = [BEING_WRITTEN, (&LOST, Seen::Tickets(&[TAKEN]))];
+
+// An edit that is left is a retry.
+const THERE: [Row; 2] = [BEING_WRITTEN, (&LEFT, Seen::Tickets(&[AGAIN]))];
+
+// An acknowledged edit stays: no crash leaves less. The acknowledgement is there after the crash, and that of the retry comes behind it.
+const STAYING: [Row; 6] = [
+    (&ACKNOWLEDGED, Seen::Acks(&[TAKEN])),
+    (&[], Seen::Left(1, 1)),
+    (&LOST, Seen::Tickets(&[TAKEN, AGAIN])),
+    (&LEFT, Seen::Tickets(&[AGAIN])),
+    (&[], Seen::Acks(&[TAKEN])),
+    (&[Happening::Ack(0)], Seen::Acks(&[TAKEN, AGAIN])),
+];
+
+// A batch that was given up needs no crash.
+const WITHOUT_CRASH: [Row; 3] = [
+    (&STOPPED, Seen::Left(0, 1)),
+    (&[Happening::Open(0, true)], Seen::Left(0, 0)),
+    (&[Happening::Resend(1, Some(1))], Seen::Tickets(&[TAKEN])),
+];
+
+// A revision that was given up is refused.
+const REFUSED: [Row; 4] = [
+    (&GIVEN_UP, Seen::Acks(&[])),
+    (
+        &[Happening::Open(3, true), Happening::Resend(4, None)],
+        Seen::Tickets(&[]),
+    ),
+    (&[], Seen::Acks(&[])),
+    (&[], Seen::Ordered(3)),
+];
+
+// Nothing is settled before it is shown.
+const UNSHOWN: [Row; 2] = [
+    BEING_WRITTEN,
+    (
+        &[
+            Happening::Device(true),
+            Happening::Settle,
+            Happening::Ack(0),
+        ],
+        Seen::Acks(&[]),
+    ),
+];
+
+const SCHEDULES: [&[Row]; 7] = [
+    &WAITING,
+    &ANEW,
+    &THERE,
+    &STAYING,
+    &WITHOUT_CRASH,
+    &REFUSED,
+    &UNSHOWN,
+];
+
+fn is_seen(follower: &Follower, seen: Seen) -> bool {
+    match seen {
+        Seen::Tickets(wanted) => follower.tickets() == wanted,
+        Seen::Acks(wanted) => follower.acks() == wanted,
+        Seen::Left(without, with_batch) => follower.left() == (without, with_batch),
+        Seen::Ordered(length) => follower.order().len() == length,
     }
-    Ok(())
 }
 
-fn run(alloc: Global, events: &[Happening]) -> Result<Follower, AllocError> {
-    let mut follower = Follower::new(alloc);
-    go_on(&mut follower, events)?;
-    Ok(follower)
-}
-
-#[test]
-fn a_retry_waits_for_its_edit(rt: HostRuntime) -> Result<(), Fail> {
-    let mut follower = run(rt.alloc(), &RETRIED)?;
-    assert!(rt; follower.tickets() == [TAKEN, AGAIN].as_slice());
-    follower.step(Happening::Ack(1))?;
-    assert_eq!(rt; follower.acks().len(), 0);
-    Ok(())
+// Goes on with the events of a row.
+fn go_on(rt: &impl Abort, follower: &mut Follower, row: &Row) {
+    for event in row.0 {
+        assert!(rt; follower.step(*event).is_ok());
+    }
+    assert!(rt; is_seen(follower, row.1));
 }
 
 #[test]
-fn a_lost_edit_is_taken_anew(rt: HostRuntime) -> Result<(), Fail> {
-    let mut follower = run(rt.alloc(), &RETRIED)?;
-    go_on(&mut follower, &LOST)?;
-    assert!(rt; follower.tickets() == [TAKEN].as_slice());
-    Ok(())
-}
-
-#[test]
-fn an_edit_that_is_left_is_a_retry(rt: HostRuntime) -> Result<(), Fail> {
-    let mut follower = run(rt.alloc(), &RETRIED)?;
-    go_on(&mut follower, &LEFT)?;
-    assert!(rt; follower.tickets() == [AGAIN].as_slice());
-    Ok(())
-}
-
-#[test]
-fn an_acknowledged_edit_stays(rt: HostRuntime) -> Result<(), Fail> {
-    let mut follower = run(rt.alloc(), &ACKNOWLEDGED)?;
-    assert!(rt; follower.acks() == [TAKEN].as_slice());
-    assert!(rt; follower.left() == (1, 1));
-    // no crash leaves less
-    go_on(&mut follower, &LOST)?;
-    assert!(rt; follower.tickets() == [TAKEN, AGAIN].as_slice());
-    go_on(&mut follower, &LEFT)?;
-    assert!(rt; follower.tickets() == [AGAIN].as_slice());
-    // the acknowledgement is there after the crash, and that of the retry comes behind it
-    assert!(rt; follower.acks() == [TAKEN].as_slice());
-    follower.step(Happening::Ack(0))?;
-    assert!(rt; follower.acks() == [TAKEN, AGAIN].as_slice());
-    Ok(())
-}
-
-#[test]
-fn a_batch_that_was_given_up_needs_no_crash(rt: HostRuntime) -> Result<(), Fail> {
-    let mut follower = run(rt.alloc(), &STOPPED)?;
-    assert!(rt; follower.left() == (0, 1));
-    follower.step(Happening::Open(0, true))?;
-    assert!(rt; follower.left() == (0, 0));
-    follower.step(Happening::Resend(1, Some(1)))?;
-    assert!(rt; follower.tickets() == [TAKEN].as_slice());
-    Ok(())
-}
-
-#[test]
-fn a_revision_that_was_given_up_is_refused(rt: HostRuntime) -> Result<(), Fail> {
-    let mut follower = run(rt.alloc(), &GIVEN_UP)?;
-    follower.step(Happening::Open(3, true))?;
-    follower.step(Happening::Resend(4, None))?;
-    assert_eq!(rt; follower.tickets().len(), 0);
-    assert_eq!(rt; follower.acks().len(), 0);
-    assert_eq!(rt; follower.order().len(), 3);
-    Ok(())
-}
-
-#[test]
-fn nothing_is_settled_before_it_is_shown(rt: HostRuntime) -> Result<(), Fail> {
-    let mut follower = run(rt.alloc(), &RETRIED)?;
-    follower.step(Happening::Device(true))?;
-    follower.step(Happening::Settle)?;
-    follower.step(Happening::Ack(0))?;
-    assert_eq!(rt; follower.acks().len(), 0);
-    Ok(())
+fn each_event_makes_what_is_seen(rt: HostRuntime) {
+    for rows in &SCHEDULES {
+        let mut follower = Follower::new(rt.alloc());
+        for row in *rows {
+            go_on(&rt, &mut follower, row);
+        }
+    }
 }

@@ -1,25 +1,177 @@
-//! Schedules of whole commands on an empty store, that `World::step` runs by the rule of acceptance. What comes of each is worked
-//! out by hand.
+//! Schedules of whole commands on an empty store, that `World::step` runs by the rule of acceptance: rows of steps and what is seen behind
+//! them. It is worked out by hand.
+use crate::steps::Step::{
+    Ack, Compose, Crash, Device, Open, Publish, Resend, Settle, Submit, Take,
+};
 use attributes::Attrs;
 use delta::{Builder, Delta, Op};
 use refusal::Refusal;
 use revision::{Command, Limits, Name, Reply};
 use std::process::Abort;
-use world::{Ack, Event, Outcome, Ticket, World};
+use world::{Event, Outcome, Ticket, World};
 
-// a reply with the length that has to be settled before it is given
+/// An event, with its command's number in place of the command.
+#[derive(Clone, Copy)]
+enum Step {
+    Submit(usize),
+    Take(usize),
+    Device(Outcome),
+    Publish,
+    Settle,
+    Ack(usize),
+    Compose(usize, u64),
+    Crash(usize),
+    Open(usize, &'static [u64]),
+    Resend(usize),
+}
+
+/// A reply with the length that has to be settled before it is given.
 type Said = (Reply, usize);
+
+/// What is seen of a world.
+#[derive(Clone, Copy)]
+enum Seen {
+    Tickets(&'static [Said]),
+    Acks(&'static [Said]),
+    /// The two lengths of the order of which a crash leaves one.
+    Left(usize, usize),
+    Ordered(usize),
+    Settled(usize),
+    Published(usize),
+    /// The command of this number would be refused.
+    Refused(usize, Refusal),
+}
+
+type Row = (&'static [Step], Seen);
 
 const TAKEN: Said = (Reply::Taken { rev: 1 }, 1);
 
 const AGAIN: Said = (Reply::Again { rev: 1 }, 1);
 
-// one batch's way to the disk and to readers
-const WRITTEN: [Event; 4] = [
-    Event::Take(1),
-    Event::Device(Outcome::Done),
-    Event::Publish,
-    Event::Settle,
+const WRITTEN: Step = Device(Outcome::Done);
+
+// A retry waits for its edit. A crash may lose the edit: then it is taken anew.
+const WAITING: [Row; 4] = [
+    (
+        &[Submit(1), Take(1), Resend(1), Ack(1)],
+        Seen::Tickets(&[TAKEN, AGAIN]),
+    ),
+    (&[], Seen::Acks(&[])),
+    (
+        &[Crash(0), Submit(1), Open(0, &[]), Resend(1)],
+        Seen::Tickets(&[TAKEN]),
+    ),
+    (&[], Seen::Ordered(1)),
+];
+
+// An acknowledged edit stays: no crash leaves less. A milestone that wasn't composed opens nothing.
+const STAYING: [Row; 5] = [
+    (
+        &[
+            Submit(1),
+            Take(1),
+            WRITTEN,
+            Publish,
+            Settle,
+            Ack(0),
+            Crash(0),
+        ],
+        Seen::Left(1, 1),
+    ),
+    (&[], Seen::Acks(&[TAKEN])),
+    (
+        &[
+            Crash(1),
+            Open(1, &[1]),
+            Resend(1),
+            Open(1, &[]),
+            Resend(1),
+            Ack(0),
+        ],
+        Seen::Tickets(&[AGAIN]),
+    ),
+    (&[], Seen::Acks(&[TAKEN, AGAIN])),
+    (&[], Seen::Published(1)),
+];
+
+// Three revisions are acknowledged, and the third is composed.
+const COMPOSED: Row = (
+    &[
+        Submit(1),
+        Submit(2),
+        Submit(3),
+        Take(3),
+        WRITTEN,
+        Publish,
+        Settle,
+        Ack(0),
+        Ack(1),
+        Ack(2),
+        Compose(0, 3),
+    ],
+    Seen::Acks(&THREE),
+);
+
+const THREE: [Said; 3] = [
+    TAKEN,
+    (Reply::Taken { rev: 2 }, 2),
+    (Reply::Taken { rev: 3 }, 3),
+];
+
+// A fourth edit of revision 1 is taken then, its batch is given up, and the crash takes it back.
+const GIVEN_UP: Row = (
+    &[
+        Submit(4),
+        Take(1),
+        Device(Outcome::Stopped),
+        Ack(3),
+        Crash(3),
+    ],
+    Seen::Acks(&THREE),
+);
+
+// From the milestone on that edit is too old.
+const TOO_OLD: [Row; 5] = [
+    COMPOSED,
+    GIVEN_UP,
+    (&[Open(3, &[3]), Resend(4)], Seen::Tickets(&[])),
+    (&[], Seen::Refused(4, Refusal::TooOld)),
+    (&[], Seen::Acks(&THREE)),
+];
+
+// Without a milestone the floor is 1, two revisions below the newest one: it is taken again.
+const TAKEN_AGAIN: [Row; 3] = [
+    COMPOSED,
+    GIVEN_UP,
+    (
+        &[Open(3, &[]), Resend(4)],
+        Seen::Tickets(&[(Reply::Taken { rev: 4 }, 4)]),
+    ),
+];
+
+// A number that isn't the last is not sent again.
+const NOT_THE_LAST: [Row; 1] = [(
+    &[Submit(1), Submit(2), Resend(1)],
+    Seen::Tickets(&[TAKEN, (Reply::Taken { rev: 2 }, 2)]),
+)];
+
+// Nothing is settled before it is shown.
+const UNSHOWN: [Row; 3] = [
+    (
+        &[Submit(1), Take(1), Publish, WRITTEN, Settle, Ack(0)],
+        Seen::Acks(&[]),
+    ),
+    (&[], Seen::Settled(0)),
+    (&[], Seen::Published(0)),
+];
+
+const SCHEDULES: [&[Row]; 6] = [
+    &WAITING,
+    &STAYING,
+    &TOO_OLD,
+    &TAKEN_AGAIN,
+    &NOT_THE_LAST,
+    &UNSHOWN,
 ];
 
 fn inserted(rt: &(impl Abort + AllocGlobal), plain: &str) -> Delta {
@@ -42,15 +194,26 @@ fn command(rt: &(impl Abort + AllocGlobal), number: u64) -> Command {
     made.expect(rt, "a command")
 }
 
-// a store of which each document holds two revisions below its newest one
-fn store(rt: &(impl Abort + AllocGlobal)) -> World {
-    World::new(rt.alloc(), Limits::new(2, 4, 1000, 237, 2))
+// The command of a number.
+fn numbered<'a>(rt: &impl Abort, commands: &'a [Command], number: usize) -> &'a Command {
+    let place = number.saturating_sub(1);
+    commands.get(place).expect(rt, "a command")
 }
 
-fn go(rt: &(impl Abort + AllocGlobal), world: &mut World, events: &[Event]) {
-    for event in events {
-        assert!(rt; world.step(rt.alloc(), *event).is_ok());
-    }
+fn follow(rt: &(impl Abort + AllocGlobal), world: &mut World, commands: &[Command], step: &Step) {
+    let event = match *step {
+        Submit(number) => Event::Submit(numbered(rt, commands, number)),
+        Resend(number) => Event::Resend(numbered(rt, commands, number)),
+        Take(count) => Event::Take(count),
+        Device(outcome) => Event::Device(outcome),
+        Publish => Event::Publish,
+        Settle => Event::Settle,
+        Ack(ticket) => Event::Ack(ticket),
+        Compose(document, revision) => Event::Compose(document, revision),
+        Crash(left) => Event::Crash(left),
+        Open(left, milestones) => Event::Open(left, milestones),
+    };
+    assert!(rt; world.step(rt.alloc(), event).is_ok());
 }
 
 fn has_tickets(tickets: &[Ticket], wanted: &[Said]) -> bool {
@@ -65,7 +228,7 @@ fn has_tickets(tickets: &[Ticket], wanted: &[Said]) -> bool {
     true
 }
 
-fn has_acks(acks: &[Ack], wanted: &[Said]) -> bool {
+fn has_acks(acks: &[world::Ack], wanted: &[Said]) -> bool {
     if acks.len() != wanted.len() {
         return false;
     }
@@ -77,148 +240,50 @@ fn has_acks(acks: &[Ack], wanted: &[Said]) -> bool {
     true
 }
 
+// A refusal of a command, if it is one.
+fn refusal(rt: &(impl Abort + AllocGlobal), world: &World, command: &Command) -> Option<Refusal> {
+    world.board().state().plan(rt.alloc(), command).err()
+}
+
+fn is_seen(
+    rt: &(impl Abort + AllocGlobal),
+    world: &World,
+    commands: &[Command],
+    seen: &Seen,
+) -> bool {
+    match *seen {
+        Seen::Tickets(wanted) => has_tickets(world.tickets(), wanted),
+        Seen::Acks(wanted) => has_acks(world.acks(), wanted),
+        Seen::Left(without, with_batch) => world.left() == (without, with_batch),
+        Seen::Ordered(length) => world.board().ordered() == length,
+        Seen::Settled(length) => world.board().settled() == length,
+        Seen::Published(length) => world.published() == length,
+        Seen::Refused(number, why) => {
+            refusal(rt, world, numbered(rt, commands, number)) == Some(why)
+        }
+    }
+}
+
+fn go_on(rt: &(impl Abort + AllocGlobal), world: &mut World, commands: &[Command], row: &Row) {
+    for next in row.0 {
+        follow(rt, world, commands, next);
+    }
+    assert!(rt; is_seen(rt, world, commands, &row.1));
+}
+
+// In a store each document holds two revisions below its newest one.
 #[test]
-fn a_retry_waits_for_its_edit(rt: HostRuntime) {
-    let create = command(&rt, 1);
-    let mut world = store(&rt);
-    let retried = [
-        Event::Submit(&create),
-        Event::Take(1),
-        Event::Resend(&create),
-        Event::Ack(1),
+fn each_step_makes_what_is_seen(rt: HostRuntime) {
+    let commands = [
+        command(&rt, 1),
+        command(&rt, 2),
+        command(&rt, 3),
+        command(&rt, 4),
     ];
-    go(&rt, &mut world, &retried);
-    assert!(rt; has_tickets(world.tickets(), &[TAKEN, AGAIN]));
-    assert!(rt; has_acks(world.acks(), &[]));
-    // a crash may lose the edit: then it is taken anew
-    let lost = [
-        Event::Crash(0),
-        Event::Submit(&create),
-        Event::Open(0, &[]),
-        Event::Resend(&create),
-    ];
-    go(&rt, &mut world, &lost);
-    assert!(rt; has_tickets(world.tickets(), &[TAKEN]));
-    assert_eq!(rt; world.board().ordered(), 1);
-}
-
-#[test]
-fn an_acknowledged_edit_stays(rt: HostRuntime) {
-    let create = command(&rt, 1);
-    let mut world = store(&rt);
-    go(&rt, &mut world, &[Event::Submit(&create)]);
-    go(&rt, &mut world, &WRITTEN);
-    go(&rt, &mut world, &[Event::Ack(0), Event::Crash(0)]);
-    // no crash leaves less
-    assert!(rt; world.left() == (1, 1));
-    assert!(rt; has_acks(world.acks(), &[TAKEN]));
-    let opened = [
-        Event::Crash(1),
-        // a milestone that wasn't composed opens nothing
-        Event::Open(1, &[1]),
-        Event::Resend(&create),
-        Event::Open(1, &[]),
-        Event::Resend(&create),
-        Event::Ack(0),
-    ];
-    go(&rt, &mut world, &opened);
-    assert!(rt; has_tickets(world.tickets(), &[AGAIN]));
-    assert!(rt; has_acks(world.acks(), &[TAKEN, AGAIN]));
-    assert_eq!(rt; world.published(), 1);
-}
-
-// Three revisions are acknowledged, and the third is composed.
-fn composed(rt: &(impl Abort + AllocGlobal)) -> World {
-    let commands = [command(rt, 1), command(rt, 2), command(rt, 3)];
-    let mut world = store(rt);
-    let events = [
-        Event::Submit(&commands[0]),
-        Event::Submit(&commands[1]),
-        Event::Submit(&commands[2]),
-        Event::Take(3),
-        Event::Device(Outcome::Done),
-        Event::Publish,
-        Event::Settle,
-        Event::Ack(0),
-        Event::Ack(1),
-        Event::Ack(2),
-        Event::Compose(0, 3),
-    ];
-    go(rt, &mut world, &events);
-    world
-}
-
-// A fourth edit of revision 1 is taken then, its batch is given up, and the crash takes it back.
-fn given_up(rt: &(impl Abort + AllocGlobal), fourth: &Command) -> World {
-    let mut world = composed(rt);
-    let events = [
-        Event::Submit(fourth),
-        Event::Take(1),
-        Event::Device(Outcome::Stopped),
-        Event::Ack(3),
-        Event::Crash(3),
-    ];
-    go(rt, &mut world, &events);
-    assert_eq!(rt; world.acks().len(), 3);
-    world
-}
-
-#[test]
-fn an_edit_that_was_taken_back_is_too_old(rt: HostRuntime) {
-    let fourth = command(&rt, 4);
-    let mut world = given_up(&rt, &fourth);
-    // a milestone that was composed
-    go(
-        &rt,
-        &mut world,
-        &[Event::Open(3, &[3]), Event::Resend(&fourth)],
-    );
-    assert!(rt; has_tickets(world.tickets(), &[]));
-    let answer = world.board().state().plan(rt.alloc(), &fourth);
-    assert!(rt; answer.err() == Some(Refusal::TooOld));
-    assert_eq!(rt; world.acks().len(), 3);
-}
-
-#[test]
-fn an_edit_that_was_taken_back_is_taken_again(rt: HostRuntime) {
-    let fourth = command(&rt, 4);
-    let mut world = given_up(&rt, &fourth);
-    // without a milestone the floor is 1, two revisions below the newest one
-    go(
-        &rt,
-        &mut world,
-        &[Event::Open(3, &[]), Event::Resend(&fourth)],
-    );
-    assert!(rt; has_tickets(world.tickets(), &[(Reply::Taken { rev: 4 }, 4)]));
-}
-
-#[test]
-fn a_number_that_is_not_the_last_is_not_sent_again(rt: HostRuntime) {
-    let (first, second) = (command(&rt, 1), command(&rt, 2));
-    let mut world = store(&rt);
-    let events = [
-        Event::Submit(&first),
-        Event::Submit(&second),
-        Event::Resend(&first),
-    ];
-    go(&rt, &mut world, &events);
-    assert_eq!(rt; world.tickets().len(), 2);
-}
-
-#[test]
-fn nothing_is_settled_before_it_is_shown(rt: HostRuntime) {
-    let create = command(&rt, 1);
-    let mut world = store(&rt);
-    let settled = [
-        Event::Submit(&create),
-        Event::Take(1),
-        Event::Publish,
-        Event::Device(Outcome::Done),
-        Event::Settle,
-        Event::Ack(0),
-    ];
-    go(&rt, &mut world, &settled);
-    assert!(rt; has_acks(world.acks(), &[]));
-    assert_eq!(rt; world.board().settled(), 0);
-    assert_eq!(rt; world.published(), 0);
+    for rows in &SCHEDULES {
+        let mut world = World::new(rt.alloc(), Limits::new(2, 4, 1000, 237, 2));
+        for row in *rows {
+            go_on(&rt, &mut world, &commands, row);
+        }
+    }
 }

@@ -1,0 +1,7 @@
+use Rattle.hub_tests.proofs.board.each_step_of_a_board_gives_its_answer.Given as goal
+
+abbrev pub ghosts-lived-J-Site : goal.ghosts-lived-J-Site
+ghosts-lived-J-Site g a = record { book = a.opened; start = a.state }
+
+abbrev pub ghosts-lived-J-Ledger : goal.ghosts-lived-J-Ledger
+ghosts-lived-J-Ledger g a = record { name = a.blank.name; parts = a.blank.parts }

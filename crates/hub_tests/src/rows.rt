@@ -1,0 +1,210 @@
+//! The life of a board as rows: what is done, and what that gives.
+use disk::MemDisk;
+use fixtures::{command, commit};
+use hub::{Board, Seat, Ticket};
+use published::{Log, Site, Told};
+use recovery::{Receipt, Shape, Store};
+use refusal::Refusal;
+use revision::{Reply, State};
+use std::process::Abort;
+
+/// A device of 263,232 bytes: slots of 256, and cells that have room for texts of 65,536 letters.
+pub const SHAPE: Shape = Shape {
+    slots: 2,
+    slot: 256,
+    docs: 2,
+    cell: 65_664,
+    sources: 4,
+    keep: 2,
+};
+
+/// Bytes of a batch at most, so that it finds room in an empty slot.
+pub const CAP: u32 = 241;
+
+/// What is done. Tickets, batches and tokens have their places; the token at 0 is the start.
+#[derive(Clone, Copy)]
+pub enum Step {
+    /// Submits the command of this number, with so many letters.
+    Submit(u64, u32),
+    /// Looks at what the order makes.
+    Order,
+    /// Takes the next batch, and commits it.
+    Take,
+    /// Puts the batch of this place behind the newest token.
+    Publish(usize),
+    /// Settles the batch of this place by the token of that one.
+    Settle(usize, usize),
+    /// Acknowledges the ticket of this place.
+    Ack(usize),
+    Fail,
+}
+
+/// What that gives.
+#[derive(Clone, Copy, Debug, PartialEq, Eq)]
+pub enum Gives {
+    /// A ticket with this reply, and how many commands the order has then.
+    Ordered(Reply, usize),
+    /// One document at this revision, with so many letters.
+    Stands(u64, u64),
+    /// The batch has so many commands.
+    Committed(usize),
+    /// The token has so many commands.
+    Published(u64),
+    Settled,
+    /// A token of so many commands.
+    Acked(u64),
+    Waits,
+    Failed,
+    Refused(Refusal),
+    /// There is none of this place, or it isn't the newest.
+    Nothing,
+}
+
+pub type Row = (Step, Gives);
+
+/// A board with its one seat, the store of its batches, and what was given out so far.
+#[derive(Drop)]
+pub struct Life<J: Site> {
+    board: Board<MemDisk, J>,
+    seat: Seat<J>,
+    store: Store<MemDisk>,
+    log: Log<MemDisk, J>,
+    tickets: Vec<Ticket>,
+    batches: Vec<Receipt<MemDisk>>,
+    tokens: Vec<Told<MemDisk, J>>,
+}
+
+impl<J: Site> Life<J> {
+    pub fn new(
+        rt: &(impl Abort + AllocGlobal),
+        board: Board<MemDisk, J>,
+        seat: Seat<J>,
+        store: Store<MemDisk>,
+        log: Log<MemDisk, J>,
+        start: Told<MemDisk, J>,
+    ) -> Life<J> {
+        let mut tokens = Vec::new(rt.alloc());
+        assert!(rt; tokens.push(start).is_ok());
+        Life {
+            board,
+            seat,
+            store,
+            log,
+            tickets: Vec::new(rt.alloc()),
+            batches: Vec::new(rt.alloc()),
+            tokens,
+        }
+    }
+
+    pub fn into_store(self) -> Store<MemDisk> {
+        let Life {
+            board: _,
+            seat: _,
+            store,
+            log: _,
+            tickets: _,
+            batches: _,
+            tokens: _,
+        } = self;
+        store
+    }
+}
+
+fn submitted<J: Site>(
+    rt: &(impl Abort + AllocGlobal),
+    life: &mut Life<J>,
+    number: u64,
+    letters: u32,
+) -> Gives {
+    let command = command(rt.alloc(), number, letters).expect(rt, "a command");
+    match life.board.submit(rt.alloc(), &mut life.seat, &command) {
+        Ok(ticket) => {
+            let gives = Gives::Ordered(ticket.reply(), ticket.length());
+            assert!(rt; life.tickets.push(ticket).is_ok());
+            gives
+        }
+        Err(refusal) => Gives::Refused(refusal),
+    }
+}
+
+/// The first document of a state.
+pub fn stands(state: &State) -> Gives {
+    match state.documents() {
+        [document] => Gives::Stands(document.revision(), document.document().len16()),
+        _ => Gives::Nothing,
+    }
+}
+
+fn committed<J: Site>(rt: &(impl Abort + AllocGlobal), life: &mut Life<J>) -> Gives {
+    let run = life.board.take(rt.alloc(), CAP).expect(rt, "memory");
+    let count = run.len();
+    if count == 0 {
+        run.nothing();
+        return Gives::Committed(0);
+    }
+    match commit(rt.alloc(), &mut life.store, run.commands()) {
+        Ok(receipt) => {
+            run.committed(&receipt);
+            assert!(rt; life.batches.push(receipt).is_ok());
+            Gives::Committed(count)
+        }
+        Err(refusal) => panic!(rt; "{refusal}"),
+    }
+}
+
+fn published<J: Site>(rt: &impl Abort, life: &mut Life<J>, batch: usize) -> Gives {
+    let Some(receipt) = life.batches.get(batch) else {
+        return Gives::Nothing;
+    };
+    let Some(newest) = life.tokens.last() else {
+        return Gives::Nothing;
+    };
+    match newest.add(&life.log, receipt) {
+        Ok(told) => {
+            let gives = Gives::Published(told.len());
+            assert!(rt; life.tokens.push(told).is_ok());
+            gives
+        }
+        Err(_) => Gives::Nothing,
+    }
+}
+
+fn settled<J: Site>(life: &mut Life<J>, batch: usize, token: usize) -> Gives {
+    let Some(receipt) = life.batches.get(batch) else {
+        return Gives::Nothing;
+    };
+    let Some(told) = life.tokens.get(token) else {
+        return Gives::Nothing;
+    };
+    match life.board.settle(receipt, told.copy()) {
+        Ok(()) => Gives::Settled,
+        Err(refusal) => Gives::Refused(refusal),
+    }
+}
+
+fn acknowledged<J: Site>(life: &Life<J>, at: usize) -> Gives {
+    let Some(ticket) = life.tickets.get(at) else {
+        return Gives::Nothing;
+    };
+    match life.board.ack(ticket) {
+        Ok(Some(told)) => Gives::Acked(told.len()),
+        Ok(None) => Gives::Waits,
+        Err(refusal) => Gives::Refused(refusal),
+    }
+}
+
+/// Does a step.
+pub fn given<J: Site>(rt: &(impl Abort + AllocGlobal), life: &mut Life<J>, step: &Step) -> Gives {
+    match *step {
+        Step::Submit(number, letters) => submitted(rt, life, number, letters),
+        Step::Order => stands(life.board.state()),
+        Step::Take => committed(rt, life),
+        Step::Publish(batch) => published(rt, life, batch),
+        Step::Settle(batch, token) => settled(life, batch, token),
+        Step::Ack(ticket) => acknowledged(life, ticket),
+        Step::Fail => {
+            life.board.fail();
+            Gives::Failed
+        }
+    }
+}
