@@ -1,12 +1,12 @@
 //! A store served by threads: one writes, and each session has its own.
 //!
-//! The thread that writes is asked for before anybody is served. Where the system gives none, nobody is; `serve_streams` says that the
-//! store comes back unchanged then.
+//! The thread that writes is asked for before anybody is served. Where the system refuses it nobody is served, and the call ends with
+//! `NoMemory`; `serve_streams` says that the store is unchanged then.
 //!
 //! `serve_on` puts together what the crates below have, for those who connect to a listener: a flusher and a board from `start`, a hub of
 //! that board, a desk at it for each of 64 seats, `serve_desks` of `sockets`, and `flush_all` of `turns`. When the listener fails each
 //! session ends, then the hub is ended, the flusher writes what is left, and the store is given back. `specs/Served.antt` says what that
-//! leaves of the store, at any moment of it: the batches that were written, in one order, or some first ones of them, and from the
+//! leaves of the store, at any moment of it: the batches that were written, in one order, or a prefix of them, and from the
 //! moment on at which a batch is written no fewer. What is promised of a command's answer stands on the desk, the hub and the flusher; of sockets
 //! nothing can be said.
 //!
