@@ -281,6 +281,13 @@ impl<D: Disk, J: Site> Flusher<D, J> {
         self.store.state().limits().width().saturating_add(4)
     }
 
+    /// The store under it.
+    pub fn store(&self) -> &Store<D>
+        ensures { result.now ≡ store_of self.now }
+    {
+        &self.store
+    }
+
     /// The token of what is published.
     pub fn told(&self) -> &Told<D, J>
         ensures { result.now ≡ told_of self.now }

@@ -10,7 +10,7 @@ use Rattle.refusal.specs.declared.Refusal.TheVariants.{Fault}
 use Rattle.revision.specs.State.{State, fold, all_grow}
 use Rattle.recovery.specs.declared.store.Store.{Store}
 use Rattle.recovery.specs.Found.{commands_of, FoundAs}
-use Rattle.recovery.specs.Open.{state_of, has_failed}
+use Rattle.recovery.specs.Open.{IsOpen, state_of, has_failed}
 use Rattle.recovery.specs.Goes.{Goes}
 use Rattle.recovery.proofs.CallerLemmas.{goes_none, goes_map, found_as, found_open, found_now}
 use Rattle.flusher.specs.declared.flusher.Flusher.{Flusher}
@@ -19,7 +19,7 @@ use Rattle.flusher.specs.Holding.{store_of, told_of, committed_of, waiting_of}
 use Rattle.published.specs.Batches.{IsShorter}
 use Rattle.turns.specs.Writing.{WasAt, Writes, given_to, told_count}
 use Rattle.listening.specs.Served.{IsServed, IsStarted, WasServed, WasShown}
-use Rattle.listening.specs.Written.{HasWritten, HasRun}
+use Rattle.listening.specs.Written.{HasWritten, HasRun, StartedOverWrites}
 
 -- what begins a state's batches begins those of a state that is the same, where no less was asked for
 within : (least less : ℕ) (start other : State) (batches : List (List Taken)) (content : List ℕ) → least ≡ less → start ≡ other
@@ -144,6 +144,41 @@ module _ {D J : Type 0} {disk : Ghosts D} where
     wrote = record { writes = writes; nothing = nothing; fails = fails };
     unbegun = λ not_begun. absurd (false≢true (sym not_begun));
   }
+
+  -- of two flushers that were just started over one store the same is written
+  same_writes : (start : State) (here old new : Flusher D J disk) → IsStarted here → IsStarted old → store_of here ≡ store_of old
+      → Writes start here new → Writes start old new
+  same_writes start here old new begun started store writes =
+      let told : told_of here ≡ told_of old = begun.nothing ∙ sym started.nothing in
+      let given : given_to here ≡ given_to old = none_given here begun ∙ sym (none_given old started) in
+      record {
+        told = subst (λ (t : List (List Taken)). (l : List (List Taken)) × (told_of new ≡ t ++ l)) told writes.told;
+        more = subst (λ (t : List (List Taken)). (l : List (List Taken)) × (given_to new ≡ t ++ l)) given writes.more;
+        goes =
+            subst (λ (s : Store D disk). Goes (IsBeginning (told_count old) start (given_to new)) s (store_of new)) store
+            (subst (λ (t : List (List Taken)). Goes (IsBeginning (length (commands_of t)) start (given_to new)) (store_of here) (store_of new)) told writes.goes);
+        each = λ first shorter begins.
+            subst (λ (s : Store D disk). WasAt start (told_count old) first (given_to new) s (store_of new)) store
+            (subst (λ (t : List (List Taken)). WasAt start (length (commands_of t)) first (given_to new) (store_of here) (store_of new)) told
+            (writes.each first (subst (λ (t : List (List Taken)). IsShorter t first) (sym told) shorter) begins));
+        lasts = λ works is_open content left.
+            writes.lasts (subst (λ (s : Store D disk). has_failed s ≡ false) (sym store) works) (subst (λ (s : Store D disk). IsOpen s) (sym store) is_open) content left;
+      }
+    where
+      none_given : (flusher : Flusher D J disk) → IsStarted flusher → given_to flusher ≡ []
+      none_given flusher is =
+          ap (λ (l : List (List Taken)). l ++ (committed_of flusher ++ waiting_of flusher)) is.nothing
+          ∙ ap (λ (l : List (List Taken)). l ++ waiting_of flusher) is.none ∙ is.idle
+
+  pub any_started : (start : State) (here new : Flusher D J disk) (store : Store D disk) (answer : Result (Unit {0}) Refusal) → IsStarted here
+      → store ≡ store_of here → HasWritten start here new answer → StartedOverWrites start store new answer
+  any_started start here new store answer begun is wrote old started over =
+      let same : store_of here ≡ store_of old = sym is ∙ sym over in
+      record {
+        writes = same_writes start here old new begun started same wrote.writes;
+        nothing = wrote.nothing;
+        fails = subst (λ (s : Store D disk). has_failed s ≡ false → (has_failed (store_of new) ≡ true ↔ IsErrOf answer Fault)) same wrote.fails;
+      }
 
   -- what was written where it ended well, and nothing kept the sessions from being served
   pub shown_end : (start : State) (old new : Flusher D J disk) (written answer : Result (Unit {0}) Refusal) → IsStarted old → Kept start old → Kept start new → Few new

@@ -1,6 +1,7 @@
 //! Writing in a thread of its own, beside what this thread does.
 ghost use Rattle.std.specs.Prelude.{◌≡◌, IfOk, IfErr};
 ghost use Rattle.std.specs.Thread.{IsSend, IsSync};
+ghost use Rattle.flusher.specs.Holding.{store_of};
 ghost use Rattle.listening.specs.Served.{IsStarted};
 ghost use Rattle.listening.specs.Written.{HasWritten};
 
@@ -11,6 +12,7 @@ use flusher::Flusher;
 use hub::Writer;
 use published::Site;
 use refusal::Refusal;
+use std::marker::PhantomData;
 use std::snapshot::Snapshot;
 use std::sync::Wait;
 use std::sync::atomic::{AtomicBool, Ordering};
@@ -117,7 +119,10 @@ fn run_beside<
     ensures refused { IfErr result (λ back. back.0 ≡ flusher) }
     ensures unrun { IfErr result (λ back. back.1 ≡ task) }
 {
-    let written_by = WrittenBy(Snapshot::of(&flusher));
+    let written_by = WrittenBy {
+        store: Snapshot::of(flusher.store()),
+        of: PhantomData,
+    };
     let has_thread = AtomicBool::new(true);
     let lowered = &has_thread;
     let writing = Writing {
@@ -130,7 +135,7 @@ fn run_beside<
         thread::scope_env(),
         shared.rt,
         |scope| -> Result<Both<D, J, T::Output>, (Flusher<D, J>, T)>
-            requires { T.can_run task × IsStarted writing.flusher × (written_by.0.value ≡ writing.flusher)
+            requires { T.can_run task × IsStarted writing.flusher × (written_by.store.value ≡ store_of writing.flusher)
                 × IsSend D.row × IsSend J.row × IsSync J.row × IsSync R.row }
             ensures written { IfOk result (λ both. HasWritten J.start writing.entry.flusher both.flusher both.written) }
             ensures ran { IfOk result (λ both. T.run_gives task both.talked) }
