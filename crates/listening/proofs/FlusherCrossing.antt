@@ -1,5 +1,6 @@
 -- What a flusher has may go to another thread. The search for it is too long in one piece.
 use denote.RattleType.{RattleType}
+use denote.Ref.{NamedLft}
 use denote.Param.Send.{IsSend, IsSync, sendable}
 use Rattle.std.proofs.Crossing.{crosses, frees}
 use Rattle.core.specs.declared.ledger.Ledger as ledger
@@ -21,7 +22,10 @@ use Rattle.view.proofs.CallerLemmas.{name_send, delta_send, sources_send, state_
 use Rattle.hub.specs.contracts.kept.Writer as writer
 use Rattle.hub.proofs.CallerLemmas.{taken_send}
 use Rattle.flusher.specs.contracts.flusher.Flusher as flusher
-use Rattle.listening.proofs.Crossing.{told_send}
+use Rattle.listening.specs.contracts.writing.Shared as shared
+use Rattle.listening.specs.contracts.writing.Writing as writing
+use Rattle.listening.specs.contracts.written.Written as written
+use Rattle.listening.proofs.Crossing.{told_send, hub_sync}
 
 pub cells_send : IsSend cells.the_row
 cells_send = search (sendable, crosses) depth 60 fits 20000
@@ -53,3 +57,23 @@ pub flusher_send : (D T : RattleType) (d : disk.Ghosts D.Denot) (s : site.Ghosts
 flusher_send D T d s l a b c =
     let publisher = publisher_send D T s l a b c in
     search (cells_send, job_send, state_send, taken_send, seen.the_send, sendable, crosses) depth 60 fits 20000
+
+pub shared_sync : (k : NamedLft) (D T R : RattleType) (s : site.Ghosts T.Denot) (l : ledger.Ghosts T.Denot) → IsSend T → IsSync T → IsSync R
+    → IsSync (shared.the_row k D T R s l)
+shared_sync k D T R s l a b c =
+    let hub = hub_sync D T s l a b in
+    search (sendable, crosses) depth 60 fits 20000
+
+pub writing_send : (k : NamedLft) (D T R : RattleType) (d : disk.Ghosts D.Denot) (s : site.Ghosts T.Denot) (l : ledger.Ghosts T.Denot) → IsSend D → IsSend T → IsSync T → IsSync R
+    → IsSend (writing.the_row k D T R d s l)
+writing_send k D T R d s l a b y c =
+    let shared = shared_sync k D T R s l b y c in
+    let flusher = flusher_send D T d s l a b y in
+    let writer = writer_send T b in
+    search (sendable, crosses) depth 60 fits 20000
+
+pub written_send : (k : NamedLft) (D T R : RattleType) (d : disk.Ghosts D.Denot) (s : site.Ghosts T.Denot) (l : ledger.Ghosts T.Denot) → IsSend D → IsSend T → IsSync T → IsSync R
+    → IsSend (written.the_row k D T R d s l)
+written_send k D T R d s l a b y c =
+    let flusher = flusher_send D T d s l a b y in
+    search (sendable, crosses) depth 60 fits 20000

@@ -178,9 +178,13 @@ fn serve_at<
         shared,
         flusher,
         writer,
-        &mut || match desks.take() {
-            Some(desks) => serve_all(shared, desks, listener, &mut closer),
-            None => Ok(()),
+        &mut || -> Result<(), Refusal>
+            ensures { IsOkUnless result Refusal.NoMemory }
+        {
+            match desks.take() {
+                Some(desks) => serve_all(shared, desks, listener, &mut closer),
+                None => Ok(()),
+            }
         },
     );
     match both {
