@@ -31,6 +31,7 @@ pub struct Flusher<D: Disk, J: Site> {
     ghost grown: { all_grow begun (commands_of (publisher.told ++ publisher.unpublished)) ≡ true },
     ghost few: { length publisher.unpublished ≤ 1 },
     ghost fits: { ForSome waiting (λ run. MayCommit (state_of store) run.commands publisher.unpublished) },
+    ghost placed: { ForSome waiting (λ run. run.place ≡ length (commands_of publisher.told)) },
 }
 
 impl<D: Disk, J: Site> Flusher<D, J> {
@@ -88,6 +89,7 @@ impl<D: Disk, J: Site> Flusher<D, J> {
         requires short { length run.commands < 2 ^ 32 }
         requires fits { FitsSlot (state_of (store_of self.old)) run.commands }
         requires cap { run.cap ≡ cap_of (state_of (store_of self.old)) }
+        requires next { run.place ≡ length (commands_of (told_of self.old)) }
         ensures store { store_of self.new ≡ store_of self.old }
         ensures told { told_of self.new ≡ told_of self.old }
         ensures committed { committed_of self.new ≡ committed_of self.old }
@@ -158,8 +160,9 @@ impl<D: Disk, J: Site> Flusher<D, J> {
             None => Ok(()),
             Some(batch) => match self.store.commit_freeing(alloc, batch.commands()) {
                 Ok(receipt) => {
+                    let ordered = batch.goes_on(self.publisher.told());
                     batch.committed(&receipt);
-                    self.publisher.accept(receipt);
+                    self.publisher.accept(receipt, ordered);
                     Ok(())
                 }
                 Err(refusal) => {

@@ -7,29 +7,26 @@ use Rattle.revision.specs.State.{State, grown, fold}
 use Rattle.revision.specs.Acceptance.{Answer, Takes, Repeats, Refuses, Reply, TakenAt, AgainAt, answer}
 use Rattle.world.specs.Board.{Board, Ticket, submitted, submitted_by, ticket_by, ticket_of}
 use Rattle.world.specs.World.{Entry, entry_of, takens}
-use Rattle.hub.specs.Legal.{IsLegal, IsHistory, IsWithin, counted}
-
-legal-more : (state : State) (entries : List Entry) (entry : Entry) → IsLegal state entries
-    → answer (fold state (takens entries)) entry.command ≡ Takes entry.taken → IsLegal state (entries ++ entry ∷ [])
-legal-more state [] entry legal is = (is, tt)
-legal-more state (first ∷ others) entry legal is = (legal.0, legal-more (grown state first.taken) others entry legal.1 is)
+use Rattle.published.specs.Order.{HasNumber}
+use Rattle.published.proofs.CallerLemmas.{legal_more}
+use Rattle.hub.specs.Legal.{IsHistory, IsWithin, counted}
 
 fold-more : (state : State) (commands : List Taken) (taken : Taken) → fold state (commands ++ taken ∷ []) ≡ grown (fold state commands) taken
 fold-more state [] taken = refl
 fold-more state (first ∷ others) taken = fold-more (grown state first) others taken
 
 module _ (board : Board Entry) (command : Command) where
-  answered : (due : Answer) → IsHistory board → answer board.state command ≡ due → IsHistory (submitted_by (entry_of command) board due)
-  answered (Takes taken) history is = record {
-    legal = legal-more board.start board.order (entry_of command taken) history.legal (ap (λ s. answer s command) (sym history.state) ∙ is);
+  answered : (due : Answer) → HasNumber command → IsHistory board → answer board.state command ≡ due → IsHistory (submitted_by (entry_of command) board due)
+  answered (Takes taken) numbered history is = record {
+    legal = legal_more board.start board.order (entry_of command taken) history.legal (numbered, ap (λ s. answer s command) (sym history.state) ∙ is);
     state = ap (λ s. grown s taken) history.state ∙ sym (ap (fold board.start) (map-append (λ (e : Entry). e.taken) board.order (entry_of command taken ∷ []))
         ∙ fold-more board.start (takens board.order) taken);
   }
-  answered (Repeats revision) history is = history
-  answered (Refuses refusal) history is = history
+  answered (Repeats revision) numbered history is = history
+  answered (Refuses refusal) numbered history is = history
 
-  history_submitted : IsHistory board → IsHistory (submitted (entry_of command) board command)
-  history_submitted history = answered (answer board.state command) history refl
+  history_submitted : HasNumber command → IsHistory board → IsHistory (submitted (entry_of command) board command)
+  history_submitted numbered history = answered (answer board.state command) numbered history refl
 
   counted_by : (due : Answer) (ticket : Ticket) → Some ticket ≡ ticket_by board command due
       → (length (submitted_by (entry_of command) board due).order ≡ counted (length board.order) ticket.reply) × (ticket.command ≡ command)
@@ -66,10 +63,10 @@ module _ (board : Board Entry) (command : Command) where
   -- all that a board's type says goes on
   pub submitted_goes_on : (new : Board Entry) (told : List (List Taken)) (start : State) (total after : ℕ) (reply : Reply) (ticket : Ticket)
       → new ≡ submitted (entry_of command) board command → Some ticket ≡ ticket_of board command → reply ≡ ticket.reply
-      → IsHistory board → IsWithin board told → board.start ≡ start → total ≡ length board.order → after ≡ counted total reply
+      → HasNumber command → IsHistory board → IsWithin board told → board.start ≡ start → total ≡ length board.order → after ≡ counted total reply
       → IsHistory new × IsWithin new told × (new.start ≡ start) × (after ≡ length new.order)
-  submitted_goes_on new told start total after reply ticket is given replied history within begun sum counts_it = (
-    subst IsHistory (sym is) (history_submitted history),
+  submitted_goes_on new told start total after reply ticket is given replied numbered history within begun sum counts_it = (
+    subst IsHistory (sym is) (history_submitted numbered history),
     subst (λ (b : Board Entry). IsWithin b told) (sym is) (within_by told (answer board.state command) within),
     ap (λ (b : Board Entry). b.start) is ∙ start_by (answer board.state command) ∙ begun,
     counts_it ∙ ap (λ n. counted n reply) sum ∙ ap (λ r. counted (length board.order) r) replied

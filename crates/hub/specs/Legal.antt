@@ -1,12 +1,13 @@
 -- What stands behind the lock at any time that it is free.
-use Rattle.std.specs.Prelude.{◌≡◌, ◌≤◌, ◌+◌, ◌⊎◌, ℕ, Bool, true, List, [], ◌∷◌, length, Some, Result, Ok, Err}
+use Rattle.std.specs.Prelude.{◌≡◌, ◌≤◌, ◌+◌, ◌⊎◌, ℕ, Bool, true, List, length, Some, Result, Ok, Err}
 use Rattle.refusal.specs.declared.Refusal.{Refusal}
 use Rattle.refusal.specs.declared.Refusal.TheVariants.{NoMemory, StoreFailed}
 use Rattle.revision.specs.Command.{Taken, Command}
-use Rattle.revision.specs.State.{State, grown, fold}
+use Rattle.revision.specs.State.{State, fold}
 use Rattle.revision.specs.Planned.{may_want_memory}
-use Rattle.revision.specs.Acceptance.{Takes, Refuses, Reply, TakenAt, AgainAt, Refused, answer}
+use Rattle.revision.specs.Acceptance.{Refuses, Reply, TakenAt, AgainAt, Refused, answer}
 use Rattle.recovery.specs.Found.{commands_of}
+use Rattle.published.specs.Order.{IsLegal}
 use Rattle.world.specs.Board.{Board as Inner, Ticket, ticket_of}
 use Rattle.world.specs.World.{Entry, takens}
 
@@ -17,11 +18,6 @@ pub record Board : Type 0 where
   pub failed : Bool
   pub told : List (List Taken)
   pub left : ℕ
-
--- A legal history from a state: each command was taken as the rule of acceptance says at that point.
-abbrev pub IsLegal : State → List Entry → Type 0
-IsLegal state [] = Unit {0}
-IsLegal state (first ∷ others) = (answer state first.command ≡ Takes first.taken) × IsLegal (grown state first.taken) others
 
 -- the order is a legal history from the start, of which the state is the fold
 pub record IsHistory (board : Inner Entry) : Type 0 where

@@ -1,3 +1,4 @@
 pub mod Legal
+pub mod Placed
 pub mod Runs
 pub mod Waiting

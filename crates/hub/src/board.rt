@@ -1,30 +1,31 @@
 //! The board.
-ghost use Rattle.std.specs.Prelude.{◌≡◌, ◌⊎◌, ◌↔◌, ◌≤◌, ◌<◌, ◌+◌, ◌-◌, ◌^◌, min, true, false, [], Some, None, Ok, length, IfOk, IfErr, IfSome, OnOk, OnErr, IsTrue, IsOk, IsErrOf};
+ghost use Rattle.std.specs.Prelude.{◌≡◌, ◌⊎◌, ◌↔◌, ◌≤◌, ◌<◌, ◌+◌, ◌-◌, ◌^◌, ◌++◌, ◌∷◌, min, true, false, List, [], Some, None, Ok, length, IfOk, IfErr, IfSome, OnOk, OnErr, IsTrue, IsOk, IsErrOf};
 ghost use Rattle.revision.specs.Acceptance.{answer, Refuses};
 ghost use Rattle.revision.specs.Planned.{may_want_memory};
 ghost use Rattle.recovery.specs.Found.{commands_of};
 ghost use Rattle.world.specs.Board.{begun_board, submitted, ticket_of, next_run, taken_more, settled_more, can_ack};
-ghost use Rattle.world.specs.World.{entry_of, takens};
+ghost use Rattle.world.specs.World.{Entry as Kept, entry_of, takens};
 ghost use Rattle.hub.specs.Legal.{IsHistory, IsOfRun, IsWithin, counted};
+ghost use Rattle.hub.specs.Placed.{IsPlaced, StandsFirst, WasSubmitted};
 ghost use Rattle.hub.specs.Runs.{IsLongest, untaken, MaySettle};
 
-use crate::run::{Run, copied, is_beginning, longest};
+use crate::run::{Run, copied, longest};
 use crate::seat::{PLACES, Seat, Ticket, count};
-use published::{Site, Told};
-use recovery::Receipt;
+use published::{Order, Ordered, Site, Told};
 use refusal::Refusal;
-use revision::{Command, State};
+use revision::{Command, Reply, State};
 use std::alloc::Global;
 use std::marker::Model;
 use std::sync::ledger::{Blank, Book, Share};
-use world::Board as Inner;
+use world::{Board as Inner, Entry};
 
 /// The order of the commands that were taken since a store was opened, with the state after them, how many are taken off to be written
 /// and how many of those are settled; the token of what was published up to there; whether the store has failed; and the ledger of the
-/// seats, whose counts add up to the length of the order.
+/// seats, whose counts add up to the length of the order. It owns the run's order, and makes it longer as its own grows.
 #[derive(Drop)]
 pub struct Board<D, J: Site> {
     board: Inner,
+    order: Order<J>,
     failed: bool,
     told: Told<D, J>,
     seats: Book<J>,
@@ -42,7 +43,7 @@ impl<D, J: Site> Model for Board<D, J> {
     ghost view = { λ b. record { board = b.board; failed = b.failed; told = b.told; left = b.left } };
 
     ghost invariant = { λ b. spec.IsHistory b.board × spec.IsWithin b.board b.told × (b.board.start ≡ J.start)
-        × (b.seats.total ≡ length b.board.order) × (b.spare.parts ≡ b.left + 1) };
+        × (b.seats.total ≡ length b.board.order) × (b.spare.parts ≡ b.left + 1) × (b.order ≡ b.board.order) };
 }
 
 impl<D, J: Site> Board<D, J> {
@@ -51,11 +52,13 @@ impl<D, J: Site> Board<D, J> {
         alloc: Global,
         state: State,
         told: Told<D, J>,
+        order: Order<J>,
         blank: Blank,
         seats: u32,
     ) -> Board<D, J>
         requires start { state ≡ J.start }
         requires told { told ≡ [] }
+        requires order { order ≡ [] }
         requires name { blank.name ≡ J.name }
         requires parts { blank.parts ≡ J.parts }
         requires seats { blank.parts ≡ seats + 1 }
@@ -64,6 +67,7 @@ impl<D, J: Site> Board<D, J> {
         let (book, spare) = blank.open::<J>();
         Board {
             board: Inner::new(alloc, state),
+            order,
             failed: false,
             told,
             seats: book,
@@ -96,6 +100,21 @@ impl<D, J: Site> Board<D, J> {
         ensures { result ≡ self.now.board.settled }
     {
         self.board.settled()
+    }
+
+    // How many commands of the order are taken off.
+    pub(crate) fn taken(&self) -> usize
+        ensures taken { result ≡ self.now.board.taken }
+        ensures bound { result ≤ length self.now.board.order }
+    {
+        self.board.taken()
+    }
+
+    // The token of the whole order.
+    pub(crate) fn order(&self) -> Ordered<J>
+        ensures { result ≡ self.now.board.order }
+    {
+        self.order.ordered()
     }
 
     /// The token of what was published, up to what is settled.
@@ -151,7 +170,7 @@ impl<D, J: Site> Board<D, J> {
         alloc: Global,
         seat: &mut Seat<J>,
         command: &Command,
-    ) -> Result<Ticket, Refusal>
+    ) -> Result<Ticket<J>, Refusal>
         ensures ok { OnOk result (self.new
             ≡ record self.old { board = submitted (entry_of command.now) self.old.board command.now }) }
         ensures ticket { IfOk result (λ ticket. Some ticket ≡ ticket_of self.old.board command.now) }
@@ -175,10 +194,12 @@ impl<D, J: Site> Board<D, J> {
         let _ = command.number();
         match self.board.submit(alloc, command) {
             Ok(ticket) => {
+                order_taken(&mut self.order, &self.board, &ticket);
                 count(&mut self.seats, &mut seat.share, ticket.reply());
                 Ok(Ticket {
                     ticket,
                     place: seat.place,
+                    order: self.order.ordered(),
                 })
             }
             Err(refusal) => Err(refusal),
@@ -191,6 +212,7 @@ impl<D, J: Site> Board<D, J> {
         ensures longest { IfOk result (λ run. IsLongest cap (untaken self.old.board) (length run.commands)) }
         ensures run { IfOk result (λ run. run.commands ≡ takens (next_run self.old.board (length run.commands))) }
         ensures cap { IfOk result (λ run. run.cap ≡ cap) }
+        ensures place { IfOk result (λ run. run.place ≡ self.old.board.taken) }
         ensures board { IfOk result (λ run. self.new
             ≡ record self.old { board = taken_more self.old.board (length run.commands) }) }
         ensures only { IfErr result (λ e. e ≡ Refusal.NoMemory) }
@@ -204,22 +226,22 @@ impl<D, J: Site> Board<D, J> {
         Ok(run)
     }
 
-    /// Settles a batch that was committed, by the receipt of its commit and the token of its publish. Refused with `Stranger` just where the batch isn't the
-    /// next part of the order after what is settled, some of it isn't taken off, it is empty, or what was published doesn't end with
-    /// it; nothing has changed then. It takes no memory.
-    pub fn settle(&mut self, receipt: &Receipt<D>, told: Told<D, J>) -> Result<(), Refusal>
+    /// Settles all that a token of what was published names. Refused with `Stranger` just where that is no more than is settled, or some of it
+    /// isn't taken off; nothing has changed then. It takes no memory.
+    pub fn settle(&mut self, told: Told<D, J>) -> Result<(), Refusal>
         ensures ok { OnOk result (self.new
-            ≡ record self.old { board = settled_more self.old.board (length receipt.now); told = told }) }
-        ensures may { OnOk result (MaySettle self.old.board receipt.now (length (commands_of told))) }
-        ensures stranger { MaySettle self.old.board receipt.now (length (commands_of told)) → IsOk result }
+            ≡ record self.old { board = settled_more self.old.board (length (commands_of told) - self.old.board.settled); told = told }) }
+        ensures may { OnOk result (MaySettle self.old.board (length (commands_of told))) }
+        ensures stranger { MaySettle self.old.board (length (commands_of told)) → IsOk result }
         ensures only { IfErr result (λ e. e ≡ Refusal.Stranger) }
         ensures unchanged { OnErr result (self.new ≡ self.old) }
     {
-        let batch = receipt.batch();
-        if !is_beginning(batch, self.board.unsettled()) {
+        let published = told.len() as usize;
+        let settled = self.board.settled();
+        if published <= settled {
             return Err(Refusal::Stranger);
         }
-        if !self.board.settle(batch.len(), told.len() as usize) {
+        if !self.board.settle(published - settled, published) {
             return Err(Refusal::Stranger);
         }
         self.told = told;
@@ -228,13 +250,15 @@ impl<D, J: Site> Board<D, J> {
 
     /// Acknowledges a ticket: the token of what was published, just where the ticket's length is settled, which stays so once the store has failed. Else
     /// refused with `StoreFailed` where the store has failed, and `None` where it hasn't. It takes no memory.
-    pub fn ack(&self, ticket: &Ticket) -> Result<Option<Told<D, J>>, Refusal>
+    pub fn ack(&self, ticket: &Ticket<J>) -> Result<Option<Told<D, J>>, Refusal>
         ensures settled { (can_ack self.now.board ticket.now ≡ true) ↔ (result ≡ Ok (Some self.now.told)) }
         ensures waits { (result ≡ Ok None) ↔ ((can_ack self.now.board ticket.now ≡ false) × (self.now.failed ≡ false)) }
         ensures holds { IfOk result (λ told. IfSome told (λ t. ticket.now.length ≤ length (commands_of t))) }
+        ensures stands { IfOk result (λ told. IfSome told (λ t. StandsFirst J.start ticket.now (commands_of t))) }
         ensures only { IfErr result (λ e. e ≡ Refusal.StoreFailed) }
     {
         if self.board.acknowledges(&ticket.ticket) {
+            ticket.stands(&self.told);
             return Ok(Some(self.told.copy()));
         }
         if self.failed {
@@ -262,4 +286,26 @@ fn least(used: &[u32; 64]) -> usize
         }
     }
     best
+}
+
+// Puts the command of a ticket that the board has just given behind the run's order, if the board took it.
+fn order_taken<J: Site>(order: &mut Order<J>, board: &Inner, ticket: &world::Ticket)
+    requires { WasSubmitted J.start order.old ticket.now board.now }
+    ensures order { order.new ≡ board.now.order }
+    ensures placed { IsPlaced J.start order.new ticket.now }
+{
+    match ticket.reply() {
+        Reply::Taken { rev: _ } => order.put(last_ordered(board)),
+        Reply::Again { rev: _ } => {}
+    }
+}
+
+// The command that was ordered last, which isn't taken off yet.
+fn last_ordered(board: &Inner) -> &Entry
+    requires { board.now.taken < length board.now.order }
+    ensures { (before : List Kept) (last : Kept) → board.now.order ≡ before ++ last ∷ []
+        → board.now.taken ≤ length before → result.now ≡ last }
+{
+    let untaken = board.untaken();
+    &untaken[untaken.len() - 1]
 }

@@ -3,6 +3,7 @@ ghost use Rattle.std.specs.Prelude.{◌≡◌, ◌⊎◌, ◌≤◌, [], length,
 ghost use Rattle.journal.specs.BatchSpelling.{batch_width};
 ghost use Rattle.recovery.specs.Found.{commands_of};
 ghost use Rattle.hub.specs.Legal.{counted, WasGiven, WasOrdered};
+ghost use Rattle.hub.specs.Placed.{StandsFirst};
 
 use crate::board::Board;
 use crate::kept::{Closer, Kept, Writer};
@@ -11,7 +12,6 @@ use crate::seat::{Seat, Ticket};
 use crate::tokens::{Failed, Idle, Settled};
 use crate::unsettled::Unsettled;
 use published::{Site, Told};
-use recovery::Receipt;
 use refusal::Refusal;
 use revision::Command;
 use std::alloc::Global;
@@ -51,7 +51,7 @@ impl<D, J: Site> Hub<D, J> {
         alloc: Global,
         seat: &mut Seat<J>,
         command: &Command,
-    ) -> Result<Ticket, Refusal>
+    ) -> Result<Ticket<J>, Refusal>
         ensures given { WasGiven J.start command.now result }
         ensures command { IfOk result (λ ticket. ticket.command ≡ command.now) }
         ensures counts { IfOk result (λ ticket. seat.new ≡ counted seat.old ticket.reply) }
@@ -77,21 +77,18 @@ impl<D, J: Site> Hub<D, J> {
         self.kept.lock(rt).take(alloc, writer, cap)
     }
 
-    /// Settles a batch by its receipt and the token of its publish, as `Board::settle` does, and wakes those who wait for it: the board has
-    /// then settled all that this token names. A refusal shows a moment of the hub's board at which just this batch can't be settled by
-    /// just this token.
+    /// Settles all that a token of what was published names, as `Board::settle` does, and wakes those who wait for it. A refusal shows a moment
+    /// of the hub's board at which it can't be settled by just this token.
     pub fn settle<R: Wait>(
         &self,
         rt: &R,
         writer: &mut Writer<J>,
-        receipt: &Receipt<D>,
         told: Told<D, J>,
     ) -> Result<Settled<D, J>, Unsettled<D, J>>
         ensures settled { IfOk result (λ settled. settled ≡ told) }
-        ensures batch { IfErr result (λ unsettled. unsettled.batch ≡ receipt.now) }
         ensures told { IfErr result (λ unsettled. unsettled.told ≡ told) }
     {
-        let (answer, covered) = self.kept.lock(rt).settle(writer, receipt, told);
+        let (answer, covered) = self.kept.lock(rt).settle(writer, told);
         for (condition, wakes) in self.moved.iter().zip(covered.iter()) {
             if *wakes {
                 condition.notify_all();
@@ -113,8 +110,9 @@ impl<D, J: Site> Hub<D, J> {
     }
 
     /// What `Board::ack` gives for a ticket, at once: a token that holds the ticket's length, `None` where it isn't settled yet, or `StoreFailed`.
-    pub fn ack<R: Wait>(&self, rt: &R, ticket: &Ticket) -> Result<Option<Told<D, J>>, Refusal>
+    pub fn ack<R: Wait>(&self, rt: &R, ticket: &Ticket<J>) -> Result<Option<Told<D, J>>, Refusal>
         ensures holds { IfOk result (λ told. IfSome told (λ t. ticket.now.length ≤ length (commands_of t))) }
+        ensures stands { IfOk result (λ told. IfSome told (λ t. StandsFirst J.start ticket.now (commands_of t))) }
         ensures only { IfErr result (λ e. e ≡ Refusal.StoreFailed) }
     {
         self.kept.lock(rt).board().ack(ticket)
@@ -122,8 +120,9 @@ impl<D, J: Site> Hub<D, J> {
 
     /// Waits until a ticket's length is settled, and gives a token that holds it. Refused with `StoreFailed` where the store failed
     /// before.
-    pub fn wait_ack<R: Wait>(&self, rt: &R, ticket: &Ticket) -> Result<Told<D, J>, Refusal>
+    pub fn wait_ack<R: Wait>(&self, rt: &R, ticket: &Ticket<J>) -> Result<Told<D, J>, Refusal>
         ensures holds { IfOk result (λ told. ticket.now.length ≤ length (commands_of told)) }
+        ensures stands { IfOk result (λ told. StandsFirst J.start ticket.now (commands_of told)) }
         ensures only { IfErr result (λ e. e ≡ Refusal.StoreFailed) }
     {
         let place = ticket.place();

@@ -1,5 +1,5 @@
 //! What lies under the hub's lock, and the two rights to change it that a session doesn't have.
-ghost use Rattle.std.specs.Prelude.{◌≡◌, ◌⊎◌, ◌↔◌, ◌<◌, true, false, [], length, min, set, get_or, replicate, IfOk, IfErr, IsOk, IsTrue, IsErrOf, OnOk, OnErr};
+ghost use Rattle.std.specs.Prelude.{◌≡◌, ◌⊎◌, ◌↔◌, ◌<◌, ◌-◌, true, false, [], length, min, set, get_or, replicate, IfOk, IfErr, IsOk, IsTrue, IsErrOf, OnOk, OnErr};
 ghost use Rattle.recovery.specs.Found.{commands_of};
 ghost use Rattle.revision.specs.Acceptance.{answer, Refuses};
 ghost use Rattle.world.specs.Board.{next_run, settled_more, submitted, taken_more};
@@ -14,7 +14,6 @@ use crate::seat::{PLACES, Seat, Ticket};
 use crate::tokens::{Failed, Settled};
 use crate::unsettled::Unsettled;
 use published::{Site, Told};
-use recovery::Receipt;
 use refusal::Refusal;
 use revision::Command;
 use std::alloc::Global;
@@ -103,7 +102,7 @@ impl<D, J: Site> Kept<D, J> {
         alloc: Global,
         seat: &mut Seat<J>,
         command: &Command,
-    ) -> Result<Ticket, Refusal>
+    ) -> Result<Ticket<J>, Refusal>
         ensures ok { OnOk result (self.new
             ≡ record self.old {
               board = record
@@ -153,27 +152,23 @@ impl<D, J: Site> Kept<D, J> {
     pub(crate) fn settle(
         &mut self,
         writer: &mut Writer<J>,
-        receipt: &Receipt<D>,
         told: Told<D, J>,
     ) -> (Result<Settled<D, J>, Unsettled<D, J>>, [bool; 64])
         ensures board { OnOk result.0 (self.new.board
-            ≡ record self.old.board { board = settled_more self.old.board.board (length receipt.now); told = told }) }
+            ≡ record self.old.board { board = settled_more self.old.board.board (length (commands_of told) - self.old.board.board.settled); told = told }) }
         ensures others { self.new.ended ≡ self.old.ended }
         ensures settled { IfOk result.0 (λ settled. settled ≡ told) }
         ensures wakes { OnOk result.0
             (AreWoken self.new.board.board.settled self.old.awaited self.new.awaited result.1) }
-        ensures stranger { MaySettle self.old.board.board receipt.now (length (commands_of told)) → IsOk result.0 }
+        ensures stranger { MaySettle self.old.board.board (length (commands_of told)) → IsOk result.0 }
         ensures asked { IfErr result.0 (λ e. e
-            ≡ record { board = self.old.board.board; batch = receipt.now; told = told }) }
+            ≡ record { board = self.old.board.board; told = told }) }
         ensures unchanged { OnErr result.0 (self.new ≡ self.old) }
     {
         let _ = writer;
         let shown = Snapshot::of(&told);
-        if self.board.settle(receipt, told).is_err() {
-            return (
-                Err(Unsettled::by_board(&self.board, receipt, shown)),
-                [false; 64],
-            );
+        if self.board.settle(told).is_err() {
+            return (Err(Unsettled::by_board(&self.board, shown)), [false; 64]);
         }
         let covered = woken(&mut self.awaited, self.board.settled());
         (Ok(Settled::by_board(&self.board)), covered)

@@ -1,3 +1,5 @@
 pub mod Batches
+pub mod Books
 pub mod NotAdded
+pub mod Order
 pub mod Rules

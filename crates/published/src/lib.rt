@@ -34,11 +34,13 @@ pub mod laws;
 mod log;
 mod longer;
 mod mark;
+mod order;
 mod site;
 mod told;
 
 pub use log::{Log, Opened};
 pub use longer::{Longer, NotAdded};
 pub use mark::Mark;
+pub use order::{Order, Ordered};
 pub use site::Site;
 pub use told::Told;

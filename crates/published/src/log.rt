@@ -4,47 +4,67 @@ ghost use Rattle.published.specs.Rules.{head_of};
 
 use crate::batch::{Batch, Law};
 use crate::mark::Mark;
+use crate::order::Order;
 use crate::site::Site;
 use crate::told::Told;
 use logbook::{Seen, Start, Word};
+use ownlog::Owner;
+use revision::State;
 use std::marker::{Model, PhantomData};
+use world::Entry;
 
-/// An empty log that no run has yet. Contracts see it as the log's own name.
+/// The empty logs of a run that has no name yet. Contracts see them as their own names.
 pub struct Opened {
     head: Word<Batch, u64, Law>,
     seen: Seen<Batch, u64, Law>,
+    order: Owner<Entry>,
+    start: Owner<State>,
 }
 
 impl Model for Opened {
     ghost use Rattle.std.specs.Prelude.{◌≡◌, []};
-    ghost use Rattle.logbook.specs.Pages.{Book, book_coded};
+    ghost use Rattle.published.specs.Books.{Books, books_coded};
     ghost use Rattle.published.specs.Rules.{head_of};
 
-    ghost Value = { Book };
+    ghost Value = { Books };
 
-    ghost coded = { book_coded };
+    ghost coded = { books_coded };
 
-    ghost view = { λ o. o.seen.book };
+    ghost view = { λ o. record { published = o.seen.book; ordered = o.order.book } };
 
-    ghost invariant = { λ o. (o.seen.log ≡ []) × (o.head ≡ head_of o.seen.book) };
+    ghost invariant = { λ o. (o.seen.log ≡ []) × (o.head ≡ head_of o.seen.book) × (o.order.items ≡ [])
+        × (o.start.items ≡ []) };
 }
 
 impl Opened {
-    /// A new log. It takes no memory.
-    pub fn new() -> Opened {
+    /// New logs. `None` where a word of theirs was changed before it was made, for which there is no room. It takes no memory.
+    pub fn new() -> Option<Opened> {
+        let order = Owner::open()?;
+        let start = Owner::open()?;
         let (seen, mut first, _second) = Seen::open(Start::alone(), 0, 0);
-        Opened {
+        Some(Opened {
             head: Word::tracked(0, &mut first),
             seen,
-        }
+            order,
+            start,
+        })
     }
 
-    /// The log as that of a run, and the token of its start, which names no batch. It takes no memory.
-    pub fn named<D, J: Site>(self) -> (Log<D, J>, Told<D, J>)
-        requires { self ≡ J.book }
-        ensures { result.1 ≡ [] }
+    /// The logs as those of a run that begins with a state, and the token of its start, which names no batch. It takes no memory.
+    pub fn named<D, J: Site>(self, state: &State) -> (Log<D, J>, Told<D, J>, Order<J>)
+        requires book { self ≡ J.book }
+        requires start { state.now ≡ J.start }
+        ensures told { result.1 ≡ [] }
+        ensures order { result.2 ≡ [] }
     {
-        let Opened { head, seen } = self;
+        let Opened {
+            head,
+            seen,
+            order,
+            start,
+        } = self;
+        let mut start = start;
+        start.append(state);
         let log = Log {
             head,
             of: PhantomData,
@@ -54,10 +74,16 @@ impl Opened {
                 batches: 0,
                 len: 0,
                 seen,
+                order: order.front(),
+                start: start.front(),
             },
             of: PhantomData,
         };
-        (log, told)
+        let order = Order {
+            owner: order,
+            of: PhantomData,
+        };
+        (log, told, order)
     }
 }
 
@@ -66,5 +92,5 @@ impl Opened {
 pub struct Log<D, J: Site> {
     pub(crate) head: Word<Batch, u64, Law>,
     pub(crate) of: PhantomData<(D, J)>,
-    ghost head_is: { head ≡ head_of J.book },
+    ghost head_is: { head ≡ head_of J.book.published },
 }

@@ -20,7 +20,7 @@ impl<J: Site> Model for Longer<J> {
 
     ghost view = { λ l. l.seen.log };
 
-    ghost invariant = { λ l. l.seen.book ≡ J.book };
+    ghost invariant = { λ l. l.seen.book ≡ J.book.published };
 }
 
 /// Why a batch wasn't put behind the batches of a token.

@@ -3,27 +3,38 @@ ghost use Rattle.std.specs.Prelude.{◌≡◌};
 
 use crate::batch::{Batch, Law};
 use logbook::Seen;
+use ownlog::Front;
+use revision::State;
 use std::marker::Model;
+use world::Entry;
 
-/// A beginning of the log that was seen, with the log's own name. It is what a `Told` has inside, for a type that can't carry the
-/// run's name, and takes no memory.
+/// A beginning of the log that was seen, with the log's own name, and a beginning of the order that has its commands. It is what a
+/// `Told` has inside, for a type that can't carry the run's name, and takes no memory.
 #[derive(Drop)]
 pub struct Mark {
     pub(crate) batches: u64,
     pub(crate) len: u64,
     pub(crate) seen: Seen<Batch, u64, Law>,
+    pub(crate) order: Front<Entry>,
+    pub(crate) start: Front<State>,
 }
 
 impl Model for Mark {
     ghost use Rattle.std.specs.Prelude.{◌≡◌, length};
     ghost use Rattle.recovery.specs.Found.{commands_of};
     ghost use Rattle.published.specs.Batches as spec;
+    ghost use Rattle.published.specs.Order.{AreOrdered};
 
     ghost Value = { spec.Mark };
 
-    ghost view = { λ m. record { book = m.seen.book; batches = m.seen.log } };
+    ghost view = { λ m. record {
+      book = record { published = m.seen.book; ordered = m.order.book };
+      start = m.start.items;
+      batches = m.seen.log;
+    } };
 
-    ghost invariant = { λ m. (m.batches ≡ length m.seen.log) × (m.len ≡ length (commands_of m.seen.log)) };
+    ghost invariant = { λ m. (m.batches ≡ length m.seen.log) × (m.len ≡ length (commands_of m.seen.log))
+        × AreOrdered m.start.items m.seen.log m.order.items };
 }
 
 impl Mark {
@@ -35,6 +46,8 @@ impl Mark {
             batches: self.batches,
             len: self.len,
             seen: self.seen.again(),
+            order: self.order.copy(),
+            start: self.start.copy(),
         }
     }
 }

@@ -1,5 +1,8 @@
 //! The writer of the view.
 ghost use Rattle.std.specs.Prelude.{◌≡◌, ◌∷◌, ◌++◌, [], drop, length, nat_lt, IfOk, IfErr, IfSome, IfNone, OnErr, IsOkUnless};
+ghost use mathlib.Core.List.{IsPrefix};
+ghost use Rattle.recovery.specs.Found.{commands_of};
+ghost use Rattle.world.specs.World.{takens};
 ghost use Rattle.view.specs.Published.{Published};
 ghost use Rattle.view.specs.Stages.{AreShown, news_of as to_show};
 ghost use Rattle.view.specs.Unpublished.{IsUnpublished};
@@ -8,7 +11,7 @@ use crate::shown::{InLog, News, Sees, Shown};
 use crate::viewer::Viewer;
 use core::mem::replace_with;
 use left_right::writer::Writer;
-use published::{Log, NotAdded, Opened, Site, Told};
+use published::{Log, NotAdded, Opened, Order, Ordered, Site, Told};
 use recovery::Receipt;
 use refusal::Refusal;
 use revision::{State, Taken};
@@ -25,8 +28,8 @@ const VIEWERS: usize = 128;
 pub enum Stage<D, J: Site> {
     /// There is none.
     Idle,
-    /// It was given.
-    Held(Receipt<D>),
+    /// It was given, with the order that has it next.
+    Held(Receipt<D>, Ordered<J>),
     /// It is in the log.
     Logged(Receipt<D>, Told<D, J>),
     /// The writer of the view has it, and doesn't show it yet.
@@ -62,7 +65,7 @@ impl<D, J: Site> Model for Publisher<D, J> {
     ghost view = { λ p. record { told = p.told; unpublished = spec.held_in p.stage } };
 
     ghost invariant = { λ p. spec.AreShown J.book J.start p.told p.writer.desk.shown.value
-        × (drop p.writer.behind p.writer.log.items ≡ spec.waiting J.book p.stage) × spec.IsLogged p.told p.stage };
+        × (drop p.writer.behind p.writer.log.items ≡ spec.waiting J.book J.start p.stage) × spec.IsLogged p.told p.stage };
 }
 
 impl<D, J: Site> Publisher<D, J> {
@@ -72,14 +75,15 @@ impl<D, J: Site> Publisher<D, J> {
         alloc: Global,
         opened: Opened,
         state: &State,
-    ) -> Result<(Publisher<D, J>, Told<D, J>), Refusal>
+    ) -> Result<(Publisher<D, J>, Told<D, J>, Order<J>), Refusal>
         requires book { opened ≡ J.book }
         requires start { state.now ≡ J.start }
         ensures publisher { IfOk result (λ made. made.0 ≡ record { told = []; unpublished = [] }) }
         ensures told { IfOk result (λ made. made.1 ≡ []) }
+        ensures order { IfOk result (λ made. made.2 ≡ []) }
         ensures only { IsOkUnless result Refusal.NoMemory }
     {
-        let (log, told) = opened.named::<D, J>();
+        let (log, told, order) = opened.named::<D, J>(state);
         let first = Shown {
             alloc,
             state: state.copy(alloc)?,
@@ -100,15 +104,17 @@ impl<D, J: Site> Publisher<D, J> {
                 stage: Stage::Idle,
             },
             start,
+            order,
         ))
     }
 
-    /// Takes a batch that was committed, to be published next. It takes no memory.
-    pub fn accept(&mut self, receipt: Receipt<D>)
-        requires { self.old.unpublished ≡ [] }
+    /// Takes a batch that was committed, to be published next: the next part of the order, of which it gets a token. It takes no memory.
+    pub fn accept(&mut self, receipt: Receipt<D>, ordered: Ordered<J>)
+        requires none { self.old.unpublished ≡ [] }
+        requires next { IsPrefix (commands_of self.old.told ++ receipt) (takens ordered) }
         ensures { self.new ≡ record self.old { unpublished = receipt ∷ [] } }
     {
-        self.stage = Stage::Held(receipt);
+        self.stage = Stage::Held(receipt, ordered);
     }
 
     /// Whether a batch was given that isn't published yet.
@@ -117,7 +123,7 @@ impl<D, J: Site> Publisher<D, J> {
     {
         match &self.stage {
             Stage::Idle => false,
-            Stage::Held(_) => true,
+            Stage::Held(_, _) => true,
             Stage::Logged(_, _) => true,
             Stage::Queued(_, _) => true,
         }
@@ -208,14 +214,14 @@ fn published<D, J: Site, R: Wait>(
             };
             (idle, Ok(None))
         }
-        Stage::Held(receipt) => match told.add(&log, &receipt) {
+        Stage::Held(receipt, ordered) => match told.add(&log, &receipt, &ordered) {
             Ok(next) => queued(rt, alloc, writer, log, told, receipt, next),
             Err(why) => {
                 let held = Publisher {
                     writer,
                     log,
                     told,
-                    stage: Stage::Held(receipt),
+                    stage: Stage::Held(receipt, ordered),
                 };
                 (held, Err(Unpublished::NotAdded(why)))
             }
@@ -276,7 +282,7 @@ fn shown<D, J: Site, R: Wait>(
     Result<Option<(Receipt<D>, Told<D, J>)>, Unpublished<J>>,
 )
     requires shown { AreShown J.book J.start told writer.desk.shown.value }
-    requires waiting { drop writer.behind writer.log.items ≡ to_show J.book receipt next ∷ [] }
+    requires waiting { drop writer.behind writer.log.items ≡ to_show J.book J.start receipt next ∷ [] }
     requires next { next ≡ told ++ receipt ∷ [] }
     ensures done { IfOk result.1 (λ published. IfSome published (λ p. (p.0 ≡ receipt) × (p.1 ≡ next)
         × (result.0 ≡ record { told = next; unpublished = [] }))) }
@@ -314,7 +320,7 @@ fn news_of<D, J: Site>(
     receipt: &Receipt<D>,
     next: &Told<D, J>,
 ) -> Result<News, Refusal>
-    ensures news { IfOk result (λ news. news ≡ to_show J.book receipt.now next.now) }
+    ensures news { IfOk result (λ news. news ≡ to_show J.book J.start receipt.now next.now) }
     ensures only { IsOkUnless result Refusal.NoMemory }
 {
     Ok(News {

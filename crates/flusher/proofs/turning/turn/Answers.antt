@@ -18,7 +18,7 @@ use Rattle.refusal.specs.declared.Refusal.{Refusal}
 use Rattle.refusal.specs.declared.Refusal.TheVariants.{NoMemory, Fault}
 use Rattle.flusher.proofs.Running.{run_none}
 use Rattle.flusher.proofs.Steps.{run_of_none, run_refused_by, run_settled}
-use Rattle.flusher.proofs.Fitting.{fits_slot, run_fits, run_within, may_settle, goes_held}
+use Rattle.flusher.proofs.Fitting.{fits_slot, run_fits, run_within, may_settle, goes_held, goes_next}
 use Rattle.flusher.proofs.Holdings.{same_batch, run_committed}
 use Rattle.flusher.proofs.Answering.{turned_by, turned_not, turn_refused, handed_on, on_err}
 use Rattle.flusher.proofs.turning.turn.Goals as goal
@@ -66,6 +66,10 @@ hold-requires-clause-fits g c =
     (fits_slot (state_of (store_of c.args.flusher.now)) c.in_ok-run.run'.commands
     (run_fits (state_of (store_of c.args.flusher.now)) c.args.board.now.board c.in_ok-run.run'.commands c.in_ok-run.ensures.run longest some)).1
 
+pub hold-requires-clause-next : goal.hold-requires-clause-next
+hold-requires-clause-next g c =
+    goes_next g.J.Site.start (standing c.args.board.now c.args.flusher.now) c.in_ok-run.run'.place c.requires.calm c.in_ok-run.ensures.place
+
 pub returns-in_err-write-clause-goes : goal.returns-in_err-write-clause-goes
 returns-in_err-write-clause-goes g c =
     let run = c.in_ok-run.run'.commands in
@@ -86,8 +90,8 @@ returns-in_err-settle-in-Some-clause-goes g c =
     let same = same_batch _ c.parts-receipt.result.0 run written.batch held in
     let tells = written.token_is ∙ written.published ∙ ap (λ (l : List (List Taken)). told_of c.hold.new.self ++ l) held ∙ ap (λ (l : List (List Taken)). l ++ run ∷ []) c.hold.ensures.told in
     absurd (false≢true (c.in_err-settle-in-Some.ensures.stranger
-    (may_settle g.J.Site.start (standing c.args.board.now c.args.flusher.now) c.take.new.self.board run c.parts-receipt.result.0 c.parts-receipt.result.1 c.requires.calm c.in_ok-run.ensures.run
-    (ap (λ (b : Board). b.board) c.in_ok-run.ensures.board) some same tells)))
+    (may_settle g.J.Site.start (standing c.args.board.now c.args.flusher.now) c.take.new.self.board run c.parts-receipt.result.1 c.requires.calm
+    (ap (λ (b : Board). b.board) c.in_ok-run.ensures.board) some tells).0))
 
 pub returns-in_ok-settle-in-Some-clause-goes : goal.returns-in_ok-settle-in-Some-clause-goes
 returns-in_ok-settle-in-Some-clause-goes g c =
@@ -97,9 +101,12 @@ returns-in_ok-settle-in-Some-clause-goes g c =
     let written = rw (sym c.parts-receipt.ensures) at (rw c.in-Some.is at c.in_ok-write.ensures.some) in
     let same = same_batch _ c.parts-receipt.result.0 run written.batch held in
     let tells = written.published ∙ ap (λ (l : List (List Taken)). told_of c.hold.new.self ++ l) held ∙ ap (λ (l : List (List Taken)). l ++ run ∷ []) c.hold.ensures.told in
+    let some : 0 < length run = omega arith in
+    let counted = (may_settle g.J.Site.start (standing c.args.board.now c.args.flusher.now) c.take.new.self.board run c.parts-receipt.result.1 c.requires.calm
+    (ap (λ (b : Board). b.board) c.in_ok-run.ensures.board) some (written.token_is ∙ tells)).1 in
     let knows = ap (λ (b : Board). b.told) c.in_ok-settle-in-Some.ensures.ok ∙ written.token_is in
     let boards =
-    ap (λ (b : Board). b.board) c.in_ok-settle-in-Some.ensures.ok ∙ ap (λ (r : List Taken). settled_more c.take.new.self.board (length r)) same
+    ap (λ (b : Board). b.board) c.in_ok-settle-in-Some.ensures.ok ∙ ap (λ (n : ℕ). settled_more c.take.new.self.board n) counted
     ∙ ap (λ (b : Board). settled_more b.board (length run)) c.in_ok-run.ensures.board in
     let works = unfailed (has_failed (store_of c.write.new.self)) (λ failed.
     let fault = (c.in_ok-write.ensures.fails (ap has_failed c.hold.ensures.store ∙ c.requires.works)).0 failed in
@@ -118,9 +125,12 @@ returns-in_ok-settle-in-Some-clause-calm g c =
     let written = rw (sym c.parts-receipt.ensures) at (rw c.in-Some.is at c.in_ok-write.ensures.some) in
     let same = same_batch _ c.parts-receipt.result.0 run written.batch held in
     let tells = written.published ∙ ap (λ (l : List (List Taken)). told_of c.hold.new.self ++ l) held ∙ ap (λ (l : List (List Taken)). l ++ run ∷ []) c.hold.ensures.told in
+    let some : 0 < length run = omega arith in
+    let counted = (may_settle g.J.Site.start (standing c.args.board.now c.args.flusher.now) c.take.new.self.board run c.parts-receipt.result.1 c.requires.calm
+    (ap (λ (b : Board). b.board) c.in_ok-run.ensures.board) some (written.token_is ∙ tells)).1 in
     let knows = ap (λ (b : Board). b.told) c.in_ok-settle-in-Some.ensures.ok ∙ written.token_is in
     let boards =
-    ap (λ (b : Board). b.board) c.in_ok-settle-in-Some.ensures.ok ∙ ap (λ (r : List Taken). settled_more c.take.new.self.board (length r)) same
+    ap (λ (b : Board). b.board) c.in_ok-settle-in-Some.ensures.ok ∙ ap (λ (n : ℕ). settled_more c.take.new.self.board n) counted
     ∙ ap (λ (b : Board). settled_more b.board (length run)) c.in_ok-run.ensures.board in
     let works = unfailed (has_failed (store_of c.write.new.self)) (λ failed.
     let fault = (c.in_ok-write.ensures.fails (ap has_failed c.hold.ensures.store ∙ c.requires.works)).0 failed in
@@ -141,9 +151,13 @@ returns-in_ok-settle-in-Some-clause-settled g c =
     let tells =
     written.token_is ∙ written.published ∙ ap (λ (l : List (List Taken)). told_of c.hold.new.self ++ l) held
     ∙ ap (λ (l : List (List Taken)). l ++ run ∷ []) (c.hold.ensures.told ∙ sym c.requires.calm.known) in
+    let token = written.token_is ∙ written.published ∙ ap (λ (l : List (List Taken)). told_of c.hold.new.self ++ l) held
+    ∙ ap (λ (l : List (List Taken)). l ++ run ∷ []) c.hold.ensures.told in
+    let counted = (may_settle g.J.Site.start (standing c.args.board.now c.args.flusher.now) c.take.new.self.board run c.parts-receipt.result.1 c.requires.calm
+    (ap (λ (b : Board). b.board) c.in_ok-run.ensures.board) some token).1 in
     let count : length run ≡ c.len-count.result = omega arith in
     turned_by c.args.board.now c.take.new.self c.settle.new.self (length run) run c.parts-receipt.result.1 c.in_ok-run.ensures.board
-    (c.in_ok-settle-in-Some.ensures.ok ∙ ap (λ (r : List Taken). record c.take.new.self { board = settled_more c.take.new.self.board (length r); told = c.parts-receipt.result.1 }) same)
+    (c.in_ok-settle-in-Some.ensures.ok ∙ ap (λ (n : ℕ). record c.take.new.self { board = settled_more c.take.new.self.board n; told = c.parts-receipt.result.1 }) counted)
     c.in_ok-run.ensures.run some tells ∙ ap (turned c.args.board.now) count
 
 pub returns-in_ok-settle-in-Some-clause-state : goal.returns-in_ok-settle-in-Some-clause-state
@@ -188,8 +202,8 @@ returns-in_err-settle-in-Some-clause-refused g c =
     let same = same_batch _ c.parts-receipt.result.0 run written.batch held in
     let tells = written.token_is ∙ written.published ∙ ap (λ (l : List (List Taken)). told_of c.hold.new.self ++ l) held ∙ ap (λ (l : List (List Taken)). l ++ run ∷ []) c.hold.ensures.told in
     absurd (false≢true (c.in_err-settle-in-Some.ensures.stranger
-    (may_settle g.J.Site.start (standing c.args.board.now c.args.flusher.now) c.take.new.self.board run c.parts-receipt.result.0 c.parts-receipt.result.1 c.requires.calm c.in_ok-run.ensures.run
-    (ap (λ (b : Board). b.board) c.in_ok-run.ensures.board) some same tells)))
+    (may_settle g.J.Site.start (standing c.args.board.now c.args.flusher.now) c.take.new.self.board run c.parts-receipt.result.1 c.requires.calm
+    (ap (λ (b : Board). b.board) c.in_ok-run.ensures.board) some tells).0))
 
 pub returns-in_err-run-clause-left : goal.returns-in_err-run-clause-left
 returns-in_err-run-clause-left g c =
@@ -225,5 +239,5 @@ returns-in_err-settle-in-Some-clause-unpublished g c =
     let same = same_batch _ c.parts-receipt.result.0 run written.batch held in
     let tells = written.token_is ∙ written.published ∙ ap (λ (l : List (List Taken)). told_of c.hold.new.self ++ l) held ∙ ap (λ (l : List (List Taken)). l ++ run ∷ []) c.hold.ensures.told in
     absurd (false≢true (c.in_err-settle-in-Some.ensures.stranger
-    (may_settle g.J.Site.start (standing c.args.board.now c.args.flusher.now) c.take.new.self.board run c.parts-receipt.result.0 c.parts-receipt.result.1 c.requires.calm c.in_ok-run.ensures.run
-    (ap (λ (b : Board). b.board) c.in_ok-run.ensures.board) some same tells)))
+    (may_settle g.J.Site.start (standing c.args.board.now c.args.flusher.now) c.take.new.self.board run c.parts-receipt.result.1 c.requires.calm
+    (ap (λ (b : Board). b.board) c.in_ok-run.ensures.board) some tells).0))

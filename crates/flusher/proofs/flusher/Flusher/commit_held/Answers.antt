@@ -139,6 +139,7 @@ invariant_of-self-in-Ok g c =
       grown = grown_more _ _ _ _ _ c.commands.result.now c.args.self.now.kept (c.args.self.now.fits c.in-Some.batch held).alone c.args.self.now.grown c.accept.ensures c.in-Ok.ensures.receipt c.in-Ok.ensures.grow;
       few = omega (arith, ap (λ (p : Published). length p.unpublished) c.accept.ensures);
       fits = λ x is. absurd (let none : ⊥ = cc in none);
+      placed = λ x is. absurd (let none : ⊥ = cc in none);
     }
 
 pub returns-in-None-clause-grow : goal.returns-in-None-clause-grow

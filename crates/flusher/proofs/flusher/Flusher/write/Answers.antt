@@ -15,6 +15,7 @@ invariant_of-self g c =
       grown = grown_moved _ before.publisher c.publish.new.self moved before.grown;
       few = few_moved before.publisher c.publish.new.self moved before.few;
       fits = λ run is. absurd (let no : ⊥ = cc in no);
+      placed = λ run is. absurd (let no : ⊥ = cc in no);
     }
 
 pub returns-in-Err-clause-full_still : goal.returns-in-Err-clause-full_still

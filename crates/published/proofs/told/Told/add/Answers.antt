@@ -9,7 +9,7 @@ compare_exchange-found-requires g c =
     let pen = c.no_pen-pen.ensures in
     let again = c.again-seen.ensures in
     let mine = c.self-inside.inside.0.0 in
-    let book = ap (λ s. s.book) again ∙ (ap (λ i. i.mark.book) c.self-inside.view_is ∙ (c.self.invariant ∙ sym (ap (λ w. w.book) h))) in
+    let book = ap (λ s. s.book) again ∙ (ap (λ i. i.mark.book.published) c.self-inside.view_is ∙ (ap (λ b. b.published) c.self.invariant.0 ∙ sym (ap (λ w. w.book) h))) in
     let len = ap length (ap (λ s. s.log) again) ∙ sym c.self-inside.invariant.0 in (
       ap (λ w. w.tracked) h,
       book,
