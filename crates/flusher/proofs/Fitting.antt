@@ -1,5 +1,5 @@
 -- The run that a turn takes off: it fits a slot, and it may be settled once it is published.
-use Rattle.std.proofs.Common.{◌≡◌, ◌≤◌, ◌<◌, ◌⊎◌, inl, inr, ℕ, ◌+◌, ◌-◌, ◌^◌, true, List, [], ◌∷◌, ◌++◌, length, take, drop, sym, ◌∙◌, ap, subst, arith, append-nil, length-append, length-drop}
+use Rattle.std.proofs.Common.{◌≡◌, ◌≤◌, ◌<◌, ◌⊎◌, inl, inr, ℕ, ◌+◌, ◌^◌, true, List, [], ◌∷◌, ◌++◌, length, take, drop, sym, ◌∙◌, ap, subst, arith, append-nil, length-append, length-drop}
 use Rattle.std.specs.List.{fold}
 use Rattle.std.specs.Prelude.{◌==◌, nat_lt, nat_le, ◌&&◌}
 use Rattle.std.proofs.lemmas.List.{take-map}
@@ -56,22 +56,25 @@ settles : (settled taken n told : ℕ) → settled ≡ taken → told ≡ settle
 settles settled taken n told same is some = grind (arith, nat_tests)
 
 module _ {D : Type 0} {disk : Ghosts D} where
-  -- what was published of it may be settled, and is just the run
-  pub may_settle : (start : State) (here : Standing D disk) (board : Board Entry) (run : List Taken) (token : List (List Taken)) → IsCalm start here
-      → board ≡ taken_more here.board (length run) → 0 < length run → token ≡ here.told ++ run ∷ []
-      → MaySettle board (length (commands_of token)) × (length (commands_of token) - board.settled ≡ length run)
-  may_settle start here board run token calm boards some tells =
+  -- what was published of it may be settled
+  pub may_settle : (start : State) (here : Standing D disk) (board : Board Entry) (run receipt : List Taken) (token : List (List Taken)) → IsCalm start here
+      → run ≡ takens (next_run here.board (length run)) → board ≡ taken_more here.board (length run) → 0 < length run → receipt ≡ run → token ≡ here.told ++ run ∷ []
+      → MaySettle board receipt (length (commands_of token))
+  may_settle start here board run receipt token calm is boards some same tells =
       let stands = calm_stands start here calm in
       let bound : here.board.taken ≤ length (takens here.board.order) = omega (arith, stands.taken, takens_length here.board.order) in
       let even = all_settled (takens here.board.order) here.board.settled here.board.taken stands.settled bound here.told stands.parts in
       let known = told_length (takens here.board.order) here.board.settled here.board.taken stands.settled bound here.told [] stands.parts in
       let long : length (commands_of token) ≡ here.board.settled + length run =
       omega (arith, known, ap (λ (t : List (List Taken)). length (commands_of t)) tells, ap length (commands-append here.told (run ∷ [])), length-append (commands_of here.told) (run ++ []), ap length (append-nil run)) in
-      let settled : board.settled ≡ here.board.settled = ap (λ (b : Board Entry). b.settled) boards in
-      let taken : board.taken ≡ here.board.taken + length run = ap (λ (b : Board Entry). b.taken) boards in (
-        record { more = omega (arith, long, settled, some); taken = omega (arith, long, taken, even) },
-        omega (arith, long, settled),
-      )
+      let next : run ≡ takens (take (length run) (drop here.board.settled here.board.order)) =
+      is ∙ ap (λ (n : ℕ). takens (take (length run) (drop n here.board.order))) (sym even) in
+      let here_may : MaySettle (taken_more here.board (length run)) run (length (commands_of token)) = record {
+        next = next;
+        count = settles here.board.settled here.board.taken (length run) (length (commands_of token)) even long some;
+      } in
+      subst (λ (b : Board Entry). MaySettle b receipt (length (commands_of token))) (sym boards)
+      (subst (λ (r : List Taken). MaySettle (taken_more here.board (length run)) r (length (commands_of token))) (sym same) here_may)
 
   -- a run that is taken off goes on with what is published
   pub goes_next : (start : State) (here : Standing D disk) (place : ℕ) → IsCalm start here → place ≡ here.board.taken → place ≡ length (commands_of here.told)

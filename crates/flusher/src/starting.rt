@@ -57,8 +57,8 @@ pub fn start<D: Disk, J: Site>(
             Err(refusal) => Err(StartFault { store, refusal }),
             Ok(made) => {
                 let (publisher, told, order) = made;
+                let board = Board::new(alloc, &store, state, told, order, blank, seats);
                 let flusher = Flusher::of(store, publisher, begun);
-                let board = Board::new(alloc, state, told, order, blank, seats);
                 Ok((flusher, board))
             }
         },

@@ -66,8 +66,8 @@ pub fn turn<D: Disk, J: Site, R: Wait>(
     match flusher.write(rt, alloc, &mut OpenGate)? {
         None => Ok(count),
         Some(both) => {
-            let (_receipt, told) = both.parts();
-            board.settle(told)?;
+            let (receipt, told) = both.parts();
+            board.settle(&receipt, told)?;
             flusher.kept();
             Ok(count)
         }

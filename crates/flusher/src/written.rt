@@ -27,7 +27,7 @@ impl<D, J: Site> Model for Written<D, J> {
 impl<D, J: Site> Written<D, J> {
     /// Settles it at the hub, and gives the receipt of its commit and the hub's token, by which the board has settled what was published up to
     /// this batch. Where the hub refuses it, the hub is told that the store has failed, as `Stranger`; that comes with the hub's token by which
-    /// it couldn't be settled by just this token.
+    /// just this batch couldn't be settled by just this token.
     pub fn settle<R: Wait>(
         self,
         rt: &R,
@@ -37,10 +37,11 @@ impl<D, J: Site> Written<D, J> {
         ensures receipt { IfOk result (λ done. done.0 ≡ self.0) }
         ensures settled { IfOk result (λ done. done.1 ≡ self.1) }
         ensures only { IfErr result (λ both. both.0 ≡ Refusal.Stranger) }
+        ensures batch { IfErr result (λ both. both.1.batch ≡ self.0) }
         ensures told { IfErr result (λ both. both.1.told ≡ self.1) }
     {
         let Written { receipt, told } = self;
-        match hub.settle(rt, writer, told) {
+        match hub.settle(rt, writer, &receipt, told) {
             Ok(settled) => Ok((receipt, settled)),
             Err(unsettled) => Err((hub.fail(rt, writer, Refusal::Stranger), unsettled)),
         }

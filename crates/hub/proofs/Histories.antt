@@ -1,12 +1,14 @@
 -- A command more leaves the order a legal history.
-use Rattle.std.proofs.Common.{◌≡◌, ℕ, ◌+◌, ◌≤◌, arith, List, [], ◌∷◌, ◌++◌, length, refl, sym, ap, subst, ◌∙◌, length-append}
+use Rattle.std.proofs.Common.{◌≡◌, ℕ, ◌+◌, ◌≤◌, arith, List, [], ◌∷◌, ◌++◌, length, refl, sym, ap, subst, ◌∙◌, append_assoc, length-append}
 use Rattle.std.specs.Prelude.{Option, Some, None}
 use Rattle.std.proofs.lemmas.List.{map-append}
+use mathlib.Core.List.{IsPrefix}
 use Rattle.revision.specs.Command.{Taken, Command}
 use Rattle.revision.specs.State.{State, grown, fold}
 use Rattle.revision.specs.Acceptance.{Answer, Takes, Repeats, Refuses, Reply, TakenAt, AgainAt, answer}
 use Rattle.world.specs.Board.{Board, Ticket, submitted, submitted_by, ticket_by, ticket_of}
 use Rattle.world.specs.World.{Entry, entry_of, takens}
+use Rattle.recovery.specs.Found.{commands_of}
 use Rattle.published.specs.Order.{HasNumber}
 use Rattle.published.proofs.CallerLemmas.{legal_more}
 use Rattle.hub.specs.Legal.{IsHistory, IsWithin, counted}
@@ -14,6 +16,13 @@ use Rattle.hub.specs.Legal.{IsHistory, IsWithin, counted}
 fold-more : (state : State) (commands : List Taken) (taken : Taken) → fold state (commands ++ taken ∷ []) ≡ grown (fold state commands) taken
 fold-more state [] taken = refl
 fold-more state (first ∷ others) taken = fold-more (grown state first) others taken
+
+-- what begins the order begins it with one more
+begins-more : (xs : List Taken) (order : List Entry) (entry : Entry) → IsPrefix xs (takens order) → IsPrefix xs (takens (order ++ entry ∷ []))
+begins-more xs order entry (more, is) = (
+  more ++ entry.taken ∷ [],
+  sym (append_assoc xs more (entry.taken ∷ [])) ∙ ap (λ l. l ++ entry.taken ∷ []) is ∙ sym (map-append (λ (e : Entry). e.taken) order (entry ∷ [])),
+)
 
 module _ (board : Board Entry) (command : Command) where
   answered : (due : Answer) → HasNumber command → IsHistory board → answer board.state command ≡ due → IsHistory (submitted_by (entry_of command) board due)
@@ -51,6 +60,7 @@ module _ (board : Board Entry) (command : Command) where
     settled = within.settled;
     taken = omega (arith, within.taken, length-append board.order (entry_of command taken ∷ []));
     published = within.published;
+    begins = begins-more (commands_of told) board.order (entry_of command taken) within.begins;
   }
   within_by told (Repeats revision) within = within
   within_by told (Refuses refusal) within = within

@@ -1,3 +1,4 @@
+pub mod Given
 pub mod Legal
 pub mod Placed
 pub mod Runs

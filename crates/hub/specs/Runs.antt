@@ -1,8 +1,8 @@
 -- Which commands of the order make a batch.
-use Rattle.std.specs.Prelude.{◌≡◌, ◌⊎◌, ◌<◌, ◌≤◌, ◌+◌, ℕ, List, drop, length, take}
+use Rattle.std.specs.Prelude.{◌≡◌, ◌⊎◌, ◌<◌, ◌≤◌, ◌+◌, ℕ, true, List, drop, length, take}
 use Rattle.revision.specs.Command.{Taken}
 use Rattle.journal.specs.BatchSpelling.{batch_width}
-use Rattle.world.specs.Board.{Board}
+use Rattle.world.specs.Board.{Board, can_settle}
 use Rattle.world.specs.World.{Entry, takens}
 
 -- The longest run of the first commands that the journal spells in so many bytes as one batch: it is none, or fits, and one command
@@ -27,12 +27,15 @@ pub record IsPart (commands : List Taken) (place : ℕ) (order : List Entry) : T
 abbrev pub untaken : Board Entry → List Taken
 untaken board = takens (drop board.taken board.order)
 
--- What was asked of a board that can't be done: its value then, and the batches that were told to be published.
+-- What was asked of a board that can't be done: its value then, the batch that was to be settled, and the batches that were told to be
+-- published.
 pub record Unsettled : Type 0 where
   pub board : Board Entry
+  pub batch : List Taken
   pub told : List (List Taken)
 
--- So many published commands may be settled: they are more than are settled, and all of them are taken off.
-pub record MaySettle (board : Board Entry) (told : ℕ) : Type 0 where
-  pub more : board.settled < told
-  pub taken : told ≤ board.taken
+-- A batch may be settled: it is the next part of the order after what is settled, all of it is taken off, and what was told to be
+-- published ends with it.
+pub record MaySettle (board : Board Entry) (batch : List Taken) (told : ℕ) : Type 0 where
+  pub next : batch ≡ takens (take (length batch) (drop board.settled board.order))
+  pub count : can_settle board (length batch) told ≡ true

@@ -1,17 +1,21 @@
 //! The board.
-ghost use Rattle.std.specs.Prelude.{◌≡◌, ◌⊎◌, ◌↔◌, ◌≤◌, ◌<◌, ◌+◌, ◌-◌, ◌^◌, ◌++◌, ◌∷◌, min, true, false, List, [], Some, None, Ok, length, IfOk, IfErr, IfSome, OnOk, OnErr, IsTrue, IsOk, IsErrOf};
+ghost use Rattle.std.specs.Prelude.{◌≡◌, ◌⊎◌, ◌↔◌, ◌≤◌, ◌<◌, ◌+◌, ◌^◌, ◌++◌, ◌∷◌, min, true, false, List, [], Some, None, Ok, length, IfOk, IfErr, IfSome, OnOk, OnErr, IsTrue, IsOk, IsErrOf};
+ghost use mathlib.Core.List.{IsPrefix};
 ghost use Rattle.revision.specs.Acceptance.{answer, Refuses};
 ghost use Rattle.revision.specs.Planned.{may_want_memory};
 ghost use Rattle.recovery.specs.Found.{commands_of};
+ghost use Rattle.recovery.specs.Open.{state_of};
 ghost use Rattle.world.specs.Board.{begun_board, submitted, ticket_of, next_run, taken_more, settled_more, can_ack};
 ghost use Rattle.world.specs.World.{Entry as Kept, entry_of, takens};
 ghost use Rattle.hub.specs.Legal.{IsHistory, IsOfRun, IsWithin, counted};
 ghost use Rattle.hub.specs.Placed.{IsPlaced, StandsFirst, WasSubmitted};
 ghost use Rattle.hub.specs.Runs.{IsLongest, untaken, MaySettle};
 
-use crate::run::{Run, copied, longest};
+use crate::run::{Run, copied, is_beginning, longest};
 use crate::seat::{PLACES, Seat, Ticket, count};
+use disk::Disk;
 use published::{Order, Ordered, Site, Told};
+use recovery::{Receipt, Store};
 use refusal::Refusal;
 use revision::{Command, Reply, State};
 use std::alloc::Global;
@@ -47,15 +51,20 @@ impl<D, J: Site> Model for Board<D, J> {
 }
 
 impl<D, J: Site> Board<D, J> {
-    /// The board of a state that a store was opened with, with the token of its start, and a ledger of so many seats. It takes no memory.
+    /// The board of a store, by a copy of its state, with the token of the start, the order, and a ledger of so many seats. Who has no store
+    /// can't make one. It takes no memory.
     pub fn new(
         alloc: Global,
+        store: &Store<D>,
         state: State,
         told: Told<D, J>,
         order: Order<J>,
         blank: Blank,
         seats: u32,
     ) -> Board<D, J>
+    where
+        D: Disk,
+        requires store { state_of store.now ≡ J.start }
         requires start { state ≡ J.start }
         requires told { told ≡ [] }
         requires order { order ≡ [] }
@@ -64,6 +73,7 @@ impl<D, J: Site> Board<D, J> {
         requires seats { blank.parts ≡ seats + 1 }
         ensures { result ≡ record { board = begun_board state; failed = false; told = []; left = seats } }
     {
+        let _ = store;
         let (book, spare) = blank.open::<J>();
         Board {
             board: Inner::new(alloc, state),
@@ -122,6 +132,13 @@ impl<D, J: Site> Board<D, J> {
         ensures { result.now ≡ self.now.told }
     {
         &self.told
+    }
+
+    // Whether the store has failed.
+    pub(crate) fn has_failed(&self) -> bool
+        ensures { result ≡ self.now.failed }
+    {
+        self.failed
     }
 
     /// Whether all commands of the order are taken off.
@@ -226,22 +243,24 @@ impl<D, J: Site> Board<D, J> {
         Ok(run)
     }
 
-    /// Settles all that a token of what was published names. Refused with `Stranger` just where that is no more than is settled, or some of it
-    /// isn't taken off; nothing has changed then. It takes no memory.
-    pub fn settle(&mut self, told: Told<D, J>) -> Result<(), Refusal>
+    /// Settles a batch that was committed, by its receipt and the token of its publish. Refused with `Stranger` exactly where the batch isn't the
+    /// next part of the order that is taken off, or the token has not as many commands as the order has with it; nothing has changed then.
+    /// What the token names begins the order in any case. It takes no memory.
+    pub fn settle(&mut self, receipt: &Receipt<D>, told: Told<D, J>) -> Result<(), Refusal>
         ensures ok { OnOk result (self.new
-            ≡ record self.old { board = settled_more self.old.board (length (commands_of told) - self.old.board.settled); told = told }) }
-        ensures may { OnOk result (MaySettle self.old.board (length (commands_of told))) }
-        ensures stranger { MaySettle self.old.board (length (commands_of told)) → IsOk result }
+            ≡ record self.old { board = settled_more self.old.board (length receipt.now); told = told }) }
+        ensures may { OnOk result (MaySettle self.old.board receipt.now (length (commands_of told))) }
+        ensures stranger { MaySettle self.old.board receipt.now (length (commands_of told)) → IsOk result }
+        ensures begins { IsPrefix (commands_of told) (takens self.old.board.order) }
         ensures only { IfErr result (λ e. e ≡ Refusal.Stranger) }
         ensures unchanged { OnErr result (self.new ≡ self.old) }
     {
-        let published = told.len() as usize;
-        let settled = self.board.settled();
-        if published <= settled {
+        self.order.covers(&told);
+        let batch = receipt.batch();
+        if !is_beginning(batch, self.board.unsettled()) {
             return Err(Refusal::Stranger);
         }
-        if !self.board.settle(published - settled, published) {
+        if !self.board.settle(batch.len(), told.len() as usize) {
             return Err(Refusal::Stranger);
         }
         self.told = told;
@@ -256,6 +275,7 @@ impl<D, J: Site> Board<D, J> {
         ensures holds { IfOk result (λ told. IfSome told (λ t. ticket.now.length ≤ length (commands_of t))) }
         ensures stands { IfOk result (λ told. IfSome told (λ t. StandsFirst J.start ticket.now (commands_of t))) }
         ensures only { IfErr result (λ e. e ≡ Refusal.StoreFailed) }
+        ensures failed { OnErr result (self.now.failed ≡ true) }
     {
         if self.board.acknowledges(&ticket.ticket) {
             ticket.stands(&self.told);

@@ -70,6 +70,7 @@
 mod board;
 mod hub;
 mod kept;
+mod not_submitted;
 mod run;
 mod seat;
 mod tokens;
@@ -78,7 +79,8 @@ mod unsettled;
 pub use board::Board;
 pub use hub::Hub;
 pub use kept::{Closer, Writer};
+pub use not_submitted::NotSubmitted;
 pub use run::Run;
 pub use seat::{Seat, Ticket};
-pub use tokens::{Failed, Idle, Nothing, Settled};
+pub use tokens::{Ended, Failed, Idle, Nothing, Settled, Stopped, Work};
 pub use unsettled::Unsettled;

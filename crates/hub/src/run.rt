@@ -1,5 +1,5 @@
-//! Runs of the order: which make a batch, and a copy of one.
-ghost use Rattle.std.specs.Prelude.{◌≡◌, ◌++◌, length, IfOk, IsOkUnless};
+//! Runs of the order: which make a batch, a copy of one, and whether a batch is one.
+ghost use Rattle.std.specs.Prelude.{◌≡◌, ◌≢◌, ◌↔◌, ◌++◌, length, take, IfOk, IsOkUnless, IsTrue};
 ghost use mathlib.Core.List.{IsPrefix};
 ghost use Rattle.recovery.specs.Found.{commands_of};
 ghost use Rattle.world.specs.Board.{next_run};
@@ -69,6 +69,20 @@ impl<D, J: Site> Run<D, J> {
     {
         told.begins_order(&self.order);
         self.order.copy()
+    }
+
+    /// Ends a run that doesn't follow what a token names: the order has more commands before its own, or fewer. It is never written.
+    pub fn apart(self, told: &Told<D, J>)
+        requires { self.place ≢ length (commands_of told.now) }
+    {
+        let Run {
+            commands: _commands,
+            cap: _,
+            place: _,
+            order: _order,
+            of: _,
+        } = self;
+        let _ = told;
     }
 
     /// How many commands it has.
@@ -156,4 +170,19 @@ pub(crate) fn copied(alloc: Global, entries: &[Entry]) -> Result<Vec<Taken>, Ref
         run.push(entry.taken().copy(alloc)?)?;
     }
     Ok(run)
+}
+
+/// Whether these commands are the first of the entries.
+pub(crate) fn is_beginning(batch: &[Taken], entries: &[Entry]) -> bool
+    ensures { IsTrue result ↔ (batch.now ≡ takens (take (length batch.now) entries.now)) }
+{
+    if batch.len() > entries.len() {
+        return false;
+    }
+    for i in 0..batch.len() {
+        if !batch[i].is_same(entries[i].taken()) {
+            return false;
+        }
+    }
+    true
 }

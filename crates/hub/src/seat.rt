@@ -75,8 +75,8 @@ impl<J: Site> Ticket<J> {
         self.ticket.length()
     }
 
-    // Where all of the order up to its length is published, its order is the first part of what is.
-    pub(crate) fn stands<D>(&self, told: &Told<D, J>)
+    /// Where all of the order up to its length is published, its order is a prefix of what is. It takes no memory.
+    pub fn stands<D>(&self, told: &Told<D, J>)
         requires { self.now.length ≤ length (commands_of told.now) }
         ensures { StandsFirst J.start self.now (commands_of told.now) }
     {

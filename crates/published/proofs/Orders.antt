@@ -95,3 +95,11 @@ pub grows_by : (start : List State) (state : State) (log told : List (List Taken
 grows_by start state log told here begun_is is has =
     let parts = ordered_parts start state log here begun_is has in
     subst (λ l. all_grow state (commands_of l) ≡ true) is (begun_grows state (commands_of log) here parts.0 parts.1)
+
+-- as a token of what is published shows it of the whole order
+pub begins_by_order : (start : List State) (state : State) (log told : List (List Taken)) (here all order : List Entry) → start ≡ state ∷ [] → log ≡ told
+    → AreOrdered start log here → IsPrefix here all → all ≡ order → IsPrefix (commands_of told) (takens order)
+begins_by_order start state log told here all order is same has begin whole =
+    subst (λ l. IsPrefix (commands_of l) (takens order)) same
+    (subst (λ o. IsPrefix (commands_of log) (takens o)) whole
+    (prefix_trans (commands_of log) (takens here) (takens all) (ordered_parts start state log here is has).1 (takens_begin here all begin)))

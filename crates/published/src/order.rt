@@ -2,10 +2,12 @@
 ghost use Rattle.std.specs.Prelude.{◌≡◌, ◌++◌, ◌∷◌, [], List};
 ghost use mathlib.Core.List.{IsPrefix};
 ghost use Rattle.revision.specs.State.{fold};
+ghost use Rattle.recovery.specs.Found.{commands_of};
 ghost use Rattle.world.specs.World.{takens, Entry as Kept};
 ghost use Rattle.published.specs.Order.{IsLegal, WasTaken};
 
 use crate::site::Site;
+use crate::told::Told;
 use ownlog::{Front, Owner};
 use std::marker::{Model, PhantomData};
 use world::Entry;
@@ -38,6 +40,14 @@ impl<J: Site> Order<J> {
         ensures { self.new ≡ self.old ++ entry.now ∷ [] }
     {
         self.owner.append(entry);
+    }
+
+    /// What is published begins the order, as a token names it. It takes no memory.
+    pub fn covers<D>(&mut self, told: &Told<D, J>)
+        ensures begins { IsPrefix (commands_of told.now) (takens self.old) }
+        ensures same { self.new ≡ self.old }
+    {
+        self.owner.covers(&told.mark.order);
     }
 
     /// A token of the whole order. It takes no memory.

@@ -90,8 +90,8 @@ returns-in_err-settle-in-Some-clause-goes g c =
     let same = same_batch _ c.parts-receipt.result.0 run written.batch held in
     let tells = written.token_is ∙ written.published ∙ ap (λ (l : List (List Taken)). told_of c.hold.new.self ++ l) held ∙ ap (λ (l : List (List Taken)). l ++ run ∷ []) c.hold.ensures.told in
     absurd (false≢true (c.in_err-settle-in-Some.ensures.stranger
-    (may_settle g.J.Site.start (standing c.args.board.now c.args.flusher.now) c.take.new.self.board run c.parts-receipt.result.1 c.requires.calm
-    (ap (λ (b : Board). b.board) c.in_ok-run.ensures.board) some tells).0))
+    (may_settle g.J.Site.start (standing c.args.board.now c.args.flusher.now) c.take.new.self.board run c.parts-receipt.result.0 c.parts-receipt.result.1 c.requires.calm c.in_ok-run.ensures.run
+    (ap (λ (b : Board). b.board) c.in_ok-run.ensures.board) some same tells)))
 
 pub returns-in_ok-settle-in-Some-clause-goes : goal.returns-in_ok-settle-in-Some-clause-goes
 returns-in_ok-settle-in-Some-clause-goes g c =
@@ -101,12 +101,9 @@ returns-in_ok-settle-in-Some-clause-goes g c =
     let written = rw (sym c.parts-receipt.ensures) at (rw c.in-Some.is at c.in_ok-write.ensures.some) in
     let same = same_batch _ c.parts-receipt.result.0 run written.batch held in
     let tells = written.published ∙ ap (λ (l : List (List Taken)). told_of c.hold.new.self ++ l) held ∙ ap (λ (l : List (List Taken)). l ++ run ∷ []) c.hold.ensures.told in
-    let some : 0 < length run = omega arith in
-    let counted = (may_settle g.J.Site.start (standing c.args.board.now c.args.flusher.now) c.take.new.self.board run c.parts-receipt.result.1 c.requires.calm
-    (ap (λ (b : Board). b.board) c.in_ok-run.ensures.board) some (written.token_is ∙ tells)).1 in
     let knows = ap (λ (b : Board). b.told) c.in_ok-settle-in-Some.ensures.ok ∙ written.token_is in
     let boards =
-    ap (λ (b : Board). b.board) c.in_ok-settle-in-Some.ensures.ok ∙ ap (λ (n : ℕ). settled_more c.take.new.self.board n) counted
+    ap (λ (b : Board). b.board) c.in_ok-settle-in-Some.ensures.ok ∙ ap (λ (r : List Taken). settled_more c.take.new.self.board (length r)) same
     ∙ ap (λ (b : Board). settled_more b.board (length run)) c.in_ok-run.ensures.board in
     let works = unfailed (has_failed (store_of c.write.new.self)) (λ failed.
     let fault = (c.in_ok-write.ensures.fails (ap has_failed c.hold.ensures.store ∙ c.requires.works)).0 failed in
@@ -125,12 +122,9 @@ returns-in_ok-settle-in-Some-clause-calm g c =
     let written = rw (sym c.parts-receipt.ensures) at (rw c.in-Some.is at c.in_ok-write.ensures.some) in
     let same = same_batch _ c.parts-receipt.result.0 run written.batch held in
     let tells = written.published ∙ ap (λ (l : List (List Taken)). told_of c.hold.new.self ++ l) held ∙ ap (λ (l : List (List Taken)). l ++ run ∷ []) c.hold.ensures.told in
-    let some : 0 < length run = omega arith in
-    let counted = (may_settle g.J.Site.start (standing c.args.board.now c.args.flusher.now) c.take.new.self.board run c.parts-receipt.result.1 c.requires.calm
-    (ap (λ (b : Board). b.board) c.in_ok-run.ensures.board) some (written.token_is ∙ tells)).1 in
     let knows = ap (λ (b : Board). b.told) c.in_ok-settle-in-Some.ensures.ok ∙ written.token_is in
     let boards =
-    ap (λ (b : Board). b.board) c.in_ok-settle-in-Some.ensures.ok ∙ ap (λ (n : ℕ). settled_more c.take.new.self.board n) counted
+    ap (λ (b : Board). b.board) c.in_ok-settle-in-Some.ensures.ok ∙ ap (λ (r : List Taken). settled_more c.take.new.self.board (length r)) same
     ∙ ap (λ (b : Board). settled_more b.board (length run)) c.in_ok-run.ensures.board in
     let works = unfailed (has_failed (store_of c.write.new.self)) (λ failed.
     let fault = (c.in_ok-write.ensures.fails (ap has_failed c.hold.ensures.store ∙ c.requires.works)).0 failed in
@@ -151,13 +145,9 @@ returns-in_ok-settle-in-Some-clause-settled g c =
     let tells =
     written.token_is ∙ written.published ∙ ap (λ (l : List (List Taken)). told_of c.hold.new.self ++ l) held
     ∙ ap (λ (l : List (List Taken)). l ++ run ∷ []) (c.hold.ensures.told ∙ sym c.requires.calm.known) in
-    let token = written.token_is ∙ written.published ∙ ap (λ (l : List (List Taken)). told_of c.hold.new.self ++ l) held
-    ∙ ap (λ (l : List (List Taken)). l ++ run ∷ []) c.hold.ensures.told in
-    let counted = (may_settle g.J.Site.start (standing c.args.board.now c.args.flusher.now) c.take.new.self.board run c.parts-receipt.result.1 c.requires.calm
-    (ap (λ (b : Board). b.board) c.in_ok-run.ensures.board) some token).1 in
     let count : length run ≡ c.len-count.result = omega arith in
     turned_by c.args.board.now c.take.new.self c.settle.new.self (length run) run c.parts-receipt.result.1 c.in_ok-run.ensures.board
-    (c.in_ok-settle-in-Some.ensures.ok ∙ ap (λ (n : ℕ). record c.take.new.self { board = settled_more c.take.new.self.board n; told = c.parts-receipt.result.1 }) counted)
+    (c.in_ok-settle-in-Some.ensures.ok ∙ ap (λ (r : List Taken). record c.take.new.self { board = settled_more c.take.new.self.board (length r); told = c.parts-receipt.result.1 }) same)
     c.in_ok-run.ensures.run some tells ∙ ap (turned c.args.board.now) count
 
 pub returns-in_ok-settle-in-Some-clause-state : goal.returns-in_ok-settle-in-Some-clause-state
@@ -202,8 +192,8 @@ returns-in_err-settle-in-Some-clause-refused g c =
     let same = same_batch _ c.parts-receipt.result.0 run written.batch held in
     let tells = written.token_is ∙ written.published ∙ ap (λ (l : List (List Taken)). told_of c.hold.new.self ++ l) held ∙ ap (λ (l : List (List Taken)). l ++ run ∷ []) c.hold.ensures.told in
     absurd (false≢true (c.in_err-settle-in-Some.ensures.stranger
-    (may_settle g.J.Site.start (standing c.args.board.now c.args.flusher.now) c.take.new.self.board run c.parts-receipt.result.1 c.requires.calm
-    (ap (λ (b : Board). b.board) c.in_ok-run.ensures.board) some tells).0))
+    (may_settle g.J.Site.start (standing c.args.board.now c.args.flusher.now) c.take.new.self.board run c.parts-receipt.result.0 c.parts-receipt.result.1 c.requires.calm c.in_ok-run.ensures.run
+    (ap (λ (b : Board). b.board) c.in_ok-run.ensures.board) some same tells)))
 
 pub returns-in_err-run-clause-left : goal.returns-in_err-run-clause-left
 returns-in_err-run-clause-left g c =
@@ -239,5 +229,5 @@ returns-in_err-settle-in-Some-clause-unpublished g c =
     let same = same_batch _ c.parts-receipt.result.0 run written.batch held in
     let tells = written.token_is ∙ written.published ∙ ap (λ (l : List (List Taken)). told_of c.hold.new.self ++ l) held ∙ ap (λ (l : List (List Taken)). l ++ run ∷ []) c.hold.ensures.told in
     absurd (false≢true (c.in_err-settle-in-Some.ensures.stranger
-    (may_settle g.J.Site.start (standing c.args.board.now c.args.flusher.now) c.take.new.self.board run c.parts-receipt.result.1 c.requires.calm
-    (ap (λ (b : Board). b.board) c.in_ok-run.ensures.board) some tells).0))
+    (may_settle g.J.Site.start (standing c.args.board.now c.args.flusher.now) c.take.new.self.board run c.parts-receipt.result.0 c.parts-receipt.result.1 c.requires.calm c.in_ok-run.ensures.run
+    (ap (λ (b : Board). b.board) c.in_ok-run.ensures.board) some same tells)))
