@@ -1,6 +1,7 @@
 //! The rule of the log, and its steps.
 use crate::link::Link;
 use logbook::{Gain, Pen, Plain, Play, Rule};
+use std::marker::PhantomData;
 use std::snapshot::Snapshot;
 
 /// The rule of the log: the words of its entries are at home.
@@ -78,17 +79,33 @@ impl<T> Play<Link<T>, u64> for Add {
     ghost then = { Adds };
 }
 
-/// An item, and the pen of the word for the item after it.
-pub struct More<T> {
-    pub(crate) item: Snapshot<T>,
+/// How a value is seen as an item of a log.
+pub trait Shows<X, T> {
+    ghost item: { X → T };
+}
+
+/// An item is seen as itself.
+pub struct Itself;
+
+impl<T> Shows<T, T> for Itself {
+    ghost item = { λ item. item };
+}
+
+/// A value that is seen as an item, and the pen of the word for the item after it.
+pub struct More<X> {
+    pub(crate) about: Snapshot<X>,
     pub(crate) pen: Pen,
 }
 
-/// What that step asks for.
-impl<T> Plain<More<T>, Link<T>, u64> for Add {
+/// What that step asks for, by how the value is seen.
+pub struct Asks<M> {
+    of: PhantomData<M>,
+}
+
+impl<X, T, M: Shows<X, T>> Plain<More<X>, Link<T>, u64> for Asks<M> {
     ghost use Rattle.std.specs.Prelude.{[], ◌∷◌, None};
 
-    ghost ask = { λ more. record { items = more.item.value ∷ []; next = more.pen.nib.key } };
+    ghost ask = { λ more. record { items = M.item more.about.value ∷ []; next = more.pen.nib.key } };
 
     ghost state = { λ more. None };
 }

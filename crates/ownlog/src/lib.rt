@@ -11,5 +11,6 @@ mod link;
 mod owner;
 
 pub use front::Front;
+pub use law::Shows;
 pub use link::Link;
 pub use owner::Owner;

@@ -3,7 +3,7 @@ ghost use Rattle.std.specs.Prelude.{◌≡◌, ◌++◌, ◌∷◌, [], IfSome};
 ghost use mathlib.Core.List.{IsPrefix};
 
 use crate::front::Front;
-use crate::law::{Add, Begin, Grow, Law, More, Nothing, Stay};
+use crate::law::{Add, Asks, Begin, Grow, Itself, Law, More, Nothing, Shows, Stay};
 use crate::link::Link;
 use logbook::{Offer, Pen, Seen, Start, Word};
 use std::marker::Model;
@@ -52,6 +52,13 @@ impl<T> Owner<T> {
     pub fn append(&mut self, item: &T)
         ensures { self.new ≡ record self.old { items = self.old.items ++ item.now ∷ [] } }
     {
+        self.append_as::<T, Itself>(item);
+    }
+
+    /// Puts the item behind the log that a value is seen as. It takes no memory.
+    pub fn append_as<X, M: Shows<X, T>>(&mut self, about: &X)
+        ensures { self.new ≡ record self.old { items = self.old.items ++ M.item about.now ∷ [] } }
+    {
         let mut seen = self.seen.again();
         let mut offer: Offer<Link<T>, u64, Law, Nothing> = seen.plain::<Nothing, (), Begin>(&());
         let mut pen = seen.no_pen();
@@ -60,16 +67,16 @@ impl<T> Owner<T> {
             .compare_exchange::<Grow, Nothing>(0, 1, &mut seen, &mut offer, &mut pen);
         let _word: Word<Link<T>, u64, Law> = Word::tracked(0, &mut pen);
         let more = More {
-            item: Snapshot::of(item),
+            about: Snapshot::of(about),
             pen,
         };
         let mut offer: Offer<Link<T>, u64, Law, Nothing> = self
             .seen
-            .plain::<Nothing, More<T>, Add>(&more);
+            .plain::<Nothing, More<X>, Asks<M>>(&more);
         let _ = self
             .head
             .compare_exchange::<Add, Nothing>(0, 1, &mut self.seen, &mut offer, &mut self.pen);
-        let More { item: _, pen } = more;
+        let More { about: _, pen } = more;
         self.pen = pen;
     }
 

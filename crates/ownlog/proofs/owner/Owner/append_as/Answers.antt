@@ -3,7 +3,7 @@ use Rattle.logbook.specs.Pages.{nib, may_write, inked}
 use Rattle.ownlog.specs.Rules.{head_of, items_of, last_key}
 use Rattle.ownlog.proofs.Cells.{last_more, items_more, log_of}
 use Rattle.ownlog.proofs.Steps.{grows_moves, adds_moves}
-use Rattle.ownlog.proofs.owner.Owner.append.Goals as goal
+use Rattle.ownlog.proofs.owner.Owner.append_as.Goals as goal
 
 pub compare_exchange-requires : goal.compare_exchange-requires
 compare_exchange-requires g c =
@@ -49,7 +49,7 @@ pub returns : goal.returns
 returns g c =
     let second = c.compare_exchange-2.ensures in
     let offer = c.plain-offer-2.ensures in
-    let items : items_of c.compare_exchange-2.new.seen.log ≡ items_of c.self.inside.seen.log ++ c.args.item.now ∷ [] =
+    let items : items_of c.compare_exchange-2.new.seen.log ≡ items_of c.self.inside.seen.log ++ g.M.Shows.item c.args.about.now ∷ [] =
     ap items_of second.7 ∙ (items_more c.self.inside.seen.log c.plain-offer-2.result.ask
-    ∙ ap (λ l. items_of c.self.inside.seen.log ++ l) (ap (λ e. e.items) offer.1 ∙ ap (λ x. x ∷ []) c.of.ensures)) in
+    ∙ ap (λ l. items_of c.self.inside.seen.log ++ l) (ap (λ e. e.items) offer.1 ∙ ap (λ x. g.M.Shows.item x ∷ []) c.of.ensures)) in
     rw (← c.self.view_is) (ap₂ log_of second.0 items)
