@@ -1,5 +1,5 @@
 -- Where the command of a ticket stands in the order.
-use Rattle.std.proofs.Common.{◌≡◌, ℕ, ◌+◌, ◌-◌, ◌≤◌, ◌<◌, List, [], ◌∷◌, ◌++◌, length, take, drop, get_or, map, refl, sym, ap, subst, ◌∙◌, arith, length-append, length-drop}
+use Rattle.std.proofs.Common.{◌≡◌, ℕ, ◌+◌, ◌-◌, ◌≤◌, ◌<◌, ◌^◌, List, [], ◌∷◌, ◌++◌, length, take, drop, get_or, map, refl, sym, ap, subst, ◌∙◌, arith, length-append, length-drop}
 use Rattle.std.specs.Prelude.{Option, Some, None, zero, suc}
 use Rattle.std.proofs.lemmas.List.{append-nil}
 use mathlib.Core.List.{IsPrefix}
@@ -164,10 +164,11 @@ takens-drop (suc n) [] = refl
 takens-drop (suc n) (first ∷ others) = takens-drop n others
 
 -- the next commands of an order, as a run has them
-pub part_of : (order : List Entry) (commands : List Taken) (taken : ℕ) → taken ≤ length order → length commands ≤ length (takens (drop taken order))
+pub part_of : (order : List Entry) (commands : List Taken) (taken : ℕ) → length order < 2 ^ 64 → taken ≤ length order → length commands ≤ length (takens (drop taken order))
     → commands ≡ takens (take (length commands) (drop taken order)) → IsPart commands taken order
-part_of order commands taken bound within next = record {
+part_of order commands taken fits bound within next = record {
   within = omega (arith, bound, within, takens-long (drop taken order), length-drop taken order);
+  few = omega (arith, fits, bound, within, takens-long (drop taken order), length-drop taken order);
   part = next ∙ (takens-take (length commands) (drop taken order) ∙ ap (take (length commands)) (takens-drop taken order));
 }
 

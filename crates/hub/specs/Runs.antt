@@ -1,5 +1,5 @@
 -- Which commands of the order make a batch.
-use Rattle.std.specs.Prelude.{◌≡◌, ◌⊎◌, ◌<◌, ◌≤◌, ◌+◌, ℕ, true, List, drop, length, take}
+use Rattle.std.specs.Prelude.{◌≡◌, ◌⊎◌, ◌<◌, ◌≤◌, ◌+◌, ◌^◌, ℕ, true, List, drop, length, take}
 use Rattle.revision.specs.Command.{Taken}
 use Rattle.journal.specs.BatchSpelling.{batch_width}
 use Rattle.world.specs.Board.{Board, can_settle}
@@ -18,9 +18,10 @@ pub record Run : Type 0 where
   pub cap : ℕ
   pub place : ℕ
 
--- the commands of a run are the next ones of the order behind so many
+-- the commands of a run are the next ones of the order after so many, and these are fewer than 2^64 with them
 pub record IsPart (commands : List Taken) (place : ℕ) (order : List Entry) : Type 0 where
   pub within : place + length commands ≤ length order
+  pub few : place + length commands < 2 ^ 64
   pub part : commands ≡ take (length commands) (drop place (takens order))
 
 -- the commands that are not taken off yet

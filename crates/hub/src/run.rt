@@ -1,5 +1,5 @@
 //! Runs of the order: which make a batch, a copy of one, and whether a batch is one.
-ghost use Rattle.std.specs.Prelude.{◌≡◌, ◌≢◌, ◌↔◌, ◌++◌, length, take, IfOk, IsOkUnless, IsTrue};
+ghost use Rattle.std.specs.Prelude.{◌≡◌, ◌≢◌, ◌↔◌, ◌<◌, ◌+◌, ◌^◌, ◌++◌, length, take, IfOk, IsOkUnless, IsTrue};
 ghost use mathlib.Core.List.{IsPrefix};
 ghost use Rattle.recovery.specs.Found.{commands_of};
 ghost use Rattle.world.specs.Board.{next_run};
@@ -46,6 +46,7 @@ impl<D, J: Site> Run<D, J> {
         requires run { commands.items ≡ takens (next_run board.now.board (length commands.items)) }
         ensures { result ≡ record { commands = commands.items; cap = cap; place = board.now.board.taken } }
     {
+        let _count = board.ordered();
         Run {
             commands,
             cap,
@@ -65,7 +66,8 @@ impl<D, J: Site> Run<D, J> {
     /// The order with its commands, where it goes on with what a token names: as many commands as the order has before its own.
     pub fn goes_on(&self, told: &Told<D, J>) -> Ordered<J>
         requires { self.now.place ≡ length (commands_of told.now) }
-        ensures { IsPrefix (commands_of told.now ++ self.now.commands) (takens result) }
+        ensures next { IsPrefix (commands_of told.now ++ self.now.commands) (takens result) }
+        ensures few { length (commands_of told.now) + length self.now.commands < 2 ^ 64 }
     {
         told.begins_order(&self.order);
         self.order.copy()

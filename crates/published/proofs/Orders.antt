@@ -103,3 +103,10 @@ begins_by_order start state log told here all order is same has begin whole =
     subst (λ l. IsPrefix (commands_of l) (takens order)) same
     (subst (λ o. IsPrefix (commands_of log) (takens o)) whole
     (prefix_trans (commands_of log) (takens here) (takens all) (ordered_parts start state log here is has).1 (takens_begin here all begin)))
+
+-- the order of a mark goes on with what it names
+pub ordered_by : (start : List State) (state : State) (log told : List (List Taken)) (here copy : List Entry) → start ≡ state ∷ [] → log ≡ told
+    → AreOrdered start log here → copy ≡ here → IsPrefix (commands_of told) (takens copy)
+ordered_by start state log told here copy is same has alike =
+    subst (λ l. IsPrefix (commands_of l) (takens copy)) same
+    (subst (λ o. IsPrefix (commands_of log) (takens o)) (sym alike) (ordered_parts start state log here is has).1)

@@ -1,13 +1,12 @@
 //! The log of a run.
 ghost use Rattle.std.specs.Prelude.{◌≡◌, []};
-ghost use Rattle.published.specs.Rules.{head_of};
+ghost use mathlib.Core.List.{IsPrefix};
 
-use crate::batch::{Batch, Law};
+use crate::batch::Batch;
 use crate::mark::Mark;
 use crate::order::Order;
 use crate::site::Site;
 use crate::told::Told;
-use logbook::{Seen, Start, Word};
 use ownlog::Owner;
 use revision::State;
 use std::marker::{Model, PhantomData};
@@ -15,8 +14,7 @@ use world::Entry;
 
 /// The empty logs of a run that has no name yet. Contracts see them as their own names.
 pub struct Opened {
-    head: Word<Batch, u64, Law>,
-    seen: Seen<Batch, u64, Law>,
+    batches: Owner<Batch>,
     order: Owner<Entry>,
     start: Owner<State>,
 }
@@ -24,29 +22,23 @@ pub struct Opened {
 impl Model for Opened {
     ghost use Rattle.std.specs.Prelude.{◌≡◌, []};
     ghost use Rattle.published.specs.Books.{Books, books_coded};
-    ghost use Rattle.published.specs.Rules.{head_of};
 
     ghost Value = { Books };
 
     ghost coded = { books_coded };
 
-    ghost view = { λ o. record { published = o.seen.book; ordered = o.order.book } };
+    ghost view = { λ o. record { published = o.batches.book; ordered = o.order.book } };
 
-    ghost invariant = { λ o. (o.seen.log ≡ []) × (o.head ≡ head_of o.seen.book) × (o.order.items ≡ [])
-        × (o.start.items ≡ []) };
+    ghost invariant = { λ o. (o.batches.items ≡ []) × (o.order.items ≡ []) × (o.start.items ≡ []) };
 }
 
 impl Opened {
     /// New logs. `None` where a word of theirs was changed before it was made, for which there is no room. It takes no memory.
     pub fn new() -> Option<Opened> {
-        let order = Owner::open()?;
-        let start = Owner::open()?;
-        let (seen, mut first, _second) = Seen::open(Start::alone(), 0, 0);
         Some(Opened {
-            head: Word::tracked(0, &mut first),
-            seen,
-            order,
-            start,
+            batches: Owner::open()?,
+            order: Owner::open()?,
+            start: Owner::open()?,
         })
     }
 
@@ -54,29 +46,28 @@ impl Opened {
     pub fn named<D, J: Site>(self, state: &State) -> (Log<D, J>, Told<D, J>, Order<J>)
         requires book { self ≡ J.book }
         requires start { state.now ≡ J.start }
+        ensures log { result.0 ≡ [] }
         ensures told { result.1 ≡ [] }
         ensures order { result.2 ≡ [] }
     {
         let Opened {
-            head,
-            seen,
+            batches,
             order,
-            start,
+            mut start,
         } = self;
-        let mut start = start;
         start.append(state);
-        let log = Log {
-            head,
-            of: PhantomData,
-        };
         let told = Told {
             mark: Mark {
                 batches: 0,
                 len: 0,
-                seen,
+                log: batches.front(),
                 order: order.front(),
                 start: start.front(),
             },
+            of: PhantomData,
+        };
+        let log = Log {
+            owner: batches,
             of: PhantomData,
         };
         let order = Order {
@@ -87,10 +78,31 @@ impl Opened {
     }
 }
 
-/// The log of a run over a device of this type: the word that counts its batches. Who owns it alone publishes.
+/// The log of what a run over a device of this type has published. Only who owns it publishes. Contracts see it as its batches, the oldest
+/// first. It takes a word of memory, however long it is.
 #[derive(Drop)]
 pub struct Log<D, J: Site> {
-    pub(crate) head: Word<Batch, u64, Law>,
+    pub(crate) owner: Owner<Batch>,
     pub(crate) of: PhantomData<(D, J)>,
-    ghost head_is: { head ≡ head_of J.book.published },
+}
+
+impl<D, J: Site> Model for Log<D, J> {
+    ghost use Rattle.std.specs.Prelude.{◌≡◌, List};
+    ghost use Rattle.revision.specs.Command.{Taken};
+
+    ghost Value = { List (List Taken) };
+
+    ghost view = { λ l. l.owner.items };
+
+    ghost invariant = { λ l. l.owner.book ≡ J.book.published };
+}
+
+impl<D, J: Site> Log<D, J> {
+    /// Each token names a prefix of the log. It takes no memory.
+    pub fn covers(&mut self, told: &Told<D, J>)
+        ensures begins { IsPrefix told.now self.old }
+        ensures same { self.new ≡ self.old }
+    {
+        self.owner.covers(&told.mark.log);
+    }
 }

@@ -5,9 +5,9 @@ use Rattle.std.proofs.lemmas.Bool.{false≢true, cases_lt}
 use mathlib.Core.List.{IsPrefix}
 use Rattle.disk.specs.declared.device.Disk.{Ghosts}
 use Rattle.refusal.specs.declared.Refusal.{Refusal}
-use Rattle.refusal.specs.declared.Refusal.TheVariants.{JournalFull, Stranger, StillNeeded, StoreFailed, NoMemory, Fault}
+use Rattle.refusal.specs.declared.Refusal.TheVariants.{JournalFull, Stranger, StillNeeded, NoMemory, Fault}
 use Rattle.revision.specs.Command.{Taken}
-use Rattle.revision.specs.State.{State, fold, all_grow}
+use Rattle.revision.specs.State.{State, fold}
 use Rattle.published.specs.Batches.{IsShorter}
 use Rattle.published.proofs.CallerLemmas.{prefix_shorter, prefix_whole}
 use Rattle.recovery.specs.declared.store.Store.{Store}
@@ -18,9 +18,9 @@ use Rattle.recovery.proofs.CallerLemmas.{goes_none, goes_map, goes_on, found_now
 use Rattle.flusher.specs.declared.flusher.Flusher.{Flusher}
 use Rattle.flusher.specs.Batches.{IsBeginning}
 use Rattle.flusher.specs.Flushers.{IsUsedUp, IsWritten}
-use Rattle.flusher.specs.Holding.{IsLost, IsUncommitted, store_of, told_of, committed_of, waiting_of}
+use Rattle.flusher.specs.Holding.{IsUncommitted, store_of, told_of, committed_of, waiting_of}
 use Rattle.flusher.proofs.CallerLemmas.{commands-append, fewer, longer, within_write}
-use Rattle.turns.specs.Writing.{WasAt, IsKeptUp, IsFullFor, IsOneMore, IsTurnFailed, given_to, told_count, Writes}
+use Rattle.turns.specs.Writing.{WasAt, IsKeptUp, IsFullFor, IsOneMore, IsTurnFailed, IsUntouched, given_to, told_count, Writes}
 use Rattle.turns.specs.Turning.{HasTurned}
 use Rattle.turns.specs.declared.turned.Turned.{Turned}
 use Rattle.turns.specs.declared.turned.Turned.TheVariants.{Settled, Nothing}
@@ -266,6 +266,10 @@ memory_not_fault refusal is fault = cc
 pub stranger_not_fault : (refusal : Refusal) → refusal ≡ Stranger → refusal ≢ Fault
 stranger_not_fault refusal is fault = cc
 
+pub held_not_fault : (refusal : Refusal) → (refusal ≡ NoMemory) ⊎ (refusal ≡ Stranger) → refusal ≢ Fault
+held_not_fault refusal (inl memory) = memory_not_fault refusal memory
+held_not_fault refusal (inr strange) = stranger_not_fault refusal strange
+
 -- a batch that is held is one
 pub some_held : (committed waiting : List (List Taken)) (batch : List Taken) → waiting ≡ batch ∷ [] → committed ++ waiting ≢ []
 some_held [] waiting batch is none = cc
@@ -327,51 +331,55 @@ module _ {D J : Type 0} {disk : Ghosts D} where
       → (refusal ≡ JournalFull → (batch : List Taken) × (waiting_of old ≡ batch ∷ []) × (has_room (store_of old) batch ≡ false) × (has_room (store_of new) batch ≡ false))
       → (refusal ≡ StillNeeded → (batch : List Taken) × (waiting_of old ≡ batch ∷ []) × (has_room (store_of old) batch ≡ false))
       → ((refusal ≡ JournalFull) ⊎ (refusal ≡ StillNeeded) → IsUsedUp (store_of old))
-      → (refusal ≡ Stranger → all_grow (state_of (store_of old)) (commands_of (waiting_of old)) ≡ false)
-      → (refusal ≡ StoreFailed → IsLost old new)
-      → (refusal ≢ NoMemory → refusal ≢ StoreFailed → IsUncommitted old new)
-      → (((refusal ≡ JournalFull) ⊎ ((refusal ≡ StillNeeded) ⊎ (refusal ≡ Stranger))) ⊎ ((refusal ≡ NoMemory) ⊎ (refusal ≡ Fault))) ⊎ (refusal ≡ StoreFailed)
+      → (refusal ≢ NoMemory → IsUncommitted old new)
+      → ((refusal ≡ JournalFull) ⊎ (refusal ≡ StillNeeded)) ⊎ ((refusal ≡ NoMemory) ⊎ (refusal ≡ Fault))
       → refusal ≢ NoMemory → refusal ≢ Fault → IsTurnFailed old refusal new
-  turn_failed old new refusal full needed used stranger lost uncommitted only no_memory no_fault = by_case only
+  turn_failed old new refusal full needed used uncommitted only no_memory no_fault = by_case only
     where
       full_for : (batch : List Taken) → has_room (store_of old) batch ≡ false → (refusal ≡ JournalFull) ⊎ (refusal ≡ StillNeeded) → IsFullFor batch (store_of old)
       full_for batch none told = record { between = store_of old; kept_up = kept_up_none (store_of old); works = λ works. works; no_room = none; last = used told }
 
-      by_case : (((refusal ≡ JournalFull) ⊎ ((refusal ≡ StillNeeded) ⊎ (refusal ≡ Stranger))) ⊎ ((refusal ≡ NoMemory) ⊎ (refusal ≡ Fault))) ⊎ (refusal ≡ StoreFailed)
-          → IsTurnFailed old refusal new
-      by_case (inl (inl (inl is_full))) =
+      by_case : ((refusal ≡ JournalFull) ⊎ (refusal ≡ StillNeeded)) ⊎ ((refusal ≡ NoMemory) ⊎ (refusal ≡ Fault)) → IsTurnFailed old refusal new
+      by_case (inl (inl is_full)) =
           let p = full is_full in
-          let same = uncommitted no_memory (λ failed. let no : ⊥ = cc in no) in
+          let same = uncommitted no_memory in
           inl (inl is_full, (p.0, same.waiting ∙ p.1, full_for p.0 p.2 (inl is_full)))
-      by_case (inl (inl (inr (inl is_needed)))) =
+      by_case (inl (inr is_needed)) =
           let p = needed is_needed in
-          let same = uncommitted no_memory (λ failed. let no : ⊥ = cc in no) in
+          let same = uncommitted no_memory in
           inl (inr is_needed, (p.0, same.waiting ∙ p.1, full_for p.0 p.2 (inr is_needed)))
-      by_case (inl (inl (inr (inr is_stranger)))) =
-          let same = uncommitted no_memory (λ failed. let no : ⊥ = cc in no) in
-          inr (inl (
-            is_stranger,
-            inl (ap (λ (s : State). all_grow s (commands_of (waiting_of new))) same.state ∙ ap (λ (l : List (List Taken)). all_grow (state_of (store_of old)) (commands_of l)) same.waiting ∙ stranger is_stranger),
-          ))
-      by_case (inl (inr (inl memory))) = absurd (no_memory memory)
-      by_case (inl (inr (inr fault))) = absurd (no_fault fault)
-      by_case (inr is_lost) = let l = lost is_lost in inr (inr (is_lost, (l.waiting, l.committed, l.barred)))
+      by_case (inr (inl memory)) = absurd (no_memory memory)
+      by_case (inr (inr fault)) = absurd (no_fault fault)
+
+  -- why a turn fails that took no run off, or one that doesn't follow what is published
+  pub turn_apart : (old new : Flusher D J disk) (refusal : Refusal) → IsUntouched old new → (refusal ≡ NoMemory) ⊎ (refusal ≡ Stranger) → refusal ≢ NoMemory
+      → IsTurnFailed old refusal new
+  turn_apart old new refusal untouched (inl memory) no_memory = absurd (no_memory memory)
+  turn_apart old new refusal untouched (inr strange) no_memory = inr (strange, inl untouched)
 
   -- what was published and isn't settled
   pub turn_unsettled : (old new : Flusher D J disk) (refusal : Refusal) → refusal ≡ Stranger → IsOneMore old new → IsTurnFailed old refusal new
-  turn_unsettled old new refusal is one = inr (inl (is, inr one))
+  turn_unsettled old new refusal is one = inr (is, inr one)
 
   -- one batch more than before it was kept up and held
   pub one_before : (old mid new : Flusher D J disk) → told_of mid ≡ told_of old → IsOneMore mid new → IsOneMore old new
   one_before old mid new same one = record { batch = one.batch; told = one.told ∙ ap (λ (t : List (List Taken)). t ++ one.batch ∷ []) same }
 
+  -- nothing was written after it was kept up
+  untouched_before : (old mid new : Flusher D J disk) → IsKeptUp (store_of old) (store_of mid) → told_of mid ≡ told_of old → IsUntouched mid new → IsUntouched old new
+  untouched_before old mid new first same untouched = record {
+    told = untouched.told ∙ same;
+    committed = untouched.committed;
+    waiting = untouched.waiting;
+    kept_up = kept_up_on (store_of old) (store_of mid) (store_of new) first untouched.kept_up;
+  }
+
   -- why a turn failed that kept its store up before the write
   pub failed_before : (old mid new : Flusher D J disk) (refusal : Refusal) → IsKeptUp (store_of old) (store_of mid)
       → (has_failed (store_of old) ≡ false → has_failed (store_of mid) ≡ false) → told_of mid ≡ told_of old → IsTurnFailed mid refusal new → IsTurnFailed old refusal new
   failed_before old mid new refusal first works same (inl (is, (batch, held, full))) = inl (is, (batch, held, full_before batch (store_of old) (store_of mid) first works full))
-  failed_before old mid new refusal first works same (inr (inl (is, inl grows))) = inr (inl (is, inl grows))
-  failed_before old mid new refusal first works same (inr (inl (is, inr one))) = inr (inl (is, inr (one_before old mid new same one)))
-  failed_before old mid new refusal first works same (inr (inr lost)) = inr (inr lost)
+  failed_before old mid new refusal first works same (inr (is, inl untouched)) = inr (is, inl (untouched_before old mid new first same untouched))
+  failed_before old mid new refusal first works same (inr (is, inr one)) = inr (is, inr (one_before old mid new same one))
 
   turned_before : (answer : Turned D J) (old mid new : Flusher D J disk) → told_of mid ≡ told_of old → HasTurned mid answer new → HasTurned old answer new
   turned_before (Settled token) old mid new same one = (one_before old mid new same one.0, one.1)

@@ -1,5 +1,5 @@
 -- How far the publishing of a batch has come.
-use Rattle.std.specs.Prelude.{◌≡◌, List, [], ◌∷◌, ◌++◌}
+use Rattle.std.specs.Prelude.{◌≡◌, ◌≤◌, ◌<◌, ◌+◌, ◌^◌, List, [], ◌∷◌, ◌++◌, length}
 use mathlib.Core.List.{IsPrefix}
 use Rattle.published.specs.Books.{Books}
 use Rattle.revision.specs.Command.{Taken}
@@ -20,6 +20,12 @@ news_of book start batch next = record { batch = batch; mark = record { book = b
 abbrev pub AreShown : Books → State → List (List Taken) → Shown → Type 0
 AreShown book start told shown = IsShown book start shown × (shown.mark.batches ≡ told)
 
+-- A batch has a command, and is the next part of the order behind what is published, which then has fewer than 2^64 commands.
+pub record IsNext (told batch order : List Taken) : Type 0 where
+  pub some : 1 ≤ length batch
+  pub few : length told + length batch < 2 ^ 64
+  pub next : IsPrefix (told ++ batch) order
+
 module _ {D J : Type 0} where
   -- the batch that is to be published
   abbrev pub held_in : Stage D J → List (List Taken)
@@ -36,8 +42,8 @@ module _ {D J : Type 0} where
   waiting book start (Queued receipt next) = news_of book start receipt next ∷ []
 
   -- what the log has beyond what is shown is the batch, and one that isn't in the log yet is the next part of the order
-  abbrev pub IsLogged : List (List Taken) → Stage D J → Type 0
-  IsLogged told Idle = Unit {0}
-  IsLogged told (Held receipt ordered) = IsPrefix (commands_of told ++ receipt) (takens ordered)
-  IsLogged told (Logged receipt next) = next ≡ told ++ receipt ∷ []
-  IsLogged told (Queued receipt next) = next ≡ told ++ receipt ∷ []
+  abbrev pub IsLogged : List (List Taken) → List (List Taken) → Stage D J → Type 0
+  IsLogged log told Idle = log ≡ told
+  IsLogged log told (Held receipt ordered) = (log ≡ told) × IsNext (commands_of told) receipt (takens ordered)
+  IsLogged log told (Logged receipt next) = (log ≡ next) × (next ≡ told ++ receipt ∷ [])
+  IsLogged log told (Queued receipt next) = (log ≡ next) × (next ≡ told ++ receipt ∷ [])

@@ -180,8 +180,7 @@ returns-in_err-write-clause-refused g c =
     (turn_refused cap c.args.board.now store (store_of c.hold.new.self) c.write.new.self (waiting_of c.hold.new.self) run c.in_err-write.field-0.0 c.hold.ensures.waiting
     c.hold.ensures.store c.in_ok-run.ensures.run longest some (λ is. e.full (ap (λ (r : Refusal). Err r) is)) (λ is. e.needed (ap (λ (r : Refusal). Err r) is))
     (λ told. e.never_full (⊎_elim (λ full. inl (ap (λ (r : Refusal). Err r) full)) (λ still. inr (ap (λ (r : Refusal). Err r) still)) told))
-    (λ is. e.stranger (ap (λ (r : Refusal). Err r) is)) (λ no_memory no_failure. (e.uncommitted no_memory no_failure).state)
-    (λ is. (e.lost (ap (λ (r : Refusal). Err r) is)).state) (λ is. (e.lost (ap (λ (r : Refusal). Err r) is)).barred) e.only)
+    (λ no_memory. (e.uncommitted no_memory).state) e.only)
 
 pub returns-in_err-settle-in-Some-clause-refused : goal.returns-in_err-settle-in-Some-clause-refused
 returns-in_err-settle-in-Some-clause-refused g c =

@@ -21,7 +21,7 @@ returns-in-Err-clause-causes g c =
     let e = c.in-Err.ensures in
     turn_failed c.args.flusher.now c.write.new.self c.in-Err.refusal (λ is. e.full (ap (λ (r : Refusal). Err r) is)) (λ is. e.needed (ap (λ (r : Refusal). Err r) is))
     (λ told. e.never_full (⊎_elim (λ full. inl (ap (λ (r : Refusal). Err r) full)) (λ needed. inr (ap (λ (r : Refusal). Err r) needed)) told))
-    (λ is. e.stranger (ap (λ (r : Refusal). Err r) is)) (λ is. e.lost (ap (λ (r : Refusal). Err r) is)) e.uncommitted e.only
+    e.uncommitted e.only
 
 -- a batch is held, so the write doesn't answer that none was
 pub unreachable-requires : goal.unreachable-requires
