@@ -72,12 +72,18 @@ impl<D: Disk, J: Site> Flusher<D, J> {
         ensures begins { IsPrefix (commands_of (told_of self.now ++ (committed_of self.now ++ waiting_of self.now)))
             (takens result) }
     {
-        let ordered = match &self.waiting {
-            Some(run) => run.goes_on(self.publisher.told()),
-            None => self.publisher.ordered(),
-        };
-        ordered.legal();
-        ordered
+        match &self.waiting {
+            Some(run) => {
+                let ordered = run.goes_on(self.publisher.told());
+                ordered.legal();
+                ordered
+            }
+            None => {
+                let ordered = self.publisher.ordered();
+                ordered.legal();
+                ordered
+            }
+        }
     }
 
     /// Each token of what is published names a prefix of what is published and committed here. It takes no memory.

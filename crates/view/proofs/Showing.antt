@@ -19,7 +19,7 @@ fold_join s [] ys = refl
 fold_join s (x ∷ xs) ys = fold_join (state.grown s x) xs ys
 
 -- the commands of batches with one more
-commands_more : (told : List (List Taken)) (batch : List Taken) → commands_of (told ++ batch ∷ []) ≡ commands_of told ++ batch
+pub commands_more : (told : List (List Taken)) (batch : List Taken) → commands_of (told ++ batch ∷ []) ≡ commands_of told ++ batch
 commands_more [] batch = append-nil batch
 commands_more (first ∷ told) batch = ap (λ l. first ++ l) (commands_more told batch) ∙ sym (append_assoc first (commands_of told) batch)
 
