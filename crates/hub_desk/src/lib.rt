@@ -9,7 +9,7 @@
 //!
 //! It is a crate of its own, so that `session` stands on nothing of stores and threads.
 //!
-//! A caller, with its contract, which `listening_tests` proves:
+//! A caller, with its contract, which `server_threads_tests` proves:
 //!
 //! ```text
 //! ghost use Rattle.std.specs.Prelude.{IfErr, IfOk};

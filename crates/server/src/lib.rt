@@ -46,5 +46,5 @@ mod program;
 
 pub use deltas::print_answer;
 pub use documents::dump;
-pub use listening::serve_on;
+pub use server_threads::serve_on;
 pub use program::{run, run_given};

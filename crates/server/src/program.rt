@@ -5,7 +5,7 @@ use crate::deltas::print_answer;
 use crate::documents::dump;
 use clap::error::ErrorKind;
 use disk::{Fault, FileDisk};
-use listening::{serve_on, serve_streams};
+use server_threads::{serve_on, serve_streams};
 use recovery::{OpenFault, Pick, Shape, Store};
 use refusal::Refusal;
 use serving::Failure;

@@ -7,7 +7,7 @@
 //! one, and the system takes a little more where it seemed full, so that this comes about after 5 to 15 seconds. When the listener fails
 //! each session ends within its next read.
 //!
-//! A caller, which `listening_tests` proves safe as it stands:
+//! A caller, which `server_threads_tests` proves safe as it stands:
 //!
 //! ```text
 //! use session::Desk;

@@ -1,7 +1,7 @@
 use super::HELLO;
 use super::going_on::{edits, letter};
 use disk::{Call, Disk, FaultDisk, FaultPlan, Left, MemDisk};
-use listening::serve_streams;
+use server_threads::serve_streams;
 use recovery::{OpenFault, Pick, Shape, Store, format_device};
 use refusal::Refusal;
 use server::dump;

@@ -1,0 +1,174 @@
+//! Writing in a thread of its own, beside what this thread does.
+ghost use Rattle.std.specs.Prelude.{◌≡◌, IfOk, IfErr};
+ghost use Rattle.std.specs.Thread.{IsSend, IsSync};
+ghost use Rattle.server_threads.specs.Served.{IsStarted};
+ghost use Rattle.server_threads.specs.Written.{HasWritten};
+
+use crate::writing::{Shared, Writing};
+use crate::written::WrittenBy;
+use disk::Disk;
+use flusher::Flusher;
+use hub::Writer;
+use published::Site;
+use refusal::Refusal;
+use std::snapshot::Snapshot;
+use std::sync::Wait;
+use std::sync::atomic::{AtomicBool, Ordering};
+use std::thread::{self, Threads};
+
+/// What came of both: the flusher, how its writing ended, and what this thread answered.
+pub(crate) struct Both<D: Disk, J: Site, A> {
+    pub(crate) flusher: Flusher<D, J>,
+    pub(crate) written: Result<(), Refusal>,
+    pub(crate) talked: A,
+}
+
+/// Calls `talk` in this thread, while another one writes until the hub is ended. Where the system gives no thread nothing is called, and
+/// the flusher is given back as it was.
+pub(crate) fn write_beside<
+    J: Site + Sync + Send,
+    R: Threads + Wait + Sync,
+    D: Disk + Send + Drop,
+    F: FnMut() -> A,
+    A,
+>(
+    shared: &Shared<'_, D, J, R>,
+    flusher: Flusher<D, J>,
+    writer: Writer<J>,
+    talk: &mut F,
+) -> Result<Both<D, J, A>, Flusher<D, J>>
+    requires started { IsStarted flusher }
+    requires talks { F.pre talk.old }
+    ensures written { IfOk result (λ both. HasWritten J.start flusher both.flusher both.written) }
+    ensures talked { IfOk result (λ both. F.step talk.old both.talked talk.new) }
+    ensures refused { IfErr result (λ back. back ≡ flusher) }
+    ensures silent { IfErr result (λ back. talk.new ≡ talk.old) }
+{
+    match run_beside(shared, flusher, writer, Lent { talk }) {
+        Ok(
+            Both {
+                flusher,
+                written,
+                talked: (talk, talked),
+            },
+        ) => {
+            take_back(talk);
+            Ok(Both {
+                flusher,
+                written,
+                talked,
+            })
+        }
+        Err((flusher, Lent { talk })) => {
+            take_back(talk);
+            Err(flusher)
+        }
+    }
+}
+
+// Work for this thread. The closure of a scope says nothing of a `&mut` that it holds, so it holds a value of a type parameter.
+trait Task {
+    type Output;
+
+    ghost can_run: { Self → Type 0 };
+
+    ghost run_gives: { Self → Self.Output → Type 0 };
+
+    fn run(self) -> Self::Output
+        requires { can_run self }
+        ensures { run_gives self result };
+}
+
+#[derive(Drop)]
+struct Lent<'a, F> {
+    talk: &'a mut F,
+}
+
+impl<'a, F: FnMut() -> A, A> Task for Lent<'a, F> {
+    type Output = (&'a mut F, A);
+
+    ghost can_run = { λ t. F.pre t.talk.now };
+
+    ghost run_gives = { λ t r. (r.0.ghost_name ≡ t.talk.ghost_name) × F.step t.talk.now r.1 r.0.now };
+
+    fn run(self) -> (&'a mut F, A) {
+        let Lent { talk } = self;
+        let answer = talk();
+        (talk, answer)
+    }
+}
+
+// Runs a task in this thread, while another one writes.
+fn run_beside<
+    J: Site + Sync + Send,
+    R: Threads + Wait + Sync,
+    D: Disk + Send + Drop,
+    T: Task + Drop,
+>(
+    shared: &Shared<'_, D, J, R>,
+    flusher: Flusher<D, J>,
+    writer: Writer<J>,
+    task: T,
+) -> Result<Both<D, J, T::Output>, (Flusher<D, J>, T)>
+    requires started { IsStarted flusher }
+    requires runs { T.can_run task }
+    ensures written { IfOk result (λ both. HasWritten J.start flusher both.flusher both.written) }
+    ensures ran { IfOk result (λ both. T.run_gives task both.talked) }
+    ensures refused { IfErr result (λ back. back.0 ≡ flusher) }
+    ensures unrun { IfErr result (λ back. back.1 ≡ task) }
+{
+    let written_by = WrittenBy(Snapshot::of(&flusher));
+    let has_thread = AtomicBool::new(true);
+    let lowered = &has_thread;
+    let writing = Writing {
+        shared,
+        has_thread: lowered,
+        flusher,
+        writer,
+    };
+    thread::scope(
+        thread::scope_env(),
+        shared.rt,
+        |scope| -> Result<Both<D, J, T::Output>, (Flusher<D, J>, T)>
+            requires { T.can_run task × IsStarted writing.flusher × (written_by.0.value ≡ writing.flusher)
+                × IsSend D.row × IsSend J.row × IsSync J.row × IsSync R.row }
+            ensures written { IfOk result (λ both. HasWritten J.start writing.entry.flusher both.flusher both.written) }
+            ensures ran { IfOk result (λ both. T.run_gives task both.talked) }
+            ensures refused { IfErr result (λ back. back.0 ≡ writing.entry.flusher) }
+            ensures unrun { IfErr result (λ back. back.1 ≡ task) }
+        {
+            match scope.spawn_with(written_by, move || writing.run()) {
+                Ok(thread) => {
+                    let talked = task.run();
+                    let (flusher, written) = thread.join(shared.rt).into_parts();
+                    Ok(Both {
+                        flusher,
+                        written,
+                        talked,
+                    })
+                }
+                Err(refused) => {
+                    lowered.store(false, Ordering::SeqCst);
+                    let run = (refused.value)();
+                    let is_begun = run.is_begun;
+                    let (flusher, written) = run.into_parts();
+                    if !is_begun {
+                        return Err((flusher, task));
+                    }
+                    // It isn't so, but no clause says what an atomic holds.
+                    let talked = task.run();
+                    Ok(Both {
+                        flusher,
+                        written,
+                        talked,
+                    })
+                }
+            }
+        },
+    )
+}
+
+// Does nothing, but this use of a returned reference is what ties it, for the borrow checker, to the parameter that lent it.
+fn take_back<T>(x: &mut T)
+    ensures { x.new ≡ x.old }
+{}
