@@ -1,10 +1,10 @@
 //! The program `richd`, as a call over its words and its standard streams.
 //!
 //! `run` reads the words and makes, serves or prints the store of a file; `run_given` takes them from the system. `dump` writes a line for each document of a state
-//! (`specs/Dump.antt`), and `print_answer` the line of what a task on deltas comes to (`specs/Deltas.antt`). `serve_on`, of `listening`,
+//! (`specs/Dump.antt`), and `print_answer` the line of what a task on deltas comes to (`specs/Deltas.antt`). `serve_on`, of `server_threads`,
 //! serves many sessions over TCP.
 //!
-//! It stands on `words` for what the words ask for, on `listening` for the sessions, on `algebra` for the tasks on deltas and for how a
+//! It stands on `words` for what the words ask for, on `server_threads` for the sessions, on `algebra` for the tasks on deltas and for how a
 //! delta is printed, and on `recovery` and `disk` for the store in a file.
 //!
 //! A caller, with its contract, which `server_tests` proves as it stands:

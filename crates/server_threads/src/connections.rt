@@ -236,7 +236,8 @@ fn serve_all<
 {
     let served = serve_desks(shared.rt, shared.alloc, desks, listener);
     shared.hub.end(shared.rt, closer);
-    Ok(served?)
+    served?;
+    Ok(())
 }
 
 // A desk for each seat, with a viewer of its own.

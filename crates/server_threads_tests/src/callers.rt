@@ -1,8 +1,9 @@
-//! The callers that open `lib.rt` of hub_desk, sockets and listening.
-ghost use Rattle.std.specs.Prelude.{IfErr, IfOk};
+//! The callers that open `lib.rt` of hub_desk, sockets and server_threads.
+ghost use Rattle.std.specs.Prelude.{◌∷◌, [], IfErr, IfOk};
 ghost use Rattle.recovery.specs.Open.{state_of};
 ghost use Rattle.hub_desk.specs.AtHub.{Acknowledges, Refuses};
 ghost use Rattle.server_threads.specs.Streams.{IsAnsweredAtHub, WasAnsweredWhole};
+ghost use Rattle.sockets.specs.Desks.{HaveServed};
 
 use disk::Disk;
 use hub_desk::HubDesk;
@@ -32,15 +33,17 @@ pub fn answer<D, J: Site, R: Wait>(
     desk.ask(alloc, command)
 }
 
-/// Serves one connection after another by a single desk, until the listener fails.
+/// Serves one connection after another by a single desk, until the listener fails. It was asked for what they ask, and nothing else.
 pub fn serve_in_turn<
     K: Desk + Send + Drop,
     R: Threads + Wait + Sync,
     N: OpenListener<Stream = TcpStream>,
->(rt: &R, alloc: Global, desk: K, listener: &N) -> Result<(), AllocError> {
+>(rt: &R, alloc: Global, desk: K, listener: &N) -> Result<Vec<K>, AllocError>
+    ensures { IfOk result (λ after. HaveServed K.does (desk ∷ []) after.items) }
+{
     let mut desks = Vec::new(alloc);
     desks.push(desk)?;
-    serve_desks(rt, alloc, desks, listener)
+    Ok(serve_desks(rt, alloc, desks, listener)?)
 }
 
 /// Serves a store until the listener fails, with a milestone after about every 256 revisions, and gives it back where all that was
