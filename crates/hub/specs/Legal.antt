@@ -17,6 +17,11 @@ pub record Board : Type 0 where
   pub told : List (List Taken)
   pub left : ℕ
 
+-- seats that are used no longer: how many they are, and how many commands they have counted together
+pub record Tally : Type 0 where
+  pub seats : ℕ
+  pub counted : ℕ
+
 -- the order is a legal history from the start, of which the state is the fold
 pub record IsHistory (board : Inner Entry) : Type 0 where
   pub legal : IsLegal board.start board.order

@@ -1,5 +1,5 @@
 //! The board.
-ghost use Rattle.std.specs.Prelude.{◌≡◌, ◌⊎◌, ◌↔◌, ◌≤◌, ◌<◌, ◌+◌, ◌^◌, ◌++◌, ◌∷◌, min, true, false, List, [], Some, None, Ok, length, IfOk, IfErr, IfSome, OnOk, OnErr, IsTrue, IsOk, IsErrOf};
+ghost use Rattle.std.specs.Prelude.{◌≡◌, ◌⊎◌, ◌↔◌, ◌≤◌, ◌<◌, ◌+◌, ◌^◌, ◌++◌, ◌∷◌, true, false, List, [], Some, None, Ok, length, IfOk, IfErr, IfSome, OnOk, OnErr, IsTrue, IsOk, IsErrOf};
 ghost use mathlib.Core.List.{IsPrefix};
 ghost use Rattle.revision.specs.Acceptance.{answer, Refuses};
 ghost use Rattle.revision.specs.Planned.{may_want_memory};
@@ -12,7 +12,7 @@ ghost use Rattle.hub.specs.Placed.{IsPlaced, StandsFirst, WasSubmitted};
 ghost use Rattle.hub.specs.Runs.{IsLongest, untaken, MaySettle};
 
 use crate::run::{Run, copied, is_beginning, longest};
-use crate::seat::{PLACES, Seat, Ticket, count};
+use crate::seat::{PLACES, Seat, Tally, Ticket, count};
 use disk::Disk;
 use published::{Order, Ordered, Site, Told};
 use recovery::{Receipt, Store};
@@ -47,7 +47,8 @@ impl<D, J: Site> Model for Board<D, J> {
     ghost view = { λ b. record { board = b.board; failed = b.failed; told = b.told; left = b.left } };
 
     ghost invariant = { λ b. spec.IsHistory b.board × spec.IsWithin b.board b.told × (b.board.start ≡ J.start)
-        × (b.seats.total ≡ length b.board.order) × (b.spare.parts ≡ b.left + 1) × (b.order ≡ b.board.order) };
+        × (b.seats.total ≡ length b.board.order) × (b.spare.parts ≡ b.left + 1) × (b.spare.amount ≡ 0)
+        × (b.order ≡ b.board.order) };
 }
 
 impl<D, J: Site> Board<D, J> {
@@ -166,18 +167,6 @@ impl<D, J: Site> Board<D, J> {
         Ok(Seat { share, place })
     }
 
-    /// Takes a seat back, so that it can be given again. What was counted of it stays counted. It takes no memory.
-    pub fn give_back(&mut self, seat: Seat<J>)
-        ensures { self.new ≡ record self.old { left = min (self.old.left + 1) (2 ^ 32 - 1) } }
-    {
-        let Seat { share, place } = seat;
-        self.used[place] = self.used[place].saturating_sub(1);
-        if self.left < u32::MAX {
-            self.spare.merge(share);
-            self.left += 1;
-        }
-    }
-
     /// Answers a command by the rule of acceptance. One that is taken is put behind the order and counted on the seat, and any other leaves the board and the seat alone. The
     /// ticket has the reply, and the length of the order that has to be settled before the reply may be given, for a retry too.
     /// Refused with `StoreFailed` where the store has failed, else as `State::plan` refuses it; nothing has changed then.
@@ -285,6 +274,42 @@ impl<D, J: Site> Board<D, J> {
             return Err(Refusal::StoreFailed);
         }
         Ok(None)
+    }
+
+    /// A tally of no seats. It takes no memory.
+    pub fn tally(&mut self) -> Tally<J>
+        ensures none { result ≡ record { seats = 0; counted = 0 } }
+        ensures same { self.new ≡ self.old }
+    {
+        Tally {
+            share: self.spare.empty(),
+        }
+    }
+
+    /// Ends the board, of which all seats were given and are tallied: its order is a legal history, which begins as a token of it has it, and
+    /// is as long as what the seats have counted. It gives that length, and takes no memory.
+    pub fn end(self, seats: Tally<J>, ordered: &Ordered<J>) -> usize
+        requires all { seats.seats + 1 ≡ J.parts }
+        ensures ordered { result ≡ length self.board.order }
+        ensures run { IsOfRun J.start self.board }
+        ensures begins { IsPrefix ordered.now self.board.order }
+        ensures counts { length self.board.order ≡ seats.counted }
+    {
+        let count = self.ordered();
+        let Board {
+            board: _board,
+            mut order,
+            failed: _,
+            told: _told,
+            seats: mut book,
+            spare: mut all,
+            left: _,
+            used: _,
+        } = self;
+        order.holds(ordered);
+        all.merge(seats.share);
+        book.audit(&mut all);
+        count
     }
 
     /// Notes that the store has failed. It takes no memory.

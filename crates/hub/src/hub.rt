@@ -186,6 +186,16 @@ impl<D, J: Site> Hub<D, J> {
         self.kept.lock(rt).seat(closer)
     }
 
+    /// Gives the board back, once nobody shares the hub any more. It takes no memory, and waits for nobody.
+    pub fn into_board(self) -> Board<D, J> {
+        let Hub {
+            kept,
+            moved: _moved,
+            work: _work,
+        } = self;
+        kept.into_inner().into_board()
+    }
+
     /// How many commands the order has: as many as that of a board of this run had at some moment.
     pub fn ordered<R: Wait>(&self, rt: &R) -> usize
         ensures { WasOrdered J.start result }

@@ -68,6 +68,18 @@ impl<D, J: Site> Kept<D, J> {
         (kept, Writer { of: PhantomData }, Closer { of: PhantomData })
     }
 
+    // gives the board back
+    pub(crate) fn into_board(self) -> Board<D, J>
+        ensures { result ≡ self.board }
+    {
+        let Kept {
+            board,
+            awaited: _,
+            ended: _,
+        } = self;
+        board
+    }
+
     // the board, to be read
     pub(crate) fn board(&self) -> &Board<D, J>
         ensures { result.now ≡ self.now.board }

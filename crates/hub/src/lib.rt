@@ -94,6 +94,6 @@ pub use hub::Hub;
 pub use kept::{Closer, Writer};
 pub use not_submitted::NotSubmitted;
 pub use run::Run;
-pub use seat::{Seat, Ticket};
+pub use seat::{Seat, Tally, Ticket};
 pub use tokens::{Ended, Failed, Idle, Nothing, Settled, Stopped, Work};
 pub use unsettled::Unsettled;

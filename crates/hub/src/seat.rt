@@ -31,6 +31,29 @@ impl<J: Site> Model for Seat<J> {
     ghost invariant = { λ s. (s.share.parts ≡ 1) × (s.place < 64) };
 }
 
+/// What seats have counted that are used no longer. Contracts see it as how many seats these are, and what they have counted together.
+#[derive(Drop)]
+pub struct Tally<J: Site> {
+    pub(crate) share: Share<J>,
+}
+
+impl<J: Site> Model for Tally<J> {
+    ghost use Rattle.hub.specs.Legal as spec;
+
+    ghost Value = { spec.Tally };
+
+    ghost view = { λ t. record { seats = t.share.parts; counted = t.share.amount } };
+}
+
+impl<J: Site> Tally<J> {
+    /// Adds a seat, which is used no longer. It takes no memory.
+    pub fn add(&mut self, seat: Seat<J>)
+        ensures { self.new ≡ record { seats = self.old.seats + 1; counted = self.old.counted + seat } }
+    {
+        self.share.merge(seat.share);
+    }
+}
+
 /// A command's reply, and the length of the order that has to be settled before the reply may be given. Only a board's `submit` makes
 /// one. Contracts see the command too, which takes no memory. It has a token of the order up to that length, in which its command has its
 /// place.

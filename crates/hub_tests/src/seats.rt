@@ -1,4 +1,4 @@
-//! Seats of a board: so many are given, and one that is given back can be given again.
+//! Seats of a board: so many are given, and then none is left.
 ghost use Rattle.std.specs.Prelude.{◌≡◌};
 ghost use Rattle.recovery.specs.Open.{state_of};
 
@@ -38,16 +38,13 @@ fn two_seats<J: Site, R: Abort + AllocGlobal>(
     let state = store.state().copy(rt.alloc()).expect(rt, "memory");
     let (_log, told, order) = opened.named::<MemDisk, J>(store.state());
     let mut board = Board::new(rt.alloc(), &store, state, told, order, blank, 2);
-    let one = seat_of(rt, &mut board);
     let _ = seat_of(rt, &mut board);
-    none_is_left(rt, &mut board);
-    board.give_back(one);
     let _ = seat_of(rt, &mut board);
     none_is_left(rt, &mut board);
 }
 
 #[test]
-fn seats_are_given_again(rt: HostRuntime) {
+fn seats_are_given_until_none_is_left(rt: HostRuntime) {
     let store = new_store(rt.alloc(), SHAPE).expect(&rt, "a store");
     let opened = Opened::new().expect(&rt, "logs");
     two_seats::<Brand, _>(&rt, store, opened, Blank::new(3));

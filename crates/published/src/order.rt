@@ -50,6 +50,14 @@ impl<J: Site> Order<J> {
         self.owner.covers(&told.mark.order);
     }
 
+    /// The entries of a token begin the order. It takes no memory.
+    pub fn holds(&mut self, ordered: &Ordered<J>)
+        ensures begins { IsPrefix ordered.now self.old }
+        ensures same { self.new ≡ self.old }
+    {
+        self.owner.covers(&ordered.front);
+    }
+
     /// A token of the whole order. It takes no memory.
     pub fn ordered(&self) -> Ordered<J>
         ensures { result ≡ self.now }

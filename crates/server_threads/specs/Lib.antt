@@ -1,3 +1,5 @@
+pub mod Answers
 pub mod Served
 pub mod Streams
+pub mod Connections
 pub mod Written

@@ -1,4 +1,4 @@
-use Rattle.hub_tests.proofs.seats.seats_are_given_again.Given as goal
+use Rattle.hub_tests.proofs.seats.seats_are_given_until_none_is_left.Given as goal
 
 abbrev pub ghosts-two_seats-J-Site : goal.ghosts-two_seats-J-Site
 ghosts-two_seats-J-Site g a = record { book = a.opened; start = a.state }
