@@ -39,6 +39,12 @@ held_found : (start state : State) (told committed waiting : List (List Taken)) 
 held_found start state told committed waiting content kept found =
     within_write (length (commands_of told)) start state (told ++ (committed ++ waiting)) (told ++ committed) waiting content (sym (append_assoc told committed waiting)) (no_fewer told committed) kept found
 
+-- and these have all commands that are published and committed
+held_all : (start state : State) (told committed waiting : List (List Taken)) (content : List ℕ) → Kept start state told committed
+    → IsWithOrWithout state (commands_of waiting) content → IsBeginning (length (commands_of (told ++ committed))) start (told ++ (committed ++ waiting)) content
+held_all start state told committed waiting content kept found =
+    within_write (length (commands_of (told ++ committed))) start state (told ++ (committed ++ waiting)) (told ++ committed) waiting content (sym (append_assoc told committed waiting)) (omega arith) kept found
+
 -- a beginning of batches is no longer than they are, and makes no more commands
 prefix-length : (first all : List (List Taken)) → IsPrefix first all → (length first ≤ length all) × (length (commands_of first) ≤ length (commands_of all))
 prefix-length first all (more, whole) = (
@@ -92,6 +98,17 @@ module _ {D J : Type 0} {disk : Ghosts D} where
         goes = goes_on
             (goes_map (λ content found. longer (told_count old) start (given_to mid) (given_to new) more.0 content more.1 found) first.goes)
             (goes_map (λ content found. fewer (told_count mid) (told_count old) start (given_to new) content least found) second.goes);
+        held =
+            let was = second.held in
+            record {
+              between = was.between;
+              state = was.state;
+              works = λ worked. was.works (works worked);
+              before = goes_on
+                  (goes_map (λ content found. longer (told_count old) start (given_to mid) (given_to new) more.0 content more.1 found) first.goes)
+                  (goes_map (λ content found. fewer (told_count mid) (told_count old) start (given_to new) content least found) was.before);
+              behind = was.behind;
+            };
         lasts = λ worked is_open. second.lasts (works worked) (first.goes.opens (works worked) is_open);
         each = λ front further begins. by_moment front further (compare front (told_of mid) (told_of new) begins (second.told.0, sym second.told.1)) begins;
       }
@@ -125,11 +142,45 @@ module _ {D J : Type 0} {disk : Ghosts D} where
             behind = was.behind;
           }
 
+  -- what is published and committed was so at the beginning
+  was_before : (start : State) (old new : Flusher D J disk) → Kept start (state_of (store_of old)) (told_of old) (committed_of old)
+      → Goes (IsWithOrWithout (state_of (store_of old)) (commands_of (waiting_of old))) (store_of old) (store_of new)
+      → told_of new ++ committed_of new ≡ told_of old ++ committed_of old → given_to new ≡ given_to old
+      → WasAt start (told_count old) (told_of new ++ committed_of new) (given_to new) (store_of old) (store_of new)
+  was_before start old new kept goes holds same =
+      subst (λ (l : List (List Taken)). WasAt start (told_count old) l (given_to new) (store_of old) (store_of new)) (sym holds)
+      (subst (λ (b : List (List Taken)). WasAt start (told_count old) (told_of old ++ committed_of old) b (store_of old) (store_of new)) (sym same)
+      (record {
+        between = store_of old;
+        state = kept;
+        works = λ works. works;
+        before = goes_none (store_of old) (λ is_open. held_found start (state_of (store_of old)) (told_of old) (committed_of old) (waiting_of old) _ kept
+            (inl (found_as _ _ (found_open (store_of old) is_open))));
+        behind = goes_map (λ content found. held_all start (state_of (store_of old)) (told_of old) (committed_of old) (waiting_of old) content kept found) goes;
+      }))
+
+  -- it is so at the end
+  was_after : (start : State) (old new : Flusher D J disk) → Kept start (state_of (store_of old)) (told_of old) (committed_of old)
+      → Kept start (state_of (store_of new)) (told_of new) (committed_of new)
+      → Goes (IsWithOrWithout (state_of (store_of old)) (commands_of (waiting_of old))) (store_of old) (store_of new)
+      → (has_failed (store_of old) ≡ false → has_failed (store_of new) ≡ false) → given_to new ≡ given_to old
+      → WasAt start (told_count old) (told_of new ++ committed_of new) (given_to new) (store_of old) (store_of new)
+  was_after start old new kept after goes works same = record {
+    between = store_of new;
+    state = after;
+    works = works;
+    before = goes_map (λ content found. subst (λ (b : List (List Taken)). IsBeginning (told_count old) start b content) (sym same)
+        (held_found start (state_of (store_of old)) (told_of old) (committed_of old) (waiting_of old) content kept found)) goes;
+    behind = goes_none (store_of new) (λ is_open. held_all start (state_of (store_of new)) (told_of new) (committed_of new) (waiting_of new) _ after
+        (inl (found_as _ _ (found_open (store_of new) is_open))));
+  }
+
   -- what was given is the same, and no more is published
   pub writes_same : (start : State) (old new : Flusher D J disk) → Kept start (state_of (store_of old)) (told_of old) (committed_of old)
       → Goes (IsWithOrWithout (state_of (store_of old)) (commands_of (waiting_of old))) (store_of old) (store_of new)
-      → told_of new ≡ told_of old → given_to new ≡ given_to old → Writes start old new
-  writes_same start old new kept goes tells same =
+      → told_of new ≡ told_of old → given_to new ≡ given_to old
+      → WasAt start (told_count old) (told_of new ++ committed_of new) (given_to new) (store_of old) (store_of new) → Writes start old new
+  writes_same start old new kept goes tells same was =
       let mapped : Goes (IsBeginning (told_count old) start (given_to new)) (store_of old) (store_of new) =
       goes_map (λ content found. subst (λ (b : List (List Taken)). IsBeginning (told_count old) start b content) (sym same)
       (held_found start (state_of (store_of old)) (told_of old) (committed_of old) (waiting_of old) content kept found)) goes in
@@ -138,6 +189,7 @@ module _ {D J : Type 0} {disk : Ghosts D} where
         told = ([], tells ∙ sym (append-nil (told_of old)));
         more = ([], same ∙ sym (append-nil (given_to old)));
         goes = mapped;
+        held = was;
         lasts = λ works is_open content left.
             fewer (told_count old) (told_count new) start (given_to new) content (omega (arith, count)) ((mapped.any_moment works is_open).last content left);
         each = λ first further begins. absurd (none_longer (told_of old) (told_of new) first tells further begins);
@@ -151,7 +203,10 @@ module _ {D J : Type 0} {disk : Ghosts D} where
       let same : given_to new ≡ given_to old =
       ap (λ (t : List (List Taken)). t ++ (committed_of new ++ waiting_of new)) tells ∙ ap (λ (l : List (List Taken)). told_of old ++ (l ++ waiting_of new)) commits
       ∙ ap (λ (l : List (List Taken)). told_of old ++ (committed_of old ++ l)) waits in
-      writes_same start old new kept (goes_map (λ content found. inl found) goes) tells same
+      let written : Goes (IsWithOrWithout (state_of (store_of old)) (commands_of (waiting_of old))) (store_of old) (store_of new) = goes_map (λ content found. inl found) goes in
+      let holds : told_of new ++ committed_of new ≡ told_of old ++ committed_of old =
+      ap (λ (t : List (List Taken)). t ++ committed_of new) tells ∙ ap (λ (l : List (List Taken)). told_of old ++ l) commits in
+      writes_same start old new kept written tells same (was_before start old new kept written holds same)
 
   -- what was held is written and published, as one batch
   pub writes_published : (start : State) (old new : Flusher D J disk) (batch : List Taken) → committed_of old ++ waiting_of old ≡ batch ∷ [] → Kept start (state_of (store_of old)) (told_of old) (committed_of old)
@@ -169,6 +224,9 @@ module _ {D J : Type 0} {disk : Ghosts D} where
         told = (committed_of old ++ waiting_of old, tells);
         more = ([], same ∙ sym (append-nil (given_to old)));
         goes = mapped;
+        held =
+            subst (λ (l : List (List Taken)). WasAt start (told_count old) l (given_to new) (store_of old) (store_of new))
+            (sym (ap (λ (l : List (List Taken)). told_of new ++ l) none ∙ append-nil (told_of new))) (now_published (told_of new) mapped refl);
         each = λ first further begins. now_published first mapped
             (prefix_whole first (told_of new) begins
             (omega (arith, further.1, ap (λ (l : List (List Taken)). length l) tells, length-append (told_of old) (committed_of old ++ waiting_of old), ap (λ (l : List (List Taken)). length l) one)));
@@ -211,6 +269,19 @@ module _ {D J : Type 0} {disk : Ghosts D} where
         told = ([], tells ∙ sym (append-nil (told_of old)));
         more = (batch ∷ [], more);
         goes = still;
+        held =
+            let holds : told_of new ++ committed_of new ≡ told_of old ++ committed_of old =
+            ap (λ (t : List (List Taken)). t ++ committed_of new) tells ∙ ap (λ (l : List (List Taken)). told_of old ++ l) commits in
+            subst (λ (l : List (List Taken)). WasAt start (told_count old) l (given_to new) (store_of old) (store_of new)) (sym holds)
+            (record {
+              between = store_of old;
+              state = kept;
+              works = λ works. works;
+              before = goes_none (store_of old) (λ is_open. found _ (found_as _ _ (found_open (store_of old) is_open)));
+              behind = subst (λ (s : Store D disk). Goes (IsBeginning (length (commands_of (told_of old ++ committed_of old))) start (given_to new)) (store_of old) s) (sym store)
+                  (goes_none (store_of old) (λ is_open. longer (length (commands_of (told_of old ++ committed_of old))) start (given_to old) (given_to new) (batch ∷ []) _ more
+                  (held_all start (state_of (store_of old)) (told_of old) (committed_of old) (waiting_of old) _ kept (inl (found_as _ _ (found_open (store_of old) is_open))))));
+            });
         lasts = λ works is_open content left.
             fewer (told_count old) (told_count new) start (given_to new) content (omega (arith, count)) ((still.any_moment works is_open).last content left);
         each = λ first further begins. absurd (none_longer (told_of old) (told_of new) first tells further begins);
@@ -308,10 +379,32 @@ module _ {D J : Type 0} {disk : Ghosts D} where
   -- a write that was refused
   pub writes_refused : (start : State) (old new : Flusher D J disk) → Kept start (state_of (store_of old)) (told_of old) (committed_of old)
       → Goes (IsWithOrWithout (state_of (store_of old)) (commands_of (waiting_of old))) (store_of old) (store_of new)
-      → told_of new ≡ told_of old → committed_of new ++ waiting_of new ≡ committed_of old ++ waiting_of old → Writes start old new
-  writes_refused start old new kept goes tells held =
-      writes_same start old new kept goes tells
-      (ap (λ (t : List (List Taken)). t ++ (committed_of new ++ waiting_of new)) tells ∙ ap (λ (l : List (List Taken)). told_of old ++ l) held)
+      → told_of new ≡ told_of old → committed_of new ++ waiting_of new ≡ committed_of old ++ waiting_of old
+      → Kept start (state_of (store_of new)) (told_of new) (committed_of new)
+      → (has_failed (store_of old) ≡ false → has_failed (store_of new) ≡ false) ⊎ IsUncommitted old new → Writes start old new
+  writes_refused start old new kept goes tells held after why =
+      writes_same start old new kept goes tells same (by_reason why)
+    where
+      same : given_to new ≡ given_to old
+      same = ap (λ (t : List (List Taken)). t ++ (committed_of new ++ waiting_of new)) tells ∙ ap (λ (l : List (List Taken)). told_of old ++ l) held
+
+      by_reason : (has_failed (store_of old) ≡ false → has_failed (store_of new) ≡ false) ⊎ IsUncommitted old new
+          → WasAt start (told_count old) (told_of new ++ committed_of new) (given_to new) (store_of old) (store_of new)
+      by_reason (inl works) = was_after start old new kept after goes works same
+      by_reason (inr uncommitted) =
+          was_before start old new kept goes
+          (ap (λ (t : List (List Taken)). t ++ committed_of new) tells ∙ ap (λ (l : List (List Taken)). told_of old ++ l) uncommitted.committed) same
+
+  -- a write that was refused left the store working, or its batch isn't committed
+  pub why_refused : {A : Type 0} (old new : Flusher D J disk) (refusal : Refusal) → (refusal ≢ NoMemory → IsUncommitted old new)
+      → (has_failed (store_of old) ≡ false → (has_failed (store_of new) ≡ true ↔ IsErrOf {T = A} (Err refusal) Fault))
+      → ((refusal ≡ JournalFull) ⊎ (refusal ≡ StillNeeded)) ⊎ ((refusal ≡ NoMemory) ⊎ (refusal ≡ Fault))
+      → (has_failed (store_of old) ≡ false → has_failed (store_of new) ≡ false) ⊎ IsUncommitted old new
+  why_refused old new refusal uncommitted fails (inl (inl full)) = inr (uncommitted (λ memory. absurd (cc (full, memory))))
+  why_refused old new refusal uncommitted fails (inl (inr needed)) = inr (uncommitted (λ memory. absurd (cc (needed, memory))))
+  why_refused old new refusal uncommitted fails (inr (inl memory)) =
+      inl (works_refused refusal (has_failed (store_of old)) (has_failed (store_of new)) fails (memory_not_fault refusal memory))
+  why_refused old new refusal uncommitted fails (inr (inr fault)) = inr (uncommitted (λ memory. absurd (cc (fault, memory))))
 
   -- a write that published what was held, as one batch
   pub writes_written : (start : State) (old new : Flusher D J disk) (receipt : List Taken) (token : List (List Taken)) → Kept start (state_of (store_of old)) (told_of old) (committed_of old)

@@ -51,13 +51,15 @@ module _ {D J : Type 0} {disk : Ghosts D} where
 
   -- Nothing that was published is taken back, and no batch that was given is dropped. A crash at any moment between leaves some first
   -- batches of those that were given by the end, and no fewer commands than were published at the beginning; a crash at any moment from
-  -- a batch's publishing on no fewer than were published with it; and a crash at the end no fewer than are published then.
+  -- a batch's publishing on no fewer than were published with it; and a crash at the end no fewer than are published then. And there was a
+  -- moment from which on it leaves no fewer than are published and committed at the end.
   pub record Writes (start : State) (old new : Flusher D J disk) : Type 0 where
     pub told : (l : List (List Taken)) × (told_of new ≡ told_of old ++ l)
     pub more : (l : List (List Taken)) × (given_to new ≡ given_to old ++ l)
     pub goes : Goes (IsBeginning (told_count old) start (given_to new)) (store_of old) (store_of new)
     pub each : (first : List (List Taken)) → IsShorter (told_of old) first → IsPrefix first (told_of new)
         → WasAt start (told_count old) first (given_to new) (store_of old) (store_of new)
+    pub held : WasAt start (told_count old) (told_of new ++ committed_of new) (given_to new) (store_of old) (store_of new)
     pub lasts : has_failed (store_of old) ≡ false → IsOpen (store_of old)
         → (content : List ℕ) → MayLeaveNow disk (device_of (store_of new)) content → IsBeginning (told_count new) start (given_to new) content
 

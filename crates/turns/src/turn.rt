@@ -180,7 +180,10 @@ fn write_held<D: Disk, J: Site, R: Wait, G: Gate>(
     flusher.kept();
     let written = match flusher.write(rt, alloc, gate) {
         Ok(written) => written,
-        Err(refusal) => return Err(refusal),
+        Err(refusal) => {
+            flusher.kept();
+            return Err(refusal);
+        }
     };
     match written {
         None => unreachable!(),
