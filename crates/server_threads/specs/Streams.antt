@@ -1,5 +1,6 @@
 -- What serving one session over a pair of streams leaves of the streams.
 use Rattle.std.specs.Prelude.{◌≡◌, ◌⊎◌, ℕ, Bool, true, false, List, [], ◌∷◌, Option, Result, Ok, Err}
+use Rattle.refusal.specs.declared.Refusal.{Refusal}
 use Rattle.refusal.specs.declared.Refusal.TheVariants.{NoMemory, StoreFailed}
 use Rattle.revision.specs.State.{State}
 use Rattle.hub_desk.specs.AtHub.{Desk, PassesAtHub}
@@ -31,3 +32,9 @@ pub record ByOne (P : Desk → Type 0) (desks : List Desk) : Type 0 where
   pub last : Desk
   pub one : desks ≡ last ∷ []
   pub session : P last
+
+-- how serving over streams ends: as the session did, and where that ended well, well where the writing did
+abbrev pub first_of : Result (Unit {0}) Failure → Result (Unit {0}) Refusal → Result (Unit {0}) Failure
+first_of (Ok answer) (Ok written) = Ok tt
+first_of (Ok answer) (Err refusal) = Err (Refused StoreFailed)
+first_of (Err failure) written = Err failure

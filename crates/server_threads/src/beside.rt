@@ -16,58 +16,15 @@ use std::sync::Wait;
 use std::sync::atomic::{AtomicBool, Ordering};
 use std::thread::{self, Threads};
 
-/// What came of both: the flusher, how its writing ended, and what this thread answered.
+/// What came of both: the flusher, how its writing ended, and what the task gave.
 pub(crate) struct Both<D: Disk, J: Site, A> {
     pub(crate) flusher: Flusher<D, J>,
     pub(crate) written: Result<(), Refusal>,
-    pub(crate) talked: A,
+    pub(crate) came: A,
 }
 
-/// Calls `talk` in this thread, while another one writes until the hub is ended. Where the system gives no thread nothing is called, and
-/// the flusher is given back as it was.
-pub(crate) fn write_beside<
-    J: Site + Sync + Send,
-    R: Threads + Wait + Sync,
-    D: Disk + Send + Drop,
-    F: FnMut() -> A,
-    A,
->(
-    shared: &Shared<'_, D, J, R>,
-    flusher: Flusher<D, J>,
-    writer: Writer<J>,
-    talk: &mut F,
-) -> Result<Both<D, J, A>, Flusher<D, J>>
-    requires started { IsStarted flusher }
-    requires talks { F.pre talk.old }
-    ensures written { IfOk result (λ both. HasWritten J.start flusher both.flusher both.written) }
-    ensures talked { IfOk result (λ both. F.step talk.old both.talked talk.new) }
-    ensures refused { IfErr result (λ back. back ≡ flusher) }
-    ensures silent { IfErr result (λ back. talk.new ≡ talk.old) }
-{
-    match run_beside(shared, flusher, writer, Lent { talk }) {
-        Ok(
-            Both {
-                flusher,
-                written,
-                talked: (talk, talked),
-            },
-        ) => {
-            take_back(talk);
-            Ok(Both {
-                flusher,
-                written,
-                talked,
-            })
-        }
-        Err((flusher, Lent { talk })) => {
-            take_back(talk);
-            Err(flusher)
-        }
-    }
-}
-
-// Work for this thread. The closure of a scope says nothing of a `&mut` that it holds, so it holds a value of a type parameter.
-trait Task {
+/// Work for this thread. The closure of a scope says nothing of a `&mut` that it holds, so it holds a value of a type parameter.
+pub(crate) trait Task {
     type Output;
 
     ghost can_run: { Self → Type 0 };
@@ -79,27 +36,9 @@ trait Task {
         ensures { run_gives self result };
 }
 
-#[derive(Drop)]
-struct Lent<'a, F> {
-    talk: &'a mut F,
-}
-
-impl<'a, F: FnMut() -> A, A> Task for Lent<'a, F> {
-    type Output = (&'a mut F, A);
-
-    ghost can_run = { λ t. F.pre t.talk.now };
-
-    ghost run_gives = { λ t r. (r.0.ghost_name ≡ t.talk.ghost_name) × F.step t.talk.now r.1 r.0.now };
-
-    fn run(self) -> (&'a mut F, A) {
-        let Lent { talk } = self;
-        let answer = talk();
-        (talk, answer)
-    }
-}
-
-// Runs a task in this thread, while another one writes.
-fn run_beside<
+/// Runs a task in this thread, while another one writes until the hub is ended. Where the system gives no thread nothing is run, and the
+/// flusher and the task are given back unchanged.
+pub(crate) fn run_beside<
     J: Site + Sync + Send,
     R: Threads + Wait + Sync,
     D: Disk + Send + Drop,
@@ -113,7 +52,7 @@ fn run_beside<
     requires started { IsStarted flusher }
     requires runs { T.can_run task }
     ensures written { IfOk result (λ both. HasWritten J.start flusher both.flusher both.written) }
-    ensures ran { IfOk result (λ both. T.run_gives task both.talked) }
+    ensures ran { IfOk result (λ both. T.run_gives task both.came) }
     ensures refused { IfErr result (λ back. back.0 ≡ flusher) }
     ensures unrun { IfErr result (λ back. back.1 ≡ task) }
 {
@@ -133,18 +72,18 @@ fn run_beside<
             requires { T.can_run task × IsStarted writing.flusher × (written_by.0.value ≡ writing.flusher)
                 × IsSend D.row × IsSend J.row × IsSync J.row × IsSync R.row }
             ensures written { IfOk result (λ both. HasWritten J.start writing.entry.flusher both.flusher both.written) }
-            ensures ran { IfOk result (λ both. T.run_gives task both.talked) }
+            ensures ran { IfOk result (λ both. T.run_gives task both.came) }
             ensures refused { IfErr result (λ back. back.0 ≡ writing.entry.flusher) }
             ensures unrun { IfErr result (λ back. back.1 ≡ task) }
         {
             match scope.spawn_with(written_by, move || writing.run()) {
                 Ok(thread) => {
-                    let talked = task.run();
+                    let came = task.run();
                     let (flusher, written) = thread.join(shared.rt).into_parts();
                     Ok(Both {
                         flusher,
                         written,
-                        talked,
+                        came,
                     })
                 }
                 Err(refused) => {
@@ -156,19 +95,14 @@ fn run_beside<
                         return Err((flusher, task));
                     }
                     // It isn't so, but no clause says what an atomic holds.
-                    let talked = task.run();
+                    let came = task.run();
                     Ok(Both {
                         flusher,
                         written,
-                        talked,
+                        came,
                     })
                 }
             }
         },
     )
 }
-
-// Does nothing, but this use of a returned reference is what ties it, for the borrow checker, to the parameter that lent it.
-fn take_back<T>(x: &mut T)
-    ensures { x.new ≡ x.old }
-{}

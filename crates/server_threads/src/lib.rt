@@ -65,6 +65,10 @@
 
 mod beside;
 mod connections;
+mod desks;
+mod holding;
+mod life;
+mod sessions;
 mod streams;
 mod writing;
 mod written;
