@@ -1,4 +1,7 @@
 pub mod Crossing
 pub mod FlusherCrossing
-mod Served
+mod Places
 mod Answered
+mod Served
+mod Streams
+mod Connections

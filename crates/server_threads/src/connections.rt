@@ -78,14 +78,7 @@ fn serve_run<
 {
     let sessions = OverConnections { listener };
     match live::<J, R, OverConnections<'_, N>, D>(
-        rt,
-        alloc,
-        store,
-        opened,
-        blank,
-        SEATS,
-        every,
-        sessions,
+        rt, alloc, store, opened, blank, SEATS, every, sessions,
     ) {
         (store, _sessions, Ok(Ended { answer, written })) => {
             (store, first_failure(written, answer))

@@ -129,24 +129,22 @@ fn live_by<
             let written = all_written(written, count, published);
             (flusher.end(rt), sessions, Ok(Ended { answer, written }))
         }
-        Err((
-            flusher,
-            Holding {
-                shared: _,
-                closer: _closer,
-                sessions,
-                desks: _desks,
-            },
-        )) => (flusher.end(rt), sessions, Err(Refusal::NoMemory)),
+        Err(
+            (
+                flusher,
+                Holding {
+                    shared: _,
+                    closer: _closer,
+                    sessions,
+                    desks: _desks,
+                },
+            ),
+        ) => (flusher.end(rt), sessions, Err(Refusal::NoMemory)),
     }
 }
 
 // How the writing ended, of as many commands as are published: well only where the order has no more.
-fn all_written(
-    written: Result<(), Refusal>,
-    ordered: usize,
-    published: u64,
-) -> Result<(), Refusal>
+fn all_written(written: Result<(), Refusal>, ordered: usize, published: u64) -> Result<(), Refusal>
     ensures all { OnOk result ((written ≡ Ok tt) × (ordered ≡ published)) }
     ensures fault { IsErrOf result Refusal.Fault ↔ IsErrOf written Refusal.Fault }
 {

@@ -97,8 +97,9 @@ fn serve_run<
         input,
         output,
     };
-    let (store, sessions, ended) =
-        live::<J, R, OverStreams<'_, I, O>, D>(rt, alloc, store, opened, blank, 1, every, sessions);
+    let (store, sessions, ended) = live::<J, R, OverStreams<'_, I, O>, D>(
+        rt, alloc, store, opened, blank, 1, every, sessions,
+    );
     let OverStreams {
         session: _session,
         shelf: _shelf,
