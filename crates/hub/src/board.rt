@@ -47,8 +47,8 @@ impl<D, J: Site> Model for Board<D, J> {
     ghost view = { λ b. record { board = b.board; failed = b.failed; told = b.told; left = b.left } };
 
     ghost invariant = { λ b. spec.IsHistory b.board × spec.IsWithin b.board b.told × (b.board.start ≡ J.start)
-        × (b.seats.total ≡ length b.board.order) × (b.spare.parts ≡ b.left + 1) × (b.spare.amount ≡ 0)
-        × (b.order ≡ b.board.order) };
+        × (b.seats.total ≡ length b.board.order) × (b.spare.parts ≡ b.left + 1) × (b.order ≡ b.board.order)
+        × (b.spare.amount ≡ 0) };
 }
 
 impl<D, J: Site> Board<D, J> {

@@ -21,11 +21,11 @@
 //! Callers, which `server_threads_tests` proves:
 //!
 //! ```text
-//! ghost use Rattle.std.specs.Prelude.{true, IfOk};
+//! ghost use Rattle.std.specs.Prelude.{true, Ok, IfOk};
 //! ghost use Rattle.recovery.specs.Open.{state_of};
 //! ghost use Rattle.server_threads.specs.Connections.{EachHasServed};
 //! ghost use Rattle.server_threads.specs.Served.{WasServed};
-//! ghost use Rattle.server_threads.specs.Streams.{ByOne, IsAnsweredAtHub};
+//! ghost use Rattle.server_threads.specs.Streams.{ByOne, EndsAtHub};
 //!
 //! use disk::Disk;
 //! use recovery::Store;
@@ -61,9 +61,9 @@
 //!     input: &mut I,
 //!     output: &mut O,
 //! ) -> Result<Store<D>, Failure>
-//!     ensures { IfOk result (λ after. WasServed (ByOne (IsAnsweredAtHub (state_of store)
-//!         (I.remaining input.old) (I.remaining input.new) (O.contents output.old) (O.contents output.new)))
-//!         true store after) }
+//!     ensures { IfOk result (λ after. WasServed (ByOne (EndsAtHub (Ok tt) (state_of store)
+//!         (I.remaining input.old) (I.remaining input.new) (O.contents output.old) (O.contents output.new)
+//!         (O.has_failed output.new))) true store after) }
 //! {
 //!     let (after, served) = serve_streams(rt, alloc, store, input, output, 256);
 //!     served?;

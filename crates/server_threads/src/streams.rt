@@ -49,11 +49,19 @@ pub fn serve_streams<R: Threads + Wait + Sync, I: Read, O: Output, D: Disk + Sen
     // A store that fails is told of.
     ensures works { OnOk result.1 (has_failed store ≡ false → has_failed result.0 ≡ false) }
 {
+    let Ok(session) = Session::new(alloc) else {
+        return (store, Err(Failure::Refused(Refusal::NoMemory)));
+    };
+    let Ok(shelf) = Shelf::new(alloc) else {
+        return (store, Err(Failure::Refused(Refusal::NoMemory)));
+    };
     let Some(opened) = Opened::new() else {
         return (store, Err(Failure::Refused(Refusal::NoMemory)));
     };
     let blank = Blank::new(PARTS);
-    serve_run::<Brand, R, I, O, D>(rt, alloc, store, opened, blank, input, output, every)
+    serve_run::<Brand, R, I, O, D>(
+        rt, alloc, store, opened, blank, session, shelf, input, output, every,
+    )
 }
 
 // Serves the run that its ledger, its logs and its store's state name.
@@ -69,10 +77,14 @@ fn serve_run<
     store: Store<D>,
     opened: Opened,
     blank: Blank,
+    session: Session,
+    shelf: Shelf,
     input: &mut I,
     output: &mut O,
     every: u32,
 ) -> (Store<D>, Result<(), Failure>)
+    requires session { session ≡ beginning }
+    requires shelf { shelf ≡ [] }
     requires book { opened ≡ J.book }
     requires name { blank.name ≡ J.name }
     requires parts { blank.parts ≡ J.parts }
@@ -85,12 +97,6 @@ fn serve_run<
         × (input.new ≡ input.old) × (output.new ≡ output.old) }
     ensures works { OnOk result.1 (has_failed store ≡ false → has_failed result.0 ≡ false) }
 {
-    let Ok(session) = Session::new(alloc) else {
-        return (store, Err(Failure::Refused(Refusal::NoMemory)));
-    };
-    let Ok(shelf) = Shelf::new(alloc) else {
-        return (store, Err(Failure::Refused(Refusal::NoMemory)));
-    };
     let sessions = OverStreams {
         session,
         shelf,

@@ -5,9 +5,9 @@ mod places;
 mod streams;
 
 use disk::{Disk, MemDisk};
-use server_threads::serve_on;
 use recovery::{Pick, Shape, Store, format_device};
 use refusal::Refusal;
+use server_threads::serve_on;
 use std::io::{self, ErrorKind, Read, Write};
 use std::net::{Net, OpenListener, SocketAddr, TcpListener, TcpStream};
 use std::process::Abort;

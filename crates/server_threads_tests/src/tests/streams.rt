@@ -1,8 +1,8 @@
 use super::{EVERY, formatted, opened};
 use disk::{Disk, FaultDisk, FaultPlan, Left};
-use server_threads::serve_streams;
 use recovery::Store;
 use refusal::Refusal;
+use server_threads::serve_streams;
 use serving::Failure;
 use session::Stream;
 use std::io::{self, ErrorKind, Write};
