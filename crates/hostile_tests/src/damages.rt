@@ -12,9 +12,7 @@ use std::sync::Wait;
 const DRAWN: u32 = 1_000;
 
 /// Places at which much is read: the superblock, the cells of document 0, the slots and their records.
-const PLACES: [usize; 12] = [
-    0, 1, 9, 64, 69, 320, 325, 1_088, 1_097, 1_147, 1_344, 1_353,
-];
+const PLACES: [usize; 12] = [0, 1, 9, 64, 69, 320, 325, 1_088, 1_097, 1_147, 1_344, 1_353];
 
 /// The gates of both cells and of both slots.
 const GATES: [usize; 4] = [64, 320, 1_088, 1_344];
@@ -41,7 +39,13 @@ fn whole(rt: &(impl Wait + Abort + AllocGlobal)) -> Vec<u8> {
     let bytes = formatted(rt, 0xa5);
     let calls = device_after(rt, &MILESTONES, &bytes).disk().calls().len() as u64;
     let plan = FaultPlan::stop(calls.saturating_sub(2), Left::Nothing);
-    let ended = run(rt, &MILESTONES, device_of(rt, &bytes, plan), Pick::Newer, FIRST);
+    let ended = run(
+        rt,
+        &MILESTONES,
+        device_of(rt, &bytes, plan),
+        Pick::Newer,
+        FIRST,
+    );
     let after = ended.disk.after_crash(rt.alloc()).expect(rt, "memory");
     for place in GATES {
         assert!(rt; after.bytes().get(place).copied() == Some(0xa5));
@@ -115,5 +119,8 @@ fn drawn_damages_are_refused_or_opened(rt: HostRuntime) {
             }
         }
     }
-    assert!(rt; states > 100 && damaged > 100 && closed > 10, "{states} {damaged} {closed}");
+    assert!(rt;
+        states > 100 && damaged > 100 && closed > 10,
+        "{states} {damaged} {closed}"
+    );
 }

@@ -88,11 +88,23 @@ fn is_row(
 ) {
     let call = calls.saturating_sub(4).saturating_add(row.0);
     let plan = FaultPlan::fail(call, row.1);
-    let ended = run(rt, &THIRD_BATCH, device_of(rt, bytes, plan), Pick::Newer, FIRST);
-    assert!(rt; ended.stopped == Some("Fault") && ended.done == 2, "call {call}");
+    let ended = run(
+        rt,
+        &THIRD_BATCH,
+        device_of(rt, bytes, plan),
+        Pick::Newer,
+        FIRST,
+    );
+    assert!(rt;
+        ended.stopped == Some("Fault") && ended.done == 2,
+        "call {call}"
+    );
     for pick in PICKS {
         let text = found(rt, ended.disk.disk().bytes(), pick);
-        assert!(rt; is_after(&THIRD_BATCH, row.2, text.as_str()), "call {call}: {text}");
+        assert!(rt;
+            is_after(&THIRD_BATCH, row.2, text.as_str()),
+            "call {call}: {text}"
+        );
     }
     is_replied(rt, ended.disk, row.3);
 }

@@ -13,10 +13,7 @@ const SCRIPTS: [Script; 4] = [THIRD_BATCH, MILESTONES, RICH_TEXT, FULL_JOURNAL];
 
 // A script comes to its end. Where memory is wanted for the start of a hub, or for the record that the device keeps of its calls, it goes on from
 // the last command that was sent.
-fn ends(
-    rt: &(impl Wait + Abort + AllocGlobal),
-    script: &Script,
-) -> Result<(), &'static str> {
+fn ends(rt: &(impl Wait + Abort + AllocGlobal), script: &Script) -> Result<(), &'static str> {
     let bytes = formatted(rt, FILL);
     let ended = run(rt, script, device_of(rt, &bytes, NEVER), Pick::Newer, FIRST);
     match ended.stopped {

@@ -1,7 +1,7 @@
 //! Scripts as data. The source "a" writes the document "d", and its command of number n makes revision n, from the one before.
-use refusal::Refusal;
 use optext::{read_json, read_ops};
 use recovery::Shape;
+use refusal::Refusal;
 use revision::{Command, Name};
 use std::alloc::Global;
 
@@ -43,10 +43,12 @@ pub struct Script {
 }
 
 /// Fifteen names of ten bytes are removed from a letter that has none: an entry of 236 bytes, which fills a slot.
-const WIDE: &str = r#"[{"retain":1,"attributes":{"aaaaaaaaaa":null,"bbbbbbbbbb":null,"cccccccccc":null,"dddddddddd":null,"eeeeeeeeee":null,"ffffffffff":null,"gggggggggg":null,"hhhhhhhhhh":null,"iiiiiiiiii":null,"jjjjjjjjjj":null,"kkkkkkkkkk":null,"llllllllll":null,"mmmmmmmmmm":null,"nnnnnnnnnn":null,"oooooooooo":null}}]"#;
+const WIDE: &str =
+    r#"[{"retain":1,"attributes":{"aaaaaaaaaa":null,"bbbbbbbbbb":null,"cccccccccc":null,"dddddddddd":null,"eeeeeeeeee":null,"ffffffffff":null,"gggggggggg":null,"hhhhhhhhhh":null,"iiiiiiiiii":null,"jjjjjjjjjj":null,"kkkkkkkkkk":null,"llllllllll":null,"mmmmmmmmmm":null,"nnnnnnnnnn":null,"oooooooooo":null}}]"#;
 
 /// The same with five names: a batch of 110 bytes, which doesn't fit behind the first three.
-const FIVE_NAMES: &str = r#"[{"retain":1,"attributes":{"aaaaaaaaaa":null,"bbbbbbbbbb":null,"cccccccccc":null,"dddddddddd":null,"eeeeeeeeee":null}}]"#;
+const FIVE_NAMES: &str =
+    r#"[{"retain":1,"attributes":{"aaaaaaaaaa":null,"bbbbbbbbbb":null,"cccccccccc":null,"dddddddddd":null,"eeeeeeeeee":null}}]"#;
 
 /// Two batches, and a third one that deletes. The first opens slot 0, which takes four calls, and each of the three four more.
 pub const THIRD_BATCH: Script = Script {

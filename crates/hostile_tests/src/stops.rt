@@ -39,7 +39,12 @@ pub fn device_after(
     let disk = ended.disk;
     let calls = calls_of_opening(rt, bytes).saturating_add(script.calls);
     assert_eq!(rt; disk.disk().calls().len() as u64, calls, "{}", script.name);
-    assert_eq!(rt; is_whole(rt, script, disk.disk().bytes()), Ok(()), "{}", script.name);
+    assert_eq!(rt;
+        is_whole(rt, script, disk.disk().bytes()),
+        Ok(()),
+        "{}",
+        script.name
+    );
     disk
 }
 

@@ -101,7 +101,15 @@ fn send_steps<J: Site, R: Wait + AllocGlobal>(
         if at >= begin.from {
             let is_again = begin.is_again;
             let stopped = asked(
-                rt, flusher, hub, writer, seat, &mut upkeep, number, step, is_again,
+                rt,
+                flusher,
+                hub,
+                writer,
+                seat,
+                &mut upkeep,
+                number,
+                step,
+                is_again,
             );
             if stopped.is_some() {
                 return (at, stopped);
