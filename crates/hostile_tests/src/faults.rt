@@ -1,5 +1,5 @@
 //! Each call of the device fails once in each script.
-use crate::going_on::{Differs, PICKS, found, go_on, goes_on, is_after};
+use crate::going_on::{Differs, PICKS, each_goes_on, found, goes_on, is_after};
 use crate::runs::{FIRST, device_of, formatted, opened, run};
 use crate::scripts::{FULL_JOURNAL, MILESTONES, RICH_TEXT, Script, THIRD_BATCH};
 use crate::stops::{FILL, LEFT, device_after};
@@ -22,7 +22,7 @@ fn is_faulty(
     if ended.stopped != Some("Fault") {
         return Err((Pick::Newer, "another refusal"));
     }
-    go_on(rt, script, ended.disk.disk().bytes(), ended.done)?;
+    each_goes_on(rt, script, ended.disk.disk().bytes(), ended.done)?;
     match goes_on(rt, script, ended.disk, ended.done, Pick::Newer) {
         Ok(()) => Ok(()),
         Err(what) => Err((Pick::Newer, what)),

@@ -137,7 +137,7 @@ pub fn goes_on(
 }
 
 /// The same by each pick, of devices of these bytes.
-pub fn go_on(
+pub fn each_goes_on(
     rt: &(impl Wait + Abort + AllocGlobal),
     script: &Script,
     bytes: &[u8],

@@ -1,8 +1,9 @@
 //! Scripts of what is asked of a store, run over a device in memory that stops or fails at each of its calls, and devices that were damaged.
 //!
 //! `scripts` has the scripts as data: what is asked, the documents after each command, and how many calls of the device that takes. A run
-//! (`runs`) asks a store alone (`stores`), or a hub whose turns write (`turns_of_hub`). `stops` and `faults` go through each call, what is left of
-//! the range that was open then, and both picks; `damages` draws changes of a device. Tests alone stand here, and call public functions.
+//! (`runs`) asks a store alone (`stores`), or a hub whose turns write (`turning`). `stops` and `faults` go through the calls and what is left of
+//! what was being written; `going_on` says what a device then has to hold by each pick, and sends the last command again. `memory` runs each
+//! script where a request for memory may be refused. `damages` draws changes of a device. Tests alone stand here, and call public functions.
 #![tactic(auto)]
 
 #[cfg(test)]

@@ -27,6 +27,13 @@ pub struct Begin {
     pub is_again: bool,
 }
 
+impl Begin {
+    /// Whether a step may have been done before: the command that is sent again, and what isn't a command.
+    pub fn may_be_done(&self, at: usize, step: &Step) -> bool {
+        self.is_again && (at == self.from || commands_in(step) == 0)
+    }
+}
+
 pub const FIRST: Begin = Begin {
     from: 0,
     is_again: false,
@@ -137,7 +144,8 @@ fn take_steps(
     for (at, step) in script.steps.iter().enumerate() {
         number = number.saturating_add(commands_in(step));
         if at >= begin.from {
-            let stopped = asked(alloc, store, number, step, begin.is_again);
+            let is_again = begin.may_be_done(at, step);
+            let stopped = asked(alloc, store, number, step, is_again);
             if stopped.is_some() {
                 return (at, stopped);
             }

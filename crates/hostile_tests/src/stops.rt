@@ -1,5 +1,5 @@
 //! Each script is stopped at each call of its device.
-use crate::going_on::{Differs, go_on, is_whole};
+use crate::going_on::{Differs, each_goes_on, is_whole};
 use crate::runs::{FIRST, NEVER, device_of, formatted, opened, run};
 use crate::scripts::{FULL_JOURNAL, MILESTONES, RICH_TEXT, Script, THIRD_BATCH};
 use disk::{Call, FaultDisk, FaultPlan, Left, MemDisk};
@@ -77,7 +77,7 @@ fn is_stopped(
         return Err((Pick::Newer, "two open ranges"));
     }
     let after = ended.disk.after_crash(rt.alloc()).expect(rt, "memory");
-    go_on(rt, script, after.bytes(), ended.done)
+    each_goes_on(rt, script, after.bytes(), ended.done)
 }
 
 // A script is stopped at each call of its steps and behind the last one, in each way.

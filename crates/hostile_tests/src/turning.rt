@@ -99,7 +99,7 @@ fn send_steps<J: Site, R: Wait + AllocGlobal>(
     for (at, step) in script.steps.iter().enumerate() {
         number = number.saturating_add(commands_in(step));
         if at >= begin.from {
-            let is_again = begin.is_again;
+            let is_again = begin.may_be_done(at, step);
             let stopped = asked(
                 rt,
                 flusher,
