@@ -71,14 +71,13 @@ fn asked<J: Site, R: Wait + AllocGlobal>(
     is_again: bool,
 ) -> Option<&'static str> {
     let found = send(rt, flusher, hub, writer, seat, upkeep, number, step);
-    let wanted = match found {
-        Err(Refusal::NoMemory) => Refusal::NoMemory,
-        Err(Refusal::Fault) => Refusal::StoreFailed,
-        _ => return stop_of(found, number, is_again),
-    };
+    if !matches!(found, Err(Refusal::NoMemory | Refusal::Fault)) {
+        return stop_of(found, number, is_again);
+    }
     let second = send(rt, flusher, hub, writer, seat, upkeep, number, step);
-    match second {
-        Err(refusal) if refusal == wanted => Some("Fault"),
+    match (found, second) {
+        (Err(Refusal::Fault), Err(Refusal::StoreFailed)) => Some("Fault"),
+        (Err(Refusal::Fault), _) => Some("another answer after a fault"),
         _ => stop_of(second, number, true),
     }
 }
