@@ -157,6 +157,24 @@ def vanished():
             stream.reset()
 
 
+def closed_in_mid_reply():
+    """64 peers at a time that ask for more than the system holds, read the first of it, and close or vanish: their places come free."""
+    text = "x" * 15_000
+    with server.connect("long", timeout=PATIENCE) as writer:
+        assert writer.create("long", [{"insert": text}]) == richd.Taken(1)
+    head = b'{"doc":"long","ok":"doc","ops":[{"insert":"xxx'
+    for end in (TcpLink.close, TcpLink.reset):
+        streams = [session_soon() for _ in range(PLACES)]
+        for stream in streams:
+            stream.send(b'{"do":"fetch","doc":"long"}\n' * 2_000)
+        for stream in streams:
+            got = read_up_to(stream, len(head))
+            assert got == head, got
+            end(stream)
+    with session_soon() as stream:
+        expect(stream, b'{"do":"fetch","doc":"long"}\n', b'{"doc":"long","ok":"doc","ops":[{"insert":"%s"}],"rev":1}\n' % text.encode())
+
+
 def two_hundred():
     """200 connections at once: 64 are served, and the others closed without a byte."""
     streams = [connect() for _ in range(200)]
@@ -241,6 +259,7 @@ rows = [
     cut_lines,
     half_open,
     vanished,
+    closed_in_mid_reply,
     two_hundred,
     never_reads,
     never_reads_news,
