@@ -17,7 +17,7 @@ from .core import Core, Done, Pauses, Trace, new_source
 from .delta import Delta
 from .draft import fetch_or_create
 from .messages import Change, Closed, Contents, Since, Taken
-from .owner import LAST_WAIT, OwnedDocument, OwnedFollowing, Owner
+from .owner import LAST_WAIT, OwnedDocument, OwnedFollowing, Owner, Result, Told
 
 PIECE = 65_536  # bytes that are taken at a time
 
@@ -60,16 +60,17 @@ async def _over_pipes(command: Sequence[str]) -> Streams:
     process = await asyncio.create_subprocess_exec(*command, stdin=asyncio.subprocess.PIPE, stdout=asyncio.subprocess.PIPE)
     reader, writer = process.stdout, process.stdin
     assert reader is not None and writer is not None
+    streams = reader, writer
 
     async def end() -> None:
-        writer.close()
+        streams[1].close()
         try:
             await asyncio.wait_for(process.wait(), LAST_WAIT)
         except asyncio.TimeoutError:
             process.kill()
             await process.wait()
 
-    return reader, writer, end
+    return (*streams, end)
 
 
 class Client(Owner):
@@ -142,7 +143,7 @@ class Client(Owner):
     async def __aexit__(self, *cause: object) -> None:
         await self.close()
 
-    def _do(self, action: Callable[[], Any]) -> Any:
+    def _do(self, action: Callable[[], Result]) -> Result:
         """Does something with the core, and sends what it has to send then."""
         result = action()
         if self._writer is not None and not self._closing.is_set() and self._core.has_to_send:
@@ -230,7 +231,7 @@ class Client(Owner):
             self._do(lambda: self._received(data, pauses))
 
 
-async def _in_time(answer: Awaitable[Any], seconds: Optional[float], what: str) -> Any:
+async def _in_time(answer: Awaitable[Result], seconds: Optional[float], what: str) -> Result:
     try:
         return await asyncio.wait_for(answer, seconds)
     except asyncio.TimeoutError:
@@ -243,7 +244,7 @@ class Following(OwnedFollowing):
     _owner: Client
 
     def __init__(self, client: Client, doc: str, rev: int):
-        self._queue: asyncio.Queue[Union[Change, Exception]] = asyncio.Queue()
+        self._queue: asyncio.Queue[Told] = asyncio.Queue()
         super().__init__(client, doc, rev, self._queue.put_nowait)
 
     async def next(self, timeout: Optional[float] = None) -> Change:

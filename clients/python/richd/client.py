@@ -2,19 +2,20 @@
 
 from __future__ import annotations
 
+import functools
 import queue
 import sys
 import threading
 from concurrent.futures import Future
 from concurrent.futures import TimeoutError as FutureTimeout
-from typing import Any, Callable, Dict, Optional, Sequence, Union
+from typing import Any, Callable, Dict, List, Optional, Sequence
 
 from .core import Core, Done, Pauses, Trace, new_source
 from .delta import Delta
 from .draft import fetch_or_create
 from .link import Link, PipeLink, TcpLink
 from .messages import Change, Closed, Contents, Since, Taken
-from .owner import LAST_WAIT, OwnedDocument, OwnedFollowing, Owner
+from .owner import LAST_WAIT, OwnedDocument, OwnedFollowing, Owner, Result, Told
 
 
 def connect(
@@ -36,15 +37,16 @@ def connect(
     `timeout` is for how many seconds a call waits, this one too; without it, as long as it takes. `trace(way, line)` is told each line,
     with way `>` for one that is sent and `<` for one that comes.
     """
-    openers = [
-        (lambda: TcpLink(host, port)) if host is not None and port is not None else None,
-        (lambda: PipeLink(command)) if command is not None else None,
-        link,
-    ]
-    given = [opener for opener in openers if opener is not None]
-    if len(given) != 1:
+    openers: List[Callable[[], Link]] = []
+    if host is not None and port is not None:
+        openers.append(functools.partial(TcpLink, host, port))
+    if command is not None:
+        openers.append(functools.partial(PipeLink, command))
+    if link is not None:
+        openers.append(link)
+    if len(openers) != 1:
         raise TypeError("connect takes a host and a port, or a command, or a link")
-    return Client(given[0], source or new_source(), numbers or {}, timeout, trace)
+    return Client(openers[0], source or new_source(), numbers or {}, timeout, trace)
 
 
 class Client(Owner):
@@ -129,14 +131,14 @@ class Client(Owner):
     def __exit__(self, *cause: object) -> None:
         self.close()
 
-    def _do(self, action: Callable[[], Any]) -> Any:
+    def _do(self, action: Callable[[], Result]) -> Result:
         """Does something with the core, and sends what it has to send then."""
         with self._changed:
             result = action()
             self._changed.notify_all()
             return result
 
-    def _wait(self, future: Future) -> Any:
+    def _wait(self, future: Future[Result]) -> Result:
         try:
             return future.result(self.timeout)
         except FutureTimeout:
@@ -251,7 +253,7 @@ class Following(OwnedFollowing):
     """The changes of a document, as an iterator that waits for the next one. It ends with the client; `close` ends it before."""
 
     def __init__(self, client: Client, doc: str, rev: int):
-        self._queue: queue.Queue[Union[Change, Exception]] = queue.Queue()
+        self._queue: queue.Queue[Told] = queue.Queue()
         super().__init__(client, doc, rev, self._queue.put)
 
     def next(self, timeout: Optional[float] = None) -> Change:

@@ -15,7 +15,7 @@ from typing import Any, Callable, Deque, Dict, List, Optional
 
 from . import messages
 from .delta import Delta
-from .messages import Change, Closed, Contents, Message, Refused, Since, Taken, Unexpected
+from .messages import Change, Contents, Message, Refused, Since, Taken, Unexpected
 
 Done = Callable[[Any, Optional[Exception]], None]
 Trace = Callable[[str, str], None]

@@ -2,12 +2,15 @@
 
 from __future__ import annotations
 
-from typing import Any, Callable, Dict, Optional
+from typing import Callable, Dict, Optional, TypeVar, Union
 
 from .core import Core, Follower, Pauses
 from .delta import Delta
 from .draft import Draft
 from .messages import Change, Closed, Contents
+
+Result = TypeVar("Result")
+Told = Union[Change, Exception]  # what a follower is told
 
 LAST_WAIT = 5.0  # seconds that `close` gives the server to answer what was sent
 
@@ -33,7 +36,7 @@ class Owner:
         """For each document that this client changed the number of its next command, for `connect` after the program's end."""
         return self._do(self._core.numbers)
 
-    def _do(self, action: Callable[[], Any]) -> Any:
+    def _do(self, action: Callable[[], Result]) -> Result:
         raise NotImplementedError
 
     def _fail(self, error: Exception) -> None:
@@ -60,7 +63,7 @@ class Owner:
 class Queued(Follower):
     """Puts what it is told into a queue of whatever kind, until somebody asks for it."""
 
-    def __init__(self, rev: int, put: Callable[[Any], None]):
+    def __init__(self, rev: int, put: Callable[[Told], None]):
         super().__init__(rev)
         self._put = put
 
@@ -74,11 +77,11 @@ class Queued(Follower):
 class OwnedFollowing:
     """The changes of a document. It ends with the client; `close` ends it before."""
 
-    def __init__(self, owner: Owner, doc: str, rev: int, put: Callable[[Any], None]):
+    def __init__(self, owner: Owner, doc: str, rev: int, put: Callable[[Told], None]):
         self._owner, self._doc, self._follower = owner, doc, Queued(rev, put)
         owner._do(lambda: owner._core.follow(doc, self._follower))
 
-    def _change_of(self, told: Any) -> Change:
+    def _change_of(self, told: Told) -> Change:
         """What came as a change. Where it is the end that is raised, and it stays the answer."""
         if isinstance(told, Exception):
             self._follower.end(told)
