@@ -9,7 +9,7 @@ import selectors
 import subprocess
 import time
 
-from refusing import FAULT, NO_MEMORY, PATIENCE, STORE_FAILED, S, Disagreement, Refusal, agree, content_of, undisturbed
+from refusing import NO_MEMORY, PATIENCE, STORE_FAILED, S, Disagreement, Refusal, agree, content_of, undisturbed
 
 WINDOW = 1  # how many of a source's last numbers are sent again after a start: those that the store answers by `again`
 
@@ -311,7 +311,7 @@ class Play:
     def shows(self, what):
         """A refusal shows only where a request was refused, and one request that finds no memory shows once."""
         agree(self.refusal.met() and self.refusal.is_seen(), f"{what} where nothing was refused")
-        agree(self.refusal.kind != "memory" or not self.seen, f"{what}, and one request was refused, which has shown before")
+        agree(self.refusal.is_of_the_file() or not self.seen, f"{what}, and one request was refused, which has shown before")
         self.seen = True
 
     def ask_till_done(self, message):
@@ -340,7 +340,7 @@ class Play:
             if code == 22 and self.refusal.kind == "memory":
                 self.shows(reply)
                 continue
-            if code == 21 and self.refusal.kind != "memory":
+            if code == 21 and self.refusal.is_of_the_file():
                 self.shows(reply)
                 self.check_failed(message)
                 self.begin_again()
@@ -398,12 +398,14 @@ class Play:
     def check_stop(self, before, pending=None):
         """The program has ended by itself: it says why, and the file is as a stop leaves it."""
         status, errors = self.session.end()
-        memory = self.refusal.kind == "memory"
-        wanted = NO_MEMORY if memory else FAULT if before is not None else STORE_FAILED
-        agree((status, errors) == (1, wanted), f"the program ended with status {status}, {errors[:200]!r}")
-        self.shows("an end")
         if before is not None:
+            wanted = self.refusal.ends_of_start()
             agree(content_of(self.refusal.store) == before, "a start that was refused changed the file")
+        else:
+            wanted = [STORE_FAILED] if self.refusal.is_of_the_file() else [NO_MEMORY]
+            agree(self.refusal.kind != "thread", "a refused thread ended a session that had begun")
+        agree(status == 1 and errors in wanted, f"the program ended with status {status}, {errors[:200]!r}")
+        self.shows("an end")
         self.check_held(pending)
 
     def check_failed(self, message):
@@ -425,7 +427,7 @@ class Play:
         for doc, nexts in list(self.session.next.items()):
             for _ in range(4):
                 reply = self.ask_till_done(fetch(doc))
-                if reply.get("code") == 21 and self.refusal.kind != "memory":
+                if reply.get("code") == 21 and self.refusal.is_of_the_file():
                     self.shows(reply)
                     break  # the store has failed behind the last command
                 newest = reply["rev"]
@@ -468,7 +470,7 @@ class Play:
             for key, ops in self.told.items():
                 agree(self.script.wanted.told.get(key, ops) == ops, f"news of {key}: {ops}")
         if self.refusal.met() and self.refusal.is_seen() and self.refusal.kind != "memory":
-            agree(self.seen, "a fault that nobody was told of")
+            agree(self.seen, f"{self.refusal.kind} was refused, and nobody was told of it")
 
 
 def learn(folder):
