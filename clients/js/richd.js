@@ -205,14 +205,16 @@ export class Client extends EventTarget {
     return this.#docs.get(doc);
   }
 
-  #begin() {
-    this.#beginning = this.#tryToBegin();
+  #begin(isAgain = false) {
+    this.#beginning = this.#tryToBegin(isAgain);
     this.#beginning.catch((error) => this.#shut(error));
   }
 
-  async #tryToBegin() {
+  async #tryToBegin(isAgain) {
     const { signal } = this.#closing;
-    for (;;) {
+    for (; ; isAgain = true) {
+      if (isAgain) await pause(this.#pauses.next(), signal);
+      signal.throwIfAborted();
       try {
         this.#session = await Session.begin(this.#options, this.source, {
           onNews: (line) => this.#docs.get(line.doc)?.news.take(line),
@@ -227,11 +229,8 @@ export class Client extends EventTarget {
         if (error.code === "ENOENT") throw error; // there is no such program
         if (error.code > 0 && error.code !== Refusal.NoMemory) throw error; // the name is none
         this.#trouble = error;
-        await pause(this.#pauses.next(), signal);
-        signal.throwIfAborted();
       }
     }
-    this.#pauses.reset();
     for (const { line, news } of this.#docs.values()) {
       line.session = this.#session;
       news.renew();
@@ -240,11 +239,12 @@ export class Client extends EventTarget {
   }
 
   #onCut() {
+    if (this.#session.hasServed) this.#pauses.reset();
     this.#session = null;
     for (const { line } of this.#docs.values()) line.session = null;
     if (this.#closing.signal.aborted) return this.#stop(this.#closing.signal.reason);
     this.dispatchEvent(new Event("cut"));
-    this.#begin();
+    this.#begin(true);
   }
 
   // Sends nothing more, and ends what wasn't sent with an error.

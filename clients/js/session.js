@@ -22,6 +22,7 @@ export class Session {
   #patience;
   #isEnding = false;
   #hasEnded = false;
+  #lines = 0; // that came
   #end;
 
   /** @type {Promise<void>} when the session has ended */
@@ -62,6 +63,11 @@ export class Session {
     if (session.#hasEnded) throw new RichdError(0, "Cut");
     session.#listener.onEnd = onEnd;
     return session;
+  }
+
+  /** Whether more came than the greeting. */
+  get hasServed() {
+    return this.#lines > 1;
   }
 
   /**
@@ -110,6 +116,7 @@ export class Session {
     } catch {
       return this.cut(); // no richd
     }
+    this.#lines += 1;
     if ("news" in line || "ended" in line) return this.#listener.onNews(line);
     const settle = this.#waiting.shift();
     if (settle === undefined) return this.cut();
