@@ -20,7 +20,7 @@ sys.path.insert(0, str(Path(__file__).resolve().parent.parent / "clients/python"
 
 import richd
 from richd.link import TcpLink
-from richd.messages import spelled, subscribe
+from richd.messages import edit, fetch, spelled, subscribe
 from richd.program import Server, format_store
 
 PLACES = 64
@@ -157,6 +157,27 @@ def vanished():
             stream.reset()
 
 
+def closed_in_mid_reply():
+    """Peers that close, or vanish behind a reset, in the middle of a reply, and have sent ahead more than the system holds of replies:
+    their places come free, and the edit whose reply they were reading was taken once."""
+    with server.connect("middle", timeout=PATIENCE) as client:
+        client.create("middle", [{"insert": "x" * 15_000}])
+    asked, edits = spelled(fetch("middle")) * 300, 0
+    for end in (TcpLink.close, TcpLink.reset):
+        for part in (1, 20, 7_000, 40_000):
+            edits += 1
+            mine = spelled(edit("middle", edits, 1, [{"insert": "!"}]))
+            streams = [session_soon() for _ in range(PLACES)]
+            for number, stream in enumerate(streams):
+                stream.send((mine if number == 0 else b"") + asked)
+            for stream in streams:
+                assert len(read_up_to(stream, part)) == part
+                end(stream)
+    with server.connect("s", numbers={"middle": edits}, timeout=PATIENCE) as client:
+        assert client.edit("middle", [{"insert": "!"}], 1) == richd.Taken(edits + 1, again=True)
+        assert client.fetch("middle") == richd.Contents(edits + 1, [{"insert": "!" * edits + "x" * 15_000}])
+
+
 def two_hundred():
     """200 connections at once: 64 are served, and the others closed without a byte."""
     streams = [connect() for _ in range(200)]
@@ -241,6 +262,7 @@ rows = [
     cut_lines,
     half_open,
     vanished,
+    closed_in_mid_reply,
     two_hundred,
     never_reads,
     never_reads_news,

@@ -65,6 +65,7 @@ def delete(length):
 
 LONG = "Durable rich text. " * 1_000
 WIDE = {f"attribute{letter}": None for letter in "abcdefghijklmno"}  # 15 removals of ten bytes each: an entry of 236 bytes of 237
+FIVE = {f"attribute{letter}": None for letter in "abcde"}
 
 # In turn a letter is put behind the first one and taken away, in two documents. Each entry has 50 or 51 bytes: a slot holds four of them.
 TURNS = [
@@ -167,6 +168,26 @@ SCRIPTS = [
         ["--every", "2"],
         [("a", [create("d", insert("z")), create("e", insert("w")), subscribe("d", 1), *TURNS]), ("b", [since("d", 12), fetch("d", 13)])],
         {"d": (13, [insert("z")]), "e": (8, [insert("wy")])},
+    ),
+    Script(
+        "a milestone after each revision",
+        S,
+        ["--every", "1"],
+        [
+            (
+                "a",
+                [
+                    create("d", insert("z")),
+                    edit("d", 2, 1, retain(1), insert("x")),
+                    edit("d", 3, 2, delete(1)),
+                    edit("d", 4, 3, retain(1, **FIVE)),  # opens the second slot
+                    edit("d", 5, 4, insert("q")),
+                    fetch("d"),
+                ],
+            ),
+            ("b", [fetch("d"), edit("d", 1, 5, retain(2), insert("!"))]),
+        ],
+        {"d": (6, [insert("qx!")])},
     ),
 ]
 
