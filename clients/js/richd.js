@@ -46,13 +46,16 @@ export class Client extends EventTarget {
   #options;
   /** @type {Session | null} */
   #session = null;
+  /** @type {Promise<void>} */
   #beginning;
+  /** @type {Error | undefined} */
   #trouble; // the last one when a session was to begin
   #pauses = new Pauses();
   #closing = new AbortController();
   /** @type {Map<string, { line: Line, news: News }>} */
   #docs = new Map();
 
+  /** @param {import("./links.js").Address & Options} options */
   constructor(options) {
     super();
     this.#options = options;
@@ -171,19 +174,25 @@ export class Client extends EventTarget {
     await session?.ended;
   }
 
-  /** @returns {Promise<{ rev: number }>} */
+  /**
+   * @param {string} doc
+   * @param {import("./session.js").Message} message
+   * @param {Limits} [limits]
+   * @returns {Promise<{ rev: number }>}
+   */
   async #command(doc, message, limits) {
     const { rev } = await this.#ask(doc, message, true, limits);
     return { rev };
   }
 
+  /** @param {string} doc @param {import("./session.js").Message} message @param {boolean} isCommand @param {Limits} [limits] */
   async #ask(doc, message, isCommand, limits) {
     this.#closing.signal.throwIfAborted();
     const { line } = this.#of(doc);
     /** @type {any} */
     const item = { message: { ...message, doc }, isCommand };
     const answer = new Promise((resolve, reject) => {
-      item.settle = (error, reply) => (error ? reject(error) : resolve(reply));
+      item.settle = (/** @type {any} */ error, /** @type {any} */ reply) => (error ? reject(error) : resolve(reply));
     });
     line.add(item);
     try {
@@ -195,6 +204,7 @@ export class Client extends EventTarget {
     }
   }
 
+  /** @param {string} doc */
   #of(doc) {
     if (!this.#docs.has(doc)) {
       const line = new Line(doc, this.#options.isNew);
@@ -210,6 +220,7 @@ export class Client extends EventTarget {
     this.#beginning.catch((error) => this.#shut(error));
   }
 
+  /** @param {boolean} isAgain */
   async #tryToBegin(isAgain) {
     const { signal } = this.#closing;
     for (; ; isAgain = true) {
@@ -247,7 +258,10 @@ export class Client extends EventTarget {
     this.#begin(true);
   }
 
-  // Sends nothing more, and ends what wasn't sent with an error.
+  /**
+   * Sends nothing more, and ends what wasn't sent with an error.
+   * @param {any} error
+   */
   #stop(error) {
     this.#closing.abort(error);
     for (const { line, news } of this.#docs.values()) {
@@ -257,6 +271,7 @@ export class Client extends EventTarget {
     }
   }
 
+  /** @param {any} error */
   #shut(error) {
     this.#stop(error);
     this.#session?.cut();
