@@ -18,7 +18,7 @@ temporary folder (TMPDIR).
 """
 import functools
 
-from playing import ROWS, check, run_as_wanted
+from playing import ROWS, SESSIONS, check, run_as_wanted
 from three import play_places
 
 DELTAS = [
@@ -38,4 +38,4 @@ PLACES = [("the places of a server", play_places)]
 MEMORY, THREAD = [("memory", "none")], [("thread", "none")]
 
 if __name__ == "__main__":
-    check("requests for memory or a thread refused", ([*WORDS, *ROWS], MEMORY), (PLACES, THREAD), (ROWS, THREAD))
+    check("requests for memory or a thread refused", ([*WORDS, *ROWS], MEMORY), ([*PLACES, *SESSIONS], THREAD))

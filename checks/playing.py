@@ -45,15 +45,18 @@ def dump_store(refusal, script):
         agree(content_of(refusal.store) == before, f"`dump --pick {pick}` changed the file")
 
 
-ROWS = [
+FILES = [
     ("format of a small store", functools.partial(format_store, options=S, there=False)),
     ("format of a file that is there", functools.partial(format_store, options=S, there=True)),
     ("format of the default shape", functools.partial(format_store, options=[], there=False)),
     *((f"dump of {script.name}", functools.partial(dump_store, script=script)) for script in SCRIPTS),
+]
+SESSIONS = [
     *((script.name, functools.partial(play, script=script)) for script in SCRIPTS),
     ("three sessions at once", play_three),
     ("three sessions at once, milestones two revisions apart", functools.partial(play_three, options=["--every", "2"])),
 ]
+ROWS = [*FILES, *SESSIONS]
 
 
 def check(what, *tables):
