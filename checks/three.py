@@ -141,7 +141,7 @@ class Client(threading.Thread):
 
     def connect(self, failed):
         """Begins a session, with a server that is started again where it has ended, or where its store has failed."""
-        for _ in range(10):
+        for _ in range(60):
             if self.socket:
                 self.socket.close()
             address, self.starts = self.server.serves(self.starts if failed else None)
@@ -157,7 +157,7 @@ class Client(threading.Thread):
             except ConnectionError:
                 pass
             time.sleep(0.05)  # as where all places are taken; or the server is about to end
-        raise Disagreement("no session in ten tries")
+        raise Disagreement("no session in sixty tries")
 
     def greets(self):
         """Whether the session begins. A hello that finds no memory is said again."""
