@@ -20,7 +20,7 @@ sys.path.insert(0, str(Path(__file__).resolve().parent.parent / "clients/python"
 
 import richd
 from richd.link import TcpLink
-from richd.messages import spelled, subscribe
+from richd.messages import edit, fetch, spelled, subscribe
 from richd.program import Server, format_store
 
 PLACES = 64
@@ -158,21 +158,24 @@ def vanished():
 
 
 def closed_in_mid_reply():
-    """64 peers at a time that ask for more than the system holds, read the first of it, and close or vanish: their places come free."""
-    text = "x" * 15_000
-    with server.connect("long", timeout=PATIENCE) as writer:
-        assert writer.create("long", [{"insert": text}]) == richd.Taken(1)
-    head = b'{"doc":"long","ok":"doc","ops":[{"insert":"xxx'
+    """Peers that close, or vanish behind a reset, in the middle of a reply, and have sent ahead more than the system holds of replies:
+    their places come free, and the edit whose reply they were reading was taken once."""
+    with server.connect("middle", timeout=PATIENCE) as client:
+        client.create("middle", [{"insert": "x" * 15_000}])
+    asked, edits = spelled(fetch("middle")) * 300, 0
     for end in (TcpLink.close, TcpLink.reset):
-        streams = [session_soon() for _ in range(PLACES)]
-        for stream in streams:
-            stream.send(b'{"do":"fetch","doc":"long"}\n' * 2_000)
-        for stream in streams:
-            got = read_up_to(stream, len(head))
-            assert got == head, got
-            end(stream)
-    with session_soon() as stream:
-        expect(stream, b'{"do":"fetch","doc":"long"}\n', b'{"doc":"long","ok":"doc","ops":[{"insert":"%s"}],"rev":1}\n' % text.encode())
+        for part in (1, 20, 7_000, 40_000):
+            edits += 1
+            mine = spelled(edit("middle", edits, 1, [{"insert": "!"}]))
+            streams = [session_soon() for _ in range(PLACES)]
+            for number, stream in enumerate(streams):
+                stream.send((mine if number == 0 else b"") + asked)
+            for stream in streams:
+                assert len(read_up_to(stream, part)) == part
+                end(stream)
+    with server.connect("s", numbers={"middle": edits}, timeout=PATIENCE) as client:
+        assert client.edit("middle", [{"insert": "!"}], 1) == richd.Taken(edits + 1, again=True)
+        assert client.fetch("middle") == richd.Contents(edits + 1, [{"insert": "!" * edits + "x" * 15_000}])
 
 
 def two_hundred():

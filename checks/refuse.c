@@ -1,11 +1,12 @@
 // Refuses one request of the program that it is preloaded into, as the system may. refusing.py builds it, and says what to refuse:
 //
-// REFUSE_KIND   memory (of the C library, or for a thread), or read, write or sync of the store's file
+// REFUSE_KIND   memory (of the C library), thread, or read, write or sync of the store's file
 // REFUSE_AT     which request of this kind is refused, from 1; none is where it is 0
 // REFUSE_HOW    of a write: whether none, half or all of it is written before it fails. Of a read or a write also: short (it does half, and
 //               says so) or interrupted (it does nothing, and is to be tried again), which a program has to bear without a word
 // REFUSE_STORE  the path of the store's file
-// REFUSE_COUNT  the path of a file of 8 bytes, in which the requests of this kind are counted, over all programs that share it
+// REFUSE_COUNT  the path of a file of 16 bytes: in the first 8 the requests of this kind are counted, over all programs that share it, and
+//               the others get how many reads of the store's file the program had made before the request that is refused
 #define _GNU_SOURCE
 #include <dlfcn.h>
 #include <errno.h>
@@ -25,7 +26,7 @@ typedef int creates(pthread_t *, const pthread_attr_t *, void *(*)(void *), void
 static char kind; // the first letter of REFUSE_KIND
 static unsigned long at;
 static const char *how, *store;
-static _Atomic unsigned long *count;
+static _Atomic unsigned long *count, reads;
 static creates *create;
 
 __attribute__((constructor)) static void begin(void) {
@@ -34,12 +35,16 @@ __attribute__((constructor)) static void begin(void) {
     how = getenv("REFUSE_HOW");
     store = getenv("REFUSE_STORE");
     int file = open(getenv("REFUSE_COUNT"), O_RDWR);
-    count = mmap(NULL, 8, PROT_READ | PROT_WRITE, MAP_SHARED, file, 0);
+    count = mmap(NULL, 16, PROT_READ | PROT_WRITE, MAP_SHARED, file, 0);
     close(file);
     if (count != MAP_FAILED) kind = getenv("REFUSE_KIND")[0];
 }
 
-static int refused(char of) { return kind == of && atomic_fetch_add(count, 1) + 1 == at; }
+static int refused(char of) {
+    if (kind != of || atomic_fetch_add(count, 1) + 1 != at) return 0;
+    count[1] = reads;
+    return 1;
+}
 static void *no_memory(void) { errno = ENOMEM; return NULL; }
 static int is(const char *word) { return strcmp(how, word) == 0; }
 
@@ -50,17 +55,19 @@ void *memalign(size_t align, size_t size) { return refused('m') ? no_memory() : 
 void *aligned_alloc(size_t align, size_t size) { return memalign(align, size); }
 int posix_memalign(void **out, size_t align, size_t size) { return (*out = memalign(align, size)) ? 0 : ENOMEM; }
 int pthread_create(pthread_t *thread, const pthread_attr_t *with, void *(*run)(void *), void *given) {
-    return refused('m') ? EAGAIN : create(thread, with, run, given);
+    return refused('t') ? EAGAIN : create(thread, with, run, given);
 }
 
 static int of_store(int file) {
     struct stat one, other;
-    return kind != 'm' && fstat(file, &one) == 0 && stat(store, &other) == 0 && one.st_dev == other.st_dev && one.st_ino == other.st_ino;
+    return kind != 0 && fstat(file, &one) == 0 && stat(store, &other) == 0 && one.st_dev == other.st_dev && one.st_ino == other.st_ino;
 }
 
 // A read or a write of which one is refused.
 static ssize_t call(char of, long number, int file, void *bytes, size_t length, off_t place) {
-    if (!of_store(file) || !refused(of)) return syscall(number, file, bytes, length, place);
+    int is_of_store = of_store(file), is_refused = is_of_store && refused(of);
+    if (is_of_store && of == 'r') reads++;
+    if (!is_refused) return syscall(number, file, bytes, length, place);
     if (is("interrupted")) { errno = EINTR; return -1; }
     size_t done = is("all") ? length : is("none") ? 0 : length / 2;
     if (is("short")) return syscall(number, file, bytes, done ? done : length, place);

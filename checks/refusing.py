@@ -1,4 +1,4 @@
-"""What no_memory.py and faults.py share: runs of the program of which refuse.c refuses one request, and the count of what they show."""
+"""Runs of the program of which refuse.c refuses one request, and the count of what they show: for no_memory.py and faults.py."""
 import concurrent.futures
 import os
 import subprocess
@@ -30,8 +30,9 @@ class Refusal:
     def __init__(self, library, folder, kind, at, how="none"):
         self.kind, self.at, self.how = kind, at, how
         self.count_path, self.store = os.path.join(folder, "count"), os.path.join(folder, "store")
+        self.has_shown = False  # in the end of a run
         with open(self.count_path, "wb") as file:
-            file.write(bytes(8))
+            file.write(bytes(16))
         self.variables = {
             **os.environ,
             "LD_PRELOAD": library,
@@ -42,10 +43,13 @@ class Refusal:
             "REFUSE_COUNT": self.count_path,
         }
 
-    def count(self):
-        """How many requests of the kind were made so far."""
+    def counts(self):
+        """How many requests of the kind were made so far, and how many reads of the store's file before the one that was refused."""
         with open(self.count_path, "rb") as file:
-            return int.from_bytes(file.read(8), "little")
+            return [int.from_bytes(file.read(8), "little") for _ in range(2)]
+
+    def count(self):
+        return self.counts()[0]
 
     def met(self):
         """Whether the request was made, and so refused."""
@@ -54,6 +58,33 @@ class Refusal:
     def is_seen(self):
         """Whether the refusal may show."""
         return self.how not in ("short", "interrupted")
+
+    def is_of_the_file(self):
+        """Whether it is a call of the store's file that fails; else it is memory or a thread that is refused."""
+        return self.kind not in ("memory", "thread")
+
+    def ends_of_start(self):
+        """What a program says that the refusal ends before it serves: NoMemory, or Fault where the file is at fault, or was being opened."""
+        if self.is_of_the_file():
+            return [FAULT]
+        is_opening = self.kind == "memory" and self.counts()[1] == 0
+        return [NO_MEMORY, FAULT] if is_opening else [NO_MEMORY]
+
+    def shows_in(self, ended, wanted=b""):
+        """Whether the refusal shows in the end of a run. A program without memory may have printed a part of what is wanted before."""
+        if self.has_shown or not (self.met() and self.is_seen()):
+            return False
+        status, output, errors = ended
+        may_be = status == 1 and errors in self.ends_of_start() and wanted.startswith(output)
+        if self.is_of_the_file():
+            agree(may_be and output == b"", f"it gives {ended} where a call failed")
+        self.has_shown = may_be
+        return may_be
+
+    def run_till_done(self, words, wanted=b""):
+        """What a run gives at last: one that the refusal ended is run once more."""
+        ended = self.run(words)
+        return self.run(words) if self.shows_in(ended, wanted) else ended
 
     def start(self, words, **streams):
         return subprocess.Popen([richd, *words], env=self.variables, stderr=subprocess.PIPE, bufsize=0, **streams)

@@ -9,7 +9,7 @@ import selectors
 import subprocess
 import time
 
-from refusing import FAULT, NO_MEMORY, PATIENCE, STORE_FAILED, S, Disagreement, Refusal, agree, content_of, undisturbed
+from refusing import NO_MEMORY, PATIENCE, STORE_FAILED, S, Disagreement, Refusal, agree, content_of, undisturbed
 
 WINDOW = 1  # how many of a source's last numbers are sent again after a start: those that the store answers by `again`
 
@@ -65,6 +65,7 @@ def delete(length):
 
 LONG = "Durable rich text. " * 1_000
 WIDE = {f"attribute{letter}": None for letter in "abcdefghijklmno"}  # 15 removals of ten bytes each: an entry of 236 bytes of 237
+FIVE = {f"attribute{letter}": None for letter in "abcde"}
 
 # In turn a letter is put behind the first one and taken away, in two documents. Each entry has 50 or 51 bytes: a slot holds four of them.
 TURNS = [
@@ -167,6 +168,26 @@ SCRIPTS = [
         ["--every", "2"],
         [("a", [create("d", insert("z")), create("e", insert("w")), subscribe("d", 1), *TURNS]), ("b", [since("d", 12), fetch("d", 13)])],
         {"d": (13, [insert("z")]), "e": (8, [insert("wy")])},
+    ),
+    Script(
+        "a milestone after each revision",
+        S,
+        ["--every", "1"],
+        [
+            (
+                "a",
+                [
+                    create("d", insert("z")),
+                    edit("d", 2, 1, retain(1), insert("x")),
+                    edit("d", 3, 2, delete(1)),
+                    edit("d", 4, 3, retain(1, **FIVE)),  # opens the second slot
+                    edit("d", 5, 4, insert("q")),
+                    fetch("d"),
+                ],
+            ),
+            ("b", [fetch("d"), edit("d", 1, 5, retain(2), insert("!"))]),
+        ],
+        {"d": (6, [insert("qx!")])},
     ),
 ]
 
@@ -311,7 +332,7 @@ class Play:
     def shows(self, what):
         """A refusal shows only where a request was refused, and one request that finds no memory shows once."""
         agree(self.refusal.met() and self.refusal.is_seen(), f"{what} where nothing was refused")
-        agree(self.refusal.kind != "memory" or not self.seen, f"{what}, and one request was refused, which has shown before")
+        agree(self.refusal.is_of_the_file() or not self.seen, f"{what}, and one request was refused, which has shown before")
         self.seen = True
 
     def ask_till_done(self, message):
@@ -340,7 +361,7 @@ class Play:
             if code == 22 and self.refusal.kind == "memory":
                 self.shows(reply)
                 continue
-            if code == 21 and self.refusal.kind != "memory":
+            if code == 21 and self.refusal.is_of_the_file():
                 self.shows(reply)
                 self.check_failed(message)
                 self.begin_again()
@@ -398,12 +419,14 @@ class Play:
     def check_stop(self, before, pending=None):
         """The program has ended by itself: it says why, and the file is as a stop leaves it."""
         status, errors = self.session.end()
-        memory = self.refusal.kind == "memory"
-        wanted = NO_MEMORY if memory else FAULT if before is not None else STORE_FAILED
-        agree((status, errors) == (1, wanted), f"the program ended with status {status}, {errors[:200]!r}")
-        self.shows("an end")
         if before is not None:
+            wanted = self.refusal.ends_of_start()
             agree(content_of(self.refusal.store) == before, "a start that was refused changed the file")
+        else:
+            wanted = [STORE_FAILED] if self.refusal.is_of_the_file() else [NO_MEMORY]
+            agree(self.refusal.kind != "thread", "a refused thread ended a session that had begun")
+        agree(status == 1 and errors in wanted, f"the program ended with status {status}, {errors[:200]!r}")
+        self.shows("an end")
         self.check_held(pending)
 
     def check_failed(self, message):
@@ -425,7 +448,7 @@ class Play:
         for doc, nexts in list(self.session.next.items()):
             for _ in range(4):
                 reply = self.ask_till_done(fetch(doc))
-                if reply.get("code") == 21 and self.refusal.kind != "memory":
+                if reply.get("code") == 21 and self.refusal.is_of_the_file():
                     self.shows(reply)
                     break  # the store has failed behind the last command
                 newest = reply["rev"]
@@ -468,7 +491,7 @@ class Play:
             for key, ops in self.told.items():
                 agree(self.script.wanted.told.get(key, ops) == ops, f"news of {key}: {ops}")
         if self.refusal.met() and self.refusal.is_seen() and self.refusal.kind != "memory":
-            agree(self.seen, "a fault that nobody was told of")
+            agree(self.seen, f"{self.refusal.kind} was refused, and nobody was told of it")
 
 
 def learn(folder):

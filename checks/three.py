@@ -1,14 +1,17 @@
-"""Three sessions at once over TCP, played to their end though one request of the program is refused: no_memory.py and faults.py play it."""
+"""Three sessions at once over TCP, played to their end though one request of the program is refused: no_memory.py and faults.py play it.
+And how many sessions find a place at once where a thread is refused."""
 import json
 import socket
 import subprocess
 import threading
 import time
 
-from refusing import FAULT, NO_MEMORY, PATIENCE, STORE_FAILED, Disagreement, agree
+from refusing import FAULT, NO_MEMORY, PATIENCE, STORE_FAILED, S, Disagreement, agree, content_of
 from scripts import dumped, undisturbed
 
 SESSIONS, EDITS, SHARED = 3, 6, "all"
+PLACES = 64
+GREETING = b'{"ok":"hello"}\n'
 
 
 class Server:
@@ -17,6 +20,7 @@ class Server:
     def __init__(self, refusal, options):
         self.refusal, self.options = refusal, options
         self.lock, self.process, self.address, self.starts = threading.Lock(), None, None, 0
+        self.before = b""  # what the store held before the last start
 
     def shows(self, what):
         agree(self.refusal.met() and self.refusal.is_seen(), f"{what} where nothing was refused")
@@ -34,7 +38,7 @@ class Server:
 
     def start(self):
         agree(self.starts < 5, "the server can't be started")
-        self.starts += 1
+        self.starts, self.address, self.before = self.starts + 1, None, content_of(self.refusal.store)
         self.process = self.refusal.start(
             ["serve", self.refusal.store, "--listen", "127.0.0.1:0", *self.options], stdin=subprocess.DEVNULL, stdout=subprocess.PIPE
         )
@@ -54,8 +58,13 @@ class Server:
             self.process.communicate()
             raise Disagreement("a server that ends goes on") from None
         status, self.process = self.process.returncode, None
-        wanted = [NO_MEMORY] if self.refusal.kind == "memory" else [FAULT, STORE_FAILED]
+        if self.address is None:
+            wanted = self.refusal.ends_of_start()
+        else:
+            wanted = [FAULT, STORE_FAILED] if self.refusal.is_of_the_file() else [NO_MEMORY]
         agree(status == 1 and errors in wanted, f"the server ended with status {status}, {errors[:200]!r}")
+        if self.address is None or self.refusal.kind == "thread":
+            agree(content_of(self.refusal.store) == self.before, "a start that was refused changed the file")
         self.shows("an end")
 
     def has_closed(self, starts):
@@ -132,7 +141,7 @@ class Client(threading.Thread):
 
     def connect(self, failed):
         """Begins a session, with a server that is started again where it has ended, or where its store has failed."""
-        for _ in range(10):
+        for _ in range(60):
             if self.socket:
                 self.socket.close()
             address, self.starts = self.server.serves(self.starts if failed else None)
@@ -148,7 +157,7 @@ class Client(threading.Thread):
             except ConnectionError:
                 pass
             time.sleep(0.05)  # as where all places are taken; or the server is about to end
-        raise Disagreement("no session in ten tries")
+        raise Disagreement("no session in sixty tries")
 
     def greets(self):
         """Whether the session begins. A hello that finds no memory is said again."""
@@ -164,7 +173,7 @@ class Client(threading.Thread):
         reply = self.ask([message])[0]
         if reply == wanted:
             return True
-        agree(reply.get("code") == (22 if self.server.refusal.kind == "memory" else 21), f"{message['do']}: {reply}")
+        agree(reply.get("code") == (21 if self.server.refusal.is_of_the_file() else 22), f"{message['do']}: {reply}")
         self.server.shows(reply)
         return False
 
@@ -213,7 +222,7 @@ class Client(threading.Thread):
             return reply
         if code == 22 and self.server.refusal.kind == "memory":
             self.server.shows(reply)
-        elif code == 21 and self.server.refusal.kind != "memory":
+        elif code == 21 and self.server.refusal.is_of_the_file():
             self.server.shows(reply)
             self.failed = True
         elif code == 13 and message["do"] == "edit" and tries > 0:
@@ -249,3 +258,37 @@ def play_three(refusal, options=()):
         rev, ops = held[SHARED]
         found = sorted(word + ";" for word in ops[0]["insert"].split(";") if word not in ("", "begin"))
         agree(rev == 1 + SESSIONS * EDITS and found == words, f"{pick} holds {rev}, {ops} for all")
+
+
+def is_greeted(connection):
+    """Whether a connection has a place. One that has none is closed without a byte."""
+    try:
+        connection.sendall(b'{"do":"hello","source":"s"}\n')
+        got = connection.recv(len(GREETING))
+    except ConnectionError:
+        return False
+    except TimeoutError:
+        raise Disagreement(f"no reply within {PATIENCE} s to hello") from None
+    agree(got in (GREETING, b""), f"hello: {got}")
+    return got == GREETING
+
+
+def play_places(refusal):
+    """Counts the places of a server of which a thread is refused. The first thread is the one that writes: without it the program ends."""
+    undisturbed("format", refusal.store, *S)
+    server = Server(refusal, [])
+    if refusal.at == 1:
+        server.start()
+        if server.process is not None:
+            server.check_ended()
+        agree(refusal.met(), "it ended, and no thread was refused")
+    address, _ = server.serves(None)
+    connections = [socket.create_connection(address, PATIENCE) for _ in range(PLACES + 1)]
+    try:
+        places = sum(is_greeted(connection) for connection in connections)
+    finally:
+        for connection in connections:
+            connection.close()
+    wanted = PLACES - (refusal.at > 1 and refusal.met())
+    agree(places == wanted, f"{places} sessions find a place, and not {wanted}")
+    server.stop()

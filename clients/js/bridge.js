@@ -19,6 +19,7 @@ import { parseArgs } from "node:util";
 const HERE = path.dirname(fileURLToPath(import.meta.url));
 const EDITOR = "/examples/editor/";
 const SERVED = { "/clients/js/": HERE, [EDITOR]: path.join(HERE, "../../examples/editor") };
+/** @type {Record<string, string>} */
 const TYPES = { ".html": "text/html", ".js": "text/javascript", ".css": "text/css", ".png": "image/png" };
 const MOST_BYTES = 65_537; // of a message: a line and its end
 
@@ -35,7 +36,11 @@ export function webSockets() {
   throw new Error("the package ws is missing: install Debian's node-ws, or npm's ws");
 }
 
-/** The files that are served, each by the path that it is asked for by. No other path leads to a file. */
+/**
+ * The files that are served, each by the path that it is asked for by. No other path leads to a file.
+ * @param {Record<string, string>} folders
+ * @returns {Map<string, string>}
+ */
 function filesIn(folders) {
   const files = new Map();
   for (const [prefix, folder] of Object.entries(folders)) {
@@ -76,9 +81,10 @@ export async function startBridge({ host, port, listenHost = "127.0.0.1", listen
   });
 
   // A page of another origin may not connect: a browser would let it, and richd asks for no password.
+  /** @param {{ origin?: string, req: import("node:http").IncomingMessage }} asked */
   const isOwnPage = ({ origin, req }) => origin === undefined || origin === `http://${req.headers.host}`;
   const sockets = new WebSocketServer({ server, maxPayload: MOST_BYTES, verifyClient: isOwnPage });
-  sockets.on("connection", (webSocket) => {
+  sockets.on("connection", (/** @type {any} */ webSocket) => {
     const session = net.connect({ host, port, noDelay: true });
     const stream = createWebSocketStream(webSocket);
     session.on("error", () => stream.destroy());
@@ -102,6 +108,7 @@ export async function startBridge({ host, port, listenHost = "127.0.0.1", listen
   };
 }
 
+/** @param {string} text @returns {[string, number]} */
 function readAddress(text) {
   const at = text.lastIndexOf(":");
   return [text.slice(0, at), Number(text.slice(at + 1))];

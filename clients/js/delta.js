@@ -19,35 +19,56 @@ export function lengthOf({ insert, retain, delete: deleted }) {
   return deleted ?? retain ?? (typeof insert === "string" ? insert.length : 1);
 }
 
+/** @param {Op} op */
 const isText = (op) => typeof op.insert === "string";
 
 /** @param {Op} op */
 const kindOf = (op) => (op.delete !== undefined ? "delete" : op.retain !== undefined ? "retain" : "insert");
 
-/** Attributes without those for which `drops` holds; undefined where none are left. */
+/**
+ * Attributes without those for which `drops` holds; undefined where none are left.
+ * @param {Attributes | undefined} attributes
+ * @param {(name: string, value: Value | null) => boolean} drops
+ */
 function without(attributes, drops) {
   const kept = Object.entries(attributes ?? {}).filter(([name, value]) => !drops(name, value));
   return kept.length === 0 ? undefined : Object.fromEntries(kept);
 }
 
+/** @param {Attributes} [one] @param {Attributes} [other] */
 function areAlike(one = {}, other = {}) {
   const names = Object.keys(one);
   return names.length === Object.keys(other).length && names.every((name) => one[name] === other[name]);
 }
 
+/** @param {Op} op @param {Attributes | undefined} attributes @returns {Op} */
 const withAttributes = (op, attributes) => (attributes === undefined ? op : { ...op, attributes });
 
-/** Attributes that are set one after the other. A null is kept only where it still has something to remove. */
+/**
+ * Attributes that are set one after the other. A null is kept only where it still has something to remove.
+ * @param {Attributes | undefined} first
+ * @param {Attributes | undefined} second
+ * @param {boolean} keepsNull
+ */
 function composed(first, second, keepsNull) {
   return without({ ...first, ...second }, (name, value) => value === null && !keepsNull);
 }
 
-/** The attributes `second` as they are set after `first`, which wins where it has priority. */
+/**
+ * The attributes `second` as they are set after `first`, which wins where it has priority.
+ * @param {Attributes | undefined} first
+ * @param {Attributes | undefined} second
+ * @param {boolean} priority
+ */
 function transformed(first, second, priority) {
   return without(second, (name) => priority && first?.[name] !== undefined);
 }
 
-/** The attributes that take `change` back where `base` was. */
+/**
+ * The attributes that take `change` back where `base` was.
+ * @param {Attributes} change
+ * @param {Attributes} [base]
+ */
 function inverted(change, base = {}) {
   const back = Object.keys(change).map((name) => [name, base[name] ?? null]);
   return without(Object.fromEntries(back), (name, value) => value === change[name]);
@@ -59,6 +80,7 @@ class Parts {
   #index = 0;
   #offset = 0;
 
+  /** @param {Op[]} ops */
   constructor(ops) {
     this.#ops = ops;
   }
@@ -75,6 +97,7 @@ class Parts {
     return this.isAtEnd ? Infinity : lengthOf(this.#ops[this.#index]) - this.#offset;
   }
 
+  /** @returns {Op} */
   next(length = Infinity) {
     if (this.isAtEnd) return { retain: length };
     const op = this.#ops[this.#index];
@@ -88,7 +111,8 @@ class Parts {
     }
     if (kindOf(op) === "delete") return { delete: taken };
     if (kindOf(op) === "retain") return withAttributes({ retain: taken }, op.attributes);
-    return withAttributes({ insert: isText(op) ? op.insert.slice(start, start + taken) : op.insert }, op.attributes);
+    const { insert } = op;
+    return withAttributes({ insert: typeof insert === "string" ? insert.slice(start, start + taken) : insert }, op.attributes);
   }
 }
 
@@ -109,6 +133,7 @@ export class Delta {
     const added = withAttributes({ [kindOf(op)]: op[kindOf(op)] }, without(op.attributes, () => false));
     const ops = this.ops;
     const at = added.insert !== undefined && ops.at(-1)?.delete !== undefined ? ops.length - 1 : ops.length;
+    /** @type {any} */
     const before = ops[at - 1];
     if (before !== undefined && kindOf(before) === kindOf(added) && areAlike(before.attributes, added.attributes)) {
       const kind = kindOf(added);
@@ -205,6 +230,7 @@ export class Delta {
     return /** @type {T} */ (moved);
   }
 
+  /** @param {Delta} other @param {boolean} priority */
   #transformDelta(other, priority) {
     const [first, second] = [new Parts(this.ops), new Parts(other.ops)];
     const delta = new Delta();

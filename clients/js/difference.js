@@ -2,7 +2,10 @@
 
 import { Delta } from "./delta.js";
 
-// the units of a document, each as a text that tells it with its attributes
+/**
+ * The units of a document, each as a text that tells it with its attributes.
+ * @param {{ ops: import("./delta.js").Op[] }} document
+ */
 function unitsOf({ ops }) {
   return ops.flatMap(({ insert, attributes = {} }) => {
     const names = JSON.stringify(Object.entries(attributes).sort(([one], [other]) => (one < other ? -1 : 1)));
@@ -11,7 +14,9 @@ function unitsOf({ ops }) {
   });
 }
 
+/** @param {string | undefined} unit */
 const isHighHalf = (unit) => unit !== undefined && /^[\ud800-\udbff]\[/.test(unit);
+/** @param {string | undefined} unit */
 const isLowHalf = (unit) => unit !== undefined && /^[\udc00-\udfff]\[/.test(unit);
 
 /**

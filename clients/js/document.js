@@ -38,8 +38,10 @@ export class TroubleEvent extends Event {
   }
 }
 
+/** @returns {Promise<typeof OwnDelta>} */
 async function deltaClass() {
-  if (globalThis.Quill?.import) return globalThis.Quill.import("delta");
+  const { Quill } = /** @type {any} */ (globalThis);
+  if (Quill?.import) return Quill.import("delta");
   try {
     const name = "quill-delta"; // which needn't be there
     const found = await import(name);
@@ -49,7 +51,12 @@ async function deltaClass() {
   }
 }
 
-// Somebody else may create it at the same time. Then the server says so before it shows the document, which a crash may yet take back.
+/**
+ * Somebody else may create it at the same time. Then the server says so before it shows the document, which a crash may yet take back.
+ * @param {import("./richd.js").Client} client
+ * @param {string} name
+ * @param {Op[]} ops
+ */
 async function fetchCreated(client, name, ops) {
   const pauses = new Pauses();
   for (;;) {
@@ -75,21 +82,32 @@ async function fetchCreated(client, name, ops) {
  * `sent` has no answer is held until it has one: only then is it known which revision is its own.
  */
 export class Document extends EventTarget {
+  /** @type {import("./richd.js").Client} */
   #client;
+  /** @type {string} */
   #name;
+  /** @type {typeof OwnDelta} */
   #Delta;
+  /** @type {Delta} */
   #base;
+  /** @type {number} */
   #revision;
+  /** @type {Delta} */
   #contents;
+  /** @type {Delta | null} */
   #sent = null;
-  #taken = null; // the revision that `sent` made, once it is answered
+  /** @type {number | null} the revision that `sent` made, once it is answered */
+  #taken = null;
+  /** @type {Delta} */
   #typed;
+  /** @type {{ ops: Op[], rev: number }[]} */
   #news = [];
   #isStale = false; // the next revision isn't held any more, so the document has to be fetched anew
   #isClosed = false;
   #room = ROOM;
   #leave = () => {};
-  #waiting = []; // those who wait in `flush`
+  /** @type {{ resolve: (revision: number) => void, reject: (error: Error) => void }[]} those who wait in `flush` */
+  #waiting = [];
 
   /**
    * @param {import("./richd.js").Client} client
@@ -117,7 +135,10 @@ export class Document extends EventTarget {
     return this.#revision;
   }
 
-  /** What is shown. @returns {Delta} */
+  /**
+   * What is shown.
+   * @returns {Delta}
+   */
   get contents() {
     return this.#contents;
   }
@@ -127,7 +148,10 @@ export class Document extends EventTarget {
     return this.#sent === null && this.#typed.ops.length === 0;
   }
 
-  /** Changes what is shown by something that was typed. @param {Op[] | { ops: Op[] }} ops */
+  /**
+   * Changes what is shown by something that was typed.
+   * @param {Op[] | { ops: Op[] }} ops
+   */
   apply(ops) {
     if (this.#isClosed) throw new RichdError(0, "Closed");
     const delta = new this.#Delta(ops);
@@ -137,7 +161,10 @@ export class Document extends EventTarget {
     this.dispatchEvent(new Event("progress"));
   }
 
-  /** Waits until all that was typed is on the server's disk. @returns {Promise<number>} the revision then */
+  /**
+   * Waits until all that was typed is on the server's disk.
+   * @returns {Promise<number>} the revision then
+   */
   async flush() {
     if (this.isSaved) return this.#revision;
     if (this.#isClosed) throw new RichdError(0, "Closed");
@@ -153,6 +180,7 @@ export class Document extends EventTarget {
     return this.#sent !== null && this.#taken === null;
   }
 
+  /** @param {number} revision @param {Delta} base */
   #begin(revision, base) {
     this.#revision = revision;
     this.#base = base;
@@ -168,6 +196,7 @@ export class Document extends EventTarget {
     });
   }
 
+  /** @param {RichdError} error */
   #onEnd(error) {
     if (error.code !== Refusal.TooOld && error.code !== Refusal.Future) return this.#fail(error);
     this.#isStale = true;
@@ -216,7 +245,11 @@ export class Document extends EventTarget {
     this.#sent = this.#taken = null;
   }
 
-  // Takes over what somebody else did: past what was sent, and past what was typed behind that.
+  /**
+   * Takes over what somebody else did: past what was sent, and past what was typed behind that.
+   * @param {Delta} change
+   * @param {number} revision
+   */
   #takeOver(change, revision) {
     this.#base = this.#base.compose(change);
     this.#revision = revision;
@@ -228,7 +261,10 @@ export class Document extends EventTarget {
     this.#show(change);
   }
 
-  // Changes what is shown, past what was typed.
+  /**
+   * Changes what is shown, past what was typed.
+   * @param {Delta} change
+   */
   #show(change) {
     const shown = this.#typed.transform(change, false);
     this.#typed = change.transform(this.#typed, true);
@@ -237,6 +273,7 @@ export class Document extends EventTarget {
     this.dispatchEvent(new ChangeEvent(shown));
   }
 
+  /** @param {RichdError} error */
   #onRefusal(error) {
     if (error.name === "Closed") return this.#stop(error);
     const isTooLong = [Refusal.TooManyOps, Refusal.TooWide, Refusal.LineTooLong].includes(error.code);
@@ -255,7 +292,11 @@ export class Document extends EventTarget {
     this.#goOn();
   }
 
-  // Takes back what was typed and can't be taken.
+  /**
+   * Takes back what was typed and can't be taken.
+   * @param {Delta} typed
+   * @param {RichdError} error
+   */
   #drop(typed, error) {
     const shown = typed.invert(this.#base);
     this.#typed = new this.#Delta();
@@ -283,11 +324,13 @@ export class Document extends EventTarget {
     }
   }
 
+  /** @param {any} error */
   #fail(error) {
     this.#stop(error);
     if (error.name !== "Closed") this.dispatchEvent(new TroubleEvent(error));
   }
 
+  /** @param {any} error */
   #stop(error) {
     if (this.#isClosed) return;
     this.#isClosed = true;

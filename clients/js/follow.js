@@ -8,14 +8,17 @@
  * @returns {AsyncGenerator<{ rev: number, ops: import("./delta.js").Op[] }, void, void>}
  */
 export async function* follow(client, doc, fromRev, signal) {
+  /** @type {{ rev: number, ops: import("./delta.js").Op[] }[]} */
   const arrived = [];
   let wake = () => {};
   /** @type {any} */
   let failure;
+  /** @param {Error} error */
   const end = (error) => {
     failure ??= error;
     wake();
   };
+  /** @param {import("./delta.js").Op[]} ops @param {number} rev */
   const onNews = (ops, rev) => {
     arrived.push({ rev, ops });
     wake();

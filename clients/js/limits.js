@@ -15,7 +15,10 @@
  * @returns {Promise<T>}
  */
 export function within(promise, { signal, timeout }, late) {
-  let timer, abort;
+  /** @type {ReturnType<typeof setTimeout> | undefined} */
+  let timer;
+  /** @type {() => void} */
+  let abort;
   const limited = new Promise((resolve, reject) => {
     if (Number.isFinite(timeout)) timer = setTimeout(() => reject(late()), timeout);
     abort = () => reject(signal.reason);
@@ -29,7 +32,12 @@ export function within(promise, { signal, timeout }, late) {
   });
 }
 
-/** Waits so many milliseconds, or until the signal comes. */
+/**
+ * Waits so many milliseconds, or until the signal comes.
+ * @param {number} milliseconds
+ * @param {AbortSignal} signal
+ * @returns {Promise<void>}
+ */
 export function pause(milliseconds, signal) {
   return new Promise((resolve) => {
     const done = () => {

@@ -5,14 +5,17 @@ import { firstUnused } from "./numbers.js";
 import { Pauses } from "./pauses.js";
 
 /**
+ * @typedef {import("./errors.js").RichdError} RichdError
+ * @typedef {import("./session.js").Reply} Reply
+ *
  * @typedef {object} Item  something that was asked
- * @property {object} message  without its number
+ * @property {import("./session.js").Message} message  without its number
  * @property {boolean} isCommand
  * @property {import("./session.js").Settle} settle  is called once with what it came to
  * @property {boolean} [isSent]  in the session that there is now
  * @property {number} [sendings]
  * @property {number} [number]
- * @property {import("./errors.js").RichdError} [trouble]  what it was refused by, and is sent again for all the same
+ * @property {RichdError} [trouble]  what it was refused by, and is sent again for all the same
  */
 
 /**
@@ -22,6 +25,7 @@ import { Pauses } from "./pauses.js";
  */
 export class Line {
   #doc;
+  /** @type {import("./session.js").Session | null} */
   #session = null;
   /** @type {Item[]} */
   #items = [];
@@ -29,6 +33,7 @@ export class Line {
   #number;
   #isLearning = false;
   #pauses = new Pauses();
+  /** @type {ReturnType<typeof setTimeout> | undefined} */
   #pause;
 
   /**
@@ -46,18 +51,27 @@ export class Line {
     this.#pump();
   }
 
-  /** Takes back what wasn't sent yet. What was sent stays: it may have been taken, and then its number is used. */
+  /**
+   * Takes back what wasn't sent yet. What was sent stays: it may have been taken, and then its number is used.
+   * @param {Item} item
+   */
   remove(item) {
     if (!item.sendings) this.#items = this.#items.filter((other) => other !== item);
   }
 
-  /** Goes on in a session, or waits for the next one. */
+  /**
+   * Goes on in a session, or waits for the next one.
+   * @param {import("./session.js").Session | null} session
+   */
   set session(session) {
     this.#session = session;
     this.#pump();
   }
 
-  /** Settles all with one error, except for what was sent. */
+  /**
+   * Settles all with one error, except for what was sent.
+   * @param {RichdError} error
+   */
   refuse(error) {
     clearTimeout(this.#pause);
     const refused = this.#items.filter((item) => !item.isSent);
@@ -65,6 +79,7 @@ export class Line {
     for (const item of refused) item.settle(error);
   }
 
+  /** @returns {void} */
   #pump() {
     let command;
     for (const item of [...this.#items]) {
@@ -77,11 +92,13 @@ export class Line {
     }
   }
 
+  /** @param {Item} item */
   #hasNumber(item) {
     item.number ??= item.message.do === "create" ? 1 : this.#number;
     return item.number !== undefined;
   }
 
+  /** @param {Item} item */
   #send(item) {
     item.isSent = true;
     item.sendings = (item.sendings ?? 0) + 1;
@@ -89,6 +106,7 @@ export class Line {
     this.#session.send(message, (error, reply) => this.#settle(item, error, reply));
   }
 
+  /** @param {Item} item @param {RichdError | null} error @param {Reply} [reply] */
   #settle(item, error, reply) {
     if (error?.code === 0) {
       item.isSent = false; // the session has ended, and the next one goes on here
@@ -109,13 +127,19 @@ export class Line {
     }
   }
 
-  // Whether the number shows that somebody else has used this source, as this program may have before it stopped.
+  /**
+   * Whether the number shows that somebody else has used this source, as this program may have before it stopped.
+   * @param {Item} item
+   * @param {RichdError | null} error
+   * @param {Reply} [reply]
+   */
   #isMisnumbered(item, error, reply) {
     if (item.message.do === "create") return false;
     if (error?.code === Refusal.Gap) return true;
     return item.sendings === 1 && (error?.code === Refusal.OldNumber || reply?.ok === "again");
   }
 
+  /** @param {Item} item @param {Reply} reply */
   #count(item, reply) {
     if (item.message.do !== "create" || reply.ok === "taken") this.#number = item.number + 1;
   }
@@ -133,6 +157,7 @@ export class Line {
   async #learn() {
     this.#isLearning = true;
     const session = this.#session;
+    /** @param {number} n @returns {Promise<boolean>} */
     const isUsed = (n) =>
       new Promise((resolve, reject) => {
         session.send({ do: "edit", doc: this.#doc, n, base: 2 ** 53 - 1, ops: [] }, (error, reply) => {

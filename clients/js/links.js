@@ -36,8 +36,9 @@ async function openSocket({ host = "127.0.0.1", port }, { onBytes, onClose }) {
   const net = await import("node:net");
   const socket = net.connect({ host, port, noDelay: true });
   await opening(socket, "connect");
+  /** @type {Error | undefined} */
   let cause;
-  socket.on("error", (error) => (cause = error));
+  socket.on("error", (/** @type {Error} */ error) => (cause = error));
   socket.on("data", onBytes);
   socket.on("close", () => onClose(cause));
   return { send: (bytes) => socket.write(bytes), end: () => socket.end(), cut: () => socket.destroy() };
@@ -54,7 +55,12 @@ async function openPipes({ command, args = [] }, { onBytes, onClose }) {
   return { send: (bytes) => program.stdin.write(bytes), end: () => program.stdin.end(), cut: () => program.kill() };
 }
 
-/** Waits until a stream or a program is there; throws its error where that comes instead. */
+/**
+ * Waits until a stream or a program is there; throws its error where that comes instead.
+ * @param {any} emitter
+ * @param {string} event
+ * @returns {Promise<void>}
+ */
 function opening(emitter, event) {
   return new Promise((resolve, reject) => {
     emitter.once("error", reject);

@@ -16,7 +16,7 @@ export class News {
   /** @type {Set<Follower>} */
   #followers = new Set();
 
-  /** @param {(message: object, settle: import("./session.js").Settle) => void} ask  asks something of the document */
+  /** @param {(message: import("./session.js").Message, settle: import("./session.js").Settle) => void} ask  asks something of the document */
   constructor(ask) {
     this.#ask = ask;
   }
@@ -27,6 +27,7 @@ export class News {
     this.renew();
   }
 
+  /** @param {Follower} follower */
   leave(follower) {
     if (!this.#followers.delete(follower) || this.#followers.size > 0) return;
     this.#ask({ do: "unsubscribe" }, () => {});
@@ -44,7 +45,10 @@ export class News {
     });
   }
 
-  /** Takes a line of news. */
+  /**
+   * Takes a line of news.
+   * @param {import("./session.js").Reply} line
+   */
   take(line) {
     if ("ended" in line) {
       this.#end(new RichdError(line.ended, "TooOld"), this.#lowest());
@@ -58,7 +62,10 @@ export class News {
     }
   }
 
-  /** Ends it for all. */
+  /**
+   * Ends it for all.
+   * @param {RichdError} error
+   */
   end(error) {
     this.#end(error, Infinity);
   }
@@ -67,6 +74,7 @@ export class News {
     return Math.min(...[...this.#followers].map(({ rev }) => rev));
   }
 
+  /** @param {RichdError} error @param {number} rev */
   #end(error, rev) {
     for (const follower of [...this.#followers]) {
       if (follower.rev > rev) continue;

@@ -4,9 +4,14 @@ import { Delta, lengthOf } from "./delta.js";
 
 const MOST_OPS = 1_000;
 const encoder = new TextEncoder();
+/** @param {import("./delta.js").Op} op */
 const bytesOf = (op) => encoder.encode(JSON.stringify(op)).length + 1;
 
-/** The longest beginning of a text that takes so many bytes as JSON, and parts no character; at least one character. */
+/**
+ * The longest beginning of a text that takes so many bytes as JSON, and parts no character; at least one character.
+ * @param {string} text
+ * @param {number} bytes
+ */
 function beginningOf(text, bytes) {
   let [end, taken] = [0, 0];
   for (const character of text) {

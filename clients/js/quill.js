@@ -9,6 +9,7 @@
  */
 export function bind(quill, document) {
   let isShowing = false; // what the editor is told to do comes back as a text-change, and isn't typed
+  /** @param {() => void} change */
   const show = (change) => {
     isShowing = true;
     try {
@@ -17,6 +18,7 @@ export function bind(quill, document) {
       isShowing = false;
     }
   };
+  /** @param {{ ops: import("./delta.js").Op[] }} delta */
   const onTyped = (delta) => {
     if (!isShowing) document.apply(delta.ops);
   };

@@ -46,13 +46,16 @@ export class Client extends EventTarget {
   #options;
   /** @type {Session | null} */
   #session = null;
+  /** @type {Promise<void>} */
   #beginning;
+  /** @type {Error | undefined} */
   #trouble; // the last one when a session was to begin
   #pauses = new Pauses();
   #closing = new AbortController();
   /** @type {Map<string, { line: Line, news: News }>} */
   #docs = new Map();
 
+  /** @param {import("./links.js").Address & Options} options */
   constructor(options) {
     super();
     this.#options = options;
@@ -171,19 +174,25 @@ export class Client extends EventTarget {
     await session?.ended;
   }
 
-  /** @returns {Promise<{ rev: number }>} */
+  /**
+   * @param {string} doc
+   * @param {import("./session.js").Message} message
+   * @param {Limits} [limits]
+   * @returns {Promise<{ rev: number }>}
+   */
   async #command(doc, message, limits) {
     const { rev } = await this.#ask(doc, message, true, limits);
     return { rev };
   }
 
+  /** @param {string} doc @param {import("./session.js").Message} message @param {boolean} isCommand @param {Limits} [limits] */
   async #ask(doc, message, isCommand, limits) {
     this.#closing.signal.throwIfAborted();
     const { line } = this.#of(doc);
     /** @type {any} */
     const item = { message: { ...message, doc }, isCommand };
     const answer = new Promise((resolve, reject) => {
-      item.settle = (error, reply) => (error ? reject(error) : resolve(reply));
+      item.settle = (/** @type {any} */ error, /** @type {any} */ reply) => (error ? reject(error) : resolve(reply));
     });
     line.add(item);
     try {
@@ -195,6 +204,7 @@ export class Client extends EventTarget {
     }
   }
 
+  /** @param {string} doc */
   #of(doc) {
     if (!this.#docs.has(doc)) {
       const line = new Line(doc, this.#options.isNew);
@@ -205,14 +215,17 @@ export class Client extends EventTarget {
     return this.#docs.get(doc);
   }
 
-  #begin() {
-    this.#beginning = this.#tryToBegin();
+  #begin(isAgain = false) {
+    this.#beginning = this.#tryToBegin(isAgain);
     this.#beginning.catch((error) => this.#shut(error));
   }
 
-  async #tryToBegin() {
+  /** @param {boolean} isAgain */
+  async #tryToBegin(isAgain) {
     const { signal } = this.#closing;
-    for (;;) {
+    for (; ; isAgain = true) {
+      if (isAgain) await pause(this.#pauses.next(), signal);
+      signal.throwIfAborted();
       try {
         this.#session = await Session.begin(this.#options, this.source, {
           onNews: (line) => this.#docs.get(line.doc)?.news.take(line),
@@ -227,11 +240,8 @@ export class Client extends EventTarget {
         if (error.code === "ENOENT") throw error; // there is no such program
         if (error.code > 0 && error.code !== Refusal.NoMemory) throw error; // the name is none
         this.#trouble = error;
-        await pause(this.#pauses.next(), signal);
-        signal.throwIfAborted();
       }
     }
-    this.#pauses.reset();
     for (const { line, news } of this.#docs.values()) {
       line.session = this.#session;
       news.renew();
@@ -240,14 +250,18 @@ export class Client extends EventTarget {
   }
 
   #onCut() {
+    if (this.#session.hasServed) this.#pauses.reset();
     this.#session = null;
     for (const { line } of this.#docs.values()) line.session = null;
     if (this.#closing.signal.aborted) return this.#stop(this.#closing.signal.reason);
     this.dispatchEvent(new Event("cut"));
-    this.#begin();
+    this.#begin(true);
   }
 
-  // Sends nothing more, and ends what wasn't sent with an error.
+  /**
+   * Sends nothing more, and ends what wasn't sent with an error.
+   * @param {any} error
+   */
   #stop(error) {
     this.#closing.abort(error);
     for (const { line, news } of this.#docs.values()) {
@@ -257,6 +271,7 @@ export class Client extends EventTarget {
     }
   }
 
+  /** @param {any} error */
   #shut(error) {
     this.#stop(error);
     this.#session?.cut();

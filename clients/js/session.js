@@ -6,22 +6,47 @@ import { openLink } from "./links.js";
 const MAX_LINE = 65_536; // bytes, without the line's end
 
 /**
+ * @typedef {object} Message  a line that is sent: its kind, and the members that this kind has
+ * @property {string} do
+ * @property {string} [source]
+ * @property {string} [doc]
+ * @property {number} [n]
+ * @property {number} [base]
+ * @property {number} [rev]
+ * @property {import("./delta.js").Op[]} [ops]
+ *
+ * @typedef {object} Reply  a line that comes, with the members that its kind has
+ * @property {string} [doc]
+ * @property {number} [n]
+ * @property {string} [ok]
+ * @property {number} [rev]
+ * @property {import("./delta.js").Op[]} [ops]
+ * @property {import("./delta.js").Op[][]} [deltas]
+ * @property {number} [news]
+ * @property {number} [ended]
+ *
  * @callback Settle  is called once for each message, in their order, before any later line is read
  * @param {RichdError | null} error
- * @param {object} [reply]
+ * @param {any} [reply]
  */
 
 export class Session {
+  /** @type {import("./links.js").Link} */
   #link;
   #part = ""; // of the line that is still being read
   #decoder = new TextDecoder();
   /** @type {Settle[]} */
   #waiting = [];
+  /** @type {ReturnType<typeof setTimeout> | undefined} */
   #timer;
+  /** @type {{ onNews: (line: Reply) => void, onEnd: () => void }} */
   #listener;
+  /** @type {number} */
   #patience;
   #isEnding = false;
   #hasEnded = false;
+  #lines = 0; // that came
+  /** @type {() => void} */
   #end;
 
   /** @type {Promise<void>} when the session has ended */
@@ -32,7 +57,7 @@ export class Session {
    * @param {import("./links.js").Address} address
    * @param {string} source
    * @param {object} options
-   * @param {(line: object) => void} options.onNews  is called with each line of news
+   * @param {(line: Reply) => void} options.onNews  is called with each line of news
    * @param {() => void} options.onEnd  is called when the session ends that was begun
    * @param {number} options.patience  after so many milliseconds in which nothing came, though a reply is due, the session is cut
    * @param {AbortSignal} [options.signal]  cuts the session while it begins
@@ -64,10 +89,15 @@ export class Session {
     return session;
   }
 
+  /** Whether more came than the greeting. */
+  get hasServed() {
+    return this.#lines > 1;
+  }
+
   /**
    * Sends a message. What it comes to is told to `settle`: a reply, a refusal, or "Cut" where the session ended before. A line that
    * no server takes isn't sent, and is refused at once.
-   * @param {object} message
+   * @param {Message} message
    * @param {Settle} settle
    */
   send(message, settle) {
@@ -91,6 +121,7 @@ export class Session {
     this.#close();
   }
 
+  /** @param {string} text */
   #read(text) {
     if (this.#hasEnded) return;
     this.#watch();
@@ -103,6 +134,7 @@ export class Session {
     this.#part += lines.at(-1);
   }
 
+  /** @param {string} text */
   #take(text) {
     let line;
     try {
@@ -110,6 +142,7 @@ export class Session {
     } catch {
       return this.cut(); // no richd
     }
+    this.#lines += 1;
     if ("news" in line || "ended" in line) return this.#listener.onNews(line);
     const settle = this.#waiting.shift();
     if (settle === undefined) return this.cut();
@@ -126,6 +159,7 @@ export class Session {
     if (this.#waiting.length === 0 && this.#isEnding) this.#link.end();
   }
 
+  /** @param {Error} [cause] */
   #close(cause) {
     if (this.#hasEnded) return;
     this.#hasEnded = true;

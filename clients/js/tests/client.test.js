@@ -3,6 +3,7 @@
 import assert from "node:assert/strict";
 import test from "node:test";
 import { firstUnused } from "../numbers.js";
+import { Pauses } from "../pauses.js";
 import { connect } from "../richd.js";
 import { scripted, served, until } from "./fake.js";
 
@@ -36,6 +37,7 @@ async function scriptedPair(t, onLine, options = {}) {
 const taken = ({ doc, n }, rev) => ({ doc, n, ok: "taken", rev });
 const contents = ({ doc }, rev = 1) => ({ doc, ok: "doc", ops: [{ insert: doc }], rev });
 
+// A client that hands each line to whoever has waited longest swaps these replies: the news takes the place of the first one.
 test("two requests at once, with news between: each gets its own reply", async (t) => {
   let held;
   const { client } = await scriptedPair(t, (message, session) => {
@@ -222,6 +224,30 @@ test("connect tries until its time ends, and at once where the name is none", as
   const aborted = connect({ ...full.address, source: "a", signal: aborting.signal });
   aborting.abort(new Error("enough"));
   await assert.rejects(aborted, { message: "enough" });
+});
+
+test("the pause before it connects again doubles, until a session serves", async (t) => {
+  const pauses = new Pauses();
+  assert.deepEqual(Array.from({ length: 8 }, () => pauses.next()), [100, 200, 400, 800, 1_600, 3_200, 5_000, 5_000]);
+  let serves = false;
+  const begun = [];
+  const server = await scripted((message, session) => {
+    if (message.do === "fetch") return session.reply(contents(message));
+    begun.push(performance.now());
+    session.reply(HELLO);
+    if (!serves) setTimeout(() => session.cut(), 1);
+  });
+  t.after(() => server.close());
+  const client = await connect(server.address);
+  t.after(() => client.close());
+  await until(() => begun.length === 4);
+  serves = true;
+  await client.fetch("d");
+  server.sessions.at(-1).cut();
+  await client.fetch("d");
+  const waited = begun.slice(1).map((time, index) => time - begun[index]);
+  for (const [index, least] of [100, 200, 400, 800].entries()) assert.ok(waited[index] > least - 20, `${waited}`);
+  assert.ok(begun.length === 6 && waited[4] < 1_000, `${waited}`); // the session had served
 });
 
 test("a line that no server takes is refused at once", async (t) => {

@@ -2,6 +2,7 @@
 
 import assert from "node:assert/strict";
 import { execFile } from "node:child_process";
+import { createHash } from "node:crypto";
 import { readFileSync } from "node:fs";
 import os from "node:os";
 import test from "node:test";
@@ -13,6 +14,7 @@ import { Draw } from "./draw.js";
 import { RICHD, ROOT, needsRichd } from "./program.js";
 
 const CASES = 2_000;
+const SAME_CASES = "07eb1687d7de765b3e6e225be17fc51b114b2776e7e9a9569058d769a71c9543"; // the sum of the drawn cases
 
 /** A delta in normal form, as `richd` reads it. */
 function read(text) {
@@ -50,15 +52,25 @@ async function asked(call, first, second, isFirst) {
   return JSON.parse(stdout);
 }
 
-test(`${CASES} drawn cases against richd delta`, needsRichd, async () => {
+function drawnCases() {
   const draw = new Draw(1);
-  const cases = Array.from({ length: CASES }, (_, number) => {
+  return Array.from({ length: CASES }, (_, number) => {
     const base = draw.document();
     const first = draw.change(base);
     const isCompose = number % 2 === 0;
     const second = draw.change(isCompose ? base.compose(first) : base);
     return { call: isCompose ? "compose" : "transform", first, second, isFirst: !isCompose && draw.below(2) === 0 };
   });
+}
+
+test("the drawn cases are those of clients/python/tests/test_delta.py", () => {
+  const spelled = ({ ops }) => ops.map(({ insert, retain, delete: deleted, attributes }) => [insert, retain, deleted, attributes]);
+  const text = JSON.stringify(drawnCases().map(({ call, first, second, isFirst }) => [call, spelled(first), spelled(second), isFirst]));
+  assert.equal(createHash("sha256").update(text).digest("hex"), SAME_CASES);
+});
+
+test(`${CASES} drawn cases against richd delta`, needsRichd, async () => {
+  const cases = drawnCases();
   const compare = async () => {
     for (let one = cases.pop(); one !== undefined; one = cases.pop()) {
       const { call, first, second, isFirst } = one;

@@ -13,12 +13,12 @@ import asyncio
 import socket
 from typing import Any, Awaitable, Callable, Dict, List, Optional, Sequence, Tuple, Union
 
-from .core import Core, Done, Follower, Pauses, Trace, new_source
+from .core import Core, Done, Pauses, Trace, new_source
 from .delta import Delta
-from .draft import Draft
+from .draft import fetch_or_create
 from .messages import Change, Closed, Contents, Since, Taken
+from .owner import LAST_WAIT, OwnedDocument, OwnedFollowing, Owner, Result, Told
 
-LAST_WAIT = 5.0  # seconds that `close` gives the server to answer what was sent
 PIECE = 65_536  # bytes that are taken at a time
 
 Streams = Tuple[asyncio.StreamReader, asyncio.StreamWriter, Callable[[], Awaitable[None]]]  # to read, to write, and to end both
@@ -60,19 +60,20 @@ async def _over_pipes(command: Sequence[str]) -> Streams:
     process = await asyncio.create_subprocess_exec(*command, stdin=asyncio.subprocess.PIPE, stdout=asyncio.subprocess.PIPE)
     reader, writer = process.stdout, process.stdin
     assert reader is not None and writer is not None
+    streams = reader, writer
 
     async def end() -> None:
-        writer.close()
+        streams[1].close()
         try:
             await asyncio.wait_for(process.wait(), LAST_WAIT)
         except asyncio.TimeoutError:
             process.kill()
             await process.wait()
 
-    return reader, writer, end
+    return (*streams, end)
 
 
-class Client:
+class Client(Owner):
     """A session with a server, which begins anew on a new connection where one is cut. `connect` makes one.
 
     Each call raises `Refused` where the server refuses, TimeoutError where it takes longer than the client's timeout, `Closed` once
@@ -92,20 +93,9 @@ class Client:
         self._opened, self._waits_for_place = opened, waits_for_place
         self._core = Core(source, numbers, self._later, trace)
         self._writer: Optional[asyncio.StreamWriter] = None
-        self._was_greeted = False  # on any connection
         self._closing = asyncio.Event()
         self._changed: List[asyncio.Future[None]] = []  # of those who wait until something has come
         self._task = asyncio.get_running_loop().create_task(self._live())
-
-    @property
-    def source(self) -> str:
-        """The name under which the changes of this client are taken."""
-        return self._core.source
-
-    @property
-    def is_connected(self) -> bool:
-        """Whether there is a connection. Where there is none, what is asked for is sent once there is one."""
-        return self._core.greeted
 
     async def create(self, doc: str, ops: Delta) -> Taken:
         """Makes a document of these inserts, at revision 1."""
@@ -132,13 +122,9 @@ class Client:
         isn't held any more it raises `Refused` with code 13: fetch the document then, and follow it from there."""
         return Following(self, doc, rev)
 
-    async def open(self, doc: str) -> Document:
-        """A document to type into."""
-        return Document(self, doc, await self.fetch(doc))
-
-    def numbers(self) -> Dict[str, int]:
-        """For each document that this client changed the number of its next command, for `connect` after the program's end."""
-        return self._core.numbers()
+    async def open(self, doc: str, create: Optional[Delta] = None) -> Document:
+        """A document to type into. Where it isn't there, and `create` has inserts, it is made of them; another client may do so too."""
+        return Document(self, doc, await self._answer(lambda done: fetch_or_create(self._core, doc, create, done)))
 
     async def close(self) -> None:
         """Ends the session. What was sent is still answered; what wasn't raises `Closed`."""
@@ -157,7 +143,7 @@ class Client:
     async def __aexit__(self, *cause: object) -> None:
         await self.close()
 
-    def _do(self, action: Callable[[], Any]) -> Any:
+    def _do(self, action: Callable[[], Result]) -> Result:
         """Does something with the core, and sends what it has to send then."""
         result = action()
         if self._writer is not None and not self._closing.is_set() and self._core.has_to_send:
@@ -219,17 +205,12 @@ class Client:
                 except asyncio.TimeoutError:
                     pass
 
-    def _fail(self, error: Exception) -> None:
-        self._do(lambda: self._core.fail(error))
-
     async def _converse(self, pauses: Pauses) -> None:
         """One connection, from its beginning to its end."""
         try:
             reader, writer, end = await self._opened()
         except OSError as error:
-            if not self._was_greeted:
-                self._fail(error)  # at first it is a fault, and later a server that is started anew
-            return
+            return self._could_not_open(error)
         self._writer = writer
         self._do(self._core.connected)
         try:
@@ -240,8 +221,7 @@ class Client:
             self._writer = None
             self._do(self._core.cut)
             await end()
-        if not (self._was_greeted or self._waits_for_place):
-            self._fail(ConnectionError("the server ended before it greeted"))
+        self._has_ended(self._waits_for_place)
 
     async def _read(self, reader: asyncio.StreamReader, pauses: Pauses) -> None:
         while True:
@@ -250,53 +230,26 @@ class Client:
                 return
             self._do(lambda: self._received(data, pauses))
 
-    def _received(self, data: bytes, pauses: Pauses) -> None:
-        if self._core.greeted:
-            pauses.begin_anew()  # more came than a greeting: the next attempt may be soon
-        self._core.received(data)
-        self._was_greeted = self._was_greeted or self._core.greeted
 
-
-async def _in_time(answer: Awaitable[Any], seconds: Optional[float], what: str) -> Any:
+async def _in_time(answer: Awaitable[Result], seconds: Optional[float], what: str) -> Result:
     try:
         return await asyncio.wait_for(answer, seconds)
     except asyncio.TimeoutError:
         raise TimeoutError(f"{what} in {seconds} seconds") from None
 
 
-class _Queued(Follower):
-    """Keeps what it is told until somebody asks for it."""
-
-    def __init__(self, rev: int):
-        super().__init__(rev)
-        self.queue: asyncio.Queue[Union[Change, Exception]] = asyncio.Queue()
-
-    def change(self, change: Change) -> None:
-        self.queue.put_nowait(change)
-
-    def end(self, error: Exception) -> None:
-        self.queue.put_nowait(error)
-
-
-class Following:
+class Following(OwnedFollowing):
     """The changes of a document, as an iterator that waits for the next one. It ends with the client; `close` ends it before."""
 
+    _owner: Client
+
     def __init__(self, client: Client, doc: str, rev: int):
-        self._client, self._doc = client, doc
-        self._follower = _Queued(rev)
-        client._do(lambda: client._core.follow(doc, self._follower))
+        self._queue: asyncio.Queue[Told] = asyncio.Queue()
+        super().__init__(client, doc, rev, self._queue.put_nowait)
 
     async def next(self, timeout: Optional[float] = None) -> Change:
         """The next change. Raises TimeoutError where none comes in so many seconds."""
-        told = await _in_time(self._follower.queue.get(), timeout, "no change")
-        if isinstance(told, Exception):
-            self._follower.end(told)  # it stays the answer
-            raise told
-        return told
-
-    def close(self) -> None:
-        self._client._do(lambda: self._client._core.unfollow(self._doc, self._follower))
-        self._follower.end(Closed("it is followed no longer"))
+        return self._change_of(await _in_time(self._queue.get(), timeout, "no change"))
 
     def __aiter__(self) -> Following:
         return self
@@ -308,26 +261,17 @@ class Following:
             raise StopAsyncIteration from None
 
     def __del__(self) -> None:
-        if not self._client._closing.is_set():
+        if not self._owner._closing.is_set():
             self.close()  # as where a loop was left by `break`
 
 
-class Document(Draft):
+class Document(OwnedDocument):
     """A document that one types into, and that others change meanwhile. `Client.open` makes one."""
 
-    def __init__(self, client: Client, doc: str, contents: Contents):
-        self._client = client
-        client._do(lambda: Draft.__init__(self, client._core, doc, contents))
-
-    def apply(self, ops: Delta) -> None:
-        self._client._do(lambda: Draft.apply(self, ops))
+    _owner: Client
 
     async def flush(self, timeout: Optional[float] = None) -> None:
         """Waits until all that was typed is taken. Raises what the server refused it with."""
-        timeout = self._client.timeout if timeout is None else timeout
-        await _in_time(self._client._until(lambda: self.is_settled), timeout, "not all was taken")
+        timeout = self._owner.timeout if timeout is None else timeout
+        await _in_time(self._owner._until(lambda: self.is_settled), timeout, "not all was taken")
         self.raise_fault()
-
-    def close(self) -> None:
-        """Follows the document no longer. What was typed and isn't sent is dropped, so `flush` first."""
-        self._client._do(lambda: Draft.close(self))

@@ -2,20 +2,20 @@
 
 from __future__ import annotations
 
+import functools
 import queue
 import sys
 import threading
 from concurrent.futures import Future
 from concurrent.futures import TimeoutError as FutureTimeout
-from typing import Any, Callable, Dict, Optional, Sequence, Union
+from typing import Any, Callable, Dict, List, Optional, Sequence
 
-from .core import Core, Done, Follower, Pauses, Trace, new_source
+from .core import Core, Done, Pauses, Trace, new_source
 from .delta import Delta
-from .draft import Draft
+from .draft import fetch_or_create
 from .link import Link, PipeLink, TcpLink
 from .messages import Change, Closed, Contents, Since, Taken
-
-LAST_WAIT = 5.0  # seconds that `close` gives the server to answer what was sent
+from .owner import LAST_WAIT, OwnedDocument, OwnedFollowing, Owner, Result, Told
 
 
 def connect(
@@ -37,18 +37,19 @@ def connect(
     `timeout` is for how many seconds a call waits, this one too; without it, as long as it takes. `trace(way, line)` is told each line,
     with way `>` for one that is sent and `<` for one that comes.
     """
-    openers = [
-        (lambda: TcpLink(host, port)) if host is not None and port is not None else None,
-        (lambda: PipeLink(command)) if command is not None else None,
-        link,
-    ]
-    given = [opener for opener in openers if opener is not None]
-    if len(given) != 1:
+    openers: List[Callable[[], Link]] = []
+    if host is not None and port is not None:
+        openers.append(functools.partial(TcpLink, host, port))
+    if command is not None:
+        openers.append(functools.partial(PipeLink, command))
+    if link is not None:
+        openers.append(link)
+    if len(openers) != 1:
         raise TypeError("connect takes a host and a port, or a command, or a link")
-    return Client(given[0], source or new_source(), numbers or {}, timeout, trace)
+    return Client(openers[0], source or new_source(), numbers or {}, timeout, trace)
 
 
-class Client:
+class Client(Owner):
     """A session with a server, which begins anew on a new connection where one is cut. `connect` makes one.
 
     Each call raises `Refused` where the server refuses, TimeoutError where it takes longer than the client's timeout, `Closed` once
@@ -68,7 +69,6 @@ class Client:
         self._changed = threading.Condition(threading.RLock())  # its lock is for all that follows
         self._core = Core(source, numbers, self._later, trace)
         self._link: Optional[Link] = None
-        self._was_greeted = False  # on any connection
         self._is_closing = False
         self.ahead = Ahead(self)
         self._thread = threading.Thread(target=self._live, name="richd", daemon=True)
@@ -81,16 +81,6 @@ class Client:
         if not is_there:
             self.close()
             raise TimeoutError("the server didn't greet in time")
-
-    @property
-    def source(self) -> str:
-        """The name under which the changes of this client are taken."""
-        return self._core.source
-
-    @property
-    def is_connected(self) -> bool:
-        """Whether there is a connection. Where there is none, what is asked for is sent once there is one."""
-        return self._core.greeted
 
     def create(self, doc: str, ops: Delta) -> Taken:
         """Makes a document of these inserts, at revision 1."""
@@ -117,14 +107,9 @@ class Client:
         held any more it raises `Refused` with code 13: fetch the document then, and follow it from there."""
         return Following(self, doc, rev)
 
-    def open(self, doc: str) -> Document:
-        """A document to type into."""
-        return Document(self, doc, self.fetch(doc))
-
-    def numbers(self) -> Dict[str, int]:
-        """For each document that this client changed the number of its next command, for `connect` after the program's end."""
-        with self._changed:
-            return self._core.numbers()
+    def open(self, doc: str, create: Optional[Delta] = None) -> Document:
+        """A document to type into. Where it isn't there, and `create` has inserts, it is made of them; another client may do so too."""
+        return Document(self, doc, self._wait(self.ahead._begin(lambda core, done: fetch_or_create(core, doc, create, done))))
 
     def close(self) -> None:
         """Ends the session. What was sent is still answered; what wasn't raises `Closed`."""
@@ -146,14 +131,14 @@ class Client:
     def __exit__(self, *cause: object) -> None:
         self.close()
 
-    def _do(self, action: Callable[[], Any]) -> Any:
+    def _do(self, action: Callable[[], Result]) -> Result:
         """Does something with the core, and sends what it has to send then."""
         with self._changed:
             result = action()
             self._changed.notify_all()
             return result
 
-    def _wait(self, future: Future) -> Any:
+    def _wait(self, future: Future[Result]) -> Result:
         try:
             return future.result(self.timeout)
         except FutureTimeout:
@@ -180,17 +165,12 @@ class Client:
                     return
                 self._changed.wait_for(lambda: self._is_closing, pauses.next())
 
-    def _fail(self, error: Exception) -> None:
-        self._do(lambda: self._core.fail(error))
-
     def _converse(self, pauses: Pauses) -> None:
         """One connection, from its beginning to its end."""
         try:
             link = self._open_link()
         except OSError as error:
-            if not self._was_greeted:
-                self._fail(error)  # at first it is a fault, and later a server that is started anew
-            return
+            return self._could_not_open(error)
         with self._changed:
             self._link = link
             self._core.connected()
@@ -207,8 +187,7 @@ class Client:
                 self._changed.notify_all()
             link.close()
             writer.join()
-        if not (self._was_greeted or link.waits_for_place):
-            self._fail(ConnectionError("the server ended before it greeted"))
+        self._has_ended(link.waits_for_place)
 
     def _read(self, link: Link, pauses: Pauses) -> None:
         while True:
@@ -216,12 +195,6 @@ class Client:
             if not data:
                 return
             self._do(lambda: self._received(data, pauses))
-
-    def _received(self, data: bytes, pauses: Pauses) -> None:
-        if self._core.greeted:
-            pauses.begin_anew()  # more came than a greeting: the next attempt may be soon
-        self._core.received(data)
-        self._was_greeted = self._was_greeted or self._core.greeted
 
     def _write(self, link: Link) -> None:
         while True:
@@ -276,42 +249,19 @@ class Ahead:
         return future
 
 
-class _Queued(Follower):
-    """Keeps what it is told until somebody asks for it."""
-
-    def __init__(self, rev: int):
-        super().__init__(rev)
-        self.queue: queue.Queue[Union[Change, Exception]] = queue.Queue()
-
-    def change(self, change: Change) -> None:
-        self.queue.put(change)
-
-    def end(self, error: Exception) -> None:
-        self.queue.put(error)
-
-
-class Following:
+class Following(OwnedFollowing):
     """The changes of a document, as an iterator that waits for the next one. It ends with the client; `close` ends it before."""
 
     def __init__(self, client: Client, doc: str, rev: int):
-        self._client, self._doc = client, doc
-        self._follower = _Queued(rev)
-        client._do(lambda: client._core.follow(doc, self._follower))
+        self._queue: queue.Queue[Told] = queue.Queue()
+        super().__init__(client, doc, rev, self._queue.put)
 
     def next(self, timeout: Optional[float] = None) -> Change:
         """The next change. Raises TimeoutError where none comes in so many seconds."""
         try:
-            told = self._follower.queue.get(timeout=timeout)
+            return self._change_of(self._queue.get(timeout=timeout))
         except queue.Empty:
             raise TimeoutError(f"no change in {timeout} seconds") from None
-        if isinstance(told, Exception):
-            self._follower.queue.put(told)  # it stays the answer
-            raise told
-        return told
-
-    def close(self) -> None:
-        self._client._do(lambda: self._client._core.unfollow(self._doc, self._follower))
-        self._follower.end(Closed("it is followed no longer"))
 
     def __iter__(self) -> Following:
         return self
@@ -333,30 +283,21 @@ class Following:
             self.close()  # as where a loop was left by `break`
 
 
-class Document(Draft):
+class Document(OwnedDocument):
     """A document that one types into, and that others change meanwhile. `Client.open` makes one.
 
     The functions that are given to `on_change` and `on_reset` are called in a thread of the client, and may not wait for its calls.
     """
 
-    def __init__(self, client: Client, doc: str, contents: Contents):
-        self._client = client
-        client._do(lambda: Draft.__init__(self, client._core, doc, contents))
-
-    def apply(self, ops: Delta) -> None:
-        self._client._do(lambda: Draft.apply(self, ops))
+    _owner: Client
 
     def flush(self, timeout: Optional[float] = None) -> None:
         """Waits until all that was typed is taken. Raises what the server refused it with."""
-        timeout = self._client.timeout if timeout is None else timeout
-        with self._client._changed:
-            if not self._client._changed.wait_for(lambda: self.is_settled, timeout):
+        timeout = self._owner.timeout if timeout is None else timeout
+        with self._owner._changed:
+            if not self._owner._changed.wait_for(lambda: self.is_settled, timeout):
                 raise TimeoutError(f"not all was taken in {timeout} seconds")
             self.raise_fault()
-
-    def close(self) -> None:
-        """Follows the document no longer. What was typed and isn't sent is dropped, so `flush` first."""
-        self._client._do(lambda: Draft.close(self))
 
     def __enter__(self) -> Document:
         return self

@@ -15,7 +15,7 @@ from typing import Any, Callable, Deque, Dict, List, Optional
 
 from . import messages
 from .delta import Delta
-from .messages import Change, Closed, Contents, Message, Refused, Since, Taken, Unexpected
+from .messages import Change, Contents, Message, Refused, Since, Taken, Unexpected
 
 Done = Callable[[Any, Optional[Exception]], None]
 Trace = Callable[[str, str], None]
@@ -106,7 +106,7 @@ class Core:
         self.source = source
         self.greeted = False  # whether the server has replied to hello on this connection
         self.failure: Optional[Exception] = None  # why nothing is sent any more
-        self._later, self._trace = later, trace
+        self.later, self._trace = later, trace
         self._commands = {doc: Commands(number, True) for doc, number in numbers.items()}
         self._requests: Deque[Request] = deque()  # those on their way, in the order in which they were sent
         self._postponed: List[Request] = []  # those that found the server without memory, or its store failed
@@ -292,7 +292,7 @@ class Core:
         error = Refused(reply["code"], reply["error"]) if "code" in reply else None
         if error is not None and error.code == messages.NO_MEMORY:
             self._postponed.append(request)
-            self._later(request.pauses.next(), lambda: self._resume(request))
+            self.later(request.pauses.next(), lambda: self._resume(request))
         elif isinstance(request, Command):
             self._settle(request, reply, error)
         elif error is not None:

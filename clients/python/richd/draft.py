@@ -13,7 +13,7 @@ from collections import deque
 from typing import Callable, Deque, List, Optional
 
 from . import delta, messages
-from .core import Core, Follower
+from .core import Core, Done, Follower, Pauses
 from .delta import Delta
 from .messages import Change, Contents, Refused, Taken
 
@@ -175,4 +175,36 @@ class Draft(Follower):
 
 
 def _is_too_old(error: Optional[Exception]) -> bool:
-    return isinstance(error, Refused) and error.code == messages.TOO_OLD
+    return _is_refusal(error, messages.TOO_OLD)
+
+
+def _is_refusal(error: Optional[Exception], code: int) -> bool:
+    return isinstance(error, Refused) and error.code == code
+
+
+def fetch_or_create(core: Core, doc: str, ops: Optional[Delta], done: Done) -> None:
+    """Asks for a document, which is made of these inserts where it isn't there, and there are some. Another client may make it at the
+    same time: then the server says so before it shows the document, which a crash may yet take back. So both are tried in turn."""
+    pauses = Pauses()
+    was_tried = False
+
+    def fetched(contents: Optional[Contents], error: Optional[Exception]) -> None:
+        if ops is None or not _is_refusal(error, messages.NO_DOCUMENT):
+            done(contents, error)
+        elif was_tried:
+            core.later(pauses.next(), create)
+        else:
+            create()
+
+    def create() -> None:
+        nonlocal was_tried
+        was_tried = True
+        core.create(doc, ops or [], created)
+
+    def created(taken: Optional[Taken], error: Optional[Exception]) -> None:
+        if error is None or _is_refusal(error, messages.EXISTS):
+            core.fetch(doc, None, fetched)
+        else:
+            done(None, error)
+
+    core.fetch(doc, None, fetched)

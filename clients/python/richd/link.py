@@ -6,7 +6,7 @@ import os
 import socket
 import struct
 import subprocess
-from typing import Any, Optional, Sequence, TypeVar
+from typing import IO, Optional, Sequence, TypeVar
 
 LinkType = TypeVar("LinkType", bound="Link")
 
@@ -84,29 +84,31 @@ class PipeLink(Link):
 
     def __init__(self, command: Sequence[str]):
         self.process = subprocess.Popen(command, stdin=subprocess.PIPE, stdout=subprocess.PIPE, bufsize=0)
+        assert self.process.stdin is not None and self.process.stdout is not None
+        self._input, self._output = self.process.stdin, self.process.stdout
 
     def send(self, data: bytes) -> None:
         rest = memoryview(data)
         while rest:
-            rest = rest[os.write(_descriptor(self.process.stdin), rest) :]
+            rest = rest[os.write(_descriptor(self._input), rest) :]
 
     def receive(self) -> bytes:
-        return os.read(_descriptor(self.process.stdout), PIECE)
+        return os.read(_descriptor(self._output), PIECE)
 
     def finish(self) -> None:
-        self.process.stdin.close()
+        self._input.close()
 
     def close(self) -> None:
-        self.process.stdin.close()
+        self._input.close()
         try:
             self.process.wait(PATIENCE)
         except subprocess.TimeoutExpired:
             self.process.kill()
             self.process.wait()
-        self.process.stdout.close()
+        self._output.close()
 
 
-def _descriptor(pipe: Any) -> int:
+def _descriptor(pipe: IO[bytes]) -> int:
     """A pipe's number. Raises OSError where another thread has closed it."""
     try:
         return pipe.fileno()

@@ -9,6 +9,8 @@ from .delta import Delta
 
 Message = Dict[str, Any]
 
+NO_DOCUMENT = 6
+EXISTS = 7
 TOO_OLD = 13
 STORE_FAILED = 21
 NO_MEMORY = 22

@@ -35,7 +35,9 @@ class Server:
     def __init__(self, store: str, *options: str, port: int = 0):
         command: List[str] = [find(), "serve", store, "--listen", f"127.0.0.1:{port}", *options]
         self.process = subprocess.Popen(command, stdout=subprocess.PIPE, text=True)
-        line = self.process.stdout.readline()
+        assert self.process.stdout is not None
+        self._output = self.process.stdout
+        line = self._output.readline()
         if not line.startswith("listening "):
             raise ChildProcessError(f"{' '.join(command)} ended with status {self.process.wait()}")
         host, number = line.split()[1].rsplit(":", 1)
@@ -49,7 +51,7 @@ class Server:
         """Ends it by SIGKILL, which is how it may end at any moment."""
         self.process.kill()
         self.process.wait()
-        self.process.stdout.close()
+        self._output.close()
 
     def __enter__(self) -> Server:
         return self

@@ -1,15 +1,18 @@
 """Deltas: quill-delta's published behaviour, and 2,000 drawn cases beside `richd delta`."""
 
+import hashlib
 import json
 import random
 import subprocess
 import unittest
 
 from richd import delta
+from tests.draw import Draw, ends_of
 from tests.program import richd_or_skip
 
 SEED = 41
 CASES = 2_000
+SAME_CASES = "07eb1687d7de765b3e6e225be17fc51b114b2776e7e9a9569058d769a71c9543"  # the sum of those that clients/js/tests/delta.test.js draws
 TEXTS = ["a", "bc", "def", "ghij", "é", "ß€", "日本", "😀", "a😀b", "😀😀", "\n", "x" * 40, '"\\\u0001']
 EMBEDS = [{"image": "a.png"}, {"image": "b.png"}, {"rule": True}, {"formula": 1}]
 VALUES = {"bold": [True, 1, False], "italic": [True], "size": [1, 2, "1"], "color": ["red", "#fff"]}
@@ -137,7 +140,7 @@ class Drawn(unittest.TestCase):
 
     def change(self, document):
         """A change of a document that parts no character, not in normal form."""
-        places = ends(document)
+        places = ends_of(document)
         at, ops = 0, []
         while at < len(places) - 1 and self.draw.random() < 0.85:
             to = min(len(places) - 1, at + self.draw.choice([1, 1, 2, 3, 7]))
@@ -156,28 +159,34 @@ class Drawn(unittest.TestCase):
             ops.append(self.insert())
         return ops
 
-    def test_beside_the_program(self):
+    def same(self, ours, *words):
+        """What is computed here is what the program prints for these words, the deltas among them."""
         richd = richd_or_skip(self)
+        words = [word if isinstance(word, str) else json.dumps({"ops": word}, ensure_ascii=False) for word in words]
+        answer = subprocess.run([richd, "delta", *words], capture_output=True, text=True)
+        self.assertEqual(answer.returncode, 0, (words, answer.stderr))
+        self.assertEqual(json.dumps(ours, sort_keys=True), json.dumps(json.loads(answer.stdout)["ops"], sort_keys=True), words)
 
-        def printed(*words):
-            answer = subprocess.run([richd, "delta", *words], capture_output=True, text=True)
-            self.assertEqual(answer.returncode, 0, (words, answer.stderr))
-            return json.loads(answer.stdout)["ops"]
-
-        def spelled(ops):
-            return json.dumps({"ops": ops}, ensure_ascii=False)
-
-        def same(ours, theirs, *cause):
-            self.assertEqual(json.dumps(ours, sort_keys=True), json.dumps(theirs, sort_keys=True), cause)
-
-        for case in range(CASES):
+    def test_beside_the_program(self):
+        for _ in range(CASES // 4):
             document = self.document()
             one, other = self.change(document), self.change(document)
             then = self.change(delta.compose(document, one))
-            same(delta.compose(document, one), printed("apply", spelled(document), spelled(one)), case, document, one)
-            same(delta.compose(one, then), printed("compose", spelled(one), spelled(then)), case, one, then)
-            same(delta.transform(one, other, False), printed("transform", spelled(one), spelled(other)), case, one, other)
-            same(delta.transform(one, other, True), printed("transform", spelled(one), spelled(other), "--first"), case, one, other)
+            self.same(delta.compose(document, one), "apply", document, one)
+            self.same(delta.compose(one, then), "compose", one, then)
+            self.same(delta.transform(one, other, False), "transform", one, other)
+            self.same(delta.transform(one, other, True), "transform", one, other, "--first")
+
+    def test_the_cases_of_the_other_client_beside_the_program(self):
+        draw = Draw(1)
+        cases = [draw.case(number) for number in range(CASES)]
+        kinds = ("insert", "retain", "delete", "attributes")
+        spelled = [[call, *[[[it.get(kind) for kind in kinds] for it in ops] for ops in pair], first] for call, *pair, first in cases]
+        text = json.dumps(spelled, ensure_ascii=False, separators=(",", ":"))
+        self.assertEqual(hashlib.sha256(text.encode()).hexdigest(), SAME_CASES)
+        for call, one, other, is_first in cases:
+            ours = delta.compose(one, other) if call == "compose" else delta.transform(one, other, is_first)
+            self.same(ours, call, one, other, *(["--first"] if is_first else []))
 
     def test_both_orders_come_to_the_same_document(self):
         for case in range(CASES):
@@ -217,16 +226,6 @@ class Parted(unittest.TestCase):
         for piece in pieces:
             whole = delta.compose(whole, piece)
         self.assertEqual(whole, operations(3, "\u0001é😀" * 30_000, -2))
-
-
-def ends(document):
-    """The places in a document at which it may be cut, in units."""
-    places = [0]
-    for operation in document:
-        content = operation["insert"]
-        for size in [delta.units(letter) for letter in content] if isinstance(content, str) else [1]:
-            places.append(places[-1] + size)
-    return places
 
 
 if __name__ == "__main__":
