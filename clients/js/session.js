@@ -140,8 +140,9 @@ export class Session {
     try {
       line = JSON.parse(text);
     } catch {
-      return this.cut(); // no richd
+      line = null;
     }
+    if (typeof line !== "object" || line === null) return this.cut(); // no richd
     this.#lines += 1;
     if ("news" in line || "ended" in line) return this.#listener.onNews(line);
     const settle = this.#waiting.shift();

@@ -126,6 +126,13 @@ test("reads are asked again after a cut", async (t) => {
   assert.deepEqual(replies.map(({ ops }) => ops[0].insert), ["a", "b", "c"]);
 });
 
+test("a server whose line is no object is left, and asked again", async (t) => {
+  const wrong = [5, null, "x"];
+  const { client } = await scriptedPair(t, (message, session) => session.reply(wrong.length > 0 ? wrong.shift() : contents(message)));
+  assert.deepEqual((await client.fetch("a")).ops, [{ insert: "a" }]);
+  assert.equal(wrong.length, 0);
+});
+
 test("what is followed comes once and in order, over a cut, for each who follows", async (t) => {
   const { client, server } = await pair(t);
   await client.create("d", [{ insert: "ab" }]);

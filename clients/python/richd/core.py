@@ -268,6 +268,7 @@ class Core:
         elif not self._requests:
             raise Unexpected(f"a reply to nothing: {line[:100]!r}")
         else:
+            messages.check_reply(self._requests[0].message, message)
             self._reply(self._requests.popleft(), message)
 
     def _greet(self, reply: Message) -> None:
@@ -286,9 +287,6 @@ class Core:
             self._subscribe(doc)
 
     def _reply(self, request: Request, reply: Message) -> None:
-        for member in ("doc", "n"):
-            if member in reply and reply[member] != request.message.get(member):
-                raise Unexpected(f"{reply} replies to {request.message}")
         error = Refused(reply["code"], reply["error"]) if "code" in reply else None
         if error is not None and error.code == messages.NO_MEMORY:
             self._postponed.append(request)

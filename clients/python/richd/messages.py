@@ -3,7 +3,7 @@
 from __future__ import annotations
 
 import json
-from typing import Any, Dict, List, NamedTuple, Optional
+from typing import Any, Dict, List, NamedTuple, Optional, Set
 
 from .delta import Delta
 
@@ -107,3 +107,24 @@ def read(line: bytes) -> Message:
     if not isinstance(message, dict):
         raise Unexpected(f"no line of the protocol: {line[:100]!r}")
     return message
+
+
+_COMMAND = {"taken": {"n", "rev"}, "again": {"n", "rev"}}
+# For each message the replies that it may have, by their member `ok`, with what else is read of them.
+_REPLIES: Dict[str, Dict[str, Set[str]]] = {
+    "create": _COMMAND,
+    "edit": _COMMAND,
+    "undo": _COMMAND,
+    "fetch": {"doc": {"rev", "ops"}},
+    "since": {"since": {"rev", "deltas"}},
+    "subscribe": {"subscribed": set()},
+    "unsubscribe": {"unsubscribed": set()},
+}
+
+
+def check_reply(message: Message, reply: Message) -> None:
+    """Raises Unexpected where a reply isn't one to this message."""
+    needed = {"error"} if "code" in reply else _REPLIES[message["do"]].get(reply.get("ok", ""))
+    is_another = any(member in reply and reply[member] != message.get(member) for member in ("doc", "n"))
+    if needed is None or not needed <= set(reply) or is_another:
+        raise Unexpected(f"{reply} replies to {message}")

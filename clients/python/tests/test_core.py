@@ -131,6 +131,16 @@ class Requests(CoreTest):
             self.begin()
             self.core.undo("d", Answer())
 
+    def test_who_waits_is_told_of_a_reply_that_is_none(self):
+        for reply in ({"doc": "e", "ok": "doc", "ops": [], "rev": 1}, {"doc": "d", "ok": "doc", "rev": 1}, {"doc": "d", "ok": "unsubscribed"}):
+            answer = Answer()
+            self.core.fetch("d", None, answer)
+            with self.assertRaises(Unexpected) as caught:
+                self.comes(reply)
+            self.core.fail(caught.exception)
+            self.assertIs(answer.only, caught.exception)
+            self.begin()
+
     def test_a_refused_hello_is_told(self):
         core = Core("a b", {}, lambda seconds, action: None)
         core.connected()
