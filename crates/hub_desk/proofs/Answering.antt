@@ -33,7 +33,7 @@ stands_more start ticket old new begins stands = record {
 
 module _ {J : Type 0} (start : State) (old new : Desk) (command : Command) where
   -- it was submitted
-  was_submitted : (ticket : Ticket) (count : ℕ) → IsOf {J} start command (Ok ticket) → IsPrefix old.told new.told → new.shown ≡ old.shown
+  was_submitted : (ticket : Ticket) (count : ℕ) → IsOf {J = J} start command (Ok ticket) → IsPrefix old.told new.told → new.shown ≡ old.shown
       → Submits start (with_count old count) command ticket (with_count new (counted count ticket.reply))
   was_submitted ticket count of told shown = record { of_command = of.1; given = of.0; counts = refl; told = told; shown = shown }
 
@@ -42,7 +42,7 @@ module _ {J : Type 0} (start : State) (old new : Desk) (command : Command) where
       → new.shown ≡ old.shown → answered ticket.reply ≡ Ok reply → StandsFirst start ticket (commands_of new.told)
       → AnswersFor start old command submitted (Ok reply) new
   answered_ok submitted ticket reply is told shown answer stands count of =
-      let this : IsOf {J} start command (Ok ticket) = subst (IsOf {J} start command) is of in
+      let this : IsOf {J = J} start command (Ok ticket) = subst (IsOf {J = J} start command) is of in
       subst (λ (s : Result Ticket (NotSubmitted J)). PassesAtHub start (with_count old count) (Answered command (Ok reply)) (with_count new (counted_by count s))) (sym is)
       (record { ticket = ticket; submits = was_submitted ticket count this told shown; answer = answer; stands = stands })
 
@@ -50,11 +50,11 @@ module _ {J : Type 0} (start : State) (old new : Desk) (command : Command) where
   pub answered_stopped : (submitted : Result Ticket (NotSubmitted J)) (ticket : Ticket) (refusal : Refusal) → submitted ≡ Ok ticket → IsPrefix old.told new.told
       → new.shown ≡ old.shown → (refusal ≡ StoreFailed) × (new.stopped ≡ true) → AnswersFor start old command submitted (Err refusal) new
   answered_stopped submitted ticket refusal is told shown only count of =
-      let this : IsOf {J} start command (Ok ticket) = subst (IsOf {J} start command) is of in
+      let this : IsOf {J = J} start command (Ok ticket) = subst (IsOf {J = J} start command) is of in
       subst (λ (s : Result Ticket (NotSubmitted J)). PassesAtHub start (with_count old count) (Answered command (Err refusal)) (with_count new (counted_by count s))) (sym is)
       (inr (only.0, record { token = only.1; submits = inr (ticket, was_submitted ticket count this told shown) }))
 
-  by_why : (why : NotSubmitted J) (count : ℕ) → IsOf {J} start command (Err why)
+  by_why : (why : NotSubmitted J) (count : ℕ) → IsOf {J = J} start command (Err why)
       → PassesAtHub start (with_count old count) (Answered command (Err (refusal_of why))) (with_count (noted old why) count)
   by_why (Stopped token) count of = inr (refl, record { token = refl; submits = inl refl })
   by_why (ByBoard refusal) count of = inl (refl, inr of.0)
@@ -63,7 +63,7 @@ module _ {J : Type 0} (start : State) (old new : Desk) (command : Command) where
   pub answered_refused : (submitted : Result Ticket (NotSubmitted J)) (why : NotSubmitted J) (refusal : Refusal) → submitted ≡ Err why → refusal ≡ refusal_of why
       → new ≡ noted old why → AnswersFor start old command submitted (Err refusal) new
   answered_refused submitted why refusal is told leaves count of =
-      let this : IsOf {J} start command (Err why) = subst (IsOf {J} start command) is of in
+      let this : IsOf {J = J} start command (Err why) = subst (IsOf {J = J} start command) is of in
       subst (λ (s : Result Ticket (NotSubmitted J)). PassesAtHub start (with_count old count) (Answered command (Err refusal)) (with_count new (counted_by count s))) (sym is)
       (subst (λ (r : Refusal). PassesAtHub start (with_count old count) (Answered command (Err r)) (with_count new count)) (sym told)
       (subst (λ (d : Desk). PassesAtHub start (with_count old count) (Answered command (Err (refusal_of why))) (with_count d count)) (sym leaves)
