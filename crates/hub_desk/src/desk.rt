@@ -238,7 +238,7 @@ impl<D, J: Site, R: Wait> Desk for HubDesk<'_, D, J, R> {
 
     fn ask(&mut self, alloc: Global, command: &Command) -> Result<Reply, Refusal> {
         let submitted = self.submit(alloc, command);
-        let others = [];
+        let others = Vec::new(alloc);
         self.answer_by(command, &submitted, &others)
     }
 
