@@ -10,7 +10,7 @@ use Rattle.published.proofs.CallerLemmas.{prefix_trans}
 use Rattle.world.specs.Board.{Ticket}
 use Rattle.world.specs.World.{takens}
 use Rattle.hub.specs.Legal.{counted}
-use Rattle.hub.specs.Given.{refusal_of}
+use Rattle.hub.specs.Given.{GaveTicket, refusal_of}
 use Rattle.hub.specs.Placed.{StandsFirst}
 use Rattle.hub.specs.declared.not_submitted.NotSubmitted.{NotSubmitted}
 use Rattle.hub.specs.declared.not_submitted.NotSubmitted.TheVariants.{Stopped, ByBoard}
@@ -31,30 +31,31 @@ stands_more start ticket old new begins stands = record {
   first = prefix_trans (takens stands.order) (commands_of old) (commands_of new) stands.first (commands_begin old new begins);
 }
 
-module _ {J : Type 0} (start : State) (old new : Desk) (command : Command) where
-  -- it was submitted
-  was_submitted : (ticket : Ticket) (count : ℕ) → IsOf {J} start command (Ok ticket) → IsPrefix old.told new.told → new.shown ≡ old.shown
-      → Submits start (with_count old count) command ticket (with_count new (counted count ticket.reply))
-  was_submitted ticket count of told shown = record { of_command = of.1; given = of.0; counts = refl; told = told; shown = shown }
+-- it was submitted
+was_submitted : (start : State) (old new : Desk) (command : Command) (ticket : Ticket) (count : ℕ) → GaveTicket start command ticket → ticket.command ≡ command
+    → IsPrefix old.told new.told → new.shown ≡ old.shown
+    → Submits start (with_count old count) command ticket (with_count new (counted count ticket.reply))
+was_submitted start old new command ticket count given same told shown = record { of_command = same; given = given; counts = refl; told = told; shown = shown }
 
+module _ {J : Type 0} (start : State) (old new : Desk) (command : Command) where
   -- so it is answered by its ticket,
   pub answered_ok : (submitted : Result Ticket (NotSubmitted J)) (ticket : Ticket) (reply : Reply) → submitted ≡ Ok ticket → IsPrefix old.told new.told
       → new.shown ≡ old.shown → answered ticket.reply ≡ Ok reply → StandsFirst start ticket (commands_of new.told)
       → AnswersFor start old command submitted (Ok reply) new
   answered_ok submitted ticket reply is told shown answer stands count of =
-      let this : IsOf {J} start command (Ok ticket) = subst (IsOf {J} start command) is of in
+      let this : IsOf {J = J} start command (Ok ticket) = subst (IsOf {J = J} start command) is of in
       subst (λ (s : Result Ticket (NotSubmitted J)). PassesAtHub start (with_count old count) (Answered command (Ok reply)) (with_count new (counted_by count s))) (sym is)
-      (record { ticket = ticket; submits = was_submitted ticket count this told shown; answer = answer; stands = stands })
+      (record { ticket = ticket; submits = was_submitted start old new command ticket count this.0 this.1 told shown; answer = answer; stands = stands })
 
   -- or the hub was stopped before it was settled,
   pub answered_stopped : (submitted : Result Ticket (NotSubmitted J)) (ticket : Ticket) (refusal : Refusal) → submitted ≡ Ok ticket → IsPrefix old.told new.told
       → new.shown ≡ old.shown → (refusal ≡ StoreFailed) × (new.stopped ≡ true) → AnswersFor start old command submitted (Err refusal) new
   answered_stopped submitted ticket refusal is told shown only count of =
-      let this : IsOf {J} start command (Ok ticket) = subst (IsOf {J} start command) is of in
+      let this : IsOf {J = J} start command (Ok ticket) = subst (IsOf {J = J} start command) is of in
       subst (λ (s : Result Ticket (NotSubmitted J)). PassesAtHub start (with_count old count) (Answered command (Err refusal)) (with_count new (counted_by count s))) (sym is)
-      (inr (only.0, record { token = only.1; submits = inr (ticket, was_submitted ticket count this told shown) }))
+      (inr (only.0, record { token = only.1; submits = inr (ticket, was_submitted start old new command ticket count this.0 this.1 told shown) }))
 
-  by_why : (why : NotSubmitted J) (count : ℕ) → IsOf {J} start command (Err why)
+  by_why : (why : NotSubmitted J) (count : ℕ) → IsOf {J = J} start command (Err why)
       → PassesAtHub start (with_count old count) (Answered command (Err (refusal_of why))) (with_count (noted old why) count)
   by_why (Stopped token) count of = inr (refl, record { token = refl; submits = inl refl })
   by_why (ByBoard refusal) count of = inl (refl, inr of.0)
@@ -63,7 +64,7 @@ module _ {J : Type 0} (start : State) (old new : Desk) (command : Command) where
   pub answered_refused : (submitted : Result Ticket (NotSubmitted J)) (why : NotSubmitted J) (refusal : Refusal) → submitted ≡ Err why → refusal ≡ refusal_of why
       → new ≡ noted old why → AnswersFor start old command submitted (Err refusal) new
   answered_refused submitted why refusal is told leaves count of =
-      let this : IsOf {J} start command (Err why) = subst (IsOf {J} start command) is of in
+      let this : IsOf {J = J} start command (Err why) = subst (IsOf {J = J} start command) is of in
       subst (λ (s : Result Ticket (NotSubmitted J)). PassesAtHub start (with_count old count) (Answered command (Err refusal)) (with_count new (counted_by count s))) (sym is)
       (subst (λ (r : Refusal). PassesAtHub start (with_count old count) (Answered command (Err r)) (with_count new count)) (sym told)
       (subst (λ (d : Desk). PassesAtHub start (with_count old count) (Answered command (Err (refusal_of why))) (with_count d count)) (sym leaves)

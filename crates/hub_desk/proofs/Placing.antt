@@ -4,6 +4,7 @@ use Rattle.std.specs.Prelude.{◌==◌, nat_lt, nat_le, bytes_eq, slice_get}
 use Rattle.std.proofs.lemmas.Bool.{and_parts, eqb-true}
 use Rattle.std.proofs.lemmas.Bool.Decides.{nat_tests}
 use Rattle.std.proofs.lemmas.List.{map-append}
+use Rattle.std.proofs.lemmas.Option.{some_pair_parts}
 use Rattle.std.proofs.lemmas.Slice.Eq.{bytes_eq-Decides}
 use mathlib.Core.List.{IsPrefix}
 use Rattle.attributes.specs.Map.{empty}
@@ -22,6 +23,7 @@ use Rattle.revision.specs.Acceptance.{Answer, Takes, Repeats, Refuses, Reply, Ta
 use Rattle.world.specs.World.{Entry, entry_of, takens}
 use Rattle.hub.specs.Placed.{PlacedBy}
 use Rattle.session.specs.declared.reply.Reply.{Reply as Told}
+use Rattle.session.specs.declared.reply.Reply.TheVariants.{Taken as TookAt, Again as WasAt}
 use Rattle.session.specs.Alone.{answered}
 use Rattle.session.specs.Reply.{rev_of}
 use Rattle.hub_desk.specs.Laws.{PlacedStands}
@@ -134,14 +136,19 @@ found-place : (name : List ℕ) (from : ℕ) (documents : List DocumentRecord) (
     → (number : ℕ) × (at ≡ from + number) × (slice_get documents number ≡ Some found)
     × ((next : DocumentRecord) → next.name ≡ found.name → find name from (set_document number (Some next) documents) ≡ Some (at, next))
 found-place name from [] at found is = absurd (cc (is))
-found-place name from (first ∷ others) at found is = by_test (bytes_eq first.name name) refl is
+found-place name from (first ∷ others) at found is =
+    by_test (λ further. found-place name (from + 1) others at found further) (bytes_eq first.name name) refl is
   where
-    by_test : (b : Bool) → bytes_eq first.name name ≡ b → cond b (Some (from, first)) (find name (from + 1) others) ≡ Some (at, found)
+    by_test : (find name (from + 1) others ≡ Some (at, found)
+        → (number : ℕ) × (at ≡ from + 1 + number) × (slice_get others number ≡ Some found)
+        × ((next : DocumentRecord) → next.name ≡ found.name → find name (from + 1) (set_document number (Some next) others) ≡ Some (at, next)))
+        → (b : Bool) → bytes_eq first.name name ≡ b → cond b (Some (from, first)) (find name (from + 1) others) ≡ Some (at, found)
         → (number : ℕ) × (at ≡ from + number) × (slice_get (first ∷ others) number ≡ Some found)
         × ((next : DocumentRecord) → next.name ≡ found.name → find name from (set_document number (Some next) (first ∷ others)) ≡ Some (at, next))
-    by_test true e here =
-        let start : from ≡ at = cc (here) in
-        let this : first ≡ found = cc (here) in (
+    by_test more true e here =
+        let parts = some_pair_parts from at first found here in
+        let start : from ≡ at = parts.0 in
+        let this : first ≡ found = parts.1 in (
           0,
           omega (arith, start),
           ap Some this,
@@ -149,8 +156,8 @@ found-place name from (first ∷ others) at found is = by_test (bytes_eq first.n
               (ap (λ (n : List ℕ). bytes_eq n name) (same ∙ ap (λ (d : DocumentRecord). d.name) (sym this)) ∙ e)
               ∙ ap (λ n. Some (n, next)) start,
         )
-    by_test false e further =
-        let rest = found-place name (from + 1) others at found further in (
+    by_test more false e further =
+        let rest = more further in (
           suc rest.0,
           omega (arith, rest.1),
           rest.2,
@@ -172,14 +179,16 @@ created-at : (name : List ℕ) (from : ℕ) (documents : List DocumentRecord) (n
 created-at name from [] new none same =
     let start : from ≡ from + 0 = omega arith in
     ap (λ b. cond b (Some (from, new)) None) (ap (λ (n : List ℕ). bytes_eq n name) same ∙ bytes_same name) ∙ ap (λ n. Some (n, new)) start
-created-at name from (first ∷ others) new none same = by_test (bytes_eq first.name name) none
+created-at name from (first ∷ others) new none same = by_test (λ there. created-at name (from + 1) others new there same) (bytes_eq first.name name) none
   where
-    by_test : (b : Bool) → cond b (Some (from, first)) (find name (from + 1) others) ≡ None
+    by_test : (find name (from + 1) others ≡ None
+        → find name (from + 1) (set_document (length others) (Some new) others) ≡ Some (from + 1 + length others, new))
+        → (b : Bool) → cond b (Some (from, first)) (find name (from + 1) others) ≡ None
         → cond b (Some (from, first)) (find name (from + 1) (set_document (length others) (Some new) others)) ≡ Some (from + suc (length others), new)
-    by_test true there = absurd (cc (there))
-    by_test false there =
+    by_test more true there = absurd (cc (there))
+    by_test more false there =
         let count : from + 1 + length others ≡ from + suc (length others) = omega arith in
-        created-at name (from + 1) others new there same ∙ ap (λ n. Some (n, new)) count
+        more there ∙ ap (λ n. Some (n, new)) count
 
 none-behind : (documents : List DocumentRecord) → slice_get documents (length documents) ≡ None
 none-behind [] = refl
@@ -286,14 +295,16 @@ fold_more state (first ∷ others) taken = fold_more (grown state first) others 
 placed-there : (start : State) (order : List Entry) (command : Command) (due : Reply) (reply : Told) → PlacedBy start order command due → answered due ≡ Ok reply
     → StandsIn (fold start (takens order)) command (rev_of reply)
 placed-there start order command (TakenAt revision) reply (before, taken, whole, takes, made) answers =
-    let same : taken.revision ≡ rev_of reply = made ∙ ap (λ (r : Told). rev_of r) (cc (answers)) in
+    let told : TookAt revision ≡ reply = cc (answers) in
+    let same : taken.revision ≡ rev_of reply = made ∙ ap (λ (r : Told). rev_of r) told in
     let state : fold start (takens order) ≡ grown (fold start (takens before)) taken =
     ap (λ (o : List Entry). fold start (takens o)) whole ∙ (ap (fold start) (map-append (λ (e : Entry). e.taken) before (entry_of command taken ∷ []))
     ∙ fold_more start (takens before) taken) in
     subst (λ (s : State). StandsIn s command (rev_of reply)) (sym state)
     (subst (λ (r : ℕ). StandsIn (grown (fold start (takens before)) taken) command r) same (stands_taken (fold start (takens before)) command taken takes))
 placed-there start order command (AgainAt revision) reply repeats answers =
-    let same : revision ≡ rev_of reply = ap (λ (r : Told). rev_of r) (cc (answers)) in
+    let told : WasAt revision ≡ reply = cc (answers) in
+    let same : revision ≡ rev_of reply = ap (λ (r : Told). rev_of r) told in
     subst (λ (r : ℕ). StandsIn (fold start (takens order)) command r) same (stands_again (fold start (takens order)) command revision repeats)
 placed-there start order command (Refused refusal) reply placed answers = absurd placed
 

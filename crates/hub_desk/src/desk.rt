@@ -238,7 +238,8 @@ impl<D, J: Site, R: Wait> Desk for HubDesk<'_, D, J, R> {
 
     fn ask(&mut self, alloc: Global, command: &Command) -> Result<Reply, Refusal> {
         let submitted = self.submit(alloc, command);
-        self.answer_by(command, &submitted, &[])
+        let others = Vec::new(alloc);
+        self.answer_by(command, &submitted, &others)
     }
 
     fn ask_all(&mut self, alloc: Global, sent: &mut Vec<Sent>) {

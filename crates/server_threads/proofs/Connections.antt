@@ -13,11 +13,11 @@ use Rattle.server_threads.specs.Connections.{EachHasServed}
 -- desks that were asked for nothing before have served from their beginning on
 pub each_served : (start : State) (desks after : List Desk) → HaveServed (PassesAtHub start) desks after → All (λ (desk : Desk). desk ≡ first_desk) desks
     → EachHasServed start after
-each_served start [] [] served first = All-nil _
+each_served start [] [] served first = All-nil (HasServed (PassesAtHub start) first_desk)
 each_served start [] (desk' ∷ after) served first = absurd served
 each_served start (desk ∷ desks) [] served first = absurd served
 each_served start (desk ∷ desks) (desk' ∷ after) served first =
-    All-cons _ desk' after
+    All-cons (HasServed (PassesAtHub start) first_desk) desk' after
     (subst (λ (d : Desk). HasServed (PassesAtHub start) d desk') (All-head (λ (d : Desk). d ≡ first_desk) desk desks first) served.0)
     (each_served start desks after served.1 (All-tail (λ (d : Desk). d ≡ first_desk) desk desks first))
 

@@ -3,8 +3,7 @@ use denote.RattleType.{RattleType}
 use denote.Param.Send.{IsSend, IsSync, sendable}
 use Rattle.std.proofs.Crossing.{crosses, frees}
 use Rattle.core.specs.declared.ledger.Ledger as ledger
-use Rattle.logbook.proofs.tokens.Seen.TheSendSync as seen
-use Rattle.logbook.proofs.word.Word.TheSendSync as word
+use Rattle.ownlog.proofs.CallerLemmas.{owner_send}
 use Rattle.left_right.proofs.part.Part.TheSendSync as part
 use Rattle.left_right.proofs.part.Deed.TheSendSync as deed
 use Rattle.atomic_table.proofs.shared.Seat.TheSendSync as place
@@ -12,6 +11,7 @@ use Rattle.atomic_table.proofs.shared.Shared.TheSendSync as table
 use Rattle.atomic_table.proofs.send_lease.SendLease.TheSendSync as lease
 use Rattle.disk.specs.declared.device.Disk as disk
 use Rattle.published.specs.declared.site.Site as site
+use Rattle.published.specs.contracts.batch.Batch as batch
 use Rattle.milestone.specs.contracts.cells.Cells as cells
 use Rattle.milestone.specs.contracts.job.Job as job
 use Rattle.recovery.specs.contracts.receipt.Receipt as receipt
@@ -21,7 +21,7 @@ use Rattle.view.proofs.CallerLemmas.{name_send, delta_send, sources_send, state_
 use Rattle.hub.specs.contracts.kept.Writer as writer
 use Rattle.hub.proofs.CallerLemmas.{taken_send}
 use Rattle.flusher.specs.contracts.flusher.Flusher as flusher
-use Rattle.server_threads.proofs.Crossing.{told_send}
+use Rattle.server_threads.proofs.Crossing.{batch_send, mark_send, ordered_send, told_send}
 
 pub cells_send : IsSend cells.the_row
 cells_send = search (sendable, crosses) depth 60 fits 20000
@@ -35,6 +35,7 @@ receipt_send D = search (taken_send, sendable, crosses) depth 60 fits 20000
 pub stage_send : (D T : RattleType) (s : site.Ghosts T.Denot) (l : ledger.Ghosts T.Denot) → IsSend D → IsSend T → IsSend (stage.the_row D T s l)
 stage_send D T s l a b =
     let told = told_send D T s l b in
+    let ordered = ordered_send T s l b in
     search (receipt_send, sendable, crosses) depth 60 fits 20000
 
 pub publisher_send : (D T : RattleType) (s : site.Ghosts T.Denot) (l : ledger.Ghosts T.Denot) → IsSend D → IsSend T → IsSync T → IsSend (publisher.the_row D T s l)
@@ -43,7 +44,8 @@ publisher_send D T s l a b c =
     let y = shown_send in
     let told = told_send D T s l b in
     let stage = stage_send D T s l a b in
-    search (delta_send, name_send, seen.the_send, word.the_send, part.the_send, deed.the_send, place.the_send, table.the_send, table.the_sync, lease.the_send, lease.the_sync, frees, sendable, crosses) depth 40 fits 20000
+    let log = owner_send batch.the_row batch_send in
+    search (delta_send, name_send, taken_send, mark_send, part.the_send, deed.the_send, place.the_send, table.the_send, table.the_sync, lease.the_send, lease.the_sync, frees, sendable, crosses) depth 40 fits 20000
 
 pub writer_send : (T : RattleType) → IsSend T → IsSend (writer.the_row T)
 writer_send T a = search (sendable, crosses) depth 60 fits 20000
@@ -52,4 +54,5 @@ pub flusher_send : (D T : RattleType) (d : disk.Ghosts D.Denot) (s : site.Ghosts
     → IsSend (flusher.the_row D T d s l)
 flusher_send D T d s l a b c =
     let publisher = publisher_send D T s l a b c in
-    search (cells_send, job_send, state_send, taken_send, seen.the_send, sendable, crosses) depth 60 fits 20000
+    let ordered = ordered_send T s l b in
+    search (cells_send, job_send, state_send, taken_send, sendable, crosses) depth 60 fits 20000

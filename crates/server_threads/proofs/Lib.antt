@@ -5,3 +5,4 @@ mod Answered
 mod Served
 mod Streams
 mod Connections
+mod Desks

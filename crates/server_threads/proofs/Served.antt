@@ -254,7 +254,9 @@ module _ {D J : Type 0} {disk : Ghosts D} where
           is_written = is_written;
           whole = λ well. whole (well_of answer well all);
           sessions = sessions;
-          answers = All-weaker _ _ (λ desk first. keeps_answers order (told_of new ++ committed_of new) (waiting_of new) (store_of old) (store_of new) desk is_written first) desks told;
+          answers = All-weaker (λ (desk : Desk). IsPrefix desk.told (told_of new ++ committed_of new))
+              (KeepsAnswers (told_of new ++ committed_of new) (waiting_of new) (store_of old) (store_of new))
+              (λ desk first. keeps_answers order (told_of new ++ committed_of new) (waiting_of new) (store_of old) (store_of new) desk is_written first) desks told;
           nothing_else = long;
         };
         fails = λ works.
@@ -297,7 +299,7 @@ module _ {D : Type 0} {disk : Ghosts D} where
     is_written = none_written store;
     whole = λ well. absurd (false≢true well);
     sessions = sessions;
-    answers = All-nil _;
+    answers = All-nil (KeepsAnswers [] [] store store);
     nothing_else = refl;
   }
 
@@ -311,7 +313,8 @@ module _ {D : Type 0} {disk : Ghosts D} where
     is_written = none_written store;
     whole = λ well. absurd (false≢true well);
     sessions = sessions;
-    answers = All-cons _ first_desk [] (keeps_answers [] [] [] store store first_desk (none_written store) ([], refl)) (All-nil _);
+    answers = All-cons (KeepsAnswers [] [] store store) first_desk []
+        (keeps_answers [] [] [] store store first_desk (none_written store) ([], refl)) (All-nil (KeepsAnswers [] [] store store));
     nothing_else = refl;
   }
 

@@ -1,9 +1,9 @@
 -- How serving over a pair of streams ends.
-use Rattle.std.proofs.Common.{◌≡◌, ◌⊎◌, inl, inr, ℕ, true, false, List, [], ◌∷◌, refl, sym, ◌∙◌, ap, subst, Ok}
-use Rattle.std.specs.Prelude.{Bool, Option, Result, Err, OnOk, OnErr, IfErr, is_ok}
+use Rattle.std.proofs.Common.{◌≡◌, ◌⊎◌, ◌↔◌, inl, inr, ℕ, true, false, List, [], ◌∷◌, refl, sym, ◌∙◌, ap, subst, Ok}
+use Rattle.std.specs.Prelude.{Bool, Option, Result, Err, OnOk, OnErr, IfErr, IsErrOf, is_ok}
 use Rattle.std.specs.Io.KnownBytes.{IsAtEnd}
 use Rattle.refusal.specs.declared.Refusal.{Refusal}
-use Rattle.refusal.specs.declared.Refusal.TheVariants.{NoMemory}
+use Rattle.refusal.specs.declared.Refusal.TheVariants.{NoMemory, Fault}
 use Rattle.revision.specs.State.{State}
 use Rattle.session.specs.Session.{Session}
 use Rattle.serving.specs.declared.failure.Failure.{Failure}
@@ -53,3 +53,14 @@ by_one P Q more desks one = record { last = one.last; one = one.one; session = m
 pub nothing_asked : (start : State) (input output : Option (List ℕ)) (failed : Bool) (refusal : Refusal) → refusal ≡ NoMemory
     → ByOne (EndsAtHub (Err (Refused refusal)) start input input output output failed) (first_desk ∷ [])
 nothing_asked start input output failed refusal memory = record { last = first_desk; one = refl; session = inr (memory, refl) }
+
+-- a store that worked works where serving ended well
+works_ended : (old new : Bool) (written : Unit {0}) → (old ≡ false → (new ≡ true ↔ IsErrOf {T = Unit {0}} (Ok written) Fault)) → old ≡ false → new ≡ false
+works_ended old true written fails works = absurd (let is = (fails works).0 refl in cc is)
+works_ended old false written fails works = refl
+
+pub works_with : (answer : Result (Unit {0}) Failure) (written : Result (Unit {0}) Refusal) (old new : Bool) → (old ≡ false → (new ≡ true ↔ IsErrOf written Fault))
+    → OnOk (first_of answer written) (old ≡ false → new ≡ false)
+works_with (Ok answer) (Ok written) old new fails = works_ended old new written fails
+works_with (Ok answer) (Err refusal) old new fails = tt
+works_with (Err failure) written old new fails = tt

@@ -25,7 +25,7 @@ pub(crate) fn seats_of<J: Site, D>(
     ensures only { IsOkUnless result Refusal.NoMemory }
 {
     let mut seats = Vec::new(alloc);
-    for _ in 0..count {
+    for i in 0..count {
         let Ok(seat) = board.seat() else {
             unreachable!()
         };

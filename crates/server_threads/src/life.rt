@@ -111,36 +111,35 @@ fn live_by<
         desks,
     };
     flusher.kept();
-    match run_beside(&shared, flusher, writer, holding) {
+    let (flusher, written, sessions, answer, desks) = match run_beside(
+        &shared, flusher, writer, holding,
+    ) {
         Ok(
             Both {
                 flusher,
                 written,
                 came: (sessions, answer, desks),
             },
-        ) => {
-            let mut flusher = flusher;
-            flusher.kept();
-            flusher.few();
-            let ordered = flusher.ordered();
-            let published = flusher.told().len();
-            tally_desks(&mut flusher, desks, &mut tally);
-            let count = hub.into_board().end(tally, &ordered);
-            let written = all_written(written, count, published);
-            (flusher.end(rt), sessions, Ok(Ended { answer, written }))
+        ) => (flusher, written, sessions, answer, desks),
+        Err((flusher, holding)) => {
+            let Holding {
+                shared: _,
+                closer: _closer,
+                sessions,
+                desks: _desks,
+            } = holding;
+            return (flusher.end(rt), sessions, Err(Refusal::NoMemory));
         }
-        Err(
-            (
-                flusher,
-                Holding {
-                    shared: _,
-                    closer: _closer,
-                    sessions,
-                    desks: _desks,
-                },
-            ),
-        ) => (flusher.end(rt), sessions, Err(Refusal::NoMemory)),
-    }
+    };
+    let mut flusher = flusher;
+    flusher.kept();
+    flusher.few();
+    let ordered = flusher.ordered();
+    let published = flusher.told().len();
+    tally_desks(&mut flusher, desks, &mut tally);
+    let count = hub.into_board().end(tally, &ordered);
+    let written = all_written(written, count, published);
+    (flusher.end(rt), sessions, Ok(Ended { answer, written }))
 }
 
 // How the writing ended, of as many commands as are published: well only where the order has no more.

@@ -35,7 +35,7 @@ pub fn answer<D, J: Site, R: Wait>(
     desk.ask(alloc, command)
 }
 
-/// Serves one connection after another by a single desk, until the listener fails. It was asked for what they ask, and nothing else.
+/// Serves one connection after another by a single desk, until the listener fails. What it exchanged is what conversations ask.
 pub fn serve_in_turn<
     K: Desk + Send + Drop,
     R: Threads + Wait + Sync,

@@ -1,6 +1,6 @@
 -- Desks that were begun, and what comes of them once they have ended.
-use Rattle.std.proofs.Common.{◌++◌, ◌≡◌, List, [], ◌∷◌, subst, sym}
-use Rattle.core.specs.declared.thread.Promise as promise
+use Rattle.std.proofs.Common.{◌++◌, ◌≡◌, suc, List, [], ◌∷◌, length, refl, ap, subst, sym}
+use Rattle.std.specs.declared.thread.Promise as promise
 use Rattle.session.specs.Exchange.{Exchange}
 use Rattle.sockets.specs.declared.begun.Begun.{Begun}
 use Rattle.sockets.specs.declared.begun.Begun.TheVariants.{InThread, WithoutThread}
@@ -25,6 +25,13 @@ module _ {D : Type 0} (does : D → Exchange → D → Type 0) where
   one_more_begun [] (o ∷ others) desk one before is = absurd before
   one_more_begun (d ∷ desks) [] desk one before is = absurd before
   one_more_begun (d ∷ desks) (o ∷ others) desk one (first, before) is = (first, one_more_begun desks others desk one before is)
+
+  -- as many as there are desks
+  pub as_many_begun : (desks : List D) (begun : List (Begun D (ServedBy D))) → AreBegun does desks begun → length begun ≡ length desks
+  as_many_begun [] [] are = refl
+  as_many_begun [] (o ∷ others) are = absurd are
+  as_many_begun (d ∷ desks) [] are = absurd are
+  as_many_begun (d ∷ desks) (o ∷ others) (is, are) = ap suc (as_many_begun desks others are)
 
   module _ (g : promise.Ghosts (ServedBy D) D) (keeps : (by : ServedBy D) (desk : D) → g.kept_by by desk → HasServed does by.0.value desk) where
     desk_served : (desk after : D) (one : Begun D (ServedBy D)) → IsBegun does desk one → EndsAs g one after → HasServed does desk after

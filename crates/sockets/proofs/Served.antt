@@ -1,5 +1,5 @@
 -- What desks exchange in conversations, one behind another.
-use Rattle.std.proofs.Common.{◌++◌, ◌≡◌, ◌≤◌, ◌+◌, ◌<◌, ℕ, List, [], ◌∷◌, length, Option, Result, Ok, Err, OnOk, OnErr, refl, sym, ap, subst, ◌∙◌, append_assoc, append-nil, arith}
+use Rattle.std.proofs.Common.{◌++◌, ℕ, List, [], ◌∷◌, Option, Result, Ok, Err, OnOk, OnErr, refl, sym, subst, append_assoc, append-nil}
 use Rattle.session.specs.Session.{Session}
 use Rattle.session.specs.Exchange.{Exchange, Shown}
 use Rattle.session.specs.Calls.{Call, Fed, Told, OfPiece, OfNews, with_subscriptions, Calls}
@@ -7,7 +7,7 @@ use Rattle.session.specs.Replies.{Asks}
 use Rattle.session.specs.News.{news_shown, subscriptions_shown}
 use Rattle.session.proofs.CallerLemmas.{asks-joined, calls-joined, calls-one}
 use Rattle.sockets.specs.Conversation.{beginning, IsConversation, StopsIn, InReplies, InNews, InSending, StopsConversing}
-use Rattle.sockets.specs.Desks.{AreAskedInOne, AreAskedInTurn, in_none, in_one_more, HasServed, HaveServed}
+use Rattle.sockets.specs.Desks.{AreAskedInOne, AreAskedInTurn, in_none, in_one_more, HasServed}
 
 asked_joined : (a b : List Exchange) → AreAskedInTurn a → AreAskedInTurn b → AreAskedInTurn (a ++ b)
 asked_joined a b in_none second = second

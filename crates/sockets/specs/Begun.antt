@@ -1,6 +1,6 @@
 -- Work that was given a thread, or got none.
 use Rattle.std.specs.Prelude.{◌≡◌, List, [], ◌∷◌}
-use Rattle.core.specs.declared.thread.Promise as promise
+use Rattle.std.specs.declared.thread.Promise as promise
 use Rattle.session.specs.Exchange.{Exchange}
 use Rattle.sockets.specs.declared.begun.Begun.{Begun}
 use Rattle.sockets.specs.declared.begun.Begun.TheVariants.{InThread, WithoutThread}

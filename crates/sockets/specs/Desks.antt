@@ -19,7 +19,7 @@ pub data AreAskedInTurn : List Exchange → Type 0 where
   in_one_more : (asked others : List Exchange) → AreAskedInOne asked → AreAskedInTurn others → AreAskedInTurn (asked ++ others)
 
 module _ {D : Type 0} (does : D → Exchange → D → Type 0) where
-  -- A desk has served one conversation after another, and was asked for nothing else.
+  -- A desk has served: what passed between it and those whom it served is what is asked in conversations, one after another.
   pub record HasServed (desk desk' : D) : Type 0 where
     pub asked : List Exchange
     pub asks : Asks does desk asked desk'

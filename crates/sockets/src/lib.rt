@@ -20,7 +20,7 @@
 //! use std::sync::Wait;
 //! use std::thread::Threads;
 //!
-//! /// Serves one connection after another by a single desk, until the listener fails. It was asked for what they ask, and nothing else.
+//! /// Serves one connection after another by a single desk, until the listener fails. What it exchanged is what conversations ask.
 //! pub fn serve_in_turn<
 //!     K: Desk + Send + Drop,
 //!     R: Threads + Wait + Sync,
@@ -38,13 +38,13 @@
 //!
 //! A conversation is a session over any reader and writer: what it writes is the replies to what it read, in order, and the news after
 //! each piece of it and after each wait for one; and where a write fails, what was due before and a prefix of what that write was to write
-//! (`specs/Conversation.antt`, `converse`). `serve_desks` gives its desks back, each with what it exchanged: what comes of conversations,
-//! one after another, and nothing else (`specs/Desks.antt`). No connection waits for a thread that isn't free (the hall's own invariant),
-//! and a shelf stays right of what its desk shows.
+//! (`specs/Conversation.antt`, `converse`). `serve_desks` gives its desks back in their order, each with what it exchanged: what is asked in
+//! conversations, one after another (`specs/Desks.antt`). No connection waits for a thread that isn't free (the hall's own invariant), and a
+//! shelf stays right of what its desk shows.
 //!
-//! Of the bytes of a socket a contract can say no more than counts. So that a connection is given to a conversation, and nothing else is
-//! written to it (`connection.rt`), that connections are served, closed and given places again is tested. The listener is a parameter, so
-//! that a test can give one that fails.
+//! Of the bytes of a socket a contract can say no more than counts. So a desk's conversations are some conversations, whoever had them; and
+//! that a connection is given to a conversation and nothing else is written to it (`connection.rt`), that connections are served, closed and
+//! given places again is tested. The listener is a parameter, so that a test can give one that fails.
 #![tactic(auto)]
 
 mod accepting;

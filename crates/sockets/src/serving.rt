@@ -21,7 +21,7 @@ pub fn serve_desks<
     R: Threads + Wait + Sync,
     N: OpenListener<Stream = TcpStream>,
 >(rt: &R, alloc: Global, desks: Vec<K>, listener: &N) -> Result<Vec<K>, AllocFailed<Vec<K>>>
-    // Each desk was asked for what its conversations ask, one after another, and for nothing else.
+    // They come back in their order, each asked for what conversations ask, one after another.
     ensures served { IfOk result (λ after. HaveServed K.does desks.items after.items) }
     ensures refused { IfErr result (λ failed. failed.value ≡ desks) }
 {
@@ -74,7 +74,7 @@ fn serve_in<K: Desk + Send + Drop, R: Threads + Wait + Sync, N: OpenListener<Str
         rt,
         |scope| -> Vec<K>
             requires { HasRoom (vec_len desks) begun × HasRoom (vec_len desks) served }
-            ensures { HaveServed K.does desks.entry.items result.items }
+            ensures { HaveServed K.does desks.items result.items }
         {
             let begun = begin_all(scope, rt, alloc, hall, desks, begun);
             accept_all(rt, hall, listener);

@@ -21,5 +21,10 @@ turns-preserved g c = record {
 pub returns-in_err-take_turn-clause-stopped : goal.returns-in_err-take_turn-clause-stopped
 returns-in_err-take_turn-clause-stopped g c =
     on_err c.from_residual.result
-    (stops_behind g.K.Desk.does _ c.turns.session _ _ c.turns.desk _ _ (g.I.Read.remaining c.turns.input) _ _ (g.O.Output.contents c.turns.output) _
+    (stops_behind g.K.Desk.does _ c.turns.session _ c.turns.desk _ _ (g.I.Read.remaining c.turns.input) _ _ (g.O.Output.contents c.turns.output) _
     c.turns.invariant.answered c.in_err-take_turn.ensures.stopped)
+
+pub returns-then-not-branch-clause-answered : goal.returns-then-not-branch-clause-answered
+returns-then-not-branch-clause-answered g c =
+    converses_joined g.K.Desk.does _ c.turns.session _ _ c.turns.desk _ _ (g.I.Read.remaining c.turns.input) _ _ (g.O.Output.contents c.turns.output) _
+    c.turns.invariant.answered c.in_ok-take_turn.ensures.answered
