@@ -3,6 +3,6 @@ pub mod FlusherCrossing
 mod Places
 mod Answered
 mod Served
-mod Streams
-mod Connections
-mod Desks
+mod Ended
+mod Connected
+mod Tallied

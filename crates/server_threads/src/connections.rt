@@ -1,6 +1,7 @@
 //! A store over connections.
-ghost use Rattle.std.specs.Prelude.{◌≡◌, ◌↔◌, true, false, Ok, OnOk, IsErrOf, IsOkUnless, is_ok};
+ghost use Rattle.std.specs.Prelude.{◌≡◌, ◌↔◌, true, false, Ok, All, OnOk, IsErrOf, IsOkUnless, is_ok, length};
 ghost use Rattle.recovery.specs.Open.{state_of, has_failed};
+ghost use Rattle.server_threads.specs.Answers.{first_desk};
 ghost use Rattle.server_threads.specs.Connections.{EachHasServed};
 ghost use Rattle.server_threads.specs.Served.{WasServed};
 
@@ -120,9 +121,31 @@ impl<'n, N: OpenListener<Stream = TcpStream>> Sessions for OverConnections<'n, N
         alloc: Global,
         desks: Vec<HubDesk<'a, D, J, R>>,
     ) -> (Self, Result<(), Refusal>, Vec<HubDesk<'a, D, J, R>>) {
-        match serve_desks(rt, alloc, desks, self.listener) {
-            Ok(desks) => (self, Ok(()), desks),
-            Err(failed) => (self, Err(Refusal::NoMemory), failed.value),
-        }
+        let (answer, desks) = serve_all(rt, alloc, desks, self.listener);
+        (self, answer, desks)
+    }
+}
+
+// Takes connections until the listener fails, and gives the desks back once each session has ended.
+fn serve_all<
+    'a,
+    J: Site + Sync + Send,
+    R: Threads + Wait + Sync,
+    N: OpenListener<Stream = TcpStream>,
+    D: Send + Drop,
+>(
+    rt: &R,
+    alloc: Global,
+    desks: Vec<HubDesk<'a, D, J, R>>,
+    listener: &N,
+) -> (Result<(), Refusal>, Vec<HubDesk<'a, D, J, R>>)
+    requires first { All (λ desk. desk ≡ first_desk) desks.items }
+    ensures served { EachHasServed J.start result.1.items }
+    ensures only { IsOkUnless result.0 Refusal.NoMemory }
+    ensures as_many { length result.1.items ≡ length desks.items }
+{
+    match serve_desks(rt, alloc, desks, listener) {
+        Ok(desks) => (Ok(()), desks),
+        Err(failed) => (Err(Refusal::NoMemory), failed.value),
     }
 }

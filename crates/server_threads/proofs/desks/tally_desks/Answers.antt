@@ -2,7 +2,7 @@ use Rattle.std.proofs.Common.{◌≡◌, ◌∙◌, ◌+◌, ◌++◌, [], ◌�
 use Rattle.std.specs.Vec.Iter.{into_iter_items}
 use mathlib.Core.List.{IsPrefix}
 use Rattle.flusher.specs.Holding.{told_of, committed_of}
-use Rattle.server_threads.proofs.Desks.{one_seat_more, one_count_more, one_told_more}
+use Rattle.server_threads.proofs.Tallied.{one_seat_more, one_count_more, one_told_more}
 use Rattle.server_threads.proofs.desks.tally_desks.Goals as goal
 
 pub loop-desk-preserved : goal.loop-desk-preserved

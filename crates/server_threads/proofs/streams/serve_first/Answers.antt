@@ -1,4 +1,4 @@
-use Rattle.server_threads.proofs.Streams.{ends_at_hub}
+use Rattle.server_threads.proofs.Ended.{ends_at_hub}
 use Rattle.server_threads.proofs.streams.serve_first.Goals as goal
 
 pub returns-clause-ends : goal.returns-clause-ends
