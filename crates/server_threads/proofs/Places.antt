@@ -5,7 +5,7 @@ use Rattle.std.proofs.lemmas.List.{map-append}
 use mathlib.Core.List.{IsPrefix}
 use Rattle.refusal.specs.declared.Refusal.{Refusal}
 use Rattle.refusal.specs.declared.Refusal.TheVariants.{StoreFailed}
-use Rattle.revision.specs.Command as command
+use Rattle.revision.specs.Command as commands
 use Rattle.revision.specs.Command.{Command}
 use Rattle.revision.specs.State.{State}
 use Rattle.revision.specs.Acceptance as acceptance
@@ -27,24 +27,24 @@ use Rattle.hub_desk.proofs.CallerLemmas.{told_through}
 use Rattle.server_threads.specs.Answers.{HasPlace, AllHavePlaces, Counts}
 
 -- the commands of first batches are first ones of the commands of all
-pub commands_first : (first all : List (List command.Taken)) → IsPrefix first all → IsPrefix (commands_of first) (commands_of all)
+pub commands_first : (first all : List (List commands.Taken)) → IsPrefix first all → IsPrefix (commands_of first) (commands_of all)
 commands_first first all (more, whole) = (commands_of more, sym (commands-append first more) ∙ ap commands_of whole)
 
 -- where its order begins another one, a command has its place there by its reply
-place_by : (start : State) (given : acceptance.Reply) (reply : Reply) (command : Command) (before : List Entry) (order : List command.Taken)
+place_by : (start : State) (given : acceptance.Reply) (reply : Reply) (command : Command) (before : List Entry) (order : List commands.Taken)
     → PlacedBy start before command given → IsPrefix (takens before) order → answered given ≡ Ok reply → HasPlace start order command reply
 place_by start (TakenAt revision) reply command order all (before, taken, is, takes, at) first same =
     let whole : takens order ≡ takens before ++ taken ∷ [] = ap takens is ∙ map-append (λ (e : Entry). e.taken) before (entry_of command taken ∷ []) in
     let told : Taken revision ≡ reply = cc same in
     subst (λ (r : Reply). HasPlace start all command r) told
-    (takens before, taken, subst (λ (l : List command.Taken). IsPrefix l all) whole first, takes, at)
+    (takens before, taken, subst (λ (l : List commands.Taken). IsPrefix l all) whole first, takes, at)
 place_by start (AgainAt revision) reply command order all repeats first same =
     let told : Again revision ≡ reply = cc same in
     subst (λ (r : Reply). HasPlace start all command r) told (takens order, first, repeats)
 place_by start (Refused refusal) reply command order all placed first same = absurd placed
 
 -- each command that a desk acknowledged has, in an order that begins with what it was told of in the end
-pub all_have_places : (start : State) (old last : Desk) (asked : List Exchange) (all : List command.Taken) → Asks (PassesAtHub start) old asked last
+pub all_have_places : (start : State) (old last : Desk) (asked : List Exchange) (all : List commands.Taken) → Asks (PassesAtHub start) old asked last
     → IsPrefix (commands_of last.told) all → AllHavePlaces start all asked
 all_have_places start old last [] all asks within = tt
 all_have_places start old last (Answered command (Ok reply) ∷ others) all (next, passes, rest) within =

@@ -2,7 +2,7 @@
 use Rattle.std.specs.Prelude.{◌≡◌, ◌⊎◌, ℕ, ◌+◌, List, [], ◌∷◌, ◌++◌, false, Ok, Err}
 use mathlib.Core.List.{IsPrefix}
 use Rattle.refusal.specs.declared.Refusal.TheVariants.{StoreFailed}
-use Rattle.revision.specs.Command as command
+use Rattle.revision.specs.Command as commands
 use Rattle.revision.specs.Command.{Command}
 use Rattle.revision.specs.State.{State, fold}
 use Rattle.revision.specs.Acceptance.{Takes, Repeats, answer}
@@ -19,15 +19,15 @@ first_desk = record { told = []; shown = []; counted = 0; stopped = false }
 
 -- A command has the place in an order that its reply says. One that was taken is there, as what the rule of acceptance takes for it after
 -- the commands before it, with the reply's revision; of a retry the rule says just this after some prefix of the order.
-abbrev pub HasPlace : State → List command.Taken → Command → Reply → Type 0
+abbrev pub HasPlace : State → List commands.Taken → Command → Reply → Type 0
 HasPlace start order command (Taken revision) =
-    (before : List command.Taken) × (taken : command.Taken) × IsPrefix (before ++ taken ∷ []) order
+    (before : List commands.Taken) × (taken : commands.Taken) × IsPrefix (before ++ taken ∷ []) order
     × (answer (fold start before) command ≡ Takes taken) × (taken.revision ≡ revision)
 HasPlace start order command (Again revision) =
-    (before : List command.Taken) × IsPrefix before order × (answer (fold start before) command ≡ Repeats revision)
+    (before : List commands.Taken) × IsPrefix before order × (answer (fold start before) command ≡ Repeats revision)
 
 -- each command that was answered as taken, or as a retry, has its place
-abbrev pub AllHavePlaces : State → List command.Taken → List Exchange → Type 0
+abbrev pub AllHavePlaces : State → List commands.Taken → List Exchange → Type 0
 AllHavePlaces start order [] = Unit {0}
 AllHavePlaces start order (Answered command (Ok reply) ∷ others) = HasPlace start order command reply × AllHavePlaces start order others
 AllHavePlaces start order (Answered command (Err refusal) ∷ others) = AllHavePlaces start order others

@@ -104,7 +104,13 @@ struct OverConnections<'n, N> {
     listener: &'n N,
 }
 
-impl<'n, N: OpenListener<Stream = TcpStream>> Sessions for OverConnections<'n, N> {
+impl<
+    'n,
+    N: OpenListener<Stream = TcpStream>,
+    D: Send + Drop,
+    J: Site + Sync + Send,
+    R: Threads + Wait + Sync,
+> Sessions<D, J, R> for OverConnections<'n, N> {
     ghost use Rattle.std.specs.Prelude.{IsOkUnless};
     ghost use Rattle.refusal.specs.declared.Refusal.TheVariants.{NoMemory};
     ghost use Rattle.server_threads.specs.Connections.{EachHasServed};
@@ -115,7 +121,7 @@ impl<'n, N: OpenListener<Stream = TcpStream>> Sessions for OverConnections<'n, N
 
     ghost comes = { λ start old new answer desks. EachHasServed start desks × IsOkUnless answer NoMemory };
 
-    fn hold<'a, D: Send + Drop, J: Site + Sync + Send, R: Threads + Wait + Sync>(
+    fn hold<'a>(
         self,
         rt: &R,
         alloc: Global,
@@ -142,7 +148,7 @@ fn serve_all<
     requires first { All (λ desk. desk ≡ first_desk) desks.items }
     ensures served { EachHasServed J.start result.1.items }
     ensures only { IsOkUnless result.0 Refusal.NoMemory }
-    ensures as_many { length result.1.items ≡ length desks.items }
+    ensures as_many { length result.1.items ≡ length desks.entry.items }
 {
     match serve_desks(rt, alloc, desks, listener) {
         Ok(desks) => (Ok(()), desks),

@@ -46,7 +46,7 @@ pub(crate) fn desks_at<'a, J: Site, R: Wait, D: Disk + Drop>(
     requires told { told_of flusher.now ≡ [] }
     requires new { All (λ seat. seat ≡ 0) seats.items }
     ensures first { IfOk result (λ desks. All (λ desk. desk ≡ first_desk) desks.items) }
-    ensures all { IfOk result (λ desks. length desks.items + tally.new.seats ≡ length seats.items + tally.old.seats) }
+    ensures all { IfOk result (λ desks. length desks.items + tally.new.seats ≡ length seats.entry.items + tally.old.seats) }
     ensures none { IfOk result (λ desks. tally.new.counted ≡ tally.old.counted) }
     ensures only { IsOkUnless result Refusal.NoMemory }
 {
@@ -67,9 +67,9 @@ pub(crate) fn tally_desks<J: Site, R, D: Disk>(
     desks: Vec<HubDesk<'_, D, J, R>>,
     tally: &mut Tally<J>,
 )
-    ensures seats { tally.new.seats ≡ tally.old.seats + length desks.items }
-    ensures counted { tally.new.counted ≡ tally.old.counted + sum_by (λ desk. desk.counted) desks.items }
-    ensures told { All (λ desk. IsPrefix desk.told (told_of flusher.old ++ committed_of flusher.old)) desks.items }
+    ensures seats { tally.new.seats ≡ tally.old.seats + length desks.entry.items }
+    ensures counted { tally.new.counted ≡ tally.old.counted + sum_by (λ desk. desk.counted) desks.entry.items }
+    ensures told { All (λ desk. IsPrefix desk.told (told_of flusher.old ++ committed_of flusher.old)) desks.entry.items }
     ensures store { store_of flusher.new ≡ store_of flusher.old }
 {
     for desk in desks {

@@ -23,7 +23,7 @@ pub(crate) struct Holding<'s, 'a, S, D, J: Site, R> {
 impl<
     's,
     'a,
-    S: Sessions + Drop,
+    S: Sessions<D, J, R> + Drop,
     D: Send + Drop,
     J: Site + Sync + Send,
     R: Threads + Wait + Sync,

@@ -33,7 +33,7 @@ pub(crate) struct Ended<A> {
 pub(crate) fn live<
     J: Site + Sync + Send,
     R: Threads + Wait + Sync,
-    S: Sessions + Drop,
+    S: Sessions<D, J, R> + Drop,
     D: Disk + Send + Drop,
 >(
     rt: &R,
@@ -65,7 +65,7 @@ pub(crate) fn live<
 fn live_by<
     J: Site + Sync + Send,
     R: Threads + Wait + Sync,
-    S: Sessions + Drop,
+    S: Sessions<D, J, R> + Drop,
     D: Disk + Send + Drop,
 >(
     rt: &R,

@@ -5,11 +5,9 @@ ghost use Rattle.server_threads.specs.Answers.{first_desk};
 use hub_desk::HubDesk;
 use published::Site;
 use std::alloc::Global;
-use std::sync::Wait;
-use std::thread::Threads;
 
 /// The sessions of a server, which are held at desks of its hub.
-pub(crate) trait Sessions {
+pub(crate) trait Sessions<D, J: Site, R> {
     ghost use Rattle.std.specs.Prelude.{ℕ, List};
     ghost use Rattle.revision.specs.State.{State};
     ghost use Rattle.hub_desk.specs.AtHub.{Desk};
@@ -24,7 +22,7 @@ pub(crate) trait Sessions {
     ghost comes: { State → Self → Self → Self.Answer → List Desk → Type 0 };
 
     /// Holds them at desks that were asked for nothing yet, and gives the desks back.
-    fn hold<'a, D: Send + Drop, J: Site + Sync + Send, R: Threads + Wait + Sync>(
+    fn hold<'a>(
         self,
         rt: &R,
         alloc: Global,
@@ -33,5 +31,5 @@ pub(crate) trait Sessions {
         requires fits { fits self (length desks.items) }
         requires first { All (λ desk. desk ≡ first_desk) desks.items }
         ensures comes { comes J.start self result.0 result.1 result.2.items }
-        ensures as_many { length result.2.items ≡ length desks.items };
+        ensures as_many { length result.2.items ≡ length desks.entry.items };
 }

@@ -140,7 +140,7 @@ struct OverStreams<'i, I, O> {
     output: &'i mut O,
 }
 
-impl<'i, I: Read, O: Output> Sessions for OverStreams<'i, I, O> {
+impl<'i, I: Read, O: Output, D, J: Site, R: Wait> Sessions<D, J, R> for OverStreams<'i, I, O> {
     ghost use Rattle.std.specs.Prelude.{◌≡◌, [], IfErr};
     ghost use Rattle.serving.specs.declared.failure.Failure.TheVariants.{Stream};
     ghost use Rattle.serving.specs.Serving.{beginning};
@@ -156,7 +156,7 @@ impl<'i, I: Read, O: Output> Sessions for OverStreams<'i, I, O> {
         × IfErr answer (λ failure. failure ≡ Stream)
         × (new.input.ghost_name ≡ old.input.ghost_name) × (new.output.ghost_name ≡ old.output.ghost_name) };
 
-    fn hold<'a, D: Send + Drop, J: Site + Sync + Send, R: Threads + Wait + Sync>(
+    fn hold<'a>(
         self,
         rt: &R,
         alloc: Global,
