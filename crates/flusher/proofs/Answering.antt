@@ -404,20 +404,30 @@ module _ {D J : Type 0} {disk : Ghosts D} where
           → ((refusal ≡ NoMemory) ⊎ (refusal ≡ Fault)) ⊎ IsTurnRefused cap board store refusal new
       by_case (inl (inl is_full)) =
           let p = full is_full in
-          inr (length run, longest, some, record {
-            why = inl is_full;
-            no_room = no_room p.0 p.1 p.2;
-            last = used_up (inl is_full);
-            state = still (not_full refusal is_full);
-          })
+          inr (
+            length run,
+            longest,
+            some,
+            record {
+              why = inl is_full;
+              no_room = no_room p.0 p.1 p.2;
+              last = used_up (inl is_full);
+              state = still (not_full refusal is_full);
+            },
+          )
       by_case (inl (inr is_needed)) =
           let p = needed is_needed in
-          inr (length run, longest, some, record {
-            why = inr is_needed;
-            no_room = no_room p.0 p.1 p.2;
-            last = used_up (inr is_needed);
-            state = still (not_needed refusal is_needed);
-          })
+          inr (
+            length run,
+            longest,
+            some,
+            record {
+              why = inr is_needed;
+              no_room = no_room p.0 p.1 p.2;
+              last = used_up (inr is_needed);
+              state = still (not_needed refusal is_needed);
+            },
+          )
       by_case (inr known) = inl known
 
 module _ {D J : Type 0} {disk : Ghosts D} where

@@ -165,13 +165,5 @@ pub fn stops<D: Disk + Drop, R: Wait + Abort + AllocGlobal>(
     requires { has_failed store ≡ false }
 {
     let opened = Opened::new().expect(rt, "logs");
-    driven::<_, Brand, R>(
-        rt,
-        store,
-        opened,
-        Blank::new(2),
-        rows,
-        count,
-        stopped,
-    )
+    driven::<_, Brand, R>(rt, store, opened, Blank::new(2), rows, count, stopped)
 }

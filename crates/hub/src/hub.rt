@@ -117,11 +117,7 @@ impl<D, J: Site> Hub<D, J> {
 
     /// What `Board::ack` gives for a ticket, at once: a token that holds the ticket's length, `None` where it isn't settled yet, or the token
     /// that the store has failed.
-    pub fn ack<R: Wait>(
-        &self,
-        rt: &R,
-        ticket: &Ticket<J>,
-    ) -> Result<Option<Told<D, J>>, Stopped<J>>
+    pub fn ack<R: Wait>(&self, rt: &R, ticket: &Ticket<J>) -> Result<Option<Told<D, J>>, Stopped<J>>
         ensures holds { IfOk result (λ told. IfSome told (λ t. ticket.now.length ≤ length (commands_of t))) }
         ensures stands { IfOk result (λ told. IfSome told (λ t. StandsFirst J.start ticket.now (commands_of t))) }
     {
@@ -150,11 +146,7 @@ impl<D, J: Site> Hub<D, J> {
 
     /// Waits until a command of the order isn't taken off, and answers with the token of that; with the other one where the end was called and
     /// all are.
-    pub fn wait_work<R: Wait>(
-        &self,
-        rt: &R,
-        writer: &mut Writer<J>,
-    ) -> Result<Work<J>, Idle<J>> {
+    pub fn wait_work<R: Wait>(&self, rt: &R, writer: &mut Writer<J>) -> Result<Work<J>, Idle<J>> {
         let _ = writer;
         let mut kept = self.kept.lock(rt);
         for _ in rt.forever() {

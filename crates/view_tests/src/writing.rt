@@ -40,11 +40,7 @@ pub fn begun<J: Site, R: Abort + AllocGlobal>(
     let (publisher, start, order) = made.expect(rt, "memory");
     let mut board = Board::new(alloc, &store, state, start.copy(), order, blank, 1);
     let seat = board.seat().expect(rt, "a seat");
-    let writing = Writing {
-        store,
-        board,
-        seat,
-    };
+    let writing = Writing { store, board, seat };
     (publisher, writing, start)
 }
 
