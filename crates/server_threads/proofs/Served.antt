@@ -12,7 +12,7 @@ use Rattle.revision.specs.Command.{Taken}
 use Rattle.revision.specs.State.{State, fold}
 use Rattle.recovery.specs.declared.store.Store.{Store}
 use Rattle.recovery.specs.Found.{commands_of, FoundAs}
-use Rattle.recovery.specs.Open.{state_of, has_failed}
+use Rattle.recovery.specs.Open.{IsOpen, state_of, has_failed}
 use Rattle.recovery.specs.Goes.{Goes}
 use Rattle.recovery.proofs.CallerLemmas.{goes_none, goes_map, found_as, found_open, found_now}
 use Rattle.world.specs.World.{Entry, takens}
@@ -28,7 +28,7 @@ use Rattle.world.specs.Board.{Board as Inner}
 use Rattle.hub_desk.specs.AtHub.{Desk}
 use Rattle.server_threads.specs.Answers.{first_desk}
 use Rattle.server_threads.specs.Served.{IsWritten, IsWhole, KeepsAnswers, WasServed, HasLived, IsStarted}
-use Rattle.server_threads.specs.Written.{HasWritten, HasRun}
+use Rattle.server_threads.specs.Written.{HasWritten, HasRun, StartedOverWrites}
 use Rattle.server_threads.proofs.Places.{commands_first}
 use Rattle.server_threads.proofs.Answered.{found_whole, keeps_answers}
 
@@ -186,6 +186,47 @@ module _ {D J : Type 0} {disk : Ghosts D} where
     wrote = record { writes = writes; nothing = nothing; fails = fails };
     unbegun = λ not_begun. absurd (false≢true (sym not_begun));
   }
+
+  -- of two flushers that were just started over one store the same is written
+  same_writes : (start : State) (here old new : Flusher D J disk) → IsStarted here → IsStarted old → store_of here ≡ store_of old
+      → Writes start here new → Writes start old new
+  same_writes start here old new begun started store writes =
+      let told : told_of here ≡ told_of old = begun.nothing ∙ sym started.nothing in
+      let given : given_to here ≡ given_to old = none_given here begun ∙ sym (none_given old started) in
+      record {
+        told = subst (λ (t : List (List Taken)). (l : List (List Taken)) × (told_of new ≡ t ++ l)) told writes.told;
+        more = subst (λ (t : List (List Taken)). (l : List (List Taken)) × (given_to new ≡ t ++ l)) given writes.more;
+        goes =
+            subst (λ (s : Store D disk). Goes (IsBeginning (told_count old) start (given_to new)) s (store_of new)) store
+            (subst (λ (t : List (List Taken)). Goes (IsBeginning (length (commands_of t)) start (given_to new)) (store_of here) (store_of new)) told writes.goes);
+        each = λ first shorter begins. moment (told_of here) (told_of old) told store first
+            (writes.each first (subst (λ (t : List (List Taken)). IsShorter t first) (sym told) shorter) begins);
+        held = moment (told_of here) (told_of old) told store (told_of new ++ committed_of new) writes.held;
+        lasts = λ works is_open content left.
+            writes.lasts (subst (λ (s : Store D disk). has_failed s ≡ false) (sym store) works) (subst (λ (s : Store D disk). IsOpen s) (sym store) is_open) content left;
+      }
+    where
+      none_given : (flusher : Flusher D J disk) → IsStarted flusher → given_to flusher ≡ []
+      none_given flusher is =
+          ap (λ (l : List (List Taken)). l ++ (committed_of flusher ++ waiting_of flusher)) is.nothing
+          ∙ ap (λ (l : List (List Taken)). l ++ waiting_of flusher) is.none ∙ is.idle
+
+      moment : (there told : List (List Taken)) → there ≡ told → store_of here ≡ store_of old → (first : List (List Taken))
+          → WasAt start (length (commands_of there)) first (given_to new) (store_of here) (store_of new)
+          → WasAt start (length (commands_of told)) first (given_to new) (store_of old) (store_of new)
+      moment there told same store first was =
+          subst (λ (s : Store D disk). WasAt start (length (commands_of told)) first (given_to new) s (store_of new)) store
+          (subst (λ (t : List (List Taken)). WasAt start (length (commands_of t)) first (given_to new) (store_of here) (store_of new)) same was)
+
+  pub any_started : (start : State) (here new : Flusher D J disk) (store : Store D disk) (answer : Result (Unit {0}) Refusal) → IsStarted here
+      → store ≡ store_of here → HasWritten start here new answer → StartedOverWrites start store new answer
+  any_started start here new store answer begun is wrote old started over =
+      let same : store_of here ≡ store_of old = sym is ∙ sym over in
+      record {
+        writes = same_writes start here old new begun started same wrote.writes;
+        nothing = wrote.nothing;
+        fails = subst (λ (s : Store D disk). has_failed s ≡ false → (has_failed (store_of new) ≡ true ↔ IsErrOf answer Fault)) same wrote.fails;
+      }
 
 -- what was taken of a beginning of the order begins what was taken of all
 takens_first : (first all : List Entry) → IsPrefix first all → IsPrefix (takens first) (takens all)

@@ -3,3 +3,4 @@ pub mod Served
 pub mod Streams
 pub mod Connections
 pub mod Written
+pub mod Held

@@ -1,7 +1,8 @@
 //! The life of a server: one chain of functions, whatever its sessions do.
-ghost use Rattle.std.specs.Prelude.{◌≡◌, ◌≤◌, ◌+◌, ◌↔◌, ℕ, Ok, IfOk, OnOk, OnErr, IsErrOf, IsOkUnless};
+ghost use Rattle.std.specs.Prelude.{◌≡◌, ◌≤◌, ◌+◌, ◌↔◌, ℕ, Ok, All, IfOk, IfErr, OnOk, OnErr, IsErrOf, IsOkUnless, length};
 ghost use Rattle.recovery.specs.Open.{state_of};
 ghost use Rattle.flusher.specs.Holding.{store_of};
+ghost use Rattle.server_threads.specs.Held.{HasHeld};
 ghost use Rattle.server_threads.specs.Served.{HasLived, IsStarted};
 
 use crate::beside::{Both, run_beside};
@@ -11,11 +12,12 @@ use crate::sessions::Sessions;
 use crate::writing::Shared;
 use disk::Disk;
 use flusher::{Flusher, StartFault, start};
-use hub::{Board, Hub};
-use published::{Opened, Site};
+use hub::{Board, Closer, Hub, Seat, Tally, Writer};
+use published::{Opened, Ordered, Site};
 use recovery::Store;
 use refusal::Refusal;
 use std::alloc::Global;
+use std::snapshot::Snapshot;
 use std::sync::Wait;
 use std::sync::ledger::Blank;
 use std::thread::Threads;
@@ -55,8 +57,9 @@ pub(crate) fn live<
     ensures refused { OnErr result.2 ((result.0 ≡ store) × (result.1 ≡ sessions)) }
     ensures only { IsOkUnless result.2 Refusal.NoMemory }
 {
+    let held = Snapshot::of(&store);
     match start::<D, J>(alloc, store, opened, blank, seats) {
-        Ok((flusher, board)) => live_by(rt, alloc, flusher, board, seats, every, sessions),
+        Ok((flusher, board)) => live_by(rt, alloc, held, flusher, board, seats, every, sessions),
         Err(StartFault { store, refusal }) => (store, sessions, Err(refusal)),
     }
 }
@@ -70,12 +73,14 @@ fn live_by<
 >(
     rt: &R,
     alloc: Global,
+    held: Snapshot<Store<D>>,
     flusher: Flusher<D, J>,
     board: Board<D, J>,
     seats: u32,
     every: u32,
     sessions: S,
 ) -> (Store<D>, S, Result<Ended<S::Answer>, Refusal>)
+    requires held { held.value ≡ store_of flusher }
     requires started { IsStarted flusher }
     requires left { board.left ≡ seats }
     requires parts { seats + 1 ≡ J.parts }
@@ -85,23 +90,85 @@ fn live_by<
     ensures only { IsOkUnless result.2 Refusal.NoMemory }
 {
     let mut board = board;
-    let mut tally = board.tally();
+    let tally = board.tally();
     let given = match seats_of(alloc, &mut board, seats) {
         Ok(given) => given,
         Err(refusal) => return (flusher.end(rt), sessions, Err(refusal)),
     };
     let (hub, writer, closer) = Hub::new(board);
-    let desks = match desks_at(rt, alloc, &flusher, &hub, given, &mut tally) {
-        Ok(desks) => desks,
-        Err(refusal) => return (flusher.end(rt), sessions, Err(refusal)),
+    match hold_at(
+        rt, alloc, &hub, held, flusher, writer, closer, given, tally, every, sessions,
+    ) {
+        Ok(Past {
+            flusher,
+            ordered,
+            published,
+            tally,
+            written,
+            sessions,
+            answer,
+        }) => {
+            let count = hub.into_board().end(tally, &ordered);
+            let written = all_written(written, count, published);
+            (flusher.end(rt), sessions, Ok(Ended { answer, written }))
+        }
+        Err((flusher, sessions)) => (flusher.end(rt), sessions, Err(Refusal::NoMemory)),
+    }
+}
+
+// What came of the sessions and of the thread that wrote beside them, with a token of the order, how many commands are published, and the
+// tally of all seats.
+struct Past<D: Disk, J: Site, S, A> {
+    flusher: Flusher<D, J>,
+    ordered: Ordered<J>,
+    published: u64,
+    tally: Tally<J>,
+    written: Result<(), Refusal>,
+    sessions: S,
+    answer: A,
+}
+
+// Holds the sessions at desks of a hub while a thread of its own writes, and tallies the seats then. Refused where there is no memory or no
+// thread: nothing is asked then.
+fn hold_at<
+    J: Site + Sync + Send,
+    R: Threads + Wait + Sync,
+    S: Sessions<D, J, R> + Drop,
+    D: Disk + Send + Drop,
+>(
+    rt: &R,
+    alloc: Global,
+    hub: &Hub<D, J>,
+    held: Snapshot<Store<D>>,
+    flusher: Flusher<D, J>,
+    writer: Writer<J>,
+    closer: Closer<J>,
+    given: Vec<Seat<J>>,
+    tally: Tally<J>,
+    every: u32,
+    sessions: S,
+) -> Result<Past<D, J, S, S::Answer>, (Flusher<D, J>, S)>
+    requires held { held.value ≡ store_of flusher }
+    requires started { IsStarted flusher }
+    requires new { All (λ seat. seat ≡ 0) given.items }
+    requires none { tally ≡ record { seats = 0; counted = 0 } }
+    requires fits { (count : ℕ) → 1 ≤ count → count ≤ length given.items → S.fits sessions count }
+    ensures held { IfOk result (λ past. HasHeld (S.comes J.start sessions past.sessions past.answer) J.start flusher
+        past.ordered past.published past.tally.counted past.written (store_of past.flusher)) }
+    ensures seats { IfOk result (λ past. past.tally.seats ≡ length given.items) }
+    ensures refused { IfErr result (λ back. (back.0 ≡ flusher) × (back.1 ≡ sessions)) }
+{
+    let mut tally = tally;
+    let Ok(desks) = desks_at(rt, alloc, &flusher, hub, given, &mut tally) else {
+        return Err((flusher, sessions));
     };
     if desks.is_empty() {
-        return (flusher.end(rt), sessions, Err(Refusal::NoMemory));
+        return Err((flusher, sessions));
     }
     let shared = Shared {
         rt,
         alloc,
-        hub: &hub,
+        hub,
         every,
     };
     let holding = Holding {
@@ -111,16 +178,30 @@ fn live_by<
         desks,
     };
     flusher.kept();
-    let (flusher, written, sessions, answer, desks) = match run_beside(
-        &shared, flusher, writer, holding,
-    ) {
+    match run_beside(&shared, held, flusher, writer, holding) {
         Ok(
             Both {
                 flusher,
                 written,
                 came: (sessions, answer, desks),
             },
-        ) => (flusher, written, sessions, answer, desks),
+        ) => {
+            let mut flusher = flusher;
+            flusher.kept();
+            flusher.few();
+            let ordered = flusher.ordered();
+            let published = flusher.told().len();
+            tally_desks(&mut flusher, desks, &mut tally);
+            Ok(Past {
+                flusher,
+                ordered,
+                published,
+                tally,
+                written,
+                sessions,
+                answer,
+            })
+        }
         Err((flusher, holding)) => {
             let Holding {
                 shared: _,
@@ -128,18 +209,9 @@ fn live_by<
                 sessions,
                 desks: _desks,
             } = holding;
-            return (flusher.end(rt), sessions, Err(Refusal::NoMemory));
+            Err((flusher, sessions))
         }
-    };
-    let mut flusher = flusher;
-    flusher.kept();
-    flusher.few();
-    let ordered = flusher.ordered();
-    let published = flusher.told().len();
-    tally_desks(&mut flusher, desks, &mut tally);
-    let count = hub.into_board().end(tally, &ordered);
-    let written = all_written(written, count, published);
-    (flusher.end(rt), sessions, Ok(Ended { answer, written }))
+    }
 }
 
 // How the writing ended, of as many commands as are published: well only where the order has no more.

@@ -2,7 +2,9 @@
 use disk::Disk;
 use flusher::Flusher;
 use published::Site;
+use recovery::Store;
 use refusal::Refusal;
+use std::marker::PhantomData;
 use std::snapshot::Snapshot;
 use std::sync::Wait;
 use std::thread::Promise;
@@ -45,12 +47,15 @@ impl<D: Disk + Drop, J: Site, R: Wait> Written<'_, D, J, R> {
     }
 }
 
-/// Promises what comes of this flusher.
+/// Promises what comes of a flusher that was just started over this store.
 #[derive(Drop)]
-pub(crate) struct WrittenBy<D: Disk, J: Site>(pub(crate) Snapshot<Flusher<D, J>>);
+pub(crate) struct WrittenBy<D: Disk, J: Site> {
+    pub(crate) store: Snapshot<Store<D>>,
+    pub(crate) of: PhantomData<J>,
+}
 
 impl<'a, D: Disk + Drop, J: Site, R: Wait> Promise<Written<'a, D, J, R>> for WrittenBy<D, J> {
-    ghost use Rattle.server_threads.specs.Written.{HasRun};
+    ghost use Rattle.server_threads.specs.Written.{StartedOverWrites};
 
-    ghost kept_by = { λ by written. HasRun J.start by.0.value written.flusher written.answer written.is_begun };
+    ghost kept_by = { λ by written. StartedOverWrites J.start by.store.value written.flusher written.answer };
 }
