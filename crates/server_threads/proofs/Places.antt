@@ -100,12 +100,13 @@ counts_all start old last (Answered command (Ok (Taken revision)) ∷ others) (n
 counts_all start old last (Answered command (Ok (Again revision)) ∷ others) (next, passes, rest) =
     subst (λ (n : ℕ). Counts n others last.counted) (passes.submits.counts ∙ counted_again old.counted revision passes.ticket.reply passes.answer)
     (counts_all start next last others rest)
-counts_all start old last (Answered command (Err refusal) ∷ others) (next, passes, rest) = by_case (refused_counts start old next command refusal passes)
+counts_all start old last (Answered command (Err refusal) ∷ others) (next, passes, rest) =
+    by_case (counts_all start next last others rest) (refused_counts start old next command refusal passes)
   where
-    by_case : (next.counted ≡ old.counted) ⊎ ((refusal ≡ StoreFailed) × (next.counted ≡ old.counted + 1))
+    by_case : Counts next.counted others last.counted → (next.counted ≡ old.counted) ⊎ ((refusal ≡ StoreFailed) × (next.counted ≡ old.counted + 1))
         → Counts old.counted others last.counted ⊎ ((refusal ≡ StoreFailed) × Counts (old.counted + 1) others last.counted)
-    by_case (inl same) = inl (subst (λ (n : ℕ). Counts n others last.counted) same (counts_all start next last others rest))
-    by_case (inr (failed, more)) = inr (failed, subst (λ (n : ℕ). Counts n others last.counted) more (counts_all start next last others rest))
+    by_case counts (inl same) = inl (subst (λ (n : ℕ). Counts n others last.counted) same counts)
+    by_case counts (inr (failed, more)) = inr (failed, subst (λ (n : ℕ). Counts n others last.counted) more counts)
 counts_all start old last (Shown (Some state) ∷ others) (next, passes, rest) =
     subst (λ (n : ℕ). Counts n others last.counted) passes.3 (counts_all start next last others rest)
 counts_all start old last (Shown None ∷ others) (next, passes, rest) =

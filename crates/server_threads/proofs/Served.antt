@@ -27,6 +27,7 @@ use Rattle.hub.specs.Legal.{IsOfRun}
 use Rattle.world.specs.Board.{Board as Inner}
 use Rattle.hub_desk.specs.AtHub.{Desk}
 use Rattle.server_threads.specs.Answers.{first_desk}
+use Rattle.server_threads.specs.Held.{HasHeld}
 use Rattle.server_threads.specs.Served.{IsWritten, IsWhole, KeepsAnswers, WasServed, HasLived, IsStarted}
 use Rattle.server_threads.specs.Written.{HasWritten, HasRun, StartedOverWrites}
 use Rattle.server_threads.proofs.Places.{commands_first}
@@ -42,6 +43,14 @@ within least less start other batches content count same found =
 none_begins : (first : List (List Taken)) → IsPrefix first [] → first ≡ []
 none_begins [] begins = refl
 none_begins (batch ∷ others) begins = absurd (cc begins.1)
+
+-- first ones of what is published and committed, of which one at most is committed, are published, or all of it
+all_or_told : (told committed first : List (List Taken)) → length committed ≤ 1 → IsPrefix first (told ++ committed) → IsPrefix first told ⊎ (first ≡ told ++ committed)
+all_or_told told committed first few begins = by_length (cases_lt (length told) (length first))
+  where
+    by_length : (length told < length first) ⊎ (length first ≤ length told) → IsPrefix first told ⊎ (first ≡ told ++ committed)
+    by_length (inl less) = inr (prefix_whole first (told ++ committed) begins (omega (arith, less, few, length-append told committed)))
+    by_length (inr le) = inl (prefix_shorter first told (told ++ committed) begins (committed, refl) le)
 
 module _ {D : Type 0} {disk : Ghosts D} where
   -- At the beginning the store held what no batches make.
@@ -74,14 +83,6 @@ module _ {D J : Type 0} {disk : Ghosts D} where
       (subst (λ (s : State). WasAt s 0 first (given_to new) (store_of old) (store_of new)) (sym same)
       (subst (λ (n : ℕ). WasAt start n first (given_to new) (store_of old) (store_of new))
       (ap (λ (t : List (List Taken)). length (commands_of t)) started.nothing) was))
-
-  -- first ones of what is published and committed, of which one at most is committed, are published, or all of it
-  all_or_told : (told committed first : List (List Taken)) → length committed ≤ 1 → IsPrefix first (told ++ committed) → IsPrefix first told ⊎ (first ≡ told ++ committed)
-  all_or_told told committed first few begins = by_length (cases_lt (length told) (length first))
-    where
-      by_length : (length told < length first) ⊎ (length first ≤ length told) → IsPrefix first told ⊎ (first ≡ told ++ committed)
-      by_length (inl less) = inr (prefix_whole first (told ++ committed) begins (omega (arith, less, few, length-append told committed)))
-      by_length (inr le) = inl (prefix_shorter first told (told ++ committed) begins (committed, refl) le)
 
   -- a flusher that was just started, what its thread wrote, and an order that begins with all that it was given
   pub written_by : (start : State) (order : List Entry) (old new : Flusher D J disk) → IsStarted old → Kept start old → Kept start new
@@ -314,6 +315,19 @@ module _ {D J : Type 0} {disk : Ghosts D} where
           let none : (committed_of new ≡ []) × (waiting_of new ≡ []) =
           subst (λ (r : Result (Unit {0}) Refusal). OnOk r ((committed_of new ≡ []) × (waiting_of new ≡ []))) well wrote.nothing in
           whole_by order old new is_written none.0 none.1 same
+
+module _ {D J : Type 0} {disk : Ghosts D} where
+  -- the life of what was held, and of the board that ended
+  pub lived_from : (Sessions : List Desk → Type 0) (start : State) (old : Flusher D J disk) (ordered : List Entry) (published counted : ℕ) (written answer : Result (Unit {0}) Refusal)
+      (new store : Store D disk) (board : Inner Entry) → store ≡ new → IsStarted old → HasHeld Sessions start old ordered published counted written new
+      → IsOfRun start board → IsPrefix ordered board.order → length board.order ≡ counted
+      → OnOk answer ((written ≡ Ok tt) × (length board.order ≡ published)) → (IsErrOf answer Fault ↔ IsErrOf written Fault) → HasLived Sessions answer (store_of old) store
+  lived_from Sessions start old ordered published counted written answer new store board is started held run begins counts all fault =
+      lived_by Sessions start board.order held.desks old held.last written answer store (is ∙ held.store) started held.before.state held.kept.state
+      held.few_committed held.few_waiting held.wrote (order_legal start board run)
+      (order_begins (commands_of (told_of held.last ++ (committed_of held.last ++ waiting_of held.last))) ordered board.order held.begins begins)
+      held.told (counts ∙ held.counts)
+      (subst (λ (n : ℕ). OnOk answer ((written ≡ Ok tt) × (length board.order ≡ n))) held.so_many all) fault held.sessions
 
 module _ {D : Type 0} {disk : Ghosts D} where
   -- a store that nothing was written to

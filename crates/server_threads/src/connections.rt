@@ -104,13 +104,7 @@ struct OverConnections<'n, N> {
     listener: &'n N,
 }
 
-impl<
-    'n,
-    N: OpenListener<Stream = TcpStream>,
-    D: Send + Drop,
-    J: Site + Sync + Send,
-    R: Threads + Wait + Sync,
-> Sessions<D, J, R> for OverConnections<'n, N> {
+impl<'n, N: OpenListener<Stream = TcpStream>> Sessions for OverConnections<'n, N> {
     ghost use Rattle.std.specs.Prelude.{IsOkUnless};
     ghost use Rattle.refusal.specs.declared.Refusal.TheVariants.{NoMemory};
     ghost use Rattle.server_threads.specs.Connections.{EachHasServed};
@@ -121,12 +115,16 @@ impl<
 
     ghost comes = { λ start old new answer desks. EachHasServed start desks × IsOkUnless answer NoMemory };
 
-    fn hold<'a>(
+    fn hold<'a, D: Send + Drop, J: Site + Sync + Send, R: Threads + Wait + Sync>(
         self,
         rt: &R,
         alloc: Global,
         desks: Vec<HubDesk<'a, D, J, R>>,
-    ) -> (Self, Result<(), Refusal>, Vec<HubDesk<'a, D, J, R>>) {
+    ) -> (Self, Result<(), Refusal>, Vec<HubDesk<'a, D, J, R>>)
+        requires first { All (λ desk. desk ≡ first_desk) desks.items }
+        ensures comes { EachHasServed J.start result.2.items × IsOkUnless result.1 NoMemory }
+        ensures as_many { length result.2.items ≡ length desks.entry.items }
+    {
         let (answer, desks) = serve_all(rt, alloc, desks, self.listener);
         (self, answer, desks)
     }

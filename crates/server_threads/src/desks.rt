@@ -46,7 +46,7 @@ pub(crate) fn desks_at<'a, J: Site, R: Wait, D: Disk + Drop>(
     requires told { told_of flusher.now ≡ [] }
     requires new { All (λ seat. seat ≡ 0) seats.items }
     ensures first { IfOk result (λ desks. All (λ desk. desk ≡ first_desk) desks.items) }
-    ensures all { IfOk result (λ desks. length desks.items + tally.new.seats ≡ length seats.entry.items + tally.old.seats) }
+    ensures all { IfOk result (λ desks. length desks.items + tally.new.seats ≡ length seats.items + tally.old.seats) }
     ensures none { IfOk result (λ desks. tally.new.counted ≡ tally.old.counted) }
     ensures only { IsOkUnless result Refusal.NoMemory }
 {

@@ -2,7 +2,6 @@
 ghost use Rattle.std.specs.Prelude.{◌≡◌, All, length};
 ghost use Rattle.server_threads.specs.Answers.{first_desk};
 
-use crate::beside::Task;
 use crate::sessions::Sessions;
 use crate::writing::Shared;
 use hub::Closer;
@@ -20,31 +19,46 @@ pub(crate) struct Holding<'s, 'a, S, D, J: Site, R> {
     pub(crate) desks: Vec<HubDesk<'a, D, J, R>>,
 }
 
-impl<
+impl<S: Drop, D: Drop, J: Site, R> Holding<'_, '_, S, D, J, R> {
+    ghost use Rattle.std.specs.Prelude.{◌≡◌};
+
+    /// The sessions, where they aren't held.
+    pub(crate) fn into_sessions(self) -> S
+        ensures { result ≡ self.entry.sessions }
+    {
+        let Holding {
+            shared: _,
+            closer: _closer,
+            sessions,
+            desks: _desks,
+        } = self;
+        sessions
+    }
+}
+
+/// Holds the sessions, and ends the hub once each of them has ended.
+pub(crate) fn hold_all<
     's,
     'a,
-    S: Sessions<D, J, R> + Drop,
+    S: Sessions + Drop,
     D: Send + Drop,
     J: Site + Sync + Send,
     R: Threads + Wait + Sync,
-> Task for Holding<'s, 'a, S, D, J, R> {
-    type Output = (S, S::Answer, Vec<HubDesk<'a, D, J, R>>);
-
-    ghost can_run = { λ h. S.fits h.sessions (length h.desks.items) × All (λ desk. desk ≡ first_desk) h.desks.items };
-
-    ghost run_gives = { λ h r. S.comes J.start h.sessions r.0 r.1 r.2.items × (length r.2.items ≡ length h.desks.items) };
-
-    /// Holds the sessions, and ends the hub once each of them has ended.
-    fn run(self) -> (S, S::Answer, Vec<HubDesk<'a, D, J, R>>) {
-        let Holding {
-            shared,
-            closer,
-            sessions,
-            desks,
-        } = self;
-        let mut closer = closer;
-        let held = sessions.hold(shared.rt, shared.alloc, desks);
-        let _ended = shared.hub.end(shared.rt, &mut closer);
-        held
-    }
+>(
+    holding: Holding<'s, 'a, S, D, J, R>,
+) -> (S, S::Answer, Vec<HubDesk<'a, D, J, R>>)
+    requires fits { S.fits holding.sessions (length holding.desks.items) }
+    requires first { All (λ desk. desk ≡ first_desk) holding.desks.items }
+    ensures comes { S.comes J.start holding.entry.sessions result.0 result.1 result.2.items }
+{
+    let Holding {
+        shared,
+        closer,
+        sessions,
+        desks,
+    } = holding;
+    let mut closer = closer;
+    let held = sessions.hold(shared.rt, shared.alloc, desks);
+    let _ended = shared.hub.end(shared.rt, &mut closer);
+    held
 }

@@ -5,7 +5,7 @@ ghost use Rattle.flusher.specs.Holding.{store_of};
 ghost use Rattle.server_threads.specs.Held.{HasHeld};
 ghost use Rattle.server_threads.specs.Served.{HasLived, IsStarted};
 
-use crate::beside::{Both, run_beside};
+use crate::beside::{Both, hold_beside};
 use crate::desks::{desks_at, seats_of, tally_desks};
 use crate::holding::Holding;
 use crate::sessions::Sessions;
@@ -35,7 +35,7 @@ pub(crate) struct Ended<A> {
 pub(crate) fn live<
     J: Site + Sync + Send,
     R: Threads + Wait + Sync,
-    S: Sessions<D, J, R> + Drop,
+    S: Sessions + Drop,
     D: Disk + Send + Drop,
 >(
     rt: &R,
@@ -68,7 +68,7 @@ pub(crate) fn live<
 fn live_by<
     J: Site + Sync + Send,
     R: Threads + Wait + Sync,
-    S: Sessions<D, J, R> + Drop,
+    S: Sessions + Drop,
     D: Disk + Send + Drop,
 >(
     rt: &R,
@@ -133,7 +133,7 @@ struct Past<D: Disk, J: Site, S, A> {
 fn hold_at<
     J: Site + Sync + Send,
     R: Threads + Wait + Sync,
-    S: Sessions<D, J, R> + Drop,
+    S: Sessions + Drop,
     D: Disk + Send + Drop,
 >(
     rt: &R,
@@ -178,14 +178,14 @@ fn hold_at<
         desks,
     };
     flusher.kept();
-    match run_beside(&shared, held, flusher, writer, holding) {
-        Ok(
-            Both {
-                flusher,
-                written,
-                came: (sessions, answer, desks),
-            },
-        ) => {
+    match hold_beside(&shared, held, flusher, writer, holding) {
+        Ok(Both {
+            flusher,
+            written,
+            sessions,
+            answer,
+            desks,
+        }) => {
             let mut flusher = flusher;
             flusher.kept();
             flusher.few();
@@ -202,15 +202,7 @@ fn hold_at<
                 answer,
             })
         }
-        Err((flusher, holding)) => {
-            let Holding {
-                shared: _,
-                closer: _closer,
-                sessions,
-                desks: _desks,
-            } = holding;
-            Err((flusher, sessions))
-        }
+        Err(back) => Err(back),
     }
 }
 

@@ -5,9 +5,11 @@ ghost use Rattle.server_threads.specs.Answers.{first_desk};
 use hub_desk::HubDesk;
 use published::Site;
 use std::alloc::Global;
+use std::sync::Wait;
+use std::thread::Threads;
 
 /// The sessions of a server, which are held at desks of its hub.
-pub(crate) trait Sessions<D, J: Site, R> {
+pub(crate) trait Sessions {
     ghost use Rattle.std.specs.Prelude.{ℕ, List};
     ghost use Rattle.revision.specs.State.{State};
     ghost use Rattle.hub_desk.specs.AtHub.{Desk};
@@ -22,7 +24,7 @@ pub(crate) trait Sessions<D, J: Site, R> {
     ghost comes: { State → Self → Self → Self.Answer → List Desk → Type 0 };
 
     /// Holds them at desks that were asked for nothing yet, and gives the desks back.
-    fn hold<'a>(
+    fn hold<'a, D: Send + Drop, J: Site + Sync + Send, R: Threads + Wait + Sync>(
         self,
         rt: &R,
         alloc: Global,

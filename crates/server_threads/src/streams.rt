@@ -140,7 +140,7 @@ struct OverStreams<'i, I, O> {
     output: &'i mut O,
 }
 
-impl<'i, I: Read, O: Output, D, J: Site, R: Wait> Sessions<D, J, R> for OverStreams<'i, I, O> {
+impl<'i, I: Read, O: Output> Sessions for OverStreams<'i, I, O> {
     ghost use Rattle.std.specs.Prelude.{◌≡◌, [], IfErr};
     ghost use Rattle.serving.specs.declared.failure.Failure.TheVariants.{Stream};
     ghost use Rattle.serving.specs.Serving.{beginning};
@@ -156,12 +156,21 @@ impl<'i, I: Read, O: Output, D, J: Site, R: Wait> Sessions<D, J, R> for OverStre
         × IfErr answer (λ failure. failure ≡ Stream)
         × (new.input.ghost_name ≡ old.input.ghost_name) × (new.output.ghost_name ≡ old.output.ghost_name) };
 
-    fn hold<'a>(
+    fn hold<'a, D: Send + Drop, J: Site + Sync + Send, R: Threads + Wait + Sync>(
         self,
         rt: &R,
         alloc: Global,
         desks: Vec<HubDesk<'a, D, J, R>>,
-    ) -> (Self, Result<(), Failure>, Vec<HubDesk<'a, D, J, R>>) {
+    ) -> (Self, Result<(), Failure>, Vec<HubDesk<'a, D, J, R>>)
+        requires fits { (length desks.items ≡ 1) × (self.session ≡ beginning) × (self.shelf ≡ []) }
+        requires first { All (λ desk. desk ≡ first_desk) desks.items }
+        ensures comes { ByOne (EndsAtHub result.1 J.start
+            (I.remaining self.entry.input.now) (I.remaining result.0.input.now) (O.contents self.entry.output.now) (O.contents result.0.output.now)
+            (O.has_failed result.0.output.now)) result.2.items
+            × IfErr result.1 (λ failure. failure ≡ Stream)
+            × (result.0.input.ghost_name ≡ self.entry.input.ghost_name) × (result.0.output.ghost_name ≡ self.entry.output.ghost_name) }
+        ensures as_many { length result.2.items ≡ length desks.entry.items }
+    {
         let _ = rt;
         let OverStreams {
             session,
