@@ -70,7 +70,7 @@ pub(crate) fn hold_beside<
     thread::scope(
         thread::scope_env(),
         shared.rt,
-        |scope| -> Result<Both<'a, D, J, R, S, S::Answer>, (Flusher<D, J>, S)>
+        |scope| -> Result<Both<'_, D, J, R, S, S::Answer>, (Flusher<D, J>, S)>
             requires { (written_by.store.value ≡ store_of writing.flusher) × IsStarted writing.flusher
                 × S.fits holding.sessions (length holding.desks.items) × All (λ desk. desk ≡ first_desk) holding.desks.items }
             ensures written { IfOk result (λ both. HasWritten J.start writing.entry.flusher both.flusher both.written) }
