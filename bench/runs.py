@@ -73,7 +73,7 @@ def processor_time(commands, answered):
     """The processor's seconds of a server with a new store that is given these commands."""
     with tempfile.TemporaryDirectory() as folder:
         store = os.path.join(folder, "store")
-        words = ["--docs", "1", "--cell", "16777216", "--slots", "2", "--slot", "67108864", "--keep", "4096"]
+        words = ["--docs", "1", "--cell", "16777216", "--slots", "2", "--slot", "16777216", "--keep", "4096"]
         format_store(store, *words)
         lines = b"".join(map(messages.spelled, [messages.hello("bench"), *commands]))
         before = resource.getrusage(resource.RUSAGE_CHILDREN)

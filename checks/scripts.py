@@ -185,7 +185,7 @@ SCRIPTS = [
                     fetch("d"),
                 ],
             ),
-            ("b", [fetch("d"), edit("d", 1, 5, retain(2), insert("!"))]),
+            ("a", [fetch("d"), edit("d", 6, 5, retain(2), insert("!"))]),
         ],
         {"d": (6, [insert("qx!")])},
     ),
