@@ -44,9 +44,7 @@ pub(crate) fn hold_all<
     D: Send + Drop,
     J: Site + Sync + Send,
     R: Threads + Wait + Sync,
->(
-    holding: Holding<'s, 'a, S, D, J, R>,
-) -> (S, S::Answer, Vec<HubDesk<'a, D, J, R>>)
+>(holding: Holding<'s, 'a, S, D, J, R>) -> (S, S::Answer, Vec<HubDesk<'a, D, J, R>>)
     requires fits { S.fits holding.sessions (length holding.desks.items) }
     requires first { All (λ desk. desk ≡ first_desk) holding.desks.items }
     ensures comes { S.comes J.start holding.entry.sessions result.0 result.1 result.2.items }

@@ -99,15 +99,17 @@ fn live_by<
     match hold_at(
         rt, alloc, &hub, held, flusher, writer, closer, given, tally, every, sessions,
     ) {
-        Ok(Past {
-            flusher,
-            ordered,
-            published,
-            tally,
-            written,
-            sessions,
-            answer,
-        }) => {
+        Ok(
+            Past {
+                flusher,
+                ordered,
+                published,
+                tally,
+                written,
+                sessions,
+                answer,
+            },
+        ) => {
             let count = hub.into_board().end(tally, &ordered);
             let written = all_written(written, count, published);
             (flusher.end(rt), sessions, Ok(Ended { answer, written }))
@@ -179,13 +181,15 @@ fn hold_at<
     };
     flusher.kept();
     match hold_beside(&shared, held, flusher, writer, holding) {
-        Ok(Both {
-            flusher,
-            written,
-            sessions,
-            answer,
-            desks,
-        }) => {
+        Ok(
+            Both {
+                flusher,
+                written,
+                sessions,
+                answer,
+                desks,
+            },
+        ) => {
             let mut flusher = flusher;
             flusher.kept();
             flusher.few();

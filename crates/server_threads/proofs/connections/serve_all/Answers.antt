@@ -12,7 +12,7 @@ serve_desks-requires-send-K g c κs within =
     search (desk_send, sendable) depth 10
 
 pub returns-in-Ok-clause-served : goal.returns-in-Ok-clause-served
-returns-in-Ok-clause-served g c = each_served g.J.Site.start c.args.desks.items c.in-Ok.desks.items c.in-Ok.ensures.served c.requires
+returns-in-Ok-clause-served g c = each_served g.J.Site.start c.args.desks.items c.in-Ok.desks.items c.in-Ok.ensures.served c.requires.first
 
 pub returns-in-Ok-clause-as_many : goal.returns-in-Ok-clause-as_many
 returns-in-Ok-clause-as_many g c = as_many g.J.Site.start c.args.desks.items c.in-Ok.desks.items c.in-Ok.ensures.served
