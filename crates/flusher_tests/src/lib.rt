@@ -8,7 +8,9 @@ pub mod callers;
 #[cfg(test)]
 mod freeing;
 #[cfg(test)]
-mod made;
+mod jobs;
+#[cfg(test)]
+mod rows;
 #[cfg(test)]
 mod runs;
 #[cfg(test)]

@@ -3,27 +3,19 @@ ghost use Rattle.std.specs.Prelude.{◌≡◌, []};
 ghost use Rattle.recovery.specs.Open.{state_of};
 ghost use Rattle.flusher.specs.Holding.{committed_of, waiting_of};
 
-use crate::made::{command, new_store};
+use crate::rows::SHAPE;
 use disk::MemDisk;
+use fixtures::{command, new_store, newest};
 use flusher::{Flusher, Gate, Moment, start};
 use hub::{Hub, Seat, Writer};
 use published::{Opened, Site};
 use recovery::Store;
 use refusal::Refusal;
-use revision::State;
 use std::marker::Brand;
 use std::process::Abort;
 use std::sync::Wait;
 use std::sync::ledger::Blank;
 use view::Viewer;
-
-// the newest revision of the only document, 0 where there is none
-fn newest(state: &State) -> u64 {
-    match state.documents().first() {
-        Some(document) => document.revision(),
-        None => 0,
-    }
-}
 
 /// Notes what a reader is shown at each of a write's two moments.
 #[derive(Drop)]
@@ -75,7 +67,7 @@ fn is_shown<J: Site, R: Wait + Abort + AllocGlobal>(
     ensures nothing { (committed_of flusher.new ≡ []) × (waiting_of flusher.new ≡ []) }
 {
     let alloc = rt.alloc();
-    let next = command(rt, number, 1);
+    let next = command(alloc, number, 1).expect(rt, "a command");
     let ticket = hub.submit(rt, alloc, seat, &next).expect(rt, "taken");
     hold_next(rt, flusher, hub, writer);
     let written = flusher.write(rt, alloc, gate).expect(rt, "written");
@@ -117,5 +109,6 @@ fn two_batches<J: Site, R: Wait + Abort + AllocGlobal>(
 
 #[test]
 fn what_is_committed_is_shown_once_it_is_published(rt: HostRuntime) {
-    two_batches::<Brand, _>(&rt, new_store(&rt), Opened::new(), Blank::new(2));
+    let store = new_store(rt.alloc(), SHAPE).expect(&rt, "a store");
+    two_batches::<Brand, _>(&rt, store, Opened::new(), Blank::new(2));
 }

@@ -2,8 +2,9 @@
 ghost use Rattle.std.specs.Prelude.{◌≡◌};
 ghost use Rattle.recovery.specs.Open.{state_of};
 
-use crate::made::{command, new_store};
+use crate::rows::SHAPE;
 use disk::MemDisk;
+use fixtures::{command, new_store};
 use flusher::{Flusher, Gate, Moment, start};
 use hub::{Board, Closer, Hub, Seat, Writer};
 use published::{Opened, Site};
@@ -67,10 +68,10 @@ fn submitted<J: Site, R: Wait + Abort + AllocGlobal>(
     reached: &AtomicBool,
 ) -> u64 {
     let alloc = rt.alloc();
-    let first = command(rt, 1, 1);
+    let first = command(alloc, 1, 1).expect(rt, "a command");
     let ticket = hub.submit(rt, alloc, one, &first).expect(rt, "taken");
     assert!(rt; wait_for(reached));
-    let second = command(rt, 2, 1);
+    let second = command(alloc, 2, 1).expect(rt, "a command");
     let last = hub.submit(rt, alloc, other, &second).expect(rt, "taken");
     let _ = hub.wait_ack(rt, &ticket).expect(rt, "acknowledged");
     let told = hub.wait_ack(rt, &last).expect(rt, "acknowledged");
@@ -165,5 +166,6 @@ fn beside<J: Site + Send + Sync, R: Threads + Wait + Abort + AllocGlobal + Sync>
 // the first stands in the document's first cell.
 #[test]
 fn second_is_ordered_while_first_is_written(rt: HostRuntime) {
-    beside::<Brand, _>(&rt, new_store(&rt), Opened::new(), Blank::new(3));
+    let store = new_store(rt.alloc(), SHAPE).expect(&rt, "a store");
+    beside::<Brand, _>(&rt, store, Opened::new(), Blank::new(3));
 }
