@@ -166,14 +166,25 @@ class Client(threading.Thread):
     def subscribes(self):
         """Whether the session follows the shared document. One whose subscription finds no memory is given up, since it may follow."""
         told = self.told
-        return self.is_answered({"do": "subscribe", "doc": SHARED, "rev": told}, {"doc": SHARED, "ok": "subscribed", "rev": told})
+        reply = self.ask([{"do": "subscribe", "doc": SHARED, "rev": told}])[0]
+        if reply.get("code") == 13 and self.starts > 1:
+            # a server that was started again holds a past from its newest milestone on: the news go on from what a fetch shows
+            shown = self.ask([{"do": "fetch", "doc": SHARED}])[0]
+            if "rev" not in shown:
+                return False
+            self.told = told = shown["rev"]
+            reply = self.ask([{"do": "subscribe", "doc": SHARED, "rev": told}])[0]
+        return self.is_good(reply, {"doc": SHARED, "ok": "subscribed", "rev": told})
 
     def is_answered(self, message, wanted):
         """Whether a message gets the reply that is wanted, and not a refusal of what it needs."""
-        reply = self.ask([message])[0]
+        return self.is_good(self.ask([message])[0], wanted)
+
+    def is_good(self, reply, wanted):
+        """Whether a reply is the one that is wanted. Any other has to be a refusal of what the message needs."""
         if reply == wanted:
             return True
-        agree(reply.get("code") == (21 if self.server.refusal.is_of_the_file() else 22), f"{message['do']}: {reply}")
+        agree(reply.get("code") == (21 if self.server.refusal.is_of_the_file() else 22), f"{reply} and not {wanted}")
         self.server.shows(reply)
         return False
 
