@@ -9,9 +9,9 @@ use Rattle.disk.specs.declared.device.Disk.{Ghosts}
 use Rattle.disk.specs.Crash.{LeavesOnly, MayLeaveNow}
 use Rattle.disk.proofs.CallerLemmas.{leaves_map}
 use Rattle.refusal.specs.declared.Refusal.{Refusal}
-use Rattle.refusal.specs.declared.Refusal.TheVariants.{JournalFull, Stranger, StillNeeded, StoreFailed, NoMemory, Fault}
+use Rattle.refusal.specs.declared.Refusal.TheVariants.{JournalFull, StillNeeded, NoMemory, Fault}
 use Rattle.revision.specs.Command.{Taken, Command}
-use Rattle.revision.specs.State.{State, grown, fold, all_grow}
+use Rattle.revision.specs.State.{State, grown, fold}
 use Rattle.revision.specs.Acceptance.{answer}
 use Rattle.world.specs.Board.{Board, Ticket, submitted, next_run, taken_more, settled_more}
 use Rattle.world.specs.World.{Entry, entry_of, takens}
@@ -31,7 +31,7 @@ use Rattle.flusher.specs.declared.calls.Answer.TheVariants.{Submitted, Turned, A
 use Rattle.flusher.specs.declared.flusher.Flusher.{Flusher}
 use Rattle.flusher.specs.Batches.{IsFirst}
 use Rattle.flusher.specs.Flushers.{IsUsedUp, cap_of}
-use Rattle.flusher.specs.Holding.{CannotPublish, store_of}
+use Rattle.flusher.specs.Holding.{store_of}
 use Rattle.flusher.specs.Standing.{Standing, batches_of, IsEven, IsCalm, RunGoes}
 use Rattle.flusher.specs.Driving.{Between, AckGives, Gives, Answered, Begins, Follows, IsHeld, AreHeld, IsTurnRefused, IsUnanswered, IsUnsettled, Stops, StopsAtTurn, with_run, turned}
 use Rattle.flusher.proofs.Beginnings.{is_first}
@@ -372,14 +372,11 @@ pub handed_on : {T : Type 0} (P : Refusal → Type 0) (r : Result T Refusal) (e 
 handed_on P r e f was from p = subst (λ o. IfErr o P) (sym was) (subst P (sym from) p)
 
 -- each of these is neither want of memory nor a publish that is refused
-not_full : (refusal : Refusal) → refusal ≡ JournalFull → (refusal ≢ NoMemory) × (refusal ≢ StoreFailed)
-not_full refusal is = (λ memory. let no : ⊥ = cc in no, λ failed. let no : ⊥ = cc in no)
+not_full : (refusal : Refusal) → refusal ≡ JournalFull → refusal ≢ NoMemory
+not_full refusal is memory = cc
 
-not_needed : (refusal : Refusal) → refusal ≡ StillNeeded → (refusal ≢ NoMemory) × (refusal ≢ StoreFailed)
-not_needed refusal is = (λ memory. let no : ⊥ = cc in no, λ failed. let no : ⊥ = cc in no)
-
-not_stranger : (refusal : Refusal) → refusal ≡ Stranger → (refusal ≢ NoMemory) × (refusal ≢ StoreFailed)
-not_stranger refusal is = (λ memory. let no : ⊥ = cc in no, λ failed. let no : ⊥ = cc in no)
+not_needed : (refusal : Refusal) → refusal ≡ StillNeeded → refusal ≢ NoMemory
+not_needed refusal is memory = cc
 
 module _ {D J : Type 0} {disk : Ghosts D} where
   -- Why a turn is refused whose write is: by the run that was held.
@@ -388,13 +385,10 @@ module _ {D J : Type 0} {disk : Ghosts D} where
       → (refusal ≡ JournalFull → (batch : List Taken) × (waiting ≡ batch ∷ []) × (has_room mid batch ≡ false) × (has_room (store_of new) batch ≡ false))
       → (refusal ≡ StillNeeded → (batch : List Taken) × (waiting ≡ batch ∷ []) × (has_room mid batch ≡ false))
       → ((refusal ≡ JournalFull) ⊎ (refusal ≡ StillNeeded) → IsUsedUp mid)
-      → (refusal ≡ Stranger → all_grow (state_of mid) (commands_of waiting) ≡ false)
-      → (refusal ≢ NoMemory → refusal ≢ StoreFailed → state_of (store_of new) ≡ state_of mid)
-      → (refusal ≡ StoreFailed → state_of (store_of new) ≡ fold (state_of mid) (commands_of waiting))
-      → (refusal ≡ StoreFailed → CannotPublish new)
-      → (((refusal ≡ JournalFull) ⊎ ((refusal ≡ StillNeeded) ⊎ (refusal ≡ Stranger))) ⊎ ((refusal ≡ NoMemory) ⊎ (refusal ≡ Fault))) ⊎ (refusal ≡ StoreFailed)
+      → (refusal ≢ NoMemory → state_of (store_of new) ≡ state_of mid)
+      → ((refusal ≡ JournalFull) ⊎ (refusal ≡ StillNeeded)) ⊎ ((refusal ≡ NoMemory) ⊎ (refusal ≡ Fault))
       → ((refusal ≡ NoMemory) ⊎ (refusal ≡ Fault)) ⊎ IsTurnRefused cap board store refusal new
-  turn_refused cap board store mid new waiting run refusal waits same is longest some full needed used stranger stays lost barred only = by_case only
+  turn_refused cap board store mid new waiting run refusal waits same is longest some full needed used stays only = by_case only
     where
       no_room : (batch : List Taken) → waiting ≡ batch ∷ [] → has_room mid batch ≡ false → has_room store (takens (next_run board.board (length run))) ≡ false
       no_room batch held none =
@@ -403,27 +397,38 @@ module _ {D J : Type 0} {disk : Ghosts D} where
       used_up : (refusal ≡ JournalFull) ⊎ (refusal ≡ StillNeeded) → IsUsedUp store
       used_up told = subst (λ (s : Store D disk). IsUsedUp s) same (used told)
 
-      commands : commands_of waiting ≡ takens (next_run board.board (length run))
-      commands = ap commands_of waits ∙ append-nil run ∙ is
+      still : refusal ≢ NoMemory → state_of (store_of new) ≡ state_of store
+      still other = stays other ∙ ap state_of same
 
-      still : (refusal ≢ NoMemory) × (refusal ≢ StoreFailed) → state_of (store_of new) ≡ state_of store
-      still others = stays others.0 others.1 ∙ ap state_of same
-
-      by_case : (((refusal ≡ JournalFull) ⊎ ((refusal ≡ StillNeeded) ⊎ (refusal ≡ Stranger))) ⊎ ((refusal ≡ NoMemory) ⊎ (refusal ≡ Fault))) ⊎ (refusal ≡ StoreFailed)
+      by_case : ((refusal ≡ JournalFull) ⊎ (refusal ≡ StillNeeded)) ⊎ ((refusal ≡ NoMemory) ⊎ (refusal ≡ Fault))
           → ((refusal ≡ NoMemory) ⊎ (refusal ≡ Fault)) ⊎ IsTurnRefused cap board store refusal new
-      by_case (inl (inl (inl is_full))) =
+      by_case (inl (inl is_full)) =
           let p = full is_full in
-          inr (length run, longest, some, inl ((inl is_full, no_room p.0 p.1 p.2, used_up (inl is_full)), still (not_full refusal is_full)))
-      by_case (inl (inl (inr (inl is_needed)))) =
+          inr (
+            length run,
+            longest,
+            some,
+            record {
+              why = inl is_full;
+              no_room = no_room p.0 p.1 p.2;
+              last = used_up (inl is_full);
+              state = still (not_full refusal is_full);
+            },
+          )
+      by_case (inl (inr is_needed)) =
           let p = needed is_needed in
-          inr (length run, longest, some, inl ((inr is_needed, no_room p.0 p.1 p.2, used_up (inr is_needed)), still (not_needed refusal is_needed)))
-      by_case (inl (inl (inr (inr is_stranger)))) =
-          let grows : all_grow (state_of store) (takens (next_run board.board (length run))) ≡ false =
-          ap (all_grow (state_of store)) (sym commands) ∙ ap (λ (s : Store D disk). all_grow (state_of s) (commands_of waiting)) (sym same) ∙ stranger is_stranger in
-          inr (length run, longest, some, inr (inl ((is_stranger, grows), still (not_stranger refusal is_stranger))))
-      by_case (inl (inr known)) = inl known
-      by_case (inr failed) =
-          inr (length run, longest, some, inr (inr (failed, lost failed ∙ ap (λ (s : Store D disk). fold (state_of s) (commands_of waiting)) same ∙ ap (fold (state_of store)) commands, barred failed)))
+          inr (
+            length run,
+            longest,
+            some,
+            record {
+              why = inr is_needed;
+              no_room = no_room p.0 p.1 p.2;
+              last = used_up (inr is_needed);
+              state = still (not_needed refusal is_needed);
+            },
+          )
+      by_case (inr known) = inl known
 
 module _ {D J : Type 0} {disk : Ghosts D} where
   -- where a call was refused that isn't an answer

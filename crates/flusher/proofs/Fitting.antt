@@ -76,6 +76,15 @@ module _ {D : Type 0} {disk : Ghosts D} where
       subst (λ (b : Board Entry). MaySettle b receipt (length (commands_of token))) (sym boards)
       (subst (λ (r : List Taken). MaySettle (taken_more here.board (length run)) r (length (commands_of token))) (sym same) here_may)
 
+  -- a run that is taken off goes on with what is published
+  pub goes_next : (start : State) (here : Standing D disk) (place : ℕ) → IsCalm start here → place ≡ here.board.taken → place ≡ length (commands_of here.told)
+  goes_next start here place calm is =
+      let stands = calm_stands start here calm in
+      let bound : here.board.taken ≤ length (takens here.board.order) = omega (arith, stands.taken, takens_length here.board.order) in
+      let even = all_settled (takens here.board.order) here.board.settled here.board.taken stands.settled bound here.told stands.parts in
+      let known = told_length (takens here.board.order) here.board.settled here.board.taken stands.settled bound here.told [] stands.parts in
+      omega (arith, is, even, known)
+
   -- what goes from the store that held a run goes from the store before
   pub goes_held : (old mid new : Store D disk) (batches : List (List Taken)) (run : List Taken) → mid ≡ old → batches ≡ run ∷ [] → Goes (IsWithOrWithout (state_of mid) (commands_of batches)) mid new
       → Goes (IsWithOrWithout (state_of old) run) old new

@@ -2,9 +2,9 @@
 use Rattle.std.specs.Prelude.{◌≡◌, ◌≤◌, ◌⊎◌, ℕ, true, false, Option, Some, None, Result, Ok, Err, List, [], ◌∷◌, ◌++◌, length, take, slice_get}
 use Rattle.disk.specs.declared.device.Disk.{Ghosts}
 use Rattle.refusal.specs.declared.Refusal.{Refusal}
-use Rattle.refusal.specs.declared.Refusal.TheVariants.{JournalFull, Stranger, StillNeeded, StoreFailed, NoMemory, Fault}
+use Rattle.refusal.specs.declared.Refusal.TheVariants.{JournalFull, StillNeeded, NoMemory, Fault}
 use Rattle.revision.specs.Command.{Taken}
-use Rattle.revision.specs.State.{fold, all_grow}
+use Rattle.revision.specs.State.{fold}
 use Rattle.revision.specs.Acceptance.{Refuses, answer}
 use Rattle.world.specs.Board.{Ticket, submitted, ticket_of, next_run, taken_more, settled_more, can_ack}
 use Rattle.world.specs.World.{entry_of, takens}
@@ -17,7 +17,7 @@ use Rattle.recovery.specs.Run.{IsTaken, IsWhy}
 use Rattle.hub.specs.Legal.{Board}
 use Rattle.hub.specs.Runs.{IsLongest, untaken}
 use Rattle.flusher.specs.Flushers.{IsUsedUp, IsRunCommitted}
-use Rattle.flusher.specs.Holding.{CannotPublish, store_of}
+use Rattle.flusher.specs.Holding.{store_of}
 use Rattle.flusher.specs.declared.calls.Call.{Call}
 use Rattle.flusher.specs.declared.calls.Call.TheVariants.{Submit, Turn, Ack, Milestone, Retire}
 use Rattle.flusher.specs.declared.calls.Answer.{Answer}
@@ -131,13 +131,12 @@ stop_of (Err refusal) = Some refusal
 
 module _ {D J : Type 0} {disk : Ghosts D} where
   -- Why the write of a run is refused, where neither the device failed nor memory ran out, and what that leaves: the run isn't committed,
-  -- since it finds no room in the journal, of which the last segment is opened, or doesn't continue the state; or it is committed, and the
-  -- log of what is published can't be made longer, as the flusher has noted.
-  abbrev pub IsRunRefused : Store D disk → List Taken → Refusal → Flusher D J disk → Type 0
-  IsRunRefused store run refusal after =
-      ((((refusal ≡ JournalFull) ⊎ (refusal ≡ StillNeeded)) × (has_room store run ≡ false) × IsUsedUp store) × (state_of (store_of after) ≡ state_of store))
-      ⊎ ((((refusal ≡ Stranger) × (all_grow (state_of store) run ≡ false)) × (state_of (store_of after) ≡ state_of store))
-      ⊎ ((refusal ≡ StoreFailed) × (state_of (store_of after) ≡ fold (state_of store) run) × CannotPublish after))
+  -- since it finds no room in the journal, of which the last segment is opened.
+  pub record IsRunRefused (store : Store D disk) (run : List Taken) (refusal : Refusal) (after : Flusher D J disk) : Type 0 where
+    pub why : (refusal ≡ JournalFull) ⊎ (refusal ≡ StillNeeded)
+    pub no_room : has_room store run ≡ false
+    pub last : IsUsedUp store
+    pub state : state_of (store_of after) ≡ state_of store
 
   -- Why a turn is refused, likewise: it took off a run with a command, and the write of that is refused.
   abbrev pub IsTurnRefused : ℕ → Board → Store D disk → Refusal → Flusher D J disk → Type 0

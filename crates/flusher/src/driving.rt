@@ -35,7 +35,7 @@ pub struct Driven<D, J: Site> {
     /// An answer for each call up to where the run stopped, in order.
     pub answers: Vec<Answer<D, J>>,
     /// The tickets of the commands that were submitted and not refused, in order.
-    pub tickets: Vec<Ticket>,
+    pub tickets: Vec<Ticket<J>>,
     /// What stopped the run at the call behind those that were answered, if anything did.
     pub stopped: Option<Refusal>,
 }
@@ -45,7 +45,7 @@ fn submit_one<D: Disk, J: Site>(
     alloc: Global,
     board: &mut Board<D, J>,
     seat: &mut Seat<J>,
-    tickets: &mut Vec<Ticket>,
+    tickets: &mut Vec<Ticket<J>>,
     command: &Command,
 ) -> Result<Answer<D, J>, Refusal>
     requires works { board.old.failed ≡ false }
@@ -76,7 +76,7 @@ fn submit_one<D: Disk, J: Site>(
 }
 
 // What an acknowledgement gives for the ticket of this place, if there is one.
-fn ack_one<D, J: Site>(board: &Board<D, J>, tickets: &[Ticket], at: usize) -> Option<Told<D, J>>
+fn ack_one<D, J: Site>(board: &Board<D, J>, tickets: &[Ticket<J>], at: usize) -> Option<Told<D, J>>
     requires works { board.now.failed ≡ false }
     ensures { AckGives board.now (slice_get tickets.now at) result }
 {
@@ -165,7 +165,7 @@ fn call_one<D: Disk, J: Site, R: Wait>(
     flusher: &mut Flusher<D, J>,
     board: &mut Board<D, J>,
     seat: &mut Seat<J>,
-    tickets: &mut Vec<Ticket>,
+    tickets: &mut Vec<Ticket<J>>,
     call: &Call,
 ) -> Result<Answer<D, J>, Refusal>
     requires calm { IsCalm J.start (standing board.old flusher.old) }
@@ -209,7 +209,7 @@ fn drive_all<D: Disk, J: Site, R: Wait>(
     board: &mut Board<D, J>,
     seat: &mut Seat<J>,
     answers: &mut Vec<Answer<D, J>>,
-    tickets: &mut Vec<Ticket>,
+    tickets: &mut Vec<Ticket<J>>,
     calls: &[Call],
 ) -> Result<(), Refusal>
     requires calm { IsCalm J.start (standing board.old flusher.old) }

@@ -50,15 +50,15 @@ pub fn start<D: Disk, J: Site>(
     let begun = Begun::<J>::of(store.state());
     match store.state().copy(alloc) {
         Err(refusal) => {
-            let (_log, _told) = opened.named::<D, J>();
+            let (_log, _told, _order) = opened.named::<D, J>(store.state());
             Err(StartFault { store, refusal })
         }
         Ok(state) => match Publisher::new(alloc, opened, store.state()) {
             Err(refusal) => Err(StartFault { store, refusal }),
             Ok(made) => {
-                let (publisher, told) = made;
+                let (publisher, told, order) = made;
+                let board = Board::new(alloc, &store, state, told, order, blank, seats);
                 let flusher = Flusher::of(store, publisher, begun);
-                let board = Board::new(alloc, state, told, blank, seats);
                 Ok((flusher, board))
             }
         },

@@ -21,9 +21,8 @@ use std::alloc::Global;
 use std::sync::Wait;
 
 /// A turn: takes off the longest run of commands whose batch fits a slot, writes it, and settles it. Gives how many commands there are
-/// in it, which are none where nothing was left to take off. At `StoreFailed` the run is committed and not published, and the flusher has
-/// noted why; at `NoMemory` it may be committed, and at any other refusal it isn't. Whatever refused it, nothing is published or settled: the
-/// board is as it was, but that the run may be taken off.
+/// in it, which are none where nothing was left to take off. At `NoMemory` the run may be committed, and at any other refusal it isn't.
+/// Whatever refused it, nothing is published or settled: the board is unchanged, but that the run may be taken off.
 pub fn turn<D: Disk, J: Site, R: Wait>(
     rt: &R,
     alloc: Global,

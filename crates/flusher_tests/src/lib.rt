@@ -14,6 +14,8 @@ mod rows;
 #[cfg(test)]
 mod runs;
 #[cfg(test)]
+mod seats;
+#[cfg(test)]
 mod shows;
 #[cfg(test)]
 mod threads;

@@ -18,7 +18,7 @@ use Rattle.refusal.specs.declared.Refusal.{Refusal}
 use Rattle.refusal.specs.declared.Refusal.TheVariants.{NoMemory, Fault}
 use Rattle.flusher.proofs.Running.{run_none}
 use Rattle.flusher.proofs.Steps.{run_of_none, run_refused_by, run_settled}
-use Rattle.flusher.proofs.Fitting.{fits_slot, run_fits, run_within, may_settle, goes_held}
+use Rattle.flusher.proofs.Fitting.{fits_slot, run_fits, run_within, may_settle, goes_held, goes_next}
 use Rattle.flusher.proofs.Holdings.{same_batch, run_committed}
 use Rattle.flusher.proofs.Answering.{turned_by, turned_not, turn_refused, handed_on, on_err}
 use Rattle.flusher.proofs.turning.turn.Goals as goal
@@ -65,6 +65,10 @@ hold-requires-clause-fits g c =
     let longest = subst (λ (n : ℕ). IsLongest n (untaken c.args.board.now.board) (length c.in_ok-run.run'.commands)) c.cap.ensures c.in_ok-run.ensures.longest in
     (fits_slot (state_of (store_of c.args.flusher.now)) c.in_ok-run.run'.commands
     (run_fits (state_of (store_of c.args.flusher.now)) c.args.board.now.board c.in_ok-run.run'.commands c.in_ok-run.ensures.run longest some)).1
+
+pub hold-requires-clause-next : goal.hold-requires-clause-next
+hold-requires-clause-next g c =
+    goes_next g.J.Site.start (standing c.args.board.now c.args.flusher.now) c.in_ok-run.run'.place c.requires.calm c.in_ok-run.ensures.place
 
 pub returns-in_err-write-clause-goes : goal.returns-in_err-write-clause-goes
 returns-in_err-write-clause-goes g c =
@@ -176,8 +180,7 @@ returns-in_err-write-clause-refused g c =
     (turn_refused cap c.args.board.now store (store_of c.hold.new.self) c.write.new.self (waiting_of c.hold.new.self) run c.in_err-write.field-0.0 c.hold.ensures.waiting
     c.hold.ensures.store c.in_ok-run.ensures.run longest some (λ is. e.full (ap (λ (r : Refusal). Err r) is)) (λ is. e.needed (ap (λ (r : Refusal). Err r) is))
     (λ told. e.never_full (⊎_elim (λ full. inl (ap (λ (r : Refusal). Err r) full)) (λ still. inr (ap (λ (r : Refusal). Err r) still)) told))
-    (λ is. e.stranger (ap (λ (r : Refusal). Err r) is)) (λ no_memory no_failure. (e.uncommitted no_memory no_failure).state)
-    (λ is. (e.lost (ap (λ (r : Refusal). Err r) is)).state) (λ is. (e.lost (ap (λ (r : Refusal). Err r) is)).barred) e.only)
+    (λ no_memory. (e.uncommitted no_memory).state) e.only)
 
 pub returns-in_err-settle-in-Some-clause-refused : goal.returns-in_err-settle-in-Some-clause-refused
 returns-in_err-settle-in-Some-clause-refused g c =
