@@ -19,5 +19,8 @@ mod written;
 
 pub use flusher::Flusher;
 pub use gate::{Gate, Moment, OpenGate};
+pub use hub::{Board, Hub, Seat, Ticket};
+pub use published::Told;
 pub use starting::{StartFault, start};
+pub use view::Viewer;
 pub use written::Written;
