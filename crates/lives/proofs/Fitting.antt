@@ -14,9 +14,10 @@ use Rattle.recovery.specs.declared.store.Store.{Store}
 use Rattle.recovery.specs.Open.{IsWithOrWithout, state_of}
 use Rattle.recovery.specs.Goes.{Goes}
 use Rattle.hub.specs.Runs.{IsLongest, untaken, MaySettle}
-use Rattle.flusher.specs.Flushers.{cap_of}
+use Rattle.flusher.specs.Flushers.{IsCommittedTo, IsHeldCommitted, cap_of}
 use Rattle.flusher.specs.Standing.{Standing, IsCalm}
 use Rattle.flusher.proofs.CallerLemmas.{commands-append}
+use Rattle.lives.specs.Driving.{IsRunCommitted}
 use Rattle.lives.proofs.Evens.{told_length, all_settled, takens_length}
 use Rattle.lives.proofs.Steps.{calm_stands}
 
