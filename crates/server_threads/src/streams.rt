@@ -113,16 +113,19 @@ fn serve_run<
         input,
         output,
     };
-    let (store, streams, served) = serve_from(rt, alloc, hub, server, streams, every);
-    let OverStreams {
-        session: _session,
-        shelf: _shelf,
-        input,
-        output,
-    } = streams;
-    take_back(input);
-    take_back(output);
+    let Ended {
+        store,
+        served,
+        streams: _streams,
+    } = serve_from(rt, alloc, hub, server, streams, every);
     (store, served)
+}
+
+// The store that is given back, how serving ended, and the streams.
+struct Ended<'i, I, O, D: Disk> {
+    store: Store<D>,
+    served: Result<(), Failure>,
+    streams: OverStreams<'i, I, O>,
 }
 
 // Serves from a server's beginning to its end.
@@ -140,7 +143,7 @@ fn serve_from<
     server: Server<D, J>,
     streams: OverStreams<'i, I, O>,
     every: u32,
-) -> (Store<D>, OverStreams<'i, I, O>, Result<(), Failure>)
+) -> Ended<'i, I, O, D>
     requires store { server.held.value ≡ store_of server.flusher }
     requires started { IsStarted server.flusher }
     requires new { All (λ seat. seat ≡ 0) server.seats.items }
@@ -149,23 +152,31 @@ fn serve_from<
     requires none { server.tally ≡ record { seats = 0; counted = 0 } }
     requires session { streams.session ≡ beginning }
     requires shelf { streams.shelf ≡ [] }
-    ensures served { WasServed (ByOne (EndsAtHub result.2 J.start
-        (I.remaining streams.entry.input.now) (I.remaining result.1.input.now) (O.contents streams.entry.output.now) (O.contents result.1.output.now)
-        (O.has_failed result.1.output.now))) (is_ok result.2) (store_of server.flusher) result.0 }
-    ensures no_memory { IsErrOf result.2 (Failure.Refused Refusal.NoMemory) → (result.0 ≡ store_of server.flusher)
-        × (result.1.input.now ≡ streams.entry.input.now) × (result.1.output.now ≡ streams.entry.output.now) }
-    ensures works { OnOk result.2 (has_failed (store_of server.flusher) ≡ false → has_failed result.0 ≡ false) }
-    ensures input { result.1.input.ghost_name ≡ streams.entry.input.ghost_name }
-    ensures output { result.1.output.ghost_name ≡ streams.entry.output.ghost_name }
+    ensures served { WasServed (ByOne (EndsAtHub result.served J.start
+        (I.remaining streams.entry.input.now) (I.remaining result.streams.input.now) (O.contents streams.entry.output.now) (O.contents result.streams.output.now)
+        (O.has_failed result.streams.output.now))) (is_ok result.served) (store_of server.flusher) result.store }
+    ensures no_memory { IsErrOf result.served (Failure.Refused Refusal.NoMemory) → (result.store ≡ store_of server.flusher)
+        × (result.streams.input.now ≡ streams.entry.input.now) × (result.streams.output.now ≡ streams.entry.output.now) }
+    ensures works { OnOk result.served (has_failed (store_of server.flusher) ≡ false → has_failed result.store ≡ false) }
+    ensures input { result.streams.input.ghost_name ≡ streams.entry.input.ghost_name }
+    ensures output { result.streams.output.ghost_name ≡ streams.entry.output.ghost_name }
 {
     match hold_at(rt, alloc, &hub, server, streams, every) {
         Ok((past, streams, answer)) => {
             let (store, written) = end(rt, hub, past);
-            (store, streams, first_failure(answer, written))
+            Ended {
+                store,
+                served: first_failure(answer, written),
+                streams,
+            }
         }
         Err((flusher, streams)) => {
             let refused = Err(Failure::Refused(Refusal::NoMemory));
-            (flusher.end(rt), streams, refused)
+            Ended {
+                store: flusher.end(rt),
+                served: refused,
+                streams,
+            }
         }
     }
 }
@@ -341,8 +352,3 @@ fn serve_first<J: Site, R: Wait, I: Read, O: Output, D>(
 {
     serve_session(alloc, session, &mut desks[0], shelf, input, output)
 }
-
-// Does nothing, but this use of a returned reference is what ties it, for the borrow checker, to the parameter that lent it.
-fn take_back<T>(x: &mut T)
-    ensures { x.new ≡ x.old }
-{}

@@ -1,18 +1,24 @@
-use Rattle.std.proofs.Common.{sym, subst, ap}
-use Rattle.std.specs.Prelude.{vec_items}
-use denote.Param.Send.{sendable}
-use Rattle.server_threads.specs.Connections.{EachHasServed}
+use denote.Param.Send.{param_send}
+use Rattle.std.proofs.Common.{◌≡◌, sym, subst}
+use Rattle.std.specs.Prelude.{All}
+use Rattle.server_threads.specs.Answers.{first_desk}
 use Rattle.server_threads.proofs.Crossing.{desk_send}
 use Rattle.server_threads.proofs.Connected.{each_served, as_many, unserved}
 use Rattle.server_threads.proofs.connections.serve_all.Goals as goal
 
 pub serve_desks-requires-send-K : goal.serve_desks-requires-send-K
 serve_desks-requires-send-K g c κs within =
-    let b = c.type_bounds in
-    search (desk_send, sendable) depth 10
+    let sj = c.type_bounds.send-J in let yj = c.type_bounds.sync-J in let yr = c.type_bounds.sync-R in
+    search (param_send, desk_send) depth 6
 
 pub returns-in-Ok-clause-served : goal.returns-in-Ok-clause-served
 returns-in-Ok-clause-served g c = each_served g.J.Site.start c.args.desks.items c.in-Ok.desks.items c.in-Ok.ensures.served c.requires.first
 
 pub returns-in-Ok-clause-as_many : goal.returns-in-Ok-clause-as_many
 returns-in-Ok-clause-as_many g c = as_many g.J.Site.start c.args.desks.items c.in-Ok.desks.items c.in-Ok.ensures.served
+
+-- nobody was served
+pub returns-in-Err-clause-served : goal.returns-in-Err-clause-served
+returns-in-Err-clause-served g c =
+    unserved g.J.Site.start c.in-Err.failed.value.items
+    (subst (λ v. All (λ desk. desk ≡ first_desk) v.items) (sym c.in-Err.ensures.refused) c.requires.first)
