@@ -77,8 +77,8 @@ pub(crate) fn hold_beside<
     requires started { IsStarted flusher }
     requires callable { F.pre hold sessions desks }
     ensures written { IfOk result (λ both. HasWritten J.start flusher both.flusher both.written) }
-    ensures held { IfOk result (λ both. F.post hold.entry sessions.entry desks.entry both.held) }
-    ensures refused { IfErr result (λ back. (back.0 ≡ flusher) × (back.1 ≡ sessions.entry)) }
+    ensures held { IfOk result (λ both. F.post hold sessions desks both.held) }
+    ensures refused { IfErr result (λ back. (back.0 ≡ flusher) × (back.1 ≡ sessions)) }
 {
     let written_by = WrittenBy {
         store: held,
@@ -87,13 +87,13 @@ pub(crate) fn hold_beside<
     let has_thread = AtomicBool::new(true);
     let lowered = &has_thread;
     let writing = Writing {
-        shared,
+        shared: &*shared,
         has_thread: lowered,
         flusher,
         writer,
     };
     let holding = Holding {
-        shared,
+        shared: &*shared,
         closer,
         sessions,
         desks,

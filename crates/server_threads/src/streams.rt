@@ -103,16 +103,17 @@ fn serve_run<
         × (input.new ≡ input.old) × (output.new ≡ output.old) }
     ensures works { OnOk result.1 (has_failed store ≡ false → has_failed result.0 ≡ false) }
 {
+    let (hub, server) = match begin::<J, R, D>(rt, alloc, store, opened, blank, 1) {
+        Ok(begun) => begun,
+        Err((store, refusal)) => return (store, Err(Failure::Refused(refusal))),
+    };
     let streams = OverStreams {
         session,
         shelf,
         input,
         output,
     };
-    let (store, streams, served) = match begin::<J, R, D>(rt, alloc, store, opened, blank, 1) {
-        Ok((hub, server)) => serve_from(rt, alloc, hub, server, streams, every),
-        Err((store, refusal)) => (store, streams, Err(Failure::Refused(refusal))),
-    };
+    let (store, streams, served) = serve_from(rt, alloc, hub, server, streams, every);
     let OverStreams {
         session: _session,
         shelf: _shelf,
