@@ -18,16 +18,16 @@ pub returns-in-Ok-clause-served : goal.returns-in-Ok-clause-served
 returns-in-Ok-clause-served g c =
     let past = c.in-Ok.past in
     let written = c.end-store.result.1 in
-    let ends : Result (Unit {0}) Failure → Desk → Type 0 = λ r. EndsAtHub r g.J.Site.start (g.I.Read.remaining c.args.streams.input.now) (g.I.Read.remaining c.in-Ok.streams.input.now)
-    (g.O.Output.contents c.args.streams.output.now) (g.O.Output.contents c.in-Ok.streams.output.now) (g.O.Output.has_failed c.in-Ok.streams.output.now) in
+    let ends : Result (Unit {0}) Failure → Desk → Type 0 = λ r. EndsAtHub r g.J.Site.start (g.I.Read.remaining c.args.streams.input) (g.I.Read.remaining c.in-Ok.streams.input)
+    (g.O.Output.contents c.args.streams.output) (g.O.Output.contents c.in-Ok.streams.output) (g.O.Output.has_failed c.in-Ok.streams.output) in
     let lived = lived_from (ByOne (ends c.in-Ok.answer)) g.J.Site.start c.args.server.flusher past.ordered past.published past.tally.counted past.written
     written (store_of past.flusher) c.end-store.result.0 c.end-store.ensures.store c.requires.started c.in-Ok.ensures.held c.end-store.ensures.counted in
     subst (λ r. WasServed (ByOne (ends r)) (is_ok r) (store_of c.args.server.flusher) c.end-store.result.0) (sym c.first_failure.ensures)
     (served_as (ByOne (ends c.in-Ok.answer)) (ByOne (ends (first_of c.in-Ok.answer written))) (is_ok written) (is_ok (first_of c.in-Ok.answer written))
     (store_of c.args.server.flusher) c.end-store.result.0
     (by_one (ends c.in-Ok.answer) (ends (first_of c.in-Ok.answer written))
-    (λ desk is. ends_with g.J.Site.start (g.I.Read.remaining c.args.streams.input.now) (g.I.Read.remaining c.in-Ok.streams.input.now)
-    (g.O.Output.contents c.args.streams.output.now) (g.O.Output.contents c.in-Ok.streams.output.now) (g.O.Output.has_failed c.in-Ok.streams.output.now)
+    (λ desk is. ends_with g.J.Site.start (g.I.Read.remaining c.args.streams.input) (g.I.Read.remaining c.in-Ok.streams.input)
+    (g.O.Output.contents c.args.streams.output) (g.O.Output.contents c.in-Ok.streams.output) (g.O.Output.has_failed c.in-Ok.streams.output)
     c.in-Ok.answer written desk is))
     (well_with c.in-Ok.answer written) lived.served)
 
@@ -38,8 +38,8 @@ returns-in-Ok-clause-no_memory g c =
 pub returns-in-Ok-clause-works : goal.returns-in-Ok-clause-works
 returns-in-Ok-clause-works g c =
     let past = c.in-Ok.past in
-    let ends : Desk → Type 0 = EndsAtHub c.in-Ok.answer g.J.Site.start (g.I.Read.remaining c.args.streams.input.now) (g.I.Read.remaining c.in-Ok.streams.input.now)
-    (g.O.Output.contents c.args.streams.output.now) (g.O.Output.contents c.in-Ok.streams.output.now) (g.O.Output.has_failed c.in-Ok.streams.output.now) in
+    let ends : Desk → Type 0 = EndsAtHub c.in-Ok.answer g.J.Site.start (g.I.Read.remaining c.args.streams.input) (g.I.Read.remaining c.in-Ok.streams.input)
+    (g.O.Output.contents c.args.streams.output) (g.O.Output.contents c.in-Ok.streams.output) (g.O.Output.has_failed c.in-Ok.streams.output) in
     let lived = lived_from (ByOne ends) g.J.Site.start c.args.server.flusher past.ordered past.published past.tally.counted past.written
     c.end-store.result.1 (store_of past.flusher) c.end-store.result.0 c.end-store.ensures.store c.requires.started c.in-Ok.ensures.held c.end-store.ensures.counted in
     subst (λ r. OnOk r (has_failed (store_of c.args.server.flusher) ≡ false → has_failed c.end-store.result.0 ≡ false)) (sym c.first_failure.ensures)
@@ -49,10 +49,10 @@ returns-in-Ok-clause-works g c =
 pub returns-clause-served : goal.returns-clause-served
 returns-clause-served g c =
     let ends : OverStreams g.row.I.Denot g.row.O.Denot → Desk → Type 0 = λ s. EndsAtHub (Err (Refused NoMemory)) g.J.Site.start
-    (g.I.Read.remaining c.args.streams.input.now) (g.I.Read.remaining s.input.now)
-    (g.O.Output.contents c.args.streams.output.now) (g.O.Output.contents s.output.now) (g.O.Output.has_failed s.output.now) in
+    (g.I.Read.remaining c.args.streams.input) (g.I.Read.remaining s.input)
+    (g.O.Output.contents c.args.streams.output) (g.O.Output.contents s.output) (g.O.Output.has_failed s.output) in
     let unasked = one_unserved (ByOne (ends c.args.streams)) (store_of c.args.server.flusher)
-    (nothing_asked g.J.Site.start (g.I.Read.remaining c.args.streams.input.now) (g.O.Output.contents c.args.streams.output.now)
-    (g.O.Output.has_failed c.args.streams.output.now) NoMemory refl) in
+    (nothing_asked g.J.Site.start (g.I.Read.remaining c.args.streams.input) (g.O.Output.contents c.args.streams.output)
+    (g.O.Output.has_failed c.args.streams.output) NoMemory refl) in
     subst (λ s. WasServed (ByOne (ends c.in-Err.streams)) false (store_of c.args.server.flusher) s) (sym (c.end.ensures ∙ ap store_of c.in-Err.ensures.refused.0))
     (subst (λ s. WasServed (ByOne (ends s)) false (store_of c.args.server.flusher) (store_of c.args.server.flusher)) (sym c.in-Err.ensures.refused.1) unasked)

@@ -11,18 +11,6 @@ use Rattle.server_threads.proofs.streams.serve_streams.Goals as goal
 -- out of memory nothing was asked
 pub returns-in_default-clause-served : goal.returns-in_default-clause-served
 returns-in_default-clause-served g c =
-    one_unserved (ByOne (EndsAtHub (Err (Refused NoMemory)) (state_of c.args.store) (g.I.Read.remaining c.args.input.now) (g.I.Read.remaining c.args.input.now)
-    (g.O.Output.contents c.args.output.now) (g.O.Output.contents c.args.output.now) (g.O.Output.has_failed c.args.output.now))) c.args.store
-    (nothing_asked (state_of c.args.store) (g.I.Read.remaining c.args.input.now) (g.O.Output.contents c.args.output.now) (g.O.Output.has_failed c.args.output.now) NoMemory refl)
-
-pub returns-in_default-new-clause-served : goal.returns-in_default-new-clause-served
-returns-in_default-new-clause-served g c =
-    one_unserved (ByOne (EndsAtHub (Err (Refused NoMemory)) (state_of c.args.store) (g.I.Read.remaining c.args.input.now) (g.I.Read.remaining c.args.input.now)
-    (g.O.Output.contents c.args.output.now) (g.O.Output.contents c.args.output.now) (g.O.Output.has_failed c.args.output.now))) c.args.store
-    (nothing_asked (state_of c.args.store) (g.I.Read.remaining c.args.input.now) (g.O.Output.contents c.args.output.now) (g.O.Output.has_failed c.args.output.now) NoMemory refl)
-
-pub returns-in_default-new-2-clause-served : goal.returns-in_default-new-2-clause-served
-returns-in_default-new-2-clause-served g c =
-    one_unserved (ByOne (EndsAtHub (Err (Refused NoMemory)) (state_of c.args.store) (g.I.Read.remaining c.args.input.now) (g.I.Read.remaining c.args.input.now)
-    (g.O.Output.contents c.args.output.now) (g.O.Output.contents c.args.output.now) (g.O.Output.has_failed c.args.output.now))) c.args.store
-    (nothing_asked (state_of c.args.store) (g.I.Read.remaining c.args.input.now) (g.O.Output.contents c.args.output.now) (g.O.Output.has_failed c.args.output.now) NoMemory refl)
+    one_unserved (ByOne (EndsAtHub (Err (Refused NoMemory)) (state_of c.args.store) (g.I.Read.remaining c.args.input) (g.I.Read.remaining c.args.input)
+    (g.O.Output.contents c.args.output) (g.O.Output.contents c.args.output) (g.O.Output.has_failed c.args.output))) c.args.store
+    (nothing_asked (state_of c.args.store) (g.I.Read.remaining c.args.input) (g.O.Output.contents c.args.output) (g.O.Output.has_failed c.args.output) NoMemory refl)
