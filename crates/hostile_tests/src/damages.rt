@@ -84,7 +84,7 @@ fn damage(numbers: &mut Numbers, bytes: &mut Vec<u8>) {
 
 // What a device of these bytes is opened as by a pick. It stays as it is, and no call writes.
 fn opened_as(rt: &(impl Abort + AllocGlobal), bytes: &[u8], pick: Pick) -> &'static str {
-    let (disk, name) = match opened(rt.alloc(), device_of(rt, bytes, NEVER), pick) {
+    let (disk, name) = match opened(rt, device_of(rt, bytes, NEVER), pick) {
         Ok(store) => (store.close(), "a state"),
         Err(fault) => (fault.disk, fault.refusal.name()),
     };

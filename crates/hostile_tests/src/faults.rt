@@ -1,6 +1,6 @@
 //! Each call of the device fails once in each script.
 use crate::going_on::{Differs, PICKS, each_goes_on, found, goes_on, is_after};
-use crate::runs::{FIRST, device_of, formatted, opened, run};
+use crate::runs::{FIRST, NEVER, device_of, formatted, opened, run};
 use crate::scripts::{FULL_JOURNAL, MILESTONES, RICH_TEXT, Script, THIRD_BATCH};
 use crate::stops::{FILL, LEFT, device_after};
 use crate::stores::take;
@@ -11,7 +11,8 @@ use revision::Reply;
 use std::process::Abort;
 use std::sync::Wait;
 
-// A call fails, and leaves this where it is a write. The device is opened again and the run goes on; by the older pick too, on a copy.
+// A call fails, and then a crash leaves this of the range that is open: a write's that fails, or that of a sync, which doesn't close it then. By
+// each pick the run goes on from there; where that is what is read, too, on the device itself, which is opened again.
 fn is_faulty(
     rt: &(impl Wait + Abort + AllocGlobal),
     script: &Script,
@@ -22,21 +23,23 @@ fn is_faulty(
     if ended.stopped != Some("Fault") {
         return Err((Pick::Newer, "another refusal"));
     }
-    each_goes_on(rt, script, ended.disk.disk().bytes(), ended.done)?;
-    match goes_on(rt, script, ended.disk, ended.done, Pick::Newer) {
-        Ok(()) => Ok(()),
-        Err(what) => Err((Pick::Newer, what)),
+    let after = ended.disk.after_crash(rt.alloc()).expect(rt, "memory");
+    if after.bytes() != ended.disk.disk().bytes() {
+        return each_goes_on(rt, script, after.bytes(), ended.done);
     }
+    let copy = device_of(rt, after.bytes(), NEVER);
+    goes_on(rt, script, copy, ended.done, Pick::Older)?;
+    goes_on(rt, script, ended.disk, ended.done, Pick::Newer)
 }
 
-// Each call of a script fails, those that open the device too; a write in each way.
+// Each call of a script fails, those that open the device too; a write or a sync in each way.
 fn is_faulty_everywhere(rt: &(impl Wait + Abort + AllocGlobal), script: &Script) {
     let bytes = formatted(rt, FILL);
     let device = device_after(rt, script, &bytes);
     for (call, made) in device.disk().calls().iter().enumerate() {
         for left in LEFT {
             let plan = FaultPlan::fail(call as u64, left);
-            if left == Left::Nothing || matches!(made, Call::Write { .. }) {
+            if left == Left::Nothing || !matches!(made, Call::Read { .. }) {
                 let found = is_faulty(rt, script, &bytes, plan);
                 assert_eq!(rt; found, Ok(()), "{}, call {call}, {left:?}", script.name);
             }
@@ -114,7 +117,7 @@ fn is_replied(rt: &(impl Abort + AllocGlobal), disk: FaultDisk, wanted: Reply) {
     let Some(step) = THIRD_BATCH.steps.get(2) else {
         panic!(rt; "three steps");
     };
-    match opened(rt.alloc(), disk, Pick::Newer) {
+    match opened(rt, disk, Pick::Newer) {
         Ok(store) => {
             let mut store = store;
             assert_eq!(rt; take(rt.alloc(), &mut store, 3, step), Ok(Some(wanted)));

@@ -34,9 +34,9 @@ fn lines_of(alloc: Global, state: &State) -> Result<String, Refusal> {
     Ok(lines)
 }
 
-// What bytes are opened as by a pick: the documents.
-fn read(rt: &(impl Abort + AllocGlobal), bytes: &[u8], pick: Pick) -> Result<String, Refusal> {
-    match opened(rt.alloc(), device_of(rt, bytes, NEVER), pick) {
+/// What bytes are opened as by a pick: the documents.
+pub fn read(rt: &(impl Abort + AllocGlobal), bytes: &[u8], pick: Pick) -> Result<String, Refusal> {
+    match opened(rt, device_of(rt, bytes, NEVER), pick) {
         Ok(store) => lines_of(rt.alloc(), store.state()),
         Err(fault) => Err(fault.refusal),
     }
@@ -96,18 +96,17 @@ pub fn is_whole(
     rt: &(impl Abort + AllocGlobal),
     script: &Script,
     bytes: &[u8],
-) -> Result<(), &'static str> {
+) -> Result<(), Differs> {
     let last = script.documents.len().saturating_sub(1);
     for pick in PICKS {
         if !is_after(script, last, found(rt, bytes, pick).as_str()) {
-            return Err("another state in the end");
+            return Err((pick, "another state in the end"));
+        }
+        if !has_gates(script, bytes) {
+            return Err((pick, "another gate in the end"));
         }
     }
-    if has_gates(script, bytes) {
-        Ok(())
-    } else {
-        Err("another gate in the end")
-    }
+    Ok(())
 }
 
 /// So many steps were answered, and the next one was asked. By a pick a device holds what the answered ones made, or with the next one; and
@@ -118,12 +117,12 @@ pub fn goes_on(
     disk: FaultDisk,
     done: usize,
     pick: Pick,
-) -> Result<(), &'static str> {
+) -> Result<(), Differs> {
     let text = found(rt, disk.disk().bytes(), pick);
     let kept = commands_before(script, done);
     let sent = commands_before(script, done.saturating_add(1));
     if !is_after(script, kept, text.as_str()) && !is_after(script, sent, text.as_str()) {
-        return Err("another state");
+        return Err((pick, "another state"));
     }
     let begin = Begin {
         from: last_sent(script, done),
@@ -131,7 +130,7 @@ pub fn goes_on(
     };
     let ended = run(rt, script, disk, pick, begin);
     match ended.stopped {
-        Some(stop) => Err(stop),
+        Some(stop) => Err((pick, stop)),
         None => is_whole(rt, script, ended.disk.disk().bytes()),
     }
 }
@@ -144,9 +143,7 @@ pub fn each_goes_on(
     done: usize,
 ) -> Result<(), Differs> {
     for pick in PICKS {
-        if let Err(what) = goes_on(rt, script, device_of(rt, bytes, NEVER), done, pick) {
-            return Err((pick, what));
-        }
+        goes_on(rt, script, device_of(rt, bytes, NEVER), done, pick)?;
     }
     Ok(())
 }

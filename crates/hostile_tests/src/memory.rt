@@ -1,7 +1,7 @@
 //! Each script once, as it is: where a request for memory is refused within, what was asked is asked again.
 //!
 //! The gate refuses no request. docs/TESTS.md says how one is refused.
-use crate::going_on::{goes_on, is_whole};
+use crate::going_on::{Differs, goes_on, is_whole};
 use crate::runs::{FIRST, NEVER, device_of, formatted, run};
 use crate::scripts::{FULL_JOURNAL, MILESTONES, RICH_TEXT, Script, THIRD_BATCH};
 use crate::stops::FILL;
@@ -13,7 +13,7 @@ const SCRIPTS: [Script; 4] = [THIRD_BATCH, MILESTONES, RICH_TEXT, FULL_JOURNAL];
 
 // A script comes to its end. Where memory is wanted for the start of a hub, or for the record that the device keeps of its calls, it goes on from
 // the last command that was sent.
-fn ends(rt: &(impl Wait + Abort + AllocGlobal), script: &Script) -> Result<(), &'static str> {
+fn ends(rt: &(impl Wait + Abort + AllocGlobal), script: &Script) -> Result<(), Differs> {
     let bytes = formatted(rt, FILL);
     let ended = run(rt, script, device_of(rt, &bytes, NEVER), Pick::Newer, FIRST);
     match ended.stopped {
@@ -21,7 +21,7 @@ fn ends(rt: &(impl Wait + Abort + AllocGlobal), script: &Script) -> Result<(), &
         Some("Fault") | Some("NoMemory") => {
             goes_on(rt, script, ended.disk, ended.done, Pick::Newer)
         }
-        Some(other) => Err(other),
+        Some(other) => Err((Pick::Newer, other)),
     }
 }
 

@@ -76,18 +76,22 @@ pub fn formatted(rt: &(impl Abort + AllocGlobal), fill: u8) -> Vec<u8> {
     }
 }
 
-/// Opens a device, and once more where memory was wanted.
+/// Opens a device, and once more where memory was wanted. A refusal leaves each byte of it as it was.
 pub fn opened(
-    alloc: Global,
+    rt: &(impl Abort + AllocGlobal),
     disk: FaultDisk,
     pick: Pick,
 ) -> Result<Store<FaultDisk>, OpenFault<FaultDisk>> {
-    match Store::open(alloc, disk, pick) {
+    let before = copied(rt, disk.disk().bytes());
+    match Store::open(rt.alloc(), disk, pick) {
         Ok(store) => Ok(store),
-        Err(fault) => match fault.refusal {
-            Refusal::NoMemory => Store::open(alloc, fault.disk, pick),
-            _ => Err(fault),
-        },
+        Err(fault) => {
+            assert!(rt; fault.disk.disk().bytes() == before.as_slice());
+            match fault.refusal {
+                Refusal::NoMemory => Store::open(rt.alloc(), fault.disk, pick),
+                _ => Err(fault),
+            }
+        }
     }
 }
 
@@ -162,7 +166,7 @@ pub fn run(
     pick: Pick,
     begin: Begin,
 ) -> Ended {
-    let mut store = match opened(rt.alloc(), disk, pick) {
+    let mut store = match opened(rt, disk, pick) {
         Ok(store) => store,
         Err(fault) => {
             return Ended {

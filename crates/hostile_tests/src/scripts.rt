@@ -43,7 +43,7 @@ pub struct Script {
 }
 
 /// Fifteen names of ten bytes are removed from a letter that has none: an entry of 236 bytes, which fills a slot.
-const WIDE: &str =
+pub const WIDE: &str =
     r#"[{"retain":1,"attributes":{"aaaaaaaaaa":null,"bbbbbbbbbb":null,"cccccccccc":null,"dddddddddd":null,"eeeeeeeeee":null,"ffffffffff":null,"gggggggggg":null,"hhhhhhhhhh":null,"iiiiiiiiii":null,"jjjjjjjjjj":null,"kkkkkkkkkk":null,"llllllllll":null,"mmmmmmmmmm":null,"nnnnnnnnnn":null,"oooooooooo":null}}]"#;
 
 /// The same with five names: a batch of 110 bytes, which doesn't fit behind the first three.
@@ -134,8 +134,13 @@ pub const FULL_JOURNAL: Script = Script {
     gates: &[(64, true), (1_088, true), (1_344, true)],
 };
 
-/// The command of a number, which is made on the revision before.
-pub fn command(alloc: Global, number: u64, operations: &str) -> Result<Command, Refusal> {
+/// The command of a number on "d" by "a": the first one creates the document, and each other one is made on this revision.
+pub fn command(
+    alloc: Global,
+    number: u64,
+    base: u64,
+    operations: &str,
+) -> Result<Command, Refusal> {
     if number < 1 || number >= 1 << 53 {
         return Err(Refusal::OldNumber);
     }
@@ -148,6 +153,6 @@ pub fn command(alloc: Global, number: u64, operations: &str) -> Result<Command, 
     let source = Name::source(alloc, "a")?;
     match number {
         1 => Command::create(name, source, 1, delta),
-        _ => Command::edit(name, source, number, number - 1, delta),
+        _ => Command::edit(name, source, number, base, delta),
     }
 }

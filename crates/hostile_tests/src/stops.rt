@@ -22,7 +22,7 @@ pub const FILL: u8 = 0xa5;
 
 // How many calls it takes to open a device of these bytes.
 fn calls_of_opening(rt: &(impl Abort + AllocGlobal), bytes: &[u8]) -> u64 {
-    match opened(rt.alloc(), device_of(rt, bytes, NEVER), Pick::Newer) {
+    match opened(rt, device_of(rt, bytes, NEVER), Pick::Newer) {
         Ok(store) => store.close().disk().calls().len() as u64,
         Err(fault) => panic!(rt; "{}", fault.refusal),
     }

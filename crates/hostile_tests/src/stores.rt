@@ -5,18 +5,16 @@ use fixtures::commit;
 use milestone::compose_job;
 use recovery::Store;
 use refusal::Refusal;
-use revision::{Plan, Reply};
+use revision::{Command, Plan, Reply};
 use std::alloc::Global;
 
-// A command is planned, and committed where it is taken.
-fn write(
+/// A command is planned, and committed where it is taken.
+pub fn write(
     alloc: Global,
     store: &mut Store<FaultDisk>,
-    number: u64,
-    operations: &str,
+    command: &Command,
 ) -> Result<Reply, Refusal> {
-    let command = command(alloc, number, operations)?;
-    match store.state().plan(alloc, &command)? {
+    match store.state().plan(alloc, command)? {
         Plan::Taken(taken) => {
             let rev = taken.revision();
             commit(alloc, store, &[taken])?;
@@ -43,7 +41,10 @@ pub fn take(
     step: &Step,
 ) -> Result<Option<Reply>, Refusal> {
     match *step {
-        Step::Write(operations) => Ok(Some(write(alloc, store, number, operations)?)),
+        Step::Write(operations) => {
+            let command = command(alloc, number, number.saturating_sub(1), operations)?;
+            Ok(Some(write(alloc, store, &command)?))
+        }
         Step::Put(revision) => {
             put(alloc, store, revision)?;
             Ok(None)

@@ -49,7 +49,8 @@ fn send<J: Site, R: Wait + AllocGlobal>(
     let Step::Write(operations) = *step else {
         return Err(Refusal::BadMessage);
     };
-    let command = command(rt.alloc(), number, operations)?;
+    let base = number.saturating_sub(1);
+    let command = command(rt.alloc(), number, base, operations)?;
     let ticket = match hub.submit(rt, rt.alloc(), seat, &command) {
         Ok(ticket) => ticket,
         Err(not_submitted) => return Err(not_submitted.refusal()),
