@@ -1,5 +1,5 @@
 -- What a flusher holds, and how it fits the state of its store.
-use Rattle.std.proofs.Common.{◌≡◌, ◌≢◌, ◌⊎◌, inl, inr, ℕ, true, false, List, [], ◌∷◌, ◌++◌, length, ◌<◌, ◌≤◌, ◌+◌, ◌^◌, Option, Some, None, refl, sym, ◌∙◌, ap, subst, append-nil, arith}
+use Rattle.std.proofs.Common.{◌≡◌, ◌≢◌, ◌⊎◌, inl, inr, true, false, List, [], ◌∷◌, ◌++◌, length, ◌<◌, ◌≤◌, ◌+◌, ◌^◌, Option, Some, None, refl, sym, ◌∙◌, ap, subst, append-nil, arith}
 use Rattle.std.specs.Prelude.{Result, Ok, Err, OnOk, OnErr, IfOk, IfErr, IfSome, IfNone, IsErrOf, option_to_list}
 use Rattle.std.proofs.lemmas.Bool.{and_parts, false≢true}
 use mathlib.Core.List.{IsPrefix}
@@ -26,7 +26,7 @@ use Rattle.published.proofs.CallerLemmas.{begun_grows}
 use Rattle.view.specs.Published.{Published}
 use Rattle.view.specs.Stages.{IsNext}
 use Rattle.hub.specs.Runs.{Run}
-use Rattle.flusher.specs.Flushers.{IsCommittedTo, IsLeftWithout, IsRunCommitted, IsHeldCommitted, IsGivenUp}
+use Rattle.flusher.specs.Flushers.{IsCommittedTo, IsLeftWithout, IsHeldCommitted, IsGivenUp}
 use Rattle.flusher.proofs.Beginnings.{commands-append, fold-append}
 
 -- the refusal of an answer, or this one where there is none
@@ -80,20 +80,9 @@ module _ {D : Type 0} {disk : Ghosts D} (old new : Store D disk) where
       subst (λ (l : List (List Taken)). IsGivenUp l old new) (sym is)
       (let left : IsLeftWithout batch old new = record { with_room = unchanged; behind = freed } in left)
 
-  run_of : (run : List Taken) → 0 < length run → IsCommittedTo run old new → IsRunCommitted run old new
-  run_of [] some done = absurd (let none : ⊥ = omega arith in none)
-  run_of (first ∷ others) some done = done
-
-  pub run_committed : (run : List Taken) (batches : List (List Taken)) → batches ≡ run ∷ [] → 0 < length run → IsHeldCommitted batches old new → IsRunCommitted run old new
-  run_committed run batches is some done = run_of run some (subst (λ (l : List (List Taken)). IsHeldCommitted l old new) is done)
-
 module _ {D : Type 0} {disk : Ghosts D} where
   pub committed_none : (store : Store D disk) (batches : List (List Taken)) → batches ≡ [] → IsHeldCommitted batches store store
   committed_none store batches none = subst (λ (l : List (List Taken)). IsHeldCommitted l store store) (sym none) refl
-
--- an Ok is no refusal
-pub no_error : {A : Type 0} (answer : A) (refusal : Refusal) → IsErrOf (Ok answer) refusal → ⊥
-no_error answer refusal is = cc
 
 module _ {D : Type 0} {disk : Ghosts D} (old new : Store D disk) where
   -- what a retirement leaves, whatever it answers

@@ -3,8 +3,7 @@ ghost use Rattle.std.specs.Prelude.{◌≡◌, ◌+◌, [], false, IfOk, IfErr};
 ghost use Rattle.recovery.specs.Open.{state_of};
 ghost use Rattle.world.specs.Board.{begun_board};
 ghost use Rattle.flusher.specs.Holding.{store_of, told_of, committed_of, waiting_of};
-ghost use Rattle.flusher.specs.Standing.{IsCalm};
-ghost use Rattle.flusher.specs.Run.{standing};
+ghost use Rattle.flusher.specs.Standing.{IsCalm, standing};
 
 use crate::begun::Begun;
 use crate::flusher::Flusher;

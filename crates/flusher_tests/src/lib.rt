@@ -1,6 +1,6 @@
-//! Tests of `flusher` and of `turns`, by their public calls alone.
+//! Tests of `flusher`, of `lives` and of `turns`, by their public calls alone.
 //!
-//! `callers` has the callers that open `lib.rt` of both, proved.
+//! `callers` has the callers that open `lib.rt` of `lives` and of `turns`, proved.
 #![tactic(auto)]
 
 #[cfg(test)]

@@ -4,8 +4,9 @@ ghost use Rattle.recovery.specs.Open.{state_of, has_failed};
 
 use disk::Disk;
 use fixtures::{command, wide_command};
-use flusher::{Answer, Call, Driven, drive, start};
+use flusher::start;
 use hub::Ticket;
+use lives::{Answer, Call, Driven, drive};
 use published::{Opened, Site};
 use recovery::{Shape, Store};
 use refusal::Refusal;

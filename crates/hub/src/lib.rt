@@ -22,8 +22,8 @@
 //!
 //! Some answers are tokens that nothing else makes: `Settled` where a batch was settled, `Failed` where the hub was told of a failure,
 //! `Work` where a command isn't taken off, `Idle` where the hub was ended and nothing is left to take, `Ended` where it was ended, `Nothing`
-//! where a run was taken off empty, `Stopped` where a board had failed or a hub had ended, and so no command is submitted or acknowledged. A
-//! function that answers with one has called it. `Unsettled`, by which a hub refuses to settle a batch, shows a moment of its board at
+//! where a run was taken off empty, `Stopped` where a board had failed or a hub had ended, and so no command is submitted. Whoever answers
+//! with one had it of such a call, this one or an earlier one. `Unsettled`, by which a hub refuses to settle a batch, shows a moment of its board at
 //! which that batch can't be settled.
 //!
 //! A `Hub` is shared by threads: sessions submit and wait for their acknowledgements, and one flusher takes batches, writes them with

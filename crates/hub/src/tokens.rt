@@ -151,8 +151,8 @@ impl<J: Site> Ended<J> {
     }
 }
 
-/// That a board of the run had failed, or that its hub had ended: nothing is submitted from then on, and what isn't settled is never
-/// acknowledged. Only a hub makes one, of what lies under its lock. It takes no memory.
+/// That a board of the run had failed, or that its hub had ended: nothing is submitted from then on. Only a hub makes one, of what lies under
+/// its lock. It takes no memory.
 #[derive(Drop)]
 pub struct Stopped<J: Site> {
     of: PhantomData<J>,

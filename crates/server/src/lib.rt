@@ -1,8 +1,8 @@
 //! The program `richd`, as a call over its words and its standard streams.
 //!
-//! `run` reads the words and makes, serves or prints the store of a file; `run_given` takes them from the system. `dump` writes a line for each document of a state
-//! (`specs/Dump.antt`), and `print_answer` the line of what a task on deltas comes to (`specs/Deltas.antt`). `serve_on`, of `server_threads`,
-//! serves many sessions over TCP.
+//! `run` reads the words and makes, serves or prints the store of a file; `run_given` takes the words from the system. `dump` writes a
+//! line for each document of a state (`specs/Dump.antt`), and `print_answer` the line of what a task on deltas comes to
+//! (`specs/Deltas.antt`). Sessions are served by `serve_streams` and `serve_on` of `server_threads`.
 //!
 //! It stands on `words` for what the words ask for, on `server_threads` for the sessions, on `algebra` for the tasks on deltas and for how a
 //! delta is printed, and on `recovery` and `disk` for the store in a file.
@@ -46,5 +46,5 @@ mod program;
 
 pub use deltas::print_answer;
 pub use documents::dump;
-pub use server_threads::serve_on;
 pub use program::{run, run_given};
+pub use server_threads::serve_on;

@@ -27,7 +27,7 @@ use Rattle.hub.specs.Legal.{IsOfRun}
 use Rattle.world.specs.Board.{Board as Inner}
 use Rattle.hub_desk.specs.AtHub.{Desk}
 use Rattle.server_threads.specs.Answers.{first_desk}
-use Rattle.server_threads.specs.Held.{HasHeld}
+use Rattle.server_threads.specs.Held.{HasHeld, IsCounted}
 use Rattle.server_threads.specs.Served.{IsWritten, IsWhole, KeepsAnswers, WasServed, HasLived, IsStarted}
 use Rattle.server_threads.specs.Written.{HasWritten, HasRun, StartedOverWrites}
 use Rattle.server_threads.proofs.Places.{commands_first}
@@ -317,17 +317,17 @@ module _ {D J : Type 0} {disk : Ghosts D} where
           whole_by order old new is_written none.0 none.1 same
 
 module _ {D J : Type 0} {disk : Ghosts D} where
-  -- the life of what was held, and of the board that ended
-  pub lived_from : (Sessions : List Desk → Type 0) (start : State) (old : Flusher D J disk) (ordered : List Entry) (published counted : ℕ) (written answer : Result (Unit {0}) Refusal)
-      (new store : Store D disk) (board : Inner Entry) → store ≡ new → IsStarted old → HasHeld Sessions start old ordered published counted written new
-      → IsOfRun start board → IsPrefix ordered board.order → length board.order ≡ counted
-      → OnOk answer ((written ≡ Ok tt) × (length board.order ≡ published)) → (IsErrOf answer Fault ↔ IsErrOf written Fault) → HasLived Sessions answer (store_of old) store
-  lived_from Sessions start old ordered published counted written answer new store board is started held run begins counts all fault =
-      lived_by Sessions start board.order held.desks old held.last written answer store (is ∙ held.store) started held.before.state held.kept.state
-      held.few_committed held.few_waiting held.wrote (order_legal start board run)
-      (order_begins (commands_of (told_of held.last ++ (committed_of held.last ++ waiting_of held.last))) ordered board.order held.begins begins)
-      held.told (counts ∙ held.counts)
-      (subst (λ (n : ℕ). OnOk answer ((written ≡ Ok tt) × (length board.order ≡ n))) held.so_many all) fault held.sessions
+  -- the life of a flusher that was just started, of the sessions that were held beside it, and of the board that ended
+  pub lived_from : (Sessions : List Desk → Type 0) (start : State) (old : Flusher D J disk) (ordered : List Entry) (published counted : ℕ)
+      (written answer : Result (Unit {0}) Refusal) (new store : Store D disk) → store ≡ new → IsStarted old
+      → HasHeld Sessions start old ordered published counted written new → IsCounted start ordered published counted written answer
+      → HasLived Sessions answer (store_of old) store
+  lived_from Sessions start old ordered published counted written answer new store is started held counts =
+      lived_by Sessions start counts.board.order held.desks old held.last written answer store (is ∙ held.tallied.store) started held.before.state held.tallied.kept.state
+      held.tallied.few_committed held.tallied.few_waiting held.wrote (order_legal start counts.board counts.run)
+      (order_begins (commands_of (told_of held.last ++ (committed_of held.last ++ waiting_of held.last))) ordered counts.board.order held.tallied.begins counts.begins)
+      held.tallied.told (counts.counts ∙ held.tallied.counts)
+      (subst (λ (n : ℕ). OnOk answer ((written ≡ Ok tt) × (length counts.board.order ≡ n))) held.tallied.so_many counts.all) counts.fault held.sessions
 
 module _ {D : Type 0} {disk : Ghosts D} where
   -- a store that nothing was written to

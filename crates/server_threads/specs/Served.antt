@@ -50,8 +50,8 @@ module _ {D : Type 0} {disk : Ghosts D} where
     pub lasts : has_failed old ≡ false → IsOpen old → LeavesOnly disk (HoldsAll answered) (device_of was.between) (device_of new)
 
   -- What a desk answered is kept. It was told of some first batches of those that are written, within which each command that it
-  -- acknowledged has its place, as the rule of acceptance says; its seat counted just what it answered as taken; all that it acknowledged
-  -- stands in what the store holds; and at any point in the exchange all that was acknowledged by then was on the disk, for good.
+  -- acknowledged has its place, as the rule of acceptance says; its seat counted what `Counts` says; all that it acknowledged stands in what
+  -- the store holds; and for any point in the exchange there was a moment from which on no crash takes away what was acknowledged by then.
   pub record KeepsAnswers (written waiting : List (List Taken)) (old new : Store D disk) (last : Desk) : Type 0 where
     pub told : IsPrefix last.told written
     pub places : (asked : List Exchange) → Asks (PassesAtHub (state_of old)) first_desk asked last

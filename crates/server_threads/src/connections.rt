@@ -1,13 +1,19 @@
 //! A store over connections.
-ghost use Rattle.std.specs.Prelude.{◌≡◌, ◌↔◌, true, false, Ok, All, OnOk, IsErrOf, IsOkUnless, is_ok, length};
+ghost use Rattle.std.specs.Prelude.{◌≡◌, ◌+◌, ◌↔◌, true, false, Ok, All, IfOk, IfErr, OnOk, IsErrOf, IsOkUnless, is_ok, length};
 ghost use Rattle.recovery.specs.Open.{state_of, has_failed};
+ghost use Rattle.flusher.specs.Holding.{store_of};
 ghost use Rattle.server_threads.specs.Answers.{first_desk};
 ghost use Rattle.server_threads.specs.Connections.{EachHasServed};
-ghost use Rattle.server_threads.specs.Served.{WasServed};
+ghost use Rattle.server_threads.specs.Held.{HasHeld};
+ghost use Rattle.server_threads.specs.Served.{IsStarted, WasServed};
 
-use crate::life::{Ended, live};
-use crate::sessions::Sessions;
+use crate::beside::{Both, hold_beside};
+use crate::desks::desks_at;
+use crate::life::{Past, Server, begin, end, tally_all};
+use crate::writing::Shared;
 use disk::Disk;
+use flusher::Flusher;
+use hub::Hub;
 use hub_desk::HubDesk;
 use published::{Opened, Site};
 use recovery::Store;
@@ -41,8 +47,8 @@ pub fn serve_on<
     listener: &N,
     every: u32,
 ) -> (Store<D>, Result<(), Refusal>)
-    // There is one order of what the sessions had taken, of which the store holds what is written, and all of it after an `Ok`. What the
-    // desks answered to those who connected is kept.
+    // There is one order, of which the store holds what is written, and all of it after an `Ok`. What the desks answered is kept. No clause
+    // says who asked them.
     ensures served { WasServed (EachHasServed (state_of store)) (is_ok result.1) store result.0 }
     // It fails only with the device.
     ensures fails { has_failed store ≡ false → (has_failed result.0 ≡ true ↔ IsErrOf result.1 Refusal.Fault) }
@@ -77,14 +83,113 @@ fn serve_run<
     ensures served { WasServed (EachHasServed (state_of store)) (is_ok result.1) store result.0 }
     ensures fails { has_failed store ≡ false → (has_failed result.0 ≡ true ↔ IsErrOf result.1 Refusal.Fault) }
 {
-    let sessions = OverConnections { listener };
-    match live::<J, R, OverConnections<'_, N>, D>(
-        rt, alloc, store, opened, blank, SEATS, every, sessions,
-    ) {
-        (store, _sessions, Ok(Ended { answer, written })) => {
-            (store, first_failure(written, answer))
+    match begin::<J, R, D>(rt, alloc, store, opened, blank, SEATS) {
+        Ok((hub, server)) => serve_from(rt, alloc, hub, server, listener, every),
+        Err((store, refusal)) => (store, Err(refusal)),
+    }
+}
+
+// Serves from a server's beginning to its end.
+fn serve_from<
+    J: Site + Sync + Send,
+    R: Threads + Wait + Sync,
+    N: OpenListener<Stream = TcpStream>,
+    D: Disk + Send + Drop,
+>(
+    rt: &R,
+    alloc: Global,
+    hub: Hub<D, J>,
+    server: Server<D, J>,
+    listener: &N,
+    every: u32,
+) -> (Store<D>, Result<(), Refusal>)
+    requires store { server.held.value ≡ store_of server.flusher }
+    requires started { IsStarted server.flusher }
+    requires new { All (λ seat. seat ≡ 0) server.seats.items }
+    requires parts { length server.seats.items + 1 ≡ J.parts }
+    requires none { server.tally ≡ record { seats = 0; counted = 0 } }
+    ensures served { WasServed (EachHasServed J.start) (is_ok result.1) (store_of server.flusher) result.0 }
+    ensures fails { has_failed (store_of server.flusher) ≡ false → (has_failed result.0 ≡ true ↔ IsErrOf result.1 Refusal.Fault) }
+{
+    match hold_at(rt, alloc, &hub, server, listener, every) {
+        Ok((past, served)) => {
+            let (store, written) = end(rt, hub, past);
+            (store, first_failure(written, served))
         }
-        (store, _sessions, Err(refusal)) => (store, Err(refusal)),
+        Err(flusher) => (flusher.end(rt), Err(Refusal::NoMemory)),
+    }
+}
+
+// Holds sessions over the connections at the desks of a hub, while a thread of its own writes. Refused where there is no memory or no
+// thread; the flusher is unchanged then.
+fn hold_at<
+    J: Site + Sync + Send,
+    R: Threads + Wait + Sync,
+    N: OpenListener<Stream = TcpStream>,
+    D: Disk + Send + Drop,
+>(
+    rt: &R,
+    alloc: Global,
+    hub: &Hub<D, J>,
+    server: Server<D, J>,
+    listener: &N,
+    every: u32,
+) -> Result<(Past<D, J>, Result<(), Refusal>), Flusher<D, J>>
+    requires store { server.held.value ≡ store_of server.flusher }
+    requires started { IsStarted server.flusher }
+    requires new { All (λ seat. seat ≡ 0) server.seats.items }
+    requires none { server.tally ≡ record { seats = 0; counted = 0 } }
+    ensures held { IfOk result (λ both. HasHeld (EachHasServed J.start) J.start server.flusher both.0.ordered both.0.published both.0.tally.counted
+        both.0.written (store_of both.0.flusher)) }
+    ensures seats { IfOk result (λ both. both.0.tally.seats ≡ length server.seats.items) }
+    ensures only { IfOk result (λ both. IsOkUnless both.1 Refusal.NoMemory) }
+    ensures refused { IfErr result (λ flusher. flusher ≡ server.flusher) }
+{
+    let Server {
+        held,
+        flusher,
+        writer,
+        closer,
+        seats,
+        tally,
+    } = server;
+    let mut tally = tally;
+    let Ok(desks) = desks_at(rt, alloc, &flusher, hub, seats, &mut tally) else {
+        return Err(flusher);
+    };
+    let shared = Shared {
+        rt,
+        alloc,
+        hub,
+        every,
+    };
+    flusher.kept();
+    match hold_beside(
+        &shared,
+        held,
+        flusher,
+        writer,
+        closer,
+        listener,
+        desks,
+        |listener, desks| -> (Result<(), Refusal>, Vec<HubDesk<'_, D, J, R>>)
+            requires { All (λ desk. desk ≡ first_desk) desks.items }
+            ensures served { EachHasServed J.start result.1.items }
+            ensures only { IsOkUnless result.0 Refusal.NoMemory }
+            ensures as_many { length result.1.items ≡ length desks.entry.items }
+        { serve_all(rt, alloc, desks, listener) },
+    ) {
+        Ok(
+            Both {
+                flusher,
+                written,
+                held,
+            },
+        ) => {
+            let (served, desks) = held;
+            Ok((tally_all(flusher, written, desks, tally), served))
+        }
+        Err((flusher, _listener)) => Err(flusher),
     }
 }
 
@@ -96,38 +201,6 @@ fn first_failure(written: Result<(), Refusal>, served: Result<(), Refusal>) -> R
 {
     written?;
     served
-}
-
-// The sessions of those who connect to a listener.
-#[derive(Drop)]
-struct OverConnections<'n, N> {
-    listener: &'n N,
-}
-
-impl<'n, N: OpenListener<Stream = TcpStream>> Sessions for OverConnections<'n, N> {
-    ghost use Rattle.std.specs.Prelude.{IsOkUnless};
-    ghost use Rattle.refusal.specs.declared.Refusal.TheVariants.{NoMemory};
-    ghost use Rattle.server_threads.specs.Connections.{EachHasServed};
-
-    type Answer = Result<(), Refusal>;
-
-    ghost fits = { λ sessions count. Unit {0} };
-
-    ghost comes = { λ start old new answer desks. EachHasServed start desks × IsOkUnless answer NoMemory };
-
-    fn hold<'a, D: Send + Drop, J: Site + Sync + Send, R: Threads + Wait + Sync>(
-        self,
-        rt: &R,
-        alloc: Global,
-        desks: Vec<HubDesk<'a, D, J, R>>,
-    ) -> (Self, Result<(), Refusal>, Vec<HubDesk<'a, D, J, R>>)
-        requires first { All (λ desk. desk ≡ first_desk) desks.items }
-        ensures comes { EachHasServed J.start result.2.items × IsOkUnless result.1 NoMemory }
-        ensures as_many { length result.2.items ≡ length desks.entry.items }
-    {
-        let (answer, desks) = serve_all(rt, alloc, desks, self.listener);
-        (self, answer, desks)
-    }
 }
 
 // Takes connections until the listener fails, and gives the desks back once each session has ended.

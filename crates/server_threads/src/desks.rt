@@ -1,5 +1,5 @@
 //! Seats and desks: before sessions are held at them, and after.
-ghost use Rattle.std.specs.Prelude.{◌≡◌, ◌+◌, ◌++◌, [], All, length, sum_by, IfOk, IsOkUnless};
+ghost use Rattle.std.specs.Prelude.{◌≡◌, ◌≤◌, ◌+◌, ◌++◌, [], All, length, sum_by, IfOk, IsOkUnless};
 ghost use mathlib.Core.List.{IsPrefix};
 ghost use Rattle.flusher.specs.Holding.{store_of, told_of, committed_of};
 ghost use Rattle.server_threads.specs.Answers.{first_desk};
@@ -34,7 +34,7 @@ pub(crate) fn seats_of<J: Site, D>(
     Ok(seats)
 }
 
-/// A desk for each seat for which there is a viewer, and the others tallied. Refused out of memory alone.
+/// A desk for each seat for which there is a viewer, and the others tallied. Refused where there is no memory, or no viewer at all.
 pub(crate) fn desks_at<'a, J: Site, R: Wait, D: Disk + Drop>(
     rt: &'a R,
     alloc: Global,
@@ -45,6 +45,7 @@ pub(crate) fn desks_at<'a, J: Site, R: Wait, D: Disk + Drop>(
 ) -> Result<Vec<HubDesk<'a, D, J, R>>, Refusal>
     requires told { told_of flusher.now ≡ [] }
     requires new { All (λ seat. seat ≡ 0) seats.items }
+    ensures some { IfOk result (λ desks. 1 ≤ length desks.items) }
     ensures first { IfOk result (λ desks. All (λ desk. desk ≡ first_desk) desks.items) }
     ensures all { IfOk result (λ desks. length desks.items + tally.new.seats ≡ length seats.items + tally.old.seats) }
     ensures none { IfOk result (λ desks. tally.new.counted ≡ tally.old.counted) }
@@ -56,6 +57,9 @@ pub(crate) fn desks_at<'a, J: Site, R: Wait, D: Disk + Drop>(
             Some(viewer) => desks.push(HubDesk::new(rt, hub, seat, viewer))?,
             None => tally.add(seat),
         }
+    }
+    if desks.is_empty() {
+        return Err(Refusal::NoMemory);
     }
     Ok(desks)
 }

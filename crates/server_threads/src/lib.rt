@@ -5,14 +5,14 @@
 //! prefix of it makes, which is all of it after an `Ok`, and a crash at any moment leaves what a prefix makes, at the end of a batch. Each command
 //! that a desk answered as taken has its place in the order, with its revision, and what stands there is what the rule of acceptance takes for
 //! just this command; for each point in a session's exchanges there was a moment from which on no crash takes away what was acknowledged by
-//! then. And nothing else was ordered: the order is as long as what the seats of the desks counted, and a seat counts just what its desk
-//! answered as taken.
+//! then. And nothing else was ordered: the order is as long as what the seats of the desks counted. A seat counts each command that its desk
+//! answered as taken, perhaps some of those that it answered `StoreFailed`, and nothing else.
 //!
-//! One chain of functions (`life.rt`) puts together what the crates below have, and holds whatever `Sessions` it is given: a flusher and a board
-//! from `start`, a hub of that board, a desk at it for each seat for which there is a viewer, and the thread that writes, by `flush_all` of
-//! `turns`. When the sessions have ended the hub is ended, the flusher writes what is left, and the hub gives its board back: the board owns
-//! the order, and its seats, each tallied then, have counted all of it. The thread that writes is asked for before anybody is served. Where
-//! the system gives none, nobody is, and the store comes back unchanged.
+//! A server begins (`begin` in `life.rt`) with a flusher and a board from `start`, a hub of that board, and all seats. It has a desk at the hub
+//! for each seat for which there is a viewer. `hold_beside` holds whatever sessions it is given at these desks, beside the thread that writes,
+//! by `flush_all` of `turns`. When the sessions have ended the hub is ended, and the flusher writes what is left. Then the desks are tallied,
+//! and the hub gives its board back: the board owns the order, and its seats have counted all of it. The thread that writes is asked for
+//! before anybody is served. Where the system gives none, nobody is, and the store comes back unchanged.
 //!
 //! `serve_on` holds sessions over the connections of a listener, by `serve_desks` of `sockets`, and `serve_streams` one over a pair of streams,
 //! by `serve_session` of `serving`. Of streams `specs/Streams.antt` says what was written. Of sockets nothing can be said: so the desks of
@@ -75,9 +75,7 @@
 mod beside;
 mod connections;
 mod desks;
-mod holding;
 mod life;
-mod sessions;
 mod streams;
 mod writing;
 mod written;

@@ -1,18 +1,15 @@
-//! The life of a server: one chain of functions, whatever its sessions do.
-ghost use Rattle.std.specs.Prelude.{◌≡◌, ◌≤◌, ◌+◌, ◌↔◌, ℕ, Ok, All, IfOk, IfErr, OnOk, OnErr, IsErrOf, IsOkUnless, length};
+//! The life of a server: how it begins, and how it ends.
+ghost use Rattle.std.specs.Prelude.{◌≡◌, ◌+◌, ◌↔◌, Ok, All, IfOk, IfErr, OnOk, IsErrOf, length};
 ghost use Rattle.recovery.specs.Open.{state_of};
 ghost use Rattle.flusher.specs.Holding.{store_of};
-ghost use Rattle.server_threads.specs.Held.{HasHeld};
-ghost use Rattle.server_threads.specs.Served.{HasLived, IsStarted};
+ghost use Rattle.server_threads.specs.Held.{IsTallied, IsCounted};
+ghost use Rattle.server_threads.specs.Served.{IsStarted};
 
-use crate::beside::{Both, hold_beside};
-use crate::desks::{desks_at, seats_of, tally_desks};
-use crate::holding::Holding;
-use crate::sessions::Sessions;
-use crate::writing::Shared;
+use crate::desks::{seats_of, tally_desks};
 use disk::Disk;
 use flusher::{Flusher, StartFault, start};
-use hub::{Board, Closer, Hub, Seat, Tally, Writer};
+use hub::{Closer, Hub, Seat, Tally, Writer};
+use hub_desk::HubDesk;
 use published::{Opened, Ordered, Site};
 use recovery::Store;
 use refusal::Refusal;
@@ -20,194 +17,121 @@ use std::alloc::Global;
 use std::snapshot::Snapshot;
 use std::sync::Wait;
 use std::sync::ledger::Blank;
-use std::thread::Threads;
 
-/// What came of a server's life: what its sessions answered, and how the writing ended.
-#[derive(Drop)]
-pub(crate) struct Ended<A> {
-    pub(crate) answer: A,
-    pub(crate) written: Result<(), Refusal>,
+/// What a server has beside its hub before it serves anybody: its store, the rights to write what the hub orders and to end it, and all seats
+/// that there are to give, with their tally.
+pub(crate) struct Server<D: Disk, J: Site> {
+    pub(crate) held: Snapshot<Store<D>>,
+    pub(crate) flusher: Flusher<D, J>,
+    pub(crate) writer: Writer<J>,
+    pub(crate) closer: Closer<J>,
+    pub(crate) seats: Vec<Seat<J>>,
+    pub(crate) tally: Tally<J>,
 }
 
-/// Holds sessions at so many desks at most of a store, while a thread of its own writes; then what was ordered is written, and the store and
-/// the sessions are given back. Refused out of memory, also where the system gives no thread: nothing is asked, and the store is unchanged
-/// then. A milestone of a document is put where it passes a multiple of `every` revisions; 0 puts none.
-pub(crate) fn live<
-    J: Site + Sync + Send,
-    R: Threads + Wait + Sync,
-    S: Sessions + Drop,
-    D: Disk + Send + Drop,
->(
+/// Begins a server of so many seats over a store. Refused out of memory alone; the store is unchanged then.
+pub(crate) fn begin<J: Site, R: Wait, D: Disk + Drop>(
     rt: &R,
     alloc: Global,
     store: Store<D>,
     opened: Opened,
     blank: Blank,
-    seats: u32,
-    every: u32,
-    sessions: S,
-) -> (Store<D>, S, Result<Ended<S::Answer>, Refusal>)
+    count: u32,
+) -> Result<(Hub<D, J>, Server<D, J>), (Store<D>, Refusal)>
     requires book { opened ≡ J.book }
     requires name { blank.name ≡ J.name }
     requires parts { blank.parts ≡ J.parts }
-    requires seats { blank.parts ≡ seats + 1 }
+    requires count { blank.parts ≡ count + 1 }
     requires start { state_of store ≡ J.start }
-    requires fits { (count : ℕ) → 1 ≤ count → count ≤ seats → S.fits sessions count }
-    ensures lived { IfOk result.2 (λ ended. HasLived (S.comes J.start sessions result.1 ended.answer) ended.written store result.0) }
-    ensures refused { OnErr result.2 ((result.0 ≡ store) × (result.1 ≡ sessions)) }
-    ensures only { IsOkUnless result.2 Refusal.NoMemory }
+    ensures store { IfOk result (λ begun. (begun.1.held.value ≡ store) × (store_of begun.1.flusher ≡ store)) }
+    ensures started { IfOk result (λ begun. IsStarted begun.1.flusher) }
+    ensures new { IfOk result (λ begun. All (λ seat. seat ≡ 0) begun.1.seats.items) }
+    ensures all { IfOk result (λ begun. length begun.1.seats.items ≡ count) }
+    ensures none { IfOk result (λ begun. begun.1.tally ≡ record { seats = 0; counted = 0 }) }
+    ensures refused { IfErr result (λ back. (back.0 ≡ store) × (back.1 ≡ Refusal.NoMemory)) }
 {
     let held = Snapshot::of(&store);
-    match start::<D, J>(alloc, store, opened, blank, seats) {
-        Ok((flusher, board)) => live_by(rt, alloc, held, flusher, board, seats, every, sessions),
-        Err(StartFault { store, refusal }) => (store, sessions, Err(refusal)),
-    }
-}
-
-// The life from a flusher that was just started and its board, with so many seats to give.
-fn live_by<
-    J: Site + Sync + Send,
-    R: Threads + Wait + Sync,
-    S: Sessions + Drop,
-    D: Disk + Send + Drop,
->(
-    rt: &R,
-    alloc: Global,
-    held: Snapshot<Store<D>>,
-    flusher: Flusher<D, J>,
-    board: Board<D, J>,
-    seats: u32,
-    every: u32,
-    sessions: S,
-) -> (Store<D>, S, Result<Ended<S::Answer>, Refusal>)
-    requires held { held.value ≡ store_of flusher }
-    requires started { IsStarted flusher }
-    requires left { board.left ≡ seats }
-    requires parts { seats + 1 ≡ J.parts }
-    requires fits { (count : ℕ) → 1 ≤ count → count ≤ seats → S.fits sessions count }
-    ensures lived { IfOk result.2 (λ ended. HasLived (S.comes J.start sessions result.1 ended.answer) ended.written (store_of flusher) result.0) }
-    ensures refused { OnErr result.2 ((result.0 ≡ store_of flusher) × (result.1 ≡ sessions)) }
-    ensures only { IsOkUnless result.2 Refusal.NoMemory }
-{
+    let (flusher, board) = match start::<D, J>(alloc, store, opened, blank, count) {
+        Ok(started) => started,
+        Err(StartFault { store, refusal }) => return Err((store, refusal)),
+    };
     let mut board = board;
     let tally = board.tally();
-    let given = match seats_of(alloc, &mut board, seats) {
-        Ok(given) => given,
-        Err(refusal) => return (flusher.end(rt), sessions, Err(refusal)),
+    let seats = match seats_of(alloc, &mut board, count) {
+        Ok(seats) => seats,
+        Err(refusal) => return Err((flusher.end(rt), refusal)),
     };
     let (hub, writer, closer) = Hub::new(board);
-    match hold_at(
-        rt, alloc, &hub, held, flusher, writer, closer, given, tally, every, sessions,
-    ) {
-        Ok(
-            Past {
-                flusher,
-                ordered,
-                published,
-                tally,
-                written,
-                sessions,
-                answer,
-            },
-        ) => {
-            let count = hub.into_board().end(tally, &ordered);
-            let written = all_written(written, count, published);
-            (flusher.end(rt), sessions, Ok(Ended { answer, written }))
-        }
-        Err((flusher, sessions)) => (flusher.end(rt), sessions, Err(Refusal::NoMemory)),
-    }
-}
-
-// What came of the sessions and of the thread that wrote beside them, with a token of the order, how many commands are published, and the
-// tally of all seats.
-struct Past<D: Disk, J: Site, S, A> {
-    flusher: Flusher<D, J>,
-    ordered: Ordered<J>,
-    published: u64,
-    tally: Tally<J>,
-    written: Result<(), Refusal>,
-    sessions: S,
-    answer: A,
-}
-
-// Holds the sessions at desks of a hub while a thread of its own writes, and tallies the seats then. Refused where there is no memory or no
-// thread: nothing is asked then.
-fn hold_at<
-    J: Site + Sync + Send,
-    R: Threads + Wait + Sync,
-    S: Sessions + Drop,
-    D: Disk + Send + Drop,
->(
-    rt: &R,
-    alloc: Global,
-    hub: &Hub<D, J>,
-    held: Snapshot<Store<D>>,
-    flusher: Flusher<D, J>,
-    writer: Writer<J>,
-    closer: Closer<J>,
-    given: Vec<Seat<J>>,
-    tally: Tally<J>,
-    every: u32,
-    sessions: S,
-) -> Result<Past<D, J, S, S::Answer>, (Flusher<D, J>, S)>
-    requires held { held.value ≡ store_of flusher }
-    requires started { IsStarted flusher }
-    requires new { All (λ seat. seat ≡ 0) given.items }
-    requires none { tally ≡ record { seats = 0; counted = 0 } }
-    requires fits { (count : ℕ) → 1 ≤ count → count ≤ length given.items → S.fits sessions count }
-    ensures held { IfOk result (λ past. HasHeld (S.comes J.start sessions past.sessions past.answer) J.start flusher
-        past.ordered past.published past.tally.counted past.written (store_of past.flusher)) }
-    ensures seats { IfOk result (λ past. past.tally.seats ≡ length given.items) }
-    ensures refused { IfErr result (λ back. (back.0 ≡ flusher) × (back.1 ≡ sessions)) }
-{
-    let mut tally = tally;
-    let Ok(desks) = desks_at(rt, alloc, &flusher, hub, given, &mut tally) else {
-        return Err((flusher, sessions));
-    };
-    if desks.is_empty() {
-        return Err((flusher, sessions));
-    }
-    let shared = Shared {
-        rt,
-        alloc,
-        hub,
-        every,
-    };
-    let holding = Holding {
-        shared: &shared,
+    let server = Server {
+        held,
+        flusher,
+        writer,
         closer,
-        sessions,
-        desks,
+        seats,
+        tally,
     };
+    Ok((hub, server))
+}
+
+/// What is left where all sessions have ended: the flusher and how its writing ended, a token of the order, how many commands are published,
+/// and the tally of the seats.
+pub(crate) struct Past<D: Disk, J: Site> {
+    pub(crate) flusher: Flusher<D, J>,
+    pub(crate) written: Result<(), Refusal>,
+    pub(crate) ordered: Ordered<J>,
+    pub(crate) published: u64,
+    pub(crate) tally: Tally<J>,
+}
+
+/// Tallies the seats of desks that are used no longer. It takes no memory.
+pub(crate) fn tally_all<J: Site, R, D: Disk>(
+    flusher: Flusher<D, J>,
+    written: Result<(), Refusal>,
+    desks: Vec<HubDesk<'_, D, J, R>>,
+    tally: Tally<J>,
+) -> Past<D, J>
+    requires none { tally.counted ≡ 0 }
+    ensures tallied { IsTallied J.start desks.entry.items flusher result.ordered result.published result.tally.counted (store_of result.flusher) }
+    ensures written { result.written ≡ written }
+    ensures seats { result.tally.seats ≡ tally.seats + length desks.entry.items }
+{
+    let mut flusher = flusher;
+    let mut tally = tally;
     flusher.kept();
-    match hold_beside(&shared, held, flusher, writer, holding) {
-        Ok(
-            Both {
-                flusher,
-                written,
-                sessions,
-                answer,
-                desks,
-            },
-        ) => {
-            let mut flusher = flusher;
-            flusher.kept();
-            flusher.few();
-            let ordered = flusher.ordered();
-            let published = flusher.told().len();
-            tally_desks(&mut flusher, desks, &mut tally);
-            Ok(Past {
-                flusher,
-                ordered,
-                published,
-                tally,
-                written,
-                sessions,
-                answer,
-            })
-        }
-        Err(back) => Err(back),
+    flusher.few();
+    let ordered = flusher.ordered();
+    let published = flusher.told().len();
+    tally_desks(&mut flusher, desks, &mut tally);
+    Past {
+        flusher,
+        written,
+        ordered,
+        published,
+        tally,
     }
+}
+
+/// Ends a server all of whose seats are tallied, and gives the store back and how the writing ended: well only where all of the order is
+/// published.
+pub(crate) fn end<J: Site, R: Wait, D: Disk + Drop>(
+    rt: &R,
+    hub: Hub<D, J>,
+    past: Past<D, J>,
+) -> (Store<D>, Result<(), Refusal>)
+    requires seats { past.tally.seats + 1 ≡ J.parts }
+    ensures store { result.0 ≡ store_of past.flusher }
+    ensures counted { IsCounted J.start past.ordered past.published past.tally.counted past.written result.1 }
+{
+    let Past {
+        flusher,
+        written,
+        ordered,
+        published,
+        tally,
+    } = past;
+    let count = hub.into_board().end(tally, &ordered);
+    let answer = all_written(written, count, published);
+    (flusher.end(rt), answer)
 }
 
 // How the writing ended, of as many commands as are published: well only where the order has no more.

@@ -1,10 +1,10 @@
 use super::HELLO;
 use super::going_on::{edits, letter};
 use disk::{Call, Disk, FaultDisk, FaultPlan, Left, MemDisk};
-use server_threads::serve_streams;
 use recovery::{OpenFault, Pick, Shape, Store, format_device};
 use refusal::Refusal;
 use server::dump;
+use server_threads::serve_streams;
 use session::Stream;
 use std::process::Abort;
 use std::sync::Wait;

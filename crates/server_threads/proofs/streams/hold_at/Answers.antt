@@ -1,0 +1,13 @@
+use Rattle.std.proofs.Common.{◌≡◌}
+use Rattle.server_threads.proofs.streams.hold_at.Goals as goal
+
+-- the session was held, and the desk that it left is tallied
+pub returns-in-Ok-hold_beside-clause-held : goal.returns-in-Ok-hold_beside-clause-held
+returns-in-Ok-hold_beside-clause-held g c = record {
+  last = c.in-Ok-hold_beside.field-0.flusher;
+  desks = c.in-Ok-hold_beside.field-0.held.1.items;
+  before = record { state = c.kept.ensures };
+  wrote = c.in-Ok-hold_beside.ensures.written;
+  tallied = c.tally_all.ensures.tallied;
+  sessions = c.in-Ok-hold_beside.ensures.held.ends;
+}
