@@ -1,4 +1,6 @@
 //! Runs of a script, from its beginning or from a step on, over a device that may stop or fail.
+ghost use Rattle.std.specs.Prelude.{◌≤◌};
+
 use crate::scripts::{SHAPE, Script, Step};
 use crate::stores::take;
 use crate::turning::serve;

@@ -25,14 +25,14 @@ fn turn<J: Site, R: Wait + AllocGlobal>(
     writer: &mut Writer<J>,
     upkeep: &mut Upkeep<FaultDisk>,
 ) -> Result<(), Refusal> {
-    let mut gate = OpenGate;
-    match flush_turn(rt, rt.alloc(), flusher, hub, writer, upkeep, &mut gate) {
-        Ok(_) => Ok(()),
-        Err(stop) => match stop.into_failed() {
+    let alloc = rt.alloc();
+    if let Err(stop) = flush_turn(rt, alloc, flusher, hub, writer, upkeep, &mut OpenGate) {
+        return match stop.into_failed() {
             Some(failed) => Err(failed.refusal()),
             None => Err(Refusal::NoMemory),
-        },
+        };
     }
+    Ok(())
 }
 
 // A command is submitted, written in a turn and acknowledged.
