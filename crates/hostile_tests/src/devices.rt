@@ -1,9 +1,10 @@
 //! Devices that are changed at chosen places, byte for byte: most are no store then. `SHAPE` says where cells and slots lie.
 use crate::going_on::{PICKS, read};
 use crate::runs::{NEVER, device_of, formatted, opened};
-use crate::scripts::{WIDE, command};
+use crate::scripts::{CREATE, WIDE, command};
 use crate::stores::write;
-use recovery::Pick;
+use disk::FaultDisk;
+use recovery::{Pick, Store};
 use refusal::Refusal;
 use revision::Reply;
 use std::process::Abort;
@@ -206,19 +207,19 @@ fn changed_devices_are_refused_or_opened(rt: HostRuntime) {
     }
 }
 
-/// What is asked of a device with the last number of a segment, or at the last revision: a number, the revision below, and the answer.
-type Asked = (u64, u64, &'static str, Result<Reply, Refusal>);
+/// What is asked of a store: a number, the revision that the command is made on, its operations, and the answer.
+pub type Asked = (u64, u64, &'static str, Result<Reply, Refusal>);
 
 /// The first batch finds room in the last segment. Behind that there is none.
 const IN_THE_LAST_SEGMENT: [Asked; 2] = [
-    (1, 0, r#"[{"insert":"z"}]"#, Ok(Reply::Taken { rev: 1 })),
+    (1, 0, CREATE, Ok(Reply::Taken { rev: 1 })),
     (2, 1, WIDE, Err(Refusal::JournalFull)),
 ];
 
 const AT_THE_LAST_REVISION: [Asked; 1] = [(
     2,
     9_007_199_254_740_991,
-    r#"[{"insert":"x"}]"#,
+    CREATE,
     Err(Refusal::RevisionsSpent),
 )];
 
@@ -230,21 +231,29 @@ const ASKED: [(Changes, &[Asked]); 2] = [
     ),
 ];
 
-// A store is asked, and answers so.
-fn answers(rt: &(impl Abort + AllocGlobal), bytes: &[u8], rows: &[Asked]) {
-    let Ok(store) = opened(rt, device_of(rt, bytes, NEVER), Pick::Newer) else {
-        panic!(rt; "it doesn't open");
-    };
-    let mut store = store;
-    for (number, base, operations, wanted) in rows {
-        let command = command(rt.alloc(), *number, *base, operations).expect(rt, "a command");
-        assert_eq!(rt; write(rt.alloc(), &mut store, &command), *wanted);
+// A store's answer to a row is the row's.
+fn is_answered(rt: &(impl Abort + AllocGlobal), store: &mut Store<FaultDisk>, row: &Asked) {
+    let command = command(rt.alloc(), row.0, row.1, row.2).expect(rt, "a command");
+    assert_eq!(rt; write(rt.alloc(), store, &command), row.3);
+}
+
+/// A device is opened, and its store asked: each answer is the row's.
+pub fn answers(rt: &(impl Abort + AllocGlobal), disk: FaultDisk, rows: &[Asked]) {
+    match opened(rt, disk, Pick::Newer) {
+        Ok(store) => {
+            let mut store = store;
+            for row in rows {
+                is_answered(rt, &mut store, row);
+            }
+        }
+        Err(fault) => panic!(rt; "{}", fault.refusal),
     }
 }
 
 #[test]
 fn what_is_spent_is_refused(rt: HostRuntime) {
     for (changes, rows) in &ASKED {
-        answers(&rt, &changed(&rt, WHOLE, *changes), *rows);
+        let bytes = changed(&rt, WHOLE, *changes);
+        answers(&rt, device_of(&rt, &bytes, NEVER), *rows);
     }
 }

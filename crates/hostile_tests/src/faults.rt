@@ -1,12 +1,11 @@
 //! Each call of the device fails once in each script.
+use crate::devices::answers;
 use crate::going_on::{Differs, PICKS, each_goes_on, found, goes_on, is_after};
-use crate::runs::{FIRST, NEVER, device_of, formatted, opened, run};
-use crate::scripts::{FULL_JOURNAL, MILESTONES, RICH_TEXT, Script, THIRD_BATCH};
+use crate::runs::{FIRST, NEVER, device_of, formatted, run};
+use crate::scripts::{DELETE, FULL_JOURNAL, MILESTONES, RICH_TEXT, Script, THIRD_BATCH};
 use crate::stops::{FILL, LEFT, device_after};
-use crate::stores::take;
-use disk::{Call, FaultDisk, FaultPlan, Left};
+use disk::{Call, FaultPlan, Left};
 use recovery::Pick;
-use refusal::Refusal;
 use revision::Reply;
 use std::process::Abort;
 use std::sync::Wait;
@@ -82,7 +81,7 @@ const COMMIT: [(u64, Left, usize, Reply); 11] = [
     (3, Left::Nothing, 3, Reply::Again { rev: 3 }),
 ];
 
-// The third batch's commit fails as a row says.
+// The third batch's commit fails as a row says, and the command is sent again.
 fn is_row(
     rt: &(impl Wait + Abort + AllocGlobal),
     bytes: &[u8],
@@ -109,21 +108,7 @@ fn is_row(
             "call {call}: {text}"
         );
     }
-    is_replied(rt, ended.disk, row.3);
-}
-
-// A device is opened again, and the third command sent again.
-fn is_replied(rt: &(impl Abort + AllocGlobal), disk: FaultDisk, wanted: Reply) {
-    let Some(step) = THIRD_BATCH.steps.get(2) else {
-        panic!(rt; "three steps");
-    };
-    match opened(rt, disk, Pick::Newer) {
-        Ok(store) => {
-            let mut store = store;
-            assert_eq!(rt; take(rt.alloc(), &mut store, 3, step), Ok(Some(wanted)));
-        }
-        Err(fault) => panic!(rt; "{}", fault.refusal),
-    }
+    answers(rt, ended.disk, &[(3, 2, DELETE, Ok(row.3))]);
 }
 
 #[test]

@@ -78,6 +78,15 @@ pub fn formatted(rt: &(impl Abort + AllocGlobal), fill: u8) -> Vec<u8> {
     }
 }
 
+// Opens a device. No clause is kept of what comes of it, so callers are checked faster.
+fn open(
+    alloc: Global,
+    disk: FaultDisk,
+    pick: Pick,
+) -> Result<Store<FaultDisk>, OpenFault<FaultDisk>> {
+    Store::open(alloc, disk, pick)
+}
+
 /// Opens a device, and once more where memory was wanted. A refusal leaves each byte of it as it was.
 pub fn opened(
     rt: &(impl Abort + AllocGlobal),
@@ -85,12 +94,12 @@ pub fn opened(
     pick: Pick,
 ) -> Result<Store<FaultDisk>, OpenFault<FaultDisk>> {
     let before = copied(rt, disk.disk().bytes());
-    match Store::open(rt.alloc(), disk, pick) {
+    match open(rt.alloc(), disk, pick) {
         Ok(store) => Ok(store),
         Err(fault) => {
             assert!(rt; fault.disk.disk().bytes() == before.as_slice());
             match fault.refusal {
-                Refusal::NoMemory => Store::open(rt.alloc(), fault.disk, pick),
+                Refusal::NoMemory => open(rt.alloc(), fault.disk, pick),
                 _ => Err(fault),
             }
         }

@@ -42,6 +42,11 @@ pub struct Script {
     pub gates: &'static [(usize, bool)],
 }
 
+/// The first command, which creates the document with a letter, and one that deletes a letter.
+pub const CREATE: &str = r#"[{"insert":"z"}]"#;
+
+pub const DELETE: &str = r#"[{"delete":1}]"#;
+
 /// Fifteen names of ten bytes are removed from a letter that has none: an entry of 236 bytes, which fills a slot.
 pub const WIDE: &str =
     r#"[{"retain":1,"attributes":{"aaaaaaaaaa":null,"bbbbbbbbbb":null,"cccccccccc":null,"dddddddddd":null,"eeeeeeeeee":null,"ffffffffff":null,"gggggggggg":null,"hhhhhhhhhh":null,"iiiiiiiiii":null,"jjjjjjjjjj":null,"kkkkkkkkkk":null,"llllllllll":null,"mmmmmmmmmm":null,"nnnnnnnnnn":null,"oooooooooo":null}}]"#;
@@ -55,9 +60,9 @@ pub const THIRD_BATCH: Script = Script {
     name: "the third batch",
     every: None,
     steps: &[
-        Step::Write(r#"[{"insert":"z"}]"#),
+        Step::Write(CREATE),
         Step::Write(r#"[{"retain":1},{"insert":"x"}]"#),
-        Step::Write(r#"[{"delete":1}]"#),
+        Step::Write(DELETE),
     ],
     documents: &[
         "",
@@ -75,9 +80,9 @@ pub const MILESTONES: Script = Script {
     name: "milestones and retirement",
     every: None,
     steps: &[
-        Step::Write(r#"[{"insert":"z"}]"#),
+        Step::Write(CREATE),
         Step::Write(r#"[{"retain":1},{"insert":"x"}]"#),
-        Step::Write(r#"[{"delete":1}]"#),
+        Step::Write(DELETE),
         Step::Put(3),
         Step::Write(FIVE_NAMES),
         Step::Put(4),
@@ -119,11 +124,7 @@ pub const RICH_TEXT: Script = Script {
 pub const FULL_JOURNAL: Script = Script {
     name: "a full journal",
     every: Some(256),
-    steps: &[
-        Step::Write(r#"[{"insert":"z"}]"#),
-        Step::Write(WIDE),
-        Step::Write(WIDE),
-    ],
+    steps: &[Step::Write(CREATE), Step::Write(WIDE), Step::Write(WIDE)],
     documents: &[
         "",
         r#"d 1 {"ops":[{"insert":"z"}]} 1 1"#,

@@ -6,7 +6,7 @@ use crate::runs::{Begin, Ended, commands_in, stop_of};
 use crate::scripts::{Script, Step, command};
 use disk::FaultDisk;
 use flusher::{Flusher, OpenGate, start};
-use hub::{Hub, Seat, Writer};
+use hub::{Hub, Seat, Ticket, Writer};
 use published::{Opened, Site};
 use recovery::Store;
 use refusal::Refusal;
@@ -35,6 +35,37 @@ fn turn<J: Site, R: Wait + AllocGlobal>(
     Ok(())
 }
 
+// The command of a step is submitted.
+fn ordered<J: Site, R: Wait + AllocGlobal>(
+    rt: &R,
+    hub: &Hub<FaultDisk, J>,
+    seat: &mut Seat<J>,
+    number: u64,
+    step: &Step,
+) -> Result<Ticket<J>, Refusal> {
+    let Step::Write(operations) = *step else {
+        return Err(Refusal::BadMessage);
+    };
+    let command = command(rt.alloc(), number, number.saturating_sub(1), operations)?;
+    match hub.submit(rt, rt.alloc(), seat, &command) {
+        Ok(ticket) => Ok(ticket),
+        Err(not_submitted) => Err(not_submitted.refusal()),
+    }
+}
+
+// The reply to a command that is settled.
+fn acknowledged<J: Site, R: Wait>(
+    rt: &R,
+    hub: &Hub<FaultDisk, J>,
+    ticket: &Ticket<J>,
+) -> Result<Option<Reply>, Refusal> {
+    match hub.ack(rt, ticket) {
+        Ok(Some(_)) => Ok(Some(ticket.reply())),
+        Ok(None) => Err(Refusal::BadMessage),
+        Err(stopped) => Err(stopped.refusal()),
+    }
+}
+
 // A command is submitted, written in a turn and acknowledged.
 fn send<J: Site, R: Wait + AllocGlobal>(
     rt: &R,
@@ -46,21 +77,9 @@ fn send<J: Site, R: Wait + AllocGlobal>(
     number: u64,
     step: &Step,
 ) -> Result<Option<Reply>, Refusal> {
-    let Step::Write(operations) = *step else {
-        return Err(Refusal::BadMessage);
-    };
-    let base = number.saturating_sub(1);
-    let command = command(rt.alloc(), number, base, operations)?;
-    let ticket = match hub.submit(rt, rt.alloc(), seat, &command) {
-        Ok(ticket) => ticket,
-        Err(not_submitted) => return Err(not_submitted.refusal()),
-    };
+    let ticket = ordered(rt, hub, seat, number, step)?;
     turn(rt, flusher, hub, writer, upkeep)?;
-    match hub.ack(rt, &ticket) {
-        Ok(Some(_)) => Ok(Some(ticket.reply())),
-        Ok(None) => Err(Refusal::BadMessage),
-        Err(stopped) => Err(stopped.refusal()),
-    }
+    acknowledged(rt, hub, &ticket)
 }
 
 // The answer to a step. It is asked once more where memory was wanted; where the device failed, it is then answered as failed.
