@@ -7,6 +7,7 @@ use disk::FaultDisk;
 use recovery::{Pick, Store};
 use refusal::Refusal;
 use revision::Reply;
+use std::alloc::Global;
 use std::process::Abort;
 
 /// The first batch: the source "a" creates "d" with "z".
@@ -231,10 +232,10 @@ const ASKED: [(Changes, &[Asked]); 2] = [
     ),
 ];
 
-// A store's answer to a row is the row's.
-fn is_answered(rt: &(impl Abort + AllocGlobal), store: &mut Store<FaultDisk>, row: &Asked) {
-    let command = command(rt.alloc(), row.0, row.1, row.2).expect(rt, "a command");
-    assert_eq!(rt; write(rt.alloc(), store, &command), row.3);
+// A store's answer to a row.
+fn answer(alloc: Global, store: &mut Store<FaultDisk>, row: &Asked) -> Result<Reply, Refusal> {
+    let command = command(alloc, row.0, row.1, row.2)?;
+    write(alloc, store, &command)
 }
 
 /// A device is opened, and its store asked: each answer is the row's.
@@ -243,7 +244,7 @@ pub fn answers(rt: &(impl Abort + AllocGlobal), disk: FaultDisk, rows: &[Asked])
         Ok(store) => {
             let mut store = store;
             for row in rows {
-                is_answered(rt, &mut store, row);
+                assert_eq!(rt; answer(rt.alloc(), &mut store, row), row.3);
             }
         }
         Err(fault) => panic!(rt; "{}", fault.refusal),

@@ -1,6 +1,6 @@
 //! Each call of the device fails once in each script.
 use crate::devices::answers;
-use crate::going_on::{Differs, PICKS, each_goes_on, found, goes_on, is_after};
+use crate::going_on::{Differs, PICKS, each_goes_on, found, goes_on, is_after, is_good};
 use crate::runs::{FIRST, NEVER, device_of, formatted, run};
 use crate::scripts::{DELETE, FULL_JOURNAL, MILESTONES, RICH_TEXT, Script, THIRD_BATCH};
 use crate::stops::{FILL, LEFT, device_after};
@@ -39,8 +39,7 @@ fn is_faulty_everywhere(rt: &(impl Wait + Abort + AllocGlobal), script: &Script)
         for left in LEFT {
             let plan = FaultPlan::fail(call as u64, left);
             if left == Left::Nothing || !matches!(made, Call::Read { .. }) {
-                let found = is_faulty(rt, script, &bytes, plan);
-                assert_eq!(rt; found, Ok(()), "{}, call {call}, {left:?}", script.name);
+                is_good(rt, script, plan, is_faulty(rt, script, &bytes, plan));
             }
         }
     }

@@ -2,7 +2,7 @@
 use crate::runs::{Begin, NEVER, commands_in, device_of, opened, run};
 use crate::scripts::{Script, Step};
 use algebra::write_delta;
-use disk::{Disk, FaultDisk};
+use disk::{Disk, FaultDisk, FaultPlan};
 use recovery::{Pick, Store};
 use refusal::Refusal;
 use revision::{DocState, Name, State};
@@ -146,4 +146,9 @@ pub fn each_goes_on(
         goes_on(rt, script, device_of(rt, bytes, NEVER), done, pick)?;
     }
     Ok(())
+}
+
+/// A script over a device that went wrong by this plan has gone as it should.
+pub fn is_good(rt: &impl Abort, script: &Script, plan: FaultPlan, found: Result<(), Differs>) {
+    assert_eq!(rt; found, Ok(()), "{}, {plan:?}", script.name);
 }

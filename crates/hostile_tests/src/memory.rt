@@ -1,7 +1,7 @@
 //! Each script once, as it is: where a request for memory is refused within, what was asked is asked again.
 //!
 //! The gate refuses no request. docs/TESTS.md says how one is refused.
-use crate::going_on::{Differs, goes_on, is_whole};
+use crate::going_on::{Differs, goes_on, is_good, is_whole};
 use crate::runs::{FIRST, NEVER, device_of, formatted, run};
 use crate::scripts::{FULL_JOURNAL, MILESTONES, RICH_TEXT, Script, THIRD_BATCH};
 use crate::stops::FILL;
@@ -28,6 +28,6 @@ fn ends(rt: &(impl Wait + Abort + AllocGlobal), script: &Script) -> Result<(), D
 #[test]
 fn what_finds_no_memory_is_asked_again(rt: HostRuntime) {
     for script in &SCRIPTS {
-        assert_eq!(rt; ends(&rt, script), Ok(()), "{}", script.name);
+        is_good(&rt, script, NEVER, ends(&rt, script));
     }
 }

@@ -1,5 +1,5 @@
 //! Each script is stopped at each call of its device.
-use crate::going_on::{Differs, each_goes_on, is_whole};
+use crate::going_on::{Differs, each_goes_on, is_good, is_whole};
 use crate::runs::{FIRST, NEVER, device_of, formatted, opened, run};
 use crate::scripts::{FULL_JOURNAL, MILESTONES, RICH_TEXT, Script, THIRD_BATCH};
 use disk::{Call, FaultDisk, FaultPlan, Left, MemDisk};
@@ -39,12 +39,7 @@ pub fn device_after(
     let disk = ended.disk;
     let calls = calls_of_opening(rt, bytes).saturating_add(script.calls);
     assert_eq!(rt; disk.disk().calls().len() as u64, calls, "{}", script.name);
-    assert_eq!(rt;
-        is_whole(rt, script, disk.disk().bytes()),
-        Ok(()),
-        "{}",
-        script.name
-    );
+    is_good(rt, script, NEVER, is_whole(rt, script, disk.disk().bytes()));
     disk
 }
 
@@ -86,8 +81,8 @@ fn is_stopped_everywhere(rt: &(impl Wait + Abort + AllocGlobal), script: &Script
     let calls = device_after(rt, script, &bytes).disk().calls().len() as u64;
     for call in calls.saturating_sub(script.calls)..=calls {
         for left in LEFT {
-            let found = is_stopped(rt, script, &bytes, FaultPlan::stop(call, left));
-            assert_eq!(rt; found, Ok(()), "{}, call {call}, {left:?}", script.name);
+            let plan = FaultPlan::stop(call, left);
+            is_good(rt, script, plan, is_stopped(rt, script, &bytes, plan));
         }
     }
 }
