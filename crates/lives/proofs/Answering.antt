@@ -34,7 +34,7 @@ use Rattle.flusher.specs.Holding.{store_of}
 use Rattle.flusher.specs.Standing.{Standing, IsEven, IsCalm}
 use Rattle.flusher.proofs.CallerLemmas.{same_batch}
 use Rattle.lives.specs.Run.{IsFirst, batches_of, RunGoes}
-use Rattle.lives.specs.Driving.{Between, AckGives, Gives, Answered, Begins, Follows, IsHeld, AreHeld, IsTurnRefused, IsUnanswered, IsUnsettled, Stops, StopsAtTurn, with_run, turned}
+use Rattle.lives.specs.Driving.{Between, AckGives, Gives, Answered, Begins, Follows, IsHeld, AreHeld, IsTurnRefused, IsUnanswered, IsUnsettled, Stops, with_run, turned}
 use Rattle.lives.proofs.Beginnings.{is_first}
 use Rattle.lives.proofs.Evens.{all_batches, takens_length}
 use Rattle.lives.proofs.Running.{run_none}

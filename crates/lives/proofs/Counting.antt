@@ -1,5 +1,5 @@
 -- What a seat counts is what the order gets.
-use Rattle.std.proofs.Common.{◌≡◌, ℕ, ◌+◌, List, [], ◌∷◌, ◌++◌, length, ◌∙◌, sym, ap, arith, length-append}
+use Rattle.std.proofs.Common.{◌≡◌, ℕ, ◌+◌, [], ◌∷◌, length, ◌∙◌, sym, ap, arith, length-append}
 use Rattle.std.specs.Prelude.{Some}
 use Rattle.revision.specs.Command.{Command}
 use Rattle.revision.specs.Acceptance.{Answer, Takes, Repeats, Refuses, TakenAt, AgainAt, answer}

@@ -161,9 +161,7 @@ fn serve_alone<R: AllocGlobal + Threads + Wait + Sync, I: Read, O: Write>(
     input: &mut I,
     output: &mut O,
 ) -> Result<(), Failure> {
-    let mut stream = Stream::new(output);
-    let (_store, served) = serve_streams(rt, rt.alloc(), store, input, &mut stream, every);
-    served
+    serve_streams(rt, rt.alloc(), store, input, Stream::new(output), every).served
 }
 
 // Serves the store to those who connect to the address, once it has told where it listens. It ends where the listener fails. An address

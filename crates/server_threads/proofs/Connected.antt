@@ -38,3 +38,6 @@ unserved start desks first =
 pub well_by : (answer written : Result (Unit {0}) Refusal) → OnOk answer (written ≡ Ok tt) → is_ok answer ≡ true → is_ok written ≡ true
 well_by (Ok answer) written is well = ap is_ok is
 well_by (Err refusal) written is well = absurd (cc well)
+
+pub nobody_served : (start : State) → EachHasServed start []
+nobody_served start = All-nil (HasServed (PassesAtHub start) first_desk)

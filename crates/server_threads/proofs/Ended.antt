@@ -1,6 +1,6 @@
 -- How serving over a pair of streams ends.
-use Rattle.std.proofs.Common.{◌≡◌, ◌⊎◌, ◌↔◌, inl, inr, ℕ, true, false, List, [], ◌∷◌, refl, sym, ◌∙◌, ap, subst, Ok}
-use Rattle.std.specs.Prelude.{Bool, Option, Result, Err, OnOk, OnErr, IfErr, IsErrOf, is_ok}
+use Rattle.std.proofs.Common.{◌≡◌, ◌⊎◌, ◌↔◌, inl, inr, ℕ, ◌+◌, true, false, List, [], ◌∷◌, refl, sym, ◌∙◌, ap, subst, arith, Ok}
+use Rattle.std.specs.Prelude.{Bool, Option, Result, set, length, Err, OnOk, OnErr, IfErr, IsErrOf, is_ok}
 use Rattle.std.specs.Io.KnownBytes.{IsAtEnd}
 use Rattle.refusal.specs.declared.Refusal.{Refusal}
 use Rattle.refusal.specs.declared.Refusal.TheVariants.{NoMemory, Fault}
@@ -64,3 +64,9 @@ pub works_with : (answer : Result (Unit {0}) Failure) (written : Result (Unit {0
 works_with (Ok answer) (Ok written) old new fails = works_ended old new written fails
 works_with (Ok answer) (Err refusal) old new fails = tt
 works_with (Err failure) written old new fails = tt
+
+-- one desk in place of the one that there was
+pub set_one : {A : Type 0} (all : List A) (one : A) → length all ≡ 1 → set all 0 one ≡ one ∷ []
+set_one [] one long = absurd (cc long)
+set_one (first ∷ []) one long = refl
+set_one {A} (first ∷ second ∷ others) one long = absurd (omega (arith, long, ap (λ (l : List A). length l) (refl {A = List A} {a = first ∷ second ∷ others})))

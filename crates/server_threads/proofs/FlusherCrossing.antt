@@ -24,7 +24,6 @@ use Rattle.view.specs.contracts.publisher.Stage as stage
 use Rattle.view.specs.contracts.publisher.Publisher as publisher
 use Rattle.view.specs.contracts.publisher.Publisher.TheInside as inside
 use Rattle.view.proofs.CallerLemmas.{name_send, delta_send, sources_send, state_send, shown_send, shown_sync}
-use Rattle.hub.specs.contracts.kept.Writer as writer
 use Rattle.hub.proofs.CallerLemmas.{taken_send}
 use Rattle.flusher.specs.contracts.flusher.Flusher as flusher
 use Rattle.server_threads.specs.contracts.writing.Shared as shared
@@ -60,29 +59,26 @@ publisher_send D T s l a b c =
     let x = shown_sync in
     let y = shown_send in
     let news = news_send in
+    let told = told_send D T s l b in
+    let ordered = ordered_send T s l b in
     let all : AllSend (shape (inside.the_type D T s l)).fields = (
       search (part.the_send, deed.the_send, place.the_send, table.the_send, table.the_sync, lease.the_send, lease.the_sync, frees, sendable, crosses) depth 40 fits 20000,
-      (log_send D T s l, (told_send D T s l b, (stage_send D T s l a b, tt))),
+      (log_send D T s l, (told, (search (receipt_send, sendable, crosses) depth 60 fits 20000, tt))),
     ) in
     let fields : IsSend (inside.the_row D T s l) =
     recorded_send (Struct (shape (inside.the_type D T s l))) _ _ (inside.the_type D T s l).to_one (struct_send (shape (inside.the_type D T s l)) all) in
     search sendable depth 3
 
-pub writer_send : (T : RattleType) → IsSend T → IsSend (writer.the_row T)
-writer_send T a = search (sendable, crosses) depth 60 fits 20000
-
-pub flusher_send : (D T : RattleType) (d : disk.Ghosts D.Denot) (s : site.Ghosts T.Denot) (l : ledger.Ghosts T.Denot) → IsSend D → IsSend T → IsSync T
-    → IsSend (flusher.the_row D T d s l)
-flusher_send D T d s l a b c =
-    let ordered = ordered_send T s l b in
-    let all : AllSend (shape (flusher.the_type D T d s l)).fields = (
+flusher_fields : (D T : RattleType) (d : disk.Ghosts D.Denot) (s : site.Ghosts T.Denot) (l : ledger.Ghosts T.Denot) → IsSend D → IsSend T → IsSync T
+    → AllSend (shape (flusher.the_type D T d s l)).fields
+flusher_fields D T d s l a b c =
+    let ordered = ordered_send T s l b in (
       search (cells_send, job_send, state_send, sendable, crosses) depth 60 fits 20000,
       (
         publisher_send D T s l a b c,
-        (search (taken_send, sendable, crosses) depth 60 fits 20000, (search (state_send, sendable, crosses) depth 60 fits 20000, tt)),
+        (search (taken_send, sendable, crosses) depth 60 fits 20000, (search (sendable, crosses) depth 60 fits 20000, tt)),
       ),
-    ) in
-    recorded_send (Struct (shape (flusher.the_type D T d s l))) _ _ (flusher.the_type D T d s l).to_one (struct_send (shape (flusher.the_type D T d s l)) all)
+    )
 
 pub shared_sync : (k : NamedLft) (D T R : RattleType) (s : site.Ghosts T.Denot) (l : ledger.Ghosts T.Denot) → IsSend T → IsSync T → IsSync R
     → IsSync (shared.the_row k D T R s l)
@@ -90,17 +86,31 @@ shared_sync k D T R s l a b c =
     let hub = hub_sync D T s l a b in
     search (sendable, crosses) depth 60 fits 20000
 
+pub writing_fields : (k : NamedLft) (D T R : RattleType) (d : disk.Ghosts D.Denot) (s : site.Ghosts T.Denot) (l : ledger.Ghosts T.Denot) → IsSend D → IsSend T → IsSync T → IsSync R
+    → AllSend (shape (writing.the_type k D T R d s l)).fields
+writing_fields k D T R d s l a b y c =
+    let shared = shared_sync k D T R s l b y c in (
+      search (sendable, crosses) depth 20 fits 20000,
+      (
+        search (sendable, crosses) depth 20 fits 20000,
+        (struct_send (shape (flusher.the_type D T d s l)) (flusher_fields D T d s l a b y), (search (sendable, crosses) depth 20 fits 20000, tt)),
+      ),
+    )
+
 pub writing_send : (k : NamedLft) (D T R : RattleType) (d : disk.Ghosts D.Denot) (s : site.Ghosts T.Denot) (l : ledger.Ghosts T.Denot) → IsSend D → IsSend T → IsSync T → IsSync R
     → IsSend (writing.the_row k D T R d s l)
 writing_send k D T R d s l a b y c =
-    let shared = shared_sync k D T R s l b y c in
-    let all : AllSend (shape (writing.the_type k D T R d s l)).fields =
-    (search (sendable, crosses) depth 20 fits 20000, (search (sendable, crosses) depth 20 fits 20000, (flusher_send D T d s l a b y, (writer_send T b, tt)))) in
-    recorded_send (Struct (shape (writing.the_type k D T R d s l))) _ _ (writing.the_type k D T R d s l).to_one (struct_send (shape (writing.the_type k D T R d s l)) all)
+    recorded_send (Struct (shape (writing.the_type k D T R d s l))) _ _ (writing.the_type k D T R d s l).to_one
+    (struct_send (shape (writing.the_type k D T R d s l)) (writing_fields k D T R d s l a b y c))
 
 pub written_send : (k : NamedLft) (D T R : RattleType) (d : disk.Ghosts D.Denot) (s : site.Ghosts T.Denot) (l : ledger.Ghosts T.Denot) → IsSend D → IsSend T → IsSync T → IsSync R
     → IsSend (written.the_row k D T R d s l)
 written_send k D T R d s l a b y c =
-    let all : AllSend (shape (written.the_type k D T R d s l)).fields =
-    (search (sendable, crosses) depth 20 fits 20000, (flusher_send D T d s l a b y, (search (sendable, crosses) depth 20 fits 20000, (search (sendable, crosses) depth 20 fits 20000, tt)))) in
+    let all : AllSend (shape (written.the_type k D T R d s l)).fields = (
+      search (sendable, crosses) depth 20 fits 20000,
+      (
+        struct_send (shape (flusher.the_type D T d s l)) (flusher_fields D T d s l a b y),
+        (search (sendable, crosses) depth 200 fits 20000, (search (sendable, crosses) depth 20 fits 20000, tt)),
+      ),
+    ) in
     recorded_send (Struct (shape (written.the_type k D T R d s l))) _ _ (written.the_type k D T R d s l).to_one (struct_send (shape (written.the_type k D T R d s l)) all)

@@ -1,5 +1,5 @@
 //! The callers that open `lib.rt` of hub_desk, sockets and server_threads.
-ghost use Rattle.std.specs.Prelude.{◌∷◌, [], true, Ok, IfErr, IfOk};
+ghost use Rattle.std.specs.Prelude.{◌∷◌, [], true, IfErr, IfOk, is_ok};
 ghost use Rattle.recovery.specs.Open.{state_of};
 ghost use Rattle.hub_desk.specs.AtHub.{Acknowledges, Refuses};
 ghost use Rattle.server_threads.specs.Connections.{EachHasServed};
@@ -13,8 +13,7 @@ use published::Site;
 use recovery::Store;
 use refusal::Refusal;
 use revision::Command;
-use server_threads::{serve_on, serve_streams};
-use serving::Failure;
+use server_threads::{Streamed, serve_on, serve_streams};
 use session::{Desk, Output, Reply};
 use sockets::serve_desks;
 use std::alloc::{AllocError, Global};
@@ -63,18 +62,15 @@ pub fn serve_store<
 }
 
 /// Serves one session over a pair of streams: what it wrote comes of its input, and the store holds all that its desk acknowledged.
-pub fn serve_session<R: Threads + Wait + Sync, I: Read, O: Output, D: Disk + Send + Drop>(
-    rt: &R,
-    alloc: Global,
-    store: Store<D>,
-    input: &mut I,
-    output: &mut O,
-) -> Result<Store<D>, Failure>
-    ensures { IfOk result (λ after. WasServed (ByOne (EndsAtHub (Ok tt) (state_of store)
-        (I.remaining input.old) (I.remaining input.new) (O.contents output.old) (O.contents output.new)
-        (O.has_failed output.new))) true store after) }
+pub fn serve_session<
+    R: Threads + Wait + Sync,
+    I: Read + Drop,
+    O: Output + Drop,
+    D: Disk + Send + Drop,
+>(rt: &R, alloc: Global, store: Store<D>, input: I, output: O) -> Streamed<I, O, D>
+    ensures { WasServed (ByOne (EndsAtHub result.served (state_of store)
+        (I.remaining input) (I.remaining result.input) (O.contents output) (O.contents result.output)
+        (O.has_failed result.output))) (is_ok result.served) store result.store }
 {
-    let (after, served) = serve_streams(rt, alloc, store, input, output, 256);
-    served?;
-    Ok(after)
+    serve_streams(rt, alloc, store, input, output, 256)
 }

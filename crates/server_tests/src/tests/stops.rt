@@ -58,11 +58,10 @@ fn ended<R: Threads + Wait + Abort + AllocGlobal + Sync>(
     store: Store<FaultDisk>,
     lines: &str,
 ) -> (FaultDisk, String) {
-    let mut output = Stream::new(Vec::new(rt.alloc()));
-    let input = &mut lines.as_bytes();
-    let (store, _) = serve_streams(rt, rt.alloc(), store, input, &mut output, 2);
-    let written = String::from_utf8(output.into_writer()).expect(rt, "a text");
-    (store.close(), written)
+    let output = Stream::new(Vec::new(rt.alloc()));
+    let streamed = serve_streams(rt, rt.alloc(), store, lines.as_bytes(), output, 2);
+    let written = String::from_utf8(streamed.output.into_writer()).expect(rt, "a text");
+    (streamed.store.close(), written)
 }
 
 /// Serves hello and the creation of `d`. This is what is written.

@@ -68,17 +68,10 @@ fn answered<R: Threads + Wait + Abort + AllocGlobal + Sync, D: Disk + Send + Dro
     store: Store<D>,
     lines: &str,
 ) -> (Store<D>, Result<(), Failure>, String) {
-    let mut output = Stream::new(Vec::new(rt.alloc()));
-    let (store, served) = serve_streams(
-        rt,
-        rt.alloc(),
-        store,
-        &mut lines.as_bytes(),
-        &mut output,
-        EVERY,
-    );
-    let written = String::from_utf8(output.into_writer()).expect(rt, "a text");
-    (store, served, written)
+    let output = Stream::new(Vec::new(rt.alloc()));
+    let streamed = serve_streams(rt, rt.alloc(), store, lines.as_bytes(), output, EVERY);
+    let written = String::from_utf8(streamed.output.into_writer()).expect(rt, "a text");
+    (streamed.store, streamed.served, written)
 }
 
 #[test]
@@ -111,13 +104,13 @@ fn a_failing_device_is_told_and_what_was_acknowledged_is_kept(rt: HostRuntime) {
 
 #[test]
 fn an_output_that_fails_ends_the_session(rt: HostRuntime) {
-    let (_store, served) = serve_streams(
+    let streamed = serve_streams(
         &rt,
         rt.alloc(),
         opened(&rt, formatted(&rt)),
-        &mut LINES.as_bytes(),
-        &mut Stream::new(Broken),
+        LINES.as_bytes(),
+        Stream::new(Broken),
         EVERY,
     );
-    assert!(&rt; matches!(served, Err(Failure::Stream)));
+    assert!(&rt; matches!(streamed.served, Err(Failure::Stream)));
 }

@@ -1,0 +1,58 @@
+use Rattle.std.proofs.Common.{◌≡◌, sym, ◌∙◌, ap, subst, false, refl}
+use Rattle.std.specs.Prelude.{Result, is_ok, Err, OnOk}
+use Rattle.refusal.specs.declared.Refusal.TheVariants.{NoMemory}
+use Rattle.recovery.specs.Open.{has_failed}
+use Rattle.flusher.specs.Holding.{store_of}
+use Rattle.serving.specs.declared.failure.Failure.{Failure}
+use Rattle.serving.specs.declared.failure.Failure.TheVariants.{Refused}
+use Rattle.hub_desk.specs.AtHub.{Desk}
+use Rattle.server_threads.specs.declared.streams.OverStreams.{OverStreams}
+use Rattle.server_threads.specs.Served.{WasServed, HasLived}
+use Rattle.server_threads.specs.Streams.{ByOne, EndsAtHub, first_of}
+use Rattle.server_threads.proofs.Served.{lived_from, served_as, one_unserved}
+use Rattle.server_threads.proofs.Ended.{ends_with, well_with, with_memory, by_one, nothing_asked, works_with}
+use Rattle.server_threads.proofs.streams.serve_from.Goals as goal
+
+-- the session was held, and the life that ended is its own
+pub returns-in-Ok-clause-served : goal.returns-in-Ok-clause-served
+returns-in-Ok-clause-served g c =
+    let past = c.in-Ok.past in
+    let written = c.end-store.result.1 in
+    let ends : Result (Unit {0}) Failure → Desk → Type 0 = λ r. EndsAtHub r g.J.Site.start (g.I.Read.remaining c.args.streams.input) (g.I.Read.remaining c.in-Ok.streams.input)
+    (g.O.Output.contents c.args.streams.output) (g.O.Output.contents c.in-Ok.streams.output) (g.O.Output.has_failed c.in-Ok.streams.output) in
+    let lived = lived_from (ByOne (ends c.in-Ok.answer)) g.J.Site.start c.args.server.flusher past.ordered past.published past.tally.counted past.written
+    written (store_of past.flusher) c.end-store.result.0 c.end-store.ensures.store c.requires.started c.in-Ok.ensures.held c.end-store.ensures.counted in
+    subst (λ r. WasServed (ByOne (ends r)) (is_ok r) (store_of c.args.server.flusher) c.end-store.result.0) (sym c.first_failure.ensures)
+    (served_as (ByOne (ends c.in-Ok.answer)) (ByOne (ends (first_of c.in-Ok.answer written))) (is_ok written) (is_ok (first_of c.in-Ok.answer written))
+    (store_of c.args.server.flusher) c.end-store.result.0
+    (by_one (ends c.in-Ok.answer) (ends (first_of c.in-Ok.answer written))
+    (λ desk is. ends_with g.J.Site.start (g.I.Read.remaining c.args.streams.input) (g.I.Read.remaining c.in-Ok.streams.input)
+    (g.O.Output.contents c.args.streams.output) (g.O.Output.contents c.in-Ok.streams.output) (g.O.Output.has_failed c.in-Ok.streams.output)
+    c.in-Ok.answer written desk is))
+    (well_with c.in-Ok.answer written) lived.served)
+
+pub returns-in-Ok-clause-no_memory : goal.returns-in-Ok-clause-no_memory
+returns-in-Ok-clause-no_memory g c =
+    λ is. absurd (with_memory c.in-Ok.answer c.end-store.result.1 c.in-Ok.ensures.only (sym c.first_failure.ensures ∙ is))
+
+pub returns-in-Ok-clause-works : goal.returns-in-Ok-clause-works
+returns-in-Ok-clause-works g c =
+    let past = c.in-Ok.past in
+    let ends : Desk → Type 0 = EndsAtHub c.in-Ok.answer g.J.Site.start (g.I.Read.remaining c.args.streams.input) (g.I.Read.remaining c.in-Ok.streams.input)
+    (g.O.Output.contents c.args.streams.output) (g.O.Output.contents c.in-Ok.streams.output) (g.O.Output.has_failed c.in-Ok.streams.output) in
+    let lived = lived_from (ByOne ends) g.J.Site.start c.args.server.flusher past.ordered past.published past.tally.counted past.written
+    c.end-store.result.1 (store_of past.flusher) c.end-store.result.0 c.end-store.ensures.store c.requires.started c.in-Ok.ensures.held c.end-store.ensures.counted in
+    subst (λ r. OnOk r (has_failed (store_of c.args.server.flusher) ≡ false → has_failed c.end-store.result.0 ≡ false)) (sym c.first_failure.ensures)
+    (works_with c.in-Ok.answer c.end-store.result.1 (has_failed (store_of c.args.server.flusher)) (has_failed c.end-store.result.0) lived.fails)
+
+-- nothing was asked
+pub returns-clause-served : goal.returns-clause-served
+returns-clause-served g c =
+    let ends : OverStreams g.row.I.Denot g.row.O.Denot → Desk → Type 0 = λ s. EndsAtHub (Err (Refused NoMemory)) g.J.Site.start
+    (g.I.Read.remaining c.args.streams.input) (g.I.Read.remaining s.input)
+    (g.O.Output.contents c.args.streams.output) (g.O.Output.contents s.output) (g.O.Output.has_failed s.output) in
+    let unasked = one_unserved (ByOne (ends c.args.streams)) (store_of c.args.server.flusher)
+    (nothing_asked g.J.Site.start (g.I.Read.remaining c.args.streams.input) (g.O.Output.contents c.args.streams.output)
+    (g.O.Output.has_failed c.args.streams.output) NoMemory refl) in
+    subst (λ s. WasServed (ByOne (ends c.in-Err.streams)) false (store_of c.args.server.flusher) s) (sym (c.end.ensures ∙ ap store_of c.in-Err.ensures.refused.0))
+    (subst (λ s. WasServed (ByOne (ends s)) false (store_of c.args.server.flusher) (store_of c.args.server.flusher)) (sym c.in-Err.ensures.refused.1) unasked)
