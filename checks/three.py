@@ -236,8 +236,9 @@ class Client(threading.Thread):
         elif code == 21 and self.server.refusal.is_of_the_file():
             self.server.shows(reply)
             self.failed = True
-        elif code == 13 and message["do"] == "edit" and tries > 0:
-            message["base"] = self.settle([{"do": "fetch", "doc": message["doc"]}])[0]["rev"]  # the base isn't held after a start
+        elif code == 13 and message["do"] == "edit" and self.starts > 1:
+            # a server that was started again may not hold the base any more: the word is put in front of what a fetch shows
+            message["base"] = self.settle([{"do": "fetch", "doc": message["doc"]}])[0]["rev"]
         else:
             raise Disagreement(f"{message['do']}: {reply}")
         return None
