@@ -106,7 +106,7 @@ impl<D: Disk, J: Site> Flusher<D, J> {
     }
 
     /// Holds a run as the batch that the next `commit_held` or `write` commits. It has to be one that a board took off for this flusher's
-    /// `cap`. It takes no memory.
+    /// `cap`, which follows what is published, and nothing else may be held or unpublished. It takes no memory.
     pub fn hold(&mut self, run: Run<D, J>)
         requires none { (committed_of self.old ≡ []) × (waiting_of self.old ≡ []) }
         requires some { 1 ≤ length run.commands }

@@ -23,8 +23,8 @@ pub struct StartFault<D: Disk> {
     pub refusal: Refusal,
 }
 
-/// The flusher of a store, and the board of its commands with so many seats to give. The run's name has the log, the ledger and the
-/// state that the store holds. Refused for want of memory alone.
+/// The flusher of a store, and the board of its commands with so many seats to give. The run's name has the logs, the ledger and the
+/// state that the store holds. Refused out of memory alone.
 pub fn start<D: Disk, J: Site>(
     alloc: Global,
     store: Store<D>,

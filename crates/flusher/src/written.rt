@@ -12,7 +12,8 @@ use std::marker::Model;
 use std::sync::Wait;
 
 /// A batch that was committed and published, and that the board has to settle next: the receipt of its commit, and the token that ends with
-/// it. Only `Flusher::write` makes one. It isn't `Drop`, so that each one is settled, or the hub is told that the store has failed.
+/// it. Only `Flusher::write` makes one. It isn't `Drop`: each one is settled, or the hub is told that the store has failed, or a board of the
+/// same thread has refused it.
 pub struct Written<D, J: Site> {
     receipt: Receipt<D>,
     told: Told<D, J>,
@@ -51,7 +52,7 @@ impl<D, J: Site> Written<D, J> {
     }
 
     /// Settles it on a board of the same thread, as `Board::settle` does. Refused with `Stranger` alone, where it isn't what the board has to
-    /// settle next; the board is unchanged then.
+    /// settle next; the board is unchanged then, and the batch, which is on the disk, stays unsettled.
     pub fn settle_on(self, board: &mut Board<D, J>) -> Result<(), Refusal>
         ensures ok { OnOk result (board.new
             ≡ record board.old { board = settled_more board.old.board (length self.0); told = self.1 }) }

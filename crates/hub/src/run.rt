@@ -19,7 +19,8 @@ use world::Entry;
 
 /// A run that was taken off a board to be written, with how many bytes its batch could have. Only a board's `take` makes one, of the
 /// longest run that fits, and it can't be changed: so what is written is what the board took off. It isn't `Drop`, so that no run is
-/// lost: it ends with the receipt of its commit, or where it has no command, or with the store that would have written it. It has a token of
+/// lost: it ends with the receipt of its commit, or where it has no command, or where it doesn't follow what is published, or with the store
+/// that would have written it. It has a token of
 /// the order, and knows its place there.
 pub struct Run<D, J: Site> {
     commands: Vec<Taken>,

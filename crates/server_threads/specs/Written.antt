@@ -12,7 +12,7 @@ use Rattle.turns.specs.Writing.{Writes}
 use Rattle.server_threads.specs.Served.{IsStarted}
 
 module _ {D J : Type 0} {disk : Ghosts D} where
-  -- A flusher wrote until the hub was ended, or until a turn failed. Where it says `Ok` all that was ordered is settled, and it fails only
+  -- A flusher wrote until the hub was ended, or until a turn failed. Where it says `Ok` it has nothing left to write or to publish, and it fails only
   -- with the device.
   pub record HasWritten (start : State) (old new : Flusher D J disk) (answer : Result (Unit {0}) Refusal) : Type 0 where
     pub writes : Writes start old new

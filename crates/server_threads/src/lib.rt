@@ -4,7 +4,7 @@
 //! commands that were taken, a legal history from the state that the store was opened with. The store that is given back holds what a
 //! prefix of it makes, which is all of it after an `Ok`, and a crash at any moment leaves what a prefix makes, at the end of a batch. Each command
 //! that a desk answered as taken has its place in the order, with its revision, and what stands there is what the rule of acceptance takes for
-//! just this command; for each point in a session's exchanges there was a moment from which on no crash takes away what was acknowledged by
+//! just this command; for each point in a desk's exchanges there was a moment from which on no crash takes away what was acknowledged by
 //! then. And nothing else was ordered: the order is as long as what the seats of the desks counted. A seat counts each command that its desk
 //! answered as taken, perhaps some of those that it answered `StoreFailed`, and nothing else.
 //!
@@ -16,7 +16,8 @@
 //!
 //! `serve_on` holds sessions over the connections of a listener, by `serve_desks` of `sockets`, and `serve_streams` one over a pair of streams,
 //! by `serve_session` of `serving`. Of streams `specs/Streams.antt` says what was written. Of sockets nothing can be said: so the desks of
-//! `serve_on` are those that its sessions were given, but no clause says which bytes went through which of them.
+//! `serve_on` are some desks; that they are those of its sessions is in `serve_all` and `hold_at`, and no clause says it, nor which bytes went
+//! through which of them.
 //!
 //! Callers, which `server_threads_tests` proves:
 //!

@@ -75,7 +75,7 @@ impl<'a> Invocation<'a> {
 }
 
 /// The words that the system gives the program, of which the first is its path. An `Err` has the text for a user whose words can't be
-/// had, since one of them isn't UTF-8.
+/// had, since one of them isn't UTF-8, or is out of memory.
 pub fn given<R: Env + AllocGlobal>(rt: &R) -> Result<Vec<String>, Error> {
     match env::args(rt) {
         Ok(words) => Ok(words.collect(rt.alloc())?),
