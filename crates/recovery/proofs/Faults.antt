@@ -11,11 +11,9 @@ use Rattle.recovery.specs.declared.store.Store.{Store}
 use Rattle.recovery.specs.Faults.{FailsAtFaults}
 use Rattle.recovery.specs.Found.{FoundAs}
 use Rattle.recovery.specs.Goes.{Goes}
-use Rattle.recovery.specs.Marked.{MayRetire}
 use Rattle.recovery.specs.Open.{IsOpen, IsUnchanged, IsRetiredNow, device_of, state_of, has_failed}
-use Rattle.recovery.specs.steps.Freeing.{IsOverFewer}
 use Rattle.recovery.proofs.Refusals.{refusal_or, ok≢err}
-use Rattle.recovery.proofs.Going.{open_unchanged, unchanged_cells, unchanged_table, goes_call}
+use Rattle.recovery.proofs.Going.{goes_call}
 use Rattle.recovery.proofs.PutAtOnce.{is_false, refused_unfailed, goes_on_retired, goes_on_needed}
 
 module _ {D : Type 0} {disk : Ghosts D} where
@@ -130,15 +128,3 @@ module _ {D : Type 0} {disk : Ghosts D} where
       → OnOk result ((is_open : IsOpen old) → IsRetiredNow is_open.cells is_open.table new) → Goes (λ content. FoundAs content (state_of old)) old new
   retire_goes old new result faults any_moment only untouched done =
       goes_by result faults any_moment (goes_on_retired old new result done) (goes_on_needed old new result only untouched)
-
-  -- one that wasn't refused by the device
-  pub fewer : (old new : Store D disk) (result : Result (Unit {0}) Refusal) → ¬ IsErrOf result Fault → IfErr result (λ e. (e ≡ StillNeeded) ⊎ (e ≡ Fault))
-      → (IsErrOf result StillNeeded → (is_open : IsOpen old) → ¬ MayRetire is_open.table is_open.cells) → (IsErrOf result StillNeeded → IsUnchanged old new)
-      → OnOk result ((is_open : IsOpen old) → IsRetiredNow is_open.cells is_open.table new)
-      → (is_open : IsOpen old) → IsOverFewer is_open.cells is_open.table new
-  fewer old new (Ok answer) other only needed untouched done is_open =
-      let now = done is_open in record { goes_on = now.goes_on; same_cells = now.same_cells; slots = inr now.retired }
-  fewer old new (Err refusal) other (inl is) needed untouched done is_open =
-      let told : IsErrOf {T = Unit {0}} {E = Refusal} (Err refusal) StillNeeded = ap (λ (r : Refusal). Err r) is in
-      record { goes_on = open_unchanged (untouched told) is_open; same_cells = unchanged_cells (untouched told) is_open; slots = inl (unchanged_table (untouched told) is_open, needed told is_open) }
-  fewer old new (Err refusal) other (inr is) needed untouched done is_open = absurd (other (ap (λ (r : Refusal). Err r) is))

@@ -1,24 +1,12 @@
--- A commit behind a segment that was freed for it, and a milestone that was due.
-use Rattle.std.proofs.Common.{◌≡◌, ◌≢◌, ◌↔◌, ◌⊎◌, ⊎_elim, inl, inr, true, false, Bool, refl, ℕ, ◌+◌, ◌≤◌, Option, Some, List, length, sym, ◌∙◌, ap, subst, arith}
-use Rattle.std.specs.Prelude.{Result, Ok, Err, OnOk, OnErr, IfErr, IsErrOf, slice_get}
+-- A commit behind a segment that was freed for it.
+use Rattle.std.proofs.Common.{◌≡◌, ◌↔◌, ◌⊎◌, inl, inr, true, false, Bool, refl, ℕ, ◌+◌, ◌≤◌, List, length, sym, ◌∙◌, ap, arith}
+use Rattle.std.specs.Prelude.{Result, Ok, Err, OnOk, OnErr, IfErr, IsErrOf}
 use Rattle.std.proofs.lemmas.Bool.{false≢true}
-use Rattle.disk.specs.declared.device.Disk.{Ghosts}
 use Rattle.refusal.specs.declared.Refusal.{Refusal}
-use Rattle.refusal.specs.declared.Refusal.TheVariants.{JournalFull, StillNeeded, Stranger, NoDocument, Future, TooOld, NoMemory, Fault}
-use Rattle.history.specs.Cell.{Pair}
-use Rattle.segments.specs.Slot.{Segment}
-use Rattle.segments.specs.Table.{IsRetired}
+use Rattle.refusal.specs.declared.Refusal.TheVariants.{JournalFull, StillNeeded, Stranger, NoMemory, Fault}
 use Rattle.recovery.specs.declared.marks.Mark.{Mark}
-use Rattle.recovery.specs.declared.store.Store.{Store}
-use Rattle.recovery.specs.Cells.{highest_known}
-use Rattle.recovery.specs.Due.{due_for, IsPutDue}
-use Rattle.recovery.specs.Marked.{MayRetire}
-use Rattle.recovery.specs.Open.{IsOpen, state_of}
-use Rattle.recovery.specs.Run.{IsPutAt}
-use Rattle.recovery.specs.steps.Freeing.{IsOverFewer}
 use Rattle.recovery.proofs.HandedOut.{same_error}
 use Rattle.recovery.proofs.Refusals.{ok≢err, refusal_or}
-use Rattle.recovery.proofs.Retirement.{known_highest}
 
 -- a commit doesn't tell that a segment is needed, nor does freeing tell that there is no room
 abbrev pub OfCommit : Refusal → Type 0
@@ -71,36 +59,3 @@ widened (Ok answer) only = tt
 widened (Err refusal) (inl (inl is)) = inl (inl is)
 widened (Err refusal) (inl (inr is)) = inl (inr (inr is))
 widened (Err refusal) (inr is) = inr is
-
--- where nothing speaks against a milestone, memory or the device does
-pub only_memory : (refusal : Refusal) → ((refusal ≡ NoDocument) ⊎ ((refusal ≡ Future) ⊎ (refusal ≡ TooOld))) ⊎ ((refusal ≡ NoMemory) ⊎ (refusal ≡ Fault))
-    → (refusal ≢ NoMemory → refusal ≢ Fault → ⊥) → (refusal ≡ NoMemory) ⊎ (refusal ≡ Fault)
-only_memory refusal (inl (inl is)) none =
-    absurd (none (λ other. let same : NoDocument ≡ NoMemory = sym is ∙ other in cc) (λ other. let same : NoDocument ≡ Fault = sym is ∙ other in cc))
-only_memory refusal (inl (inr (inl is))) none =
-    absurd (none (λ other. let same : Future ≡ NoMemory = sym is ∙ other in cc) (λ other. let same : Future ≡ Fault = sym is ∙ other in cc))
-only_memory refusal (inl (inr (inr is))) none =
-    absurd (none (λ other. let same : TooOld ≡ NoMemory = sym is ∙ other in cc) (λ other. let same : TooOld ≡ Fault = sym is ∙ other in cc))
-only_memory refusal (inr is) none = is
-
-module _ {D : Type 0} {disk : Ghosts D} where
-  pub due_put : (old mid new : Store D disk) (every document revision : ℕ) (is_open : IsOpen old)
-      → due_for every (slice_get (state_of old).documents document) (highest_known old.cells.items document) ≡ Some revision
-      → (put : IsPutAt document revision old is_open mid) → ((mid_open : IsOpen mid) → IsOverFewer mid_open.cells mid_open.table new) → IsPutDue every document old is_open new
-  due_put old mid new every document revision is_open due put fewer =
-      let over = fewer put.put.goes_on in
-      record {
-        revision = revision;
-        due = ap (λ n. due_for every (slice_get (state_of old).documents document) n) (sym (known_highest old is_open document)) ∙ due;
-        job = put.job;
-        to = put.to;
-        goes_on = over.goes_on;
-        put = over.same_cells ∙ put.put.put;
-        slots = ⊎_elim
-            (λ both. inl (
-              both.0 ∙ put.put.same_table,
-              λ may. both.1 (subst (λ (t : List (Option Segment)). MayRetire t put.put.goes_on.cells) (sym put.put.same_table)
-                  (subst (λ (l : List Pair). MayRetire is_open.table l) over.same_cells may)),
-            ))
-            (λ retired. inr (subst (λ (t : List (Option Segment)). IsRetired t over.goes_on.table) put.put.same_table retired)) over.slots;
-      }

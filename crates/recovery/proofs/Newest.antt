@@ -22,7 +22,7 @@ use Rattle.recovery.specs.Faults.{FailsAtFaults}
 use Rattle.recovery.specs.Found.{HoldsParts}
 use Rattle.recovery.specs.Jobs.{IsJobTo, IsMadeOf, MayKeepNewest, highest, jobs_for, without_job}
 use Rattle.recovery.specs.Goes.{Goes}
-use Rattle.recovery.specs.Open.{IsOpen, AreBothNewest, newest_cell, device_of, state_of, kept_jobs}
+use Rattle.recovery.specs.Open.{IsOpen, AreBothNewest, IsOnePut, newest_cell, device_of, state_of, kept_jobs}
 use Rattle.recovery.specs.Run.{IsPutAt}
 use Rattle.recovery.specs.steps.Freeing.{reached_in, IsPutOf, IsHalfPut}
 use Rattle.recovery.specs.Unwritten.{MayKeepJob}
@@ -80,6 +80,18 @@ put_twice cell (Some first, Some second) below one = by_test (nat_lt second.revi
 pub newest_lowest : (state : State) (document : ℕ) (pair : Pair) → AreBothNewest state document pair → lowest pair ≡ reached_in state document
 newest_lowest state document pair newest =
     omega (arith, ap lowest newest.both, ap newest_revision newest.there)
+
+-- one more over two of them
+pub newest_again : (state : State) (document : ℕ) (before after : Pair) → AreBothNewest state document before → IsOnePut state document before after
+    → AreBothNewest state document after
+newest_again state document before after both put = record {
+  found = both.found;
+  there = both.there;
+  both = put.put
+      ∙ (ap (λ (f : DocumentRecord). with_cell (newest_cell f) (freed before)) (same_some put.found both.found (sym put.there ∙ both.there))
+      ∙ (ap (λ (p : Pair). with_cell (newest_cell both.found) (freed p)) both.both
+      ∙ behind_first (newest_cell both.found) (newest_cell both.found) (omega arith)));
+}
 
 open_there : (P : Cell → Type 0) (x : Option Cell) (cell : Cell) → x ≡ Some cell → OfOpen P x → P cell
 open_there P x cell is has = subst (λ (c : Option Cell). OfOpen P c) is has
@@ -213,11 +225,11 @@ module _ {D : Type 0} {disk : Ghosts D} where
         same_table = same.1 ∙ first.put.same_table;
         others = λ number apart. ap (λ (l : List Pair). cells_at l number) same.0 ∙ others_stay old mid is_open document first number apart;
         own = inr (
-          record {
+          inl (record {
             found = first.to.found;
             there = first.to.there;
             put = ap (λ (l : List Pair). cells_at l document) same.0 ∙ own_put old mid is_open document first;
-          },
+          }),
           subst (λ (s : State). MayKeepNewest s document [] (jobs_for document (kept_jobs new))) state
               (subst (λ (l : List Job). MayKeepNewest (state_of mid) document l (jobs_for document (kept_jobs new))) none (newest_kept mid new document job)),
         );

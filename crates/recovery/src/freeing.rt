@@ -8,15 +8,14 @@ ghost use Rattle.recovery.specs.Faults.{FailsAtFaults};
 ghost use Rattle.recovery.specs.Found.{FoundAs};
 ghost use Rattle.recovery.specs.Goes.{Goes};
 ghost use Rattle.recovery.specs.Jobs.{without_job};
-ghost use Rattle.recovery.specs.Marks.{without_segment};
-ghost use Rattle.recovery.specs.Open.{FitsSlot, IsOpen, IsUnchanged, IsCommittedNow, IsCommittedBehind, IsFreedNow, IsHalfFreed, AreBothNewest, IsWithOrWithout, KeepsJobs, needing, device_of, ring_of, state_of, known_cells, known_marks, kept_jobs, has_failed, has_room, fits_newest_segment};
+ghost use Rattle.recovery.specs.Marks.{within_segment, without_segment};
+ghost use Rattle.recovery.specs.Open.{FitsSlot, IsOpen, IsUnchanged, IsCommittedNow, IsCommittedBehind, IsFreedNow, IsHalfFreed, AreBothNewest, IsWithOrWithout, KeepsJobs, device_of, ring_of, state_of, known_cells, known_marks, kept_jobs, has_failed, has_room, fits_newest_segment};
 ghost use Rattle.recovery.specs.Run.{IsPutAt};
-ghost use Rattle.recovery.specs.steps.Freeing.{reached_in, MayReach, KeepsSegments, IsMarkSpared, IsMarkAbove, IsPutOf, IsHalfPut, AreCovered};
+ghost use Rattle.recovery.specs.steps.Freeing.{reached_in, MayReach, KeepsSegments, IsMarkElsewhere, IsMarkOf, IsPutOf, IsHalfPut, AreCovered};
 ghost use Rattle.recovery.specs.Unwritten.{MayKeepJob};
 
 use crate::marks::Mark;
 use crate::receipt::Receipt;
-use crate::retiring::lowest_of;
 use crate::store::Store;
 use disk::Disk;
 use refusal::Refusal;
@@ -24,8 +23,8 @@ use revision::Taken;
 use std::alloc::Global;
 
 impl<D: Disk> Store<D> {
-    /// Makes room in a journal that is full: puts milestones of each document that needs an entry of the oldest segment, at its
-    /// revision, until both its cells stand there, and retires the segment. `StillNeeded` comes just where fewer than two slots are
+    /// Makes room in a journal that is full: of each document that has an entry in the oldest segment it puts milestones at its newest
+    /// revision, until both its cells stand there, and retires the segment. `StillNeeded` comes exactly when fewer than two slots are
     /// open, and then makes no call of the device. After `NoMemory` some of the milestones may be put, and the job of one that
     /// wasn't may be kept. After a `Fault` the store has failed. The documents stay.
     pub fn free_oldest(&mut self, alloc: Global) -> Result<(), Refusal>
@@ -37,8 +36,8 @@ impl<D: Disk> Store<D> {
             → open_count (known_numbers (ring_of self.old)) < 2 }
         ensures only { IfErr result (λ e. (e ≡ Refusal.StillNeeded) ⊎ ((e ≡ Refusal.NoMemory) ⊎ (e ≡ Refusal.Fault))) }
 
-        // What each answer leaves. The kept jobs stay of each document that needs no milestone for it, and no refusal leaves more than one
-        // job more.
+        // What each answer leaves. The kept jobs stay of each document that has no entry in the segment, and no refusal leaves more than
+        // one job more.
         ensures state { state_of self.new ≡ state_of self.old }
         ensures jobs { IsOpen self.old → (slot segment : ℕ)
             → IsOldest (known_numbers (ring_of self.old)) slot segment → KeepsJobs segment self.old self.new }
@@ -52,8 +51,8 @@ impl<D: Disk> Store<D> {
         ensures untouched { IsErrOf result Refusal.StillNeeded → IsOpen self.old → IsUnchanged self.old self.new }
 
         // A crash at any moment leaves the state; once it is Ok, the slot of the oldest segment is closed. The cells of the documents that
-        // it spares are as they were, and both cells of each other document hold it at its newest revision. Where memory ran out, each
-        // document but one has both those milestones or is as it was; the one may have the first of them, and the job of the next one.
+        // have no entry there are as they were, and both cells of each other document hold it at its newest revision. Where memory ran
+        // out, each document but one has both those milestones or is as it was; the one may have some of them, and the job of the next one.
         ensures goes { Goes (λ content. FoundAs content (state_of self.old)) self.old self.new }
         ensures any_moment { has_failed self.old ≡ false → IsOpen self.old
             → LeavesOnly ⟦<D as Disk>⟧ (λ content. FoundAs content (state_of self.old)) (device_of self.old)
@@ -64,13 +63,11 @@ impl<D: Disk> Store<D> {
         ensures done { OnOk result (IsOpen self.old → IsOpen self.new) }
         ensures kept { IfErr result (λ e. e ≢ Refusal.Fault → IsOpen self.old → IsOpen self.new) }
 
-        // Twelve calls of the device at most for each document that needs a milestone, and two for the retirement. In no store does it make
-        // more than twelve for each mark, and two.
-        ensures calls { IsOpen self.old → (slot segment : ℕ)
-            → IsOldest (known_numbers (ring_of self.old)) slot segment
+        // Twelve calls of the device at most for each mark of the segment, and two for the retirement. In no store does it make more than
+        // twelve for each mark, and two.
+        ensures calls { (slot segment : ℕ) → IsOldest (known_numbers (ring_of self.old)) slot segment
             → length (D.past (device_of self.new)) ≤ length (D.past (device_of self.old))
-            + (12 * needing segment (known_marks self.old) (known_cells self.old) (length (state_of self.old).documents)
-            + 2) }
+            + (12 * length (within_segment segment (known_marks self.old)) + 2) }
         ensures calls_by_marks { length (D.past (device_of self.new))
             ≤ length (D.past (device_of self.old)) + (12 * length (known_marks self.old) + 2) }
     {
@@ -178,11 +175,9 @@ impl<D: Disk> Store<D> {
             → length (D.past (device_of self.new)) ≤ length (D.past (device_of self.old)) + 8 }
         ensures calls_where_it_fits { fits_newest_segment self.old batch.now ≡ true
             → length (D.past (device_of self.new)) ≤ length (D.past (device_of self.old)) + 4 }
-        ensures calls_behind { IsOpen self.old → (slot segment : ℕ)
-            → IsOldest (known_numbers (ring_of self.old)) slot segment
+        ensures calls_behind { (slot segment : ℕ) → IsOldest (known_numbers (ring_of self.old)) slot segment
             → length (D.past (device_of self.new)) ≤ length (D.past (device_of self.old))
-            + (12 * needing segment (known_marks self.old) (known_cells self.old) (length (state_of self.old).documents)
-            + 10) }
+            + (12 * length (within_segment segment (known_marks self.old)) + 10) }
         ensures calls_by_marks { length (D.past (device_of self.new))
             ≤ length (D.past (device_of self.old)) + (12 * length (known_marks self.old) + 10) }
     {
@@ -195,8 +190,8 @@ impl<D: Disk> Store<D> {
         self.commit(alloc, batch)
     }
 
-    // Puts milestones until no document needs an entry of the oldest segment. `StillNeeded` comes where a document can't be given
-    // the one that it needs, which no open store has.
+    // Puts the milestones of each document that has an entry in the oldest segment. `StillNeeded` comes where a document can't be given
+    // its own, which no open store has.
     fn cover_segment(&mut self, alloc: Global, segment: u64) -> Result<(), Refusal>
         requires working { has_failed self.old ≡ false }
         requires oldest { (slot : ℕ) × IsOldest (known_numbers (ring_of self.old)) slot segment }
@@ -207,10 +202,8 @@ impl<D: Disk> Store<D> {
             → AreCovered segment (known_marks self.old) self.old is_open self.new) }
         ensures half { IfErr result (λ e. e ≢ Refusal.Fault → (is_open : IsOpen self.old)
             → IsHalfFreed self.old is_open self.new) }
-        ensures calls { IsOpen self.old
-            → length (D.past (device_of self.new)) ≤ length (D.past (device_of self.old))
-            + 12 * needing segment (known_marks self.old) (known_cells self.old)
-            (length (state_of self.old).documents) }
+        ensures calls { length (D.past (device_of self.new)) ≤ length (D.past (device_of self.old))
+            + 12 * length (within_segment segment (known_marks self.old)) }
         ensures calls_by_marks { length (D.past (device_of self.new))
             ≤ length (D.past (device_of self.old)) + 12 * length (known_marks self.old) }
         ensures keeps { KeepsSegments self.old self.new }
@@ -229,21 +222,21 @@ impl<D: Disk> Store<D> {
         Ok(())
     }
 
-    // Where an open cell of a document is below its mark of this segment, or none is open, puts two milestones of it: both cells then
-    // stand at its newest revision, since each takes the place of the lower one.
+    // Puts two milestones of the document of a mark of this segment: both cells then stand at its newest revision, since each takes the
+    // place of the lower one.
     fn cover_mark(&mut self, alloc: Global, segment: u64, mark: Mark) -> Result<(), Refusal>
         requires working { has_failed self.old ≡ false }
 
         ensures only { IfErr result (λ e. (e ≡ Refusal.StillNeeded) ⊎ ((e ≡ Refusal.NoMemory) ⊎ (e ≡ Refusal.Fault))) }
         ensures needed { IsErrOf result Refusal.StillNeeded → IsOpen self.old
             → ¬ MayReach segment mark (state_of self.old) }
-        ensures spared { IsMarkSpared segment mark self.old → self.new ≡ self.old }
-        ensures above { OnErr result (IsMarkAbove segment mark self.old) }
-        ensures covered { OnOk result (IsMarkAbove segment mark self.old → (is_open : IsOpen self.old)
+        ensures elsewhere { IsMarkElsewhere segment mark → self.new ≡ self.old }
+        ensures of { OnErr result (IsMarkOf segment mark) }
+        ensures covered { OnOk result (IsMarkOf segment mark → (is_open : IsOpen self.old)
             → IsPutOf mark.document (AreBothNewest (state_of self.old) mark.document) self.old is_open self.new) }
         ensures half { IfErr result (λ e. e ≢ Refusal.Fault → (is_open : IsOpen self.old)
             → IsHalfPut mark.document self.old is_open self.new) }
-        ensures dropped { OnOk result (IsMarkAbove segment mark self.old
+        ensures dropped { OnOk result (IsMarkOf segment mark
             → kept_jobs self.new ≡ without_job mark.document (kept_jobs self.old)) }
         ensures one_job { OnErr result (length (kept_jobs self.new) ≤ length (kept_jobs self.old) + 1) }
         ensures calls { length (D.past (device_of self.new)) ≤ length (D.past (device_of self.old)) + 12 }
@@ -256,7 +249,7 @@ impl<D: Disk> Store<D> {
         if mark.segment != segment {
             return Ok(());
         }
-        if mark.revision <= lowest_of(&self.cells, mark.document) {
+        if mark.revision == 0 {
             return Ok(());
         }
         if let Err(refusal) = self.raise(alloc, mark.document, mark.revision) {

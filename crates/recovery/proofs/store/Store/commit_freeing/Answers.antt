@@ -83,7 +83,7 @@ returns-then-has_room-clause-memory_behind g c told none =
     absurd (false≢true (sym none ∙ room))
 
 pub returns-then-has_room-clause-calls_behind : goal.returns-then-has_room-clause-calls_behind
-returns-then-has_room-clause-calls_behind g c is_open slot segment oldest = omega (arith, c.commit.ensures.calls)
+returns-then-has_room-clause-calls_behind g c slot segment oldest = omega (arith, c.commit.ensures.calls)
 
 pub returns-then-has_room-clause-calls_by_marks : goal.returns-then-has_room-clause-calls_by_marks
 returns-then-has_room-clause-calls_by_marks g c = omega (arith, c.commit.ensures.calls)
@@ -133,7 +133,7 @@ returns-in-Err-clause-memory_behind g c told none is_open =
     inl (c.in-Err.ensures.half (ap (λ (r : Refusal). Err r) (ap (refusal_or NoMemory) told)) is_open)
 
 pub returns-in-Err-clause-calls_behind : goal.returns-in-Err-clause-calls_behind
-returns-in-Err-clause-calls_behind g c is_open slot segment oldest = omega (arith, c.free_oldest.ensures.calls is_open slot segment oldest)
+returns-in-Err-clause-calls_behind g c slot segment oldest = omega (arith, c.free_oldest.ensures.calls slot segment oldest)
 
 pub returns-in-Err-clause-full_still : goal.returns-in-Err-clause-full_still
 returns-in-Err-clause-full_still g c told is_open = absurd (not_full c.in-Err.refusal c.in-Err.ensures.only (ap (refusal_or JournalFull) told))
@@ -280,7 +280,7 @@ returns-clause-memory_behind g c told none is_open =
     inr (freed_still c.args.self.now c.free_oldest.new.self c.commit-2.new.self is_open (c.commit-2.ensures.given_up told) (c.in_default.ensures.freed is_open))
 
 pub returns-clause-calls_behind : goal.returns-clause-calls_behind
-returns-clause-calls_behind g c is_open slot segment oldest = omega (arith, c.free_oldest.ensures.calls is_open slot segment oldest, c.commit-2.ensures.calls)
+returns-clause-calls_behind g c slot segment oldest = omega (arith, c.free_oldest.ensures.calls slot segment oldest, c.commit-2.ensures.calls)
 
 pub returns-clause-needed_segments : goal.returns-clause-needed_segments
 returns-clause-needed_segments g c told = absurd (no_needed c.commit-2.result c.commit-2.ensures.only told)

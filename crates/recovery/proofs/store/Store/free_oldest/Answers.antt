@@ -7,7 +7,8 @@ use Rattle.segments.specs.Numbers.{open_count}
 use Rattle.segments.specs.Ring.{known_numbers}
 use Rattle.milestone.specs.Job.{Job}
 use Rattle.recovery.specs.declared.marks.Mark.{Mark}
-use Rattle.recovery.specs.Open.{needing, known_cells, known_marks}
+use Rattle.recovery.specs.Marks.{within_segment}
+use Rattle.recovery.specs.Open.{known_marks}
 use Rattle.recovery.proofs.Going.{goes_nowhere, goes_same}
 use Rattle.recovery.proofs.Faults.{faults_on, retire_goes, works_still, done_by, kept_by}
 use Rattle.recovery.proofs.Covering.{may_go, freed_by}
@@ -107,21 +108,21 @@ returns-clause-calls_by_marks g c = omega (arith, c.cover_segment.ensures.calls_
 
 -- the calls
 pub returns-in_default-clause-calls : goal.returns-in_default-clause-calls
-returns-in_default-clause-calls g c is_open slot segment oldest = omega arith
+returns-in_default-clause-calls g c slot segment oldest = omega arith
 
 pub returns-in-Err-clause-calls : goal.returns-in-Err-clause-calls
-returns-in-Err-clause-calls g c is_open slot segment oldest =
+returns-in-Err-clause-calls g c slot segment oldest =
     let store = c.args.self.now in
     let found = c.in-Some.ensures.oldest in
     let same = one_oldest (known_numbers store.ring) found.0 slot c.in-Some.oldest segment found.1 oldest in
-    omega (arith, c.cover_segment.ensures.calls is_open, ap (λ n. needing n (known_marks store) (known_cells store) (length store.state.documents)) same)
+    omega (arith, c.cover_segment.ensures.calls, ap (λ n. length (within_segment n (known_marks store))) same)
 
 pub returns-clause-calls : goal.returns-clause-calls
-returns-clause-calls g c is_open slot segment oldest =
+returns-clause-calls g c slot segment oldest =
     let store = c.args.self.now in
     let found = c.in-Some.ensures.oldest in
     let same = one_oldest (known_numbers store.ring) found.0 slot c.in-Some.oldest segment found.1 oldest in
-    omega (arith, c.cover_segment.ensures.calls is_open, c.retire.ensures.calls, ap (λ n. needing n (known_marks store) (known_cells store) (length store.state.documents)) same)
+    omega (arith, c.cover_segment.ensures.calls, c.retire.ensures.calls, ap (λ n. length (within_segment n (known_marks store))) same)
 
 pub returns-clause-faults : goal.returns-clause-faults
 returns-clause-faults g c = faults_on c.in_default-cover_segment.field-0 c.retire.result c.in_default-cover_segment.ensures.faults c.retire.ensures.faults
