@@ -38,6 +38,9 @@ refusal_in none (Err refusal) = refusal
 pub same_refusal : {S T : Type 0} (one : Refusal) (two : Refusal) → IsErrOf {T = S} (Err one) two → IsErrOf {T = T} (Err one) two
 same_refusal one two is = ap (λ (e : Refusal). Err e) (ap (refusal_in one) is)
 
+pub told_of_error : {T : Type 0} (one two : Refusal) → IsErrOf {T = T} (Err one) two → one ≡ two
+told_of_error {T} one two is = ap (refusal_in {T = T} one) is
+
 abbrev pub held_in : Option Run → List (List Taken)
 held_in waiting = option_to_list (option_map (λ r. r.commands) waiting)
 

@@ -1,15 +1,15 @@
 //! Making room in a journal that is full.
-ghost use Rattle.std.specs.Prelude.{◌≡◌, ◌≢◌, ◌⊎◌, ◌<◌, ◌≤◌, ◌+◌, ◌-◌, ◌*◌, ◌^◌, ℕ, true, false, length, get_or, OnOk, OnErr, IfOk, IfErr, IsErrOf};
-ghost use Rattle.disk.specs.Crash.{LeavesOnly};
-ghost use Rattle.revision.specs.State.{fold, all_grow, first_grows};
-ghost use Rattle.segments.specs.Numbers.{IsOldest, newest_number, open_count};
+ghost use Rattle.std.specs.Prelude.{◌≡◌, ◌≢◌, ◌⊎◌, ◌<◌, ◌≤◌, ◌+◌, ◌*◌, ◌^◌, ℕ, true, false, length, get_or, OnOk, OnErr, IfOk, IfErr, IsErrOf};
+ghost use Rattle.revision.specs.State.{all_grow};
+ghost use Rattle.segments.specs.Numbers.{IsOldest};
 ghost use Rattle.segments.specs.Ring.{known_numbers};
 ghost use Rattle.recovery.specs.Faults.{FailsAtFaults};
 ghost use Rattle.recovery.specs.Found.{FoundAs};
+ghost use Rattle.recovery.specs.Freed.{HasFew, IsFreed, IsUnfreed, IsPlain, IsCommittedFreeing, IsUncommitted, KeepsOthers, CostsAtMost};
 ghost use Rattle.recovery.specs.Goes.{Goes};
 ghost use Rattle.recovery.specs.Jobs.{without_job};
-ghost use Rattle.recovery.specs.Marks.{within_segment, without_segment};
-ghost use Rattle.recovery.specs.Open.{FitsSlot, IsOpen, IsUnchanged, IsCommittedNow, IsCommittedBehind, IsFreedNow, IsHalfFreed, AreBothNewest, IsWithOrWithout, KeepsJobs, device_of, ring_of, state_of, known_cells, known_marks, kept_jobs, has_failed, has_room, fits_newest_segment};
+ghost use Rattle.recovery.specs.Marks.{within_segment};
+ghost use Rattle.recovery.specs.Open.{FitsSlot, IsOpen, IsUnchanged, IsHalfFreed, AreBothNewest, IsWithOrWithout, KeepsJobs, device_of, ring_of, state_of, known_marks, kept_jobs, has_failed, has_room};
 ghost use Rattle.recovery.specs.Run.{IsPutAt};
 ghost use Rattle.recovery.specs.steps.Freeing.{reached_in, MayReach, KeepsSegments, IsMarkElsewhere, IsMarkOf, IsPutOf, IsHalfPut, AreCovered};
 ghost use Rattle.recovery.specs.Unwritten.{MayKeepJob};
@@ -30,46 +30,19 @@ impl<D: Disk> Store<D> {
     pub fn free_oldest(&mut self, alloc: Global) -> Result<(), Refusal>
         // When each refusal comes.
         ensures faults { FailsAtFaults result self.old self.new }
-        ensures few { has_failed self.old ≡ false → open_count (known_numbers (ring_of self.old)) < 2
+        ensures few { has_failed self.old ≡ false → HasFew self.old
             → (IsErrOf result Refusal.StillNeeded) × IsUnchanged self.old self.new }
-        ensures needed { IsErrOf result Refusal.StillNeeded → IsOpen self.old
-            → open_count (known_numbers (ring_of self.old)) < 2 }
-        ensures only { IfErr result (λ e. (e ≡ Refusal.StillNeeded) ⊎ ((e ≡ Refusal.NoMemory) ⊎ (e ≡ Refusal.Fault))) }
 
-        // What each answer leaves. The kept jobs stay of each document that has no entry in the segment, and no refusal leaves more than
-        // one job more.
+        // What each answer leaves, and what it costs.
+        ensures freed { OnOk result (IsFreed self.old self.new) }
+        ensures refused { IfErr result (λ e. IsUnfreed e self.old self.new) }
         ensures state { state_of self.new ≡ state_of self.old }
-        ensures jobs { IsOpen self.old → (slot segment : ℕ)
-            → IsOldest (known_numbers (ring_of self.old)) slot segment → KeepsJobs segment self.old self.new }
-        ensures no_more_jobs { OnOk result (length (kept_jobs self.new) ≤ length (kept_jobs self.old)) }
-        ensures one_job { length (kept_jobs self.new) ≤ length (kept_jobs self.old) + 1 }
-        ensures marks { OnOk result ((slot segment : ℕ) → IsOldest (known_numbers (ring_of self.old)) slot segment
-            → known_marks self.new ≡ without_segment segment (known_marks self.old)) }
-        ensures same_marks { OnErr result (known_marks self.new ≡ known_marks self.old) }
         ensures no_more_marks { length (known_marks self.new) ≤ length (known_marks self.old) }
-        ensures ring { OnErr result (ring_of self.new ≡ ring_of self.old) }
-        ensures untouched { IsErrOf result Refusal.StillNeeded → IsOpen self.old → IsUnchanged self.old self.new }
+        ensures others { KeepsOthers self.old self.new }
+        ensures costs { CostsAtMost 2 self.old self.new }
 
-        // A crash at any moment leaves the state; once it is Ok, the slot of the oldest segment is closed. The cells of the documents that
-        // have no entry there are as they were, and both cells of each other document hold it at its newest revision. Where memory ran
-        // out, each document but one has both those milestones or is as it was; the one may have some of them, and the job of the next one.
+        // A crash at any moment leaves the state.
         ensures goes { Goes (λ content. FoundAs content (state_of self.old)) self.old self.new }
-        ensures any_moment { has_failed self.old ≡ false → IsOpen self.old
-            → LeavesOnly ⟦<D as Disk>⟧ (λ content. FoundAs content (state_of self.old)) (device_of self.old)
-            (device_of self.new) }
-        ensures freed { OnOk result ((is_open : IsOpen self.old) → IsFreedNow self.old is_open self.new) }
-        ensures half { IsErrOf result Refusal.NoMemory → (is_open : IsOpen self.old)
-            → IsHalfFreed self.old is_open self.new }
-        ensures done { OnOk result (IsOpen self.old → IsOpen self.new) }
-        ensures kept { IfErr result (λ e. e ≢ Refusal.Fault → IsOpen self.old → IsOpen self.new) }
-
-        // Twelve calls of the device at most for each mark of the segment, and two for the retirement. In no store does it make more than
-        // twelve for each mark, and two.
-        ensures calls { (slot segment : ℕ) → IsOldest (known_numbers (ring_of self.old)) slot segment
-            → length (D.past (device_of self.new)) ≤ length (D.past (device_of self.old))
-            + (12 * length (within_segment segment (known_marks self.old)) + 2) }
-        ensures calls_by_marks { length (D.past (device_of self.new))
-            ≤ length (D.past (device_of self.old)) + (12 * length (known_marks self.old) + 2) }
     {
         if self.failed {
             return Err(Refusal::Fault);
@@ -94,92 +67,23 @@ impl<D: Disk> Store<D> {
         // What an Ok hands out names just this batch.
         ensures receipt { IfOk result (λ receipt. receipt ≡ batch.now) }
 
-        // When each refusal comes. Want of memory may be told in place of `Stranger`.
+        // When each refusal comes. The end of memory may be told in place of `Stranger`.
         ensures faults { FailsAtFaults result self.old self.new }
-        ensures full { IsErrOf result Refusal.JournalFull → (has_room self.old batch.now ≡ false)
-            × (has_room self.new batch.now ≡ false) }
-        ensures full_still { IsErrOf result Refusal.JournalFull → (is_open : IsOpen self.old)
-            → IsFreedNow self.old is_open self.new }
-        ensures needed { IsErrOf result Refusal.StillNeeded → has_room self.old batch.now ≡ false }
-        ensures few { has_failed self.old ≡ false → has_room self.old batch.now ≡ false
-            → open_count (known_numbers (ring_of self.old)) < 2
+        ensures few { has_failed self.old ≡ false → has_room self.old batch.now ≡ false → HasFew self.old
             → IsErrOf result Refusal.StillNeeded }
-        ensures needed_by_few { IsErrOf result Refusal.StillNeeded → IsOpen self.old
-            → open_count (known_numbers (ring_of self.old)) < 2 }
-        ensures never_full { (IsErrOf result Refusal.JournalFull) ⊎ (IsErrOf result Refusal.StillNeeded)
-            → IsOpen self.old
-            → 2 ^ 64 - 1 ≤ newest_number (known_numbers (ring_of self.old)) }
-        ensures stranger { IsErrOf result Refusal.Stranger → all_grow (state_of self.old) batch.now ≡ false }
-        ensures grow { OnOk result (all_grow (state_of self.old) batch.now ≡ true) }
         ensures no_growth { has_failed self.old ≡ false → has_room self.old batch.now ≡ true
             → all_grow (state_of self.old) batch.now ≡ false
             → (IsErrOf result Refusal.Stranger) ⊎ (IsErrOf result Refusal.NoMemory) }
-        ensures memory { IsErrOf result Refusal.NoMemory → has_room self.old batch.now ≡ true
-            → first_grows (state_of self.old) batch.now ≡ true }
-        ensures only { IfErr result (λ e. ((e ≡ Refusal.JournalFull)
-            ⊎ ((e ≡ Refusal.StillNeeded) ⊎ (e ≡ Refusal.Stranger))) ⊎ ((e ≡ Refusal.NoMemory) ⊎ (e ≡ Refusal.Fault))) }
 
-        // What each answer leaves.
-        ensures state { OnOk result (state_of self.new ≡ fold (state_of self.old) batch.now) }
-        ensures same_state { OnErr result (state_of self.new ≡ state_of self.old) }
-        ensures jobs { has_room self.old batch.now ≡ true → kept_jobs self.new ≡ kept_jobs self.old }
-        ensures cells { has_room self.old batch.now ≡ true → known_cells self.new ≡ known_cells self.old }
-        // One mark more at most for each command, and none more where it is refused.
-        ensures marks { length (known_marks self.new) ≤ length (known_marks self.old) + length batch.now }
-        ensures no_more_marks { OnErr result (length (known_marks self.new) ≤ length (known_marks self.old)) }
-        ensures same_marks { OnErr result (has_room self.old batch.now ≡ true
-            → known_marks self.new ≡ known_marks self.old) }
-        ensures other_jobs { IsOpen self.old → (slot segment : ℕ)
-            → IsOldest (known_numbers (ring_of self.old)) slot segment → KeepsJobs segment self.old self.new }
-        ensures no_more_jobs { OnOk result (length (kept_jobs self.new) ≤ length (kept_jobs self.old)) }
-        ensures one_job { length (kept_jobs self.new) ≤ length (kept_jobs self.old) + 1 }
+        // What each answer leaves, and what it costs.
+        ensures committed { OnOk result (IsCommittedFreeing batch.now self.old self.new) }
+        ensures refused { IfErr result (λ e. IsUncommitted e batch.now self.old self.new) }
+        ensures plain { has_room self.old batch.now ≡ true → IsPlain batch.now self.old self.new }
+        ensures others { KeepsOthers self.old self.new }
+        ensures costs { CostsAtMost 10 self.old self.new }
 
         // A crash at any moment of the call leaves the state before it, or the one with the batch.
         ensures goes { Goes (IsWithOrWithout (state_of self.old) batch.now) self.old self.new }
-        ensures any_moment { has_failed self.old ≡ false → IsOpen self.old
-            → LeavesOnly ⟦<D as Disk>⟧ (IsWithOrWithout (state_of self.old) batch.now) (device_of self.old)
-            (device_of self.new) }
-        // Where memory ran out nothing of the batch was written: a crash at any moment leaves the state before it.
-        ensures unwritten { IsErrOf result Refusal.NoMemory → has_failed self.old ≡ false → IsOpen self.old
-            → LeavesOnly ⟦<D as Disk>⟧ (λ content. FoundAs content (state_of self.old)) (device_of self.old)
-            (device_of self.new) }
-        // Once it is Ok, the device is synced and stands for the state with the batch: the cells and the slots are those of before, but
-        // for the batch, where there was room for it, and else those that freeing the oldest segment left.
-        ensures committed { OnOk result (has_room self.old batch.now ≡ true → (is_open : IsOpen self.old)
-            → IsCommittedNow batch.now self.old is_open self.new) }
-        ensures committed_behind { OnOk result (has_room self.old batch.now ≡ false → (is_open : IsOpen self.old)
-            → IsCommittedBehind batch.now self.old is_open self.new) }
-        ensures done { OnOk result (IsOpen self.old → IsOpen self.new) }
-        ensures kept { IfErr result (λ e. e ≢ Refusal.Fault → IsOpen self.old → IsOpen self.new) }
-
-        // Where there was room, a refusal leaves what it leaves of `commit`: all as it was.
-        ensures untouched { has_room self.old batch.now ≡ true → IsErrOf result Refusal.Stranger
-            → IsUnchanged self.old self.new }
-        ensures given_up { has_room self.old batch.now ≡ true → IsErrOf result Refusal.NoMemory
-            → IsUnchanged self.old self.new }
-        // Where there was none, `StillNeeded` leaves all as it was, `Stranger` comes behind a segment that was freed, and `NoMemory` too,
-        // or while it was being freed.
-        ensures needed_untouched { IsErrOf result Refusal.StillNeeded → IsOpen self.old
-            → IsUnchanged self.old self.new }
-        ensures needed_segments { IsErrOf result Refusal.StillNeeded → (ring_of self.new ≡ ring_of self.old)
-            × (known_marks self.new ≡ known_marks self.old) }
-        ensures stranger_behind { IsErrOf result Refusal.Stranger → has_room self.old batch.now ≡ false
-            → (is_open : IsOpen self.old) → IsFreedNow self.old is_open self.new }
-        ensures memory_behind { IsErrOf result Refusal.NoMemory → has_room self.old batch.now ≡ false
-            → (is_open : IsOpen self.old) → (IsHalfFreed self.old is_open self.new)
-            ⊎ (IsFreedNow self.old is_open self.new) }
-
-        // Where it has room, it makes eight calls of the device at most, and four where the batch fits the newest segment. Where it has
-        // none, those of `free_oldest` come first.
-        ensures calls { has_room self.old batch.now ≡ true
-            → length (D.past (device_of self.new)) ≤ length (D.past (device_of self.old)) + 8 }
-        ensures calls_where_it_fits { fits_newest_segment self.old batch.now ≡ true
-            → length (D.past (device_of self.new)) ≤ length (D.past (device_of self.old)) + 4 }
-        ensures calls_behind { (slot segment : ℕ) → IsOldest (known_numbers (ring_of self.old)) slot segment
-            → length (D.past (device_of self.new)) ≤ length (D.past (device_of self.old))
-            + (12 * length (within_segment segment (known_marks self.old)) + 10) }
-        ensures calls_by_marks { length (D.past (device_of self.new))
-            ≤ length (D.past (device_of self.old)) + (12 * length (known_marks self.old) + 10) }
     {
         if self.has_room(batch) {
             return self.commit(alloc, batch);

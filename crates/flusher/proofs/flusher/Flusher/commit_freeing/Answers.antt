@@ -7,7 +7,7 @@ use Rattle.recovery.specs.Open.{has_room}
 use Rattle.refusal.specs.declared.Refusal.{Refusal}
 use Rattle.refusal.specs.declared.Refusal.TheVariants.{JournalFull, StillNeeded, NoMemory, Fault}
 use Rattle.view.specs.Published.{Published}
-use Rattle.flusher.proofs.Holdings.{held_in, goes_not, goes_batch, committed_none, committed_one, given_up_one, kept_more, next_by, no_batch, held_continues, no_stranger, same_batch, same_refusal}
+use Rattle.flusher.proofs.Holdings.{held_in, goes_not, goes_batch, committed_none, committed_one, given_up_one, kept_more, next_by, no_batch, held_continues, no_stranger, same_batch, same_refusal, told_of_error}
 use Rattle.flusher.proofs.flusher.Flusher.commit_freeing.Goals as goal
 
 pub returns-in-None-clause-goes : goal.returns-in-None-clause-goes
@@ -45,7 +45,7 @@ pub returns-in-Ok-clause-state : goal.returns-in-Ok-clause-state
 returns-in-Ok-clause-state g c =
     let held : c.args.self.now.waiting ≡ Some c.in-Some.batch = cc in
     let same : c.commands.result.now ≡ c.in-Some.batch.commands = cc in
-    c.in-Ok.ensures.state ∙ ap (fold c.args.self.now.store.state) (same ∙ sym (ap commands_of (ap held_in held) ∙ append-nil _))
+    c.in-Ok.ensures.committed.state ∙ ap (fold c.args.self.now.store.state) (same ∙ sym (ap commands_of (ap held_in held) ∙ append-nil _))
 
 pub returns-in-None-clause-committed : goal.returns-in-None-clause-committed
 returns-in-None-clause-committed g c =
@@ -56,15 +56,15 @@ pub returns-in-Ok-clause-committed : goal.returns-in-Ok-clause-committed
 returns-in-Ok-clause-committed g c =
     let held : c.args.self.now.waiting ≡ Some c.in-Some.batch = cc in
     let same : c.commands.result.now ≡ c.in-Some.batch.commands = cc in
-    committed_one _ _ c.commands.result.now _ (ap held_in held ∙ ap (λ (b : List Taken). b ∷ []) (sym same)) c.in-Ok.ensures.committed c.in-Ok.ensures.committed_behind
+    committed_one _ _ c.commands.result.now _ (ap held_in held ∙ ap (λ (b : List Taken). b ∷ []) (sym same)) c.in-Ok.ensures.committed.now c.in-Ok.ensures.committed.behind
 
 pub returns-in-Err-clause-given_up : goal.returns-in-Err-clause-given_up
 returns-in-Err-clause-given_up g c told =
     let held : c.args.self.now.waiting ≡ Some c.in-Some.batch = cc in
     let same : c.commands.result.now ≡ c.in-Some.batch.commands = cc in
     given_up_one _ _ c.commands.result.now _ (ap held_in held ∙ ap (λ (b : List Taken). b ∷ []) (sym same))
-    (λ room. c.in-Err.ensures.given_up room (same_refusal c.in-Err.refusal NoMemory told))
-    (λ full is_open. c.in-Err.ensures.memory_behind (same_refusal c.in-Err.refusal NoMemory told) full is_open)
+    (λ room. c.in-Err.ensures.refused.unchanged (inr (told_of_error c.in-Err.refusal NoMemory told)) room)
+    (λ full is_open. ⊎_elim (λ freed. inr freed) (λ half. inl half.1) (c.in-Err.ensures.refused.behind (inr (told_of_error c.in-Err.refusal NoMemory told)) full is_open))
 
 pub goes_on-ordered-requires : goal.goes_on-ordered-requires
 goes_on-ordered-requires g c =
@@ -80,7 +80,7 @@ returns-in-Err-clause-only g c =
     (held_continues g.J.Site.start c.args.self.now.begun c.args.self.now.store.state c.args.self.now.publisher.told c.told.result.now c.args.self.now.publisher.unpublished
     c.in-Some.batch.commands c.commands.result.now c.goes_on-ordered.result c.is_start.ensures c.told.ensures same c.legal.ensures c.goes_on-ordered.ensures.next
     c.args.self.now.kept (c.args.self.now.fits c.in-Some.batch held).alone)
-    (λ is. c.in-Err.ensures.stranger (ap (λ (r : Refusal). Err r) is)) c.in-Err.ensures.only
+    c.in-Err.ensures.refused.stranger c.in-Err.ensures.refused.only
 
 pub accept-requires-clause-next : goal.accept-requires-clause-next
 accept-requires-clause-next g c =
@@ -109,14 +109,17 @@ returns-in-Err-clause-few g c batch waits works full few =
     let one : c.commands.result.now ≡ batch = same_batch (held_in c.args.self.now.waiting) c.commands.result.now batch (ap held_in held ∙ ap (λ (b : List Taken). b ∷ []) (sym same)) waits in
     same_refusal c.in-Err.refusal StillNeeded (rw c.in-Err.is at (c.commit_freeing.ensures.few works (ap (has_room c.args.self.now.store) one ∙ full) few))
 
+pub returns-in-Err-clause-same_state : goal.returns-in-Err-clause-same_state
+returns-in-Err-clause-same_state g c = c.in-Err.ensures.refused.state
+
 pub returns-in-Err-clause-needed_by_few : goal.returns-in-Err-clause-needed_by_few
-returns-in-Err-clause-needed_by_few g c told = c.in-Err.ensures.needed_by_few (same_refusal c.in-Err.refusal StillNeeded told)
+returns-in-Err-clause-needed_by_few g c told is_open = ((c.in-Err.ensures.refused.needed (told_of_error c.in-Err.refusal StillNeeded told)).3 is_open).0
 
 pub returns-in-Err-clause-needed_untouched : goal.returns-in-Err-clause-needed_untouched
-returns-in-Err-clause-needed_untouched g c told = c.in-Err.ensures.needed_untouched (same_refusal c.in-Err.refusal StillNeeded told)
+returns-in-Err-clause-needed_untouched g c told is_open = ((c.in-Err.ensures.refused.needed (told_of_error c.in-Err.refusal StillNeeded told)).3 is_open).1
 
 pub returns-in-Err-clause-full_still : goal.returns-in-Err-clause-full_still
-returns-in-Err-clause-full_still g c told = c.in-Err.ensures.full_still (same_refusal c.in-Err.refusal JournalFull told)
+returns-in-Err-clause-full_still g c told = (c.in-Err.ensures.refused.full (told_of_error c.in-Err.refusal JournalFull told)).2
 
 pub returns-in-Err-clause-goes : goal.returns-in-Err-clause-goes
 returns-in-Err-clause-goes g c =
@@ -134,25 +137,25 @@ pub returns-in-Err-clause-full : goal.returns-in-Err-clause-full
 returns-in-Err-clause-full g c is =
     let held : c.args.self.now.waiting ≡ Some c.in-Some.batch = cc in
     let same : c.commands.result.now ≡ c.in-Some.batch.commands = cc in
-    let room = c.in-Err.ensures.full (same_refusal c.in-Err.refusal JournalFull is) in
+    let room = c.in-Err.ensures.refused.full (told_of_error c.in-Err.refusal JournalFull is) in
     (c.commands.result.now, ap held_in held ∙ ap (λ (b : List Taken). b ∷ []) (sym same), room.0, room.1)
 
 pub returns-in-Err-clause-needed : goal.returns-in-Err-clause-needed
 returns-in-Err-clause-needed g c is =
     let held : c.args.self.now.waiting ≡ Some c.in-Some.batch = cc in
     let same : c.commands.result.now ≡ c.in-Some.batch.commands = cc in
-    (c.commands.result.now, ap held_in held ∙ ap (λ (b : List Taken). b ∷ []) (sym same), c.in-Err.ensures.needed (same_refusal c.in-Err.refusal StillNeeded is))
+    (c.commands.result.now, ap held_in held ∙ ap (λ (b : List Taken). b ∷ []) (sym same), (c.in-Err.ensures.refused.needed (told_of_error c.in-Err.refusal StillNeeded is)).0)
 
 pub returns-in-Err-clause-never_full : goal.returns-in-Err-clause-never_full
 returns-in-Err-clause-never_full g c told =
-    c.in-Err.ensures.never_full
-    (⊎_elim (λ full. inl (same_refusal c.in-Err.refusal JournalFull full)) (λ needed. inr (same_refusal c.in-Err.refusal StillNeeded needed)) told)
+    c.in-Err.ensures.refused.spent
+    (⊎_elim (λ full. inl (told_of_error c.in-Err.refusal JournalFull full)) (λ needed. inr (told_of_error c.in-Err.refusal StillNeeded needed)) told)
 
 pub invariant_of-self-in-Ok : goal.invariant_of-self-in-Ok
 invariant_of-self-in-Ok g c =
     let held : c.args.self.now.waiting ≡ Some c.in-Some.batch = cc in
     record {
-      kept = kept_more _ _ _ _ _ _ c.commands.result.now c.args.self.now.kept (c.args.self.now.fits c.in-Some.batch held).alone c.accept.ensures c.in-Ok.ensures.receipt c.in-Ok.ensures.state;
+      kept = kept_more _ _ _ _ _ _ c.commands.result.now c.args.self.now.kept (c.args.self.now.fits c.in-Some.batch held).alone c.accept.ensures c.in-Ok.ensures.receipt c.in-Ok.ensures.committed.state;
       few = omega (arith, ap (λ (p : Published). length p.unpublished) c.accept.ensures);
       fits = λ x is. absurd (let none : ⊥ = cc in none);
       placed = λ x is. absurd (let none : ⊥ = cc in none);
