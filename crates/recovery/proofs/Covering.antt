@@ -18,9 +18,9 @@ use Rattle.recovery.specs.declared.marks.Mark.{Mark}
 use Rattle.recovery.specs.declared.store.Store.{Store}
 use Rattle.recovery.specs.Cells.{lowest_known}
 use Rattle.recovery.specs.Marks.{marks_of, is_of, within_segment, revision_for, greatest_marked}
-use Rattle.recovery.specs.Jobs.{MayKeepNewest, jobs_for, without_job}
+use Rattle.recovery.specs.Jobs.{jobs_for, without_job}
 use Rattle.recovery.specs.Marked.{MayRetire}
-use Rattle.recovery.specs.Open.{IsOpen, IsUnchanged, IsRetiredNow, IsFreedNow, IsHalfFreed, IsHalfRaised, IsOnePut, HasNone, AreBothNewest, ring_of, state_of, known_marks, kept_jobs}
+use Rattle.recovery.specs.Open.{IsOpen, IsUnchanged, IsRetiredNow, IsFreedNow, IsHalfFreed, IsHalfRaised, HasNone, AreBothNewest, ring_of, state_of, known_marks, kept_jobs}
 use Rattle.recovery.specs.steps.Freeing.{KeepsSegments, IsMarkElsewhere, IsMarkOf, IsPutOf, IsHalfPut, AreCovered}
 use Rattle.recovery.proofs.Going.{open_unchanged, unchanged_cells, unchanged_table}
 use Rattle.recovery.proofs.Marked.{one_oldest}
@@ -200,29 +200,18 @@ module _ {D : Type 0} {disk : Ghosts D} where
     ]
 
     -- a document of which a milestone was given up, where it has two already, still has two
-    half_again : (jobs : List Job) → 1 ≤ first mark.document → state_of store ≡ state_of start → (pair : Pair)
-        → IsHalfRaised (state_of store) mark.document (cells_at before.goes_on.cells mark.document) (jobs_for mark.document (kept_jobs store)) pair jobs
-        → IsHalfRaised (state_of start) mark.document (cells_at is_open.cells mark.document) (jobs_for mark.document (kept_jobs start)) pair jobs
-    half_again jobs some state pair (inl (same, kept)) = inr (
-      inr (subst (AreBothNewest (state_of start) mark.document) (sym same) (before.raised mark.document some)),
-      subst (λ (l : List Job). MayKeepNewest (state_of start) mark.document l jobs) (before.dropped mark.document some)
-          (subst (λ (s : State). MayKeepNewest s mark.document (jobs_for mark.document (kept_jobs store)) jobs) state kept),
-    )
-    half_again jobs some state pair (inr (put, kept)) = inr (
-      inr (put_again (subst (λ (s : State). IsOnePut s mark.document (cells_at before.goes_on.cells mark.document) pair ⊎ AreBothNewest s mark.document pair) state put)),
-      subst (λ (s : State). MayKeepNewest s mark.document [] jobs) state kept,
-    )
-      where
-        put_again : IsOnePut (state_of start) mark.document (cells_at before.goes_on.cells mark.document) pair ⊎ AreBothNewest (state_of start) mark.document pair
-            → AreBothNewest (state_of start) mark.document pair
-        put_again (inl one) = newest_again (state_of start) mark.document (cells_at before.goes_on.cells mark.document) pair (before.raised mark.document some) one
-        put_again (inr both) = both
+    half_again : 1 ≤ first mark.document → (pair : Pair) → IsHalfRaised (state_of start) mark.document (cells_at before.goes_on.cells mark.document) pair
+        → IsHalfRaised (state_of start) mark.document (cells_at is_open.cells mark.document) pair
+    half_again some pair (inl same) = inr (inr (subst (AreBothNewest (state_of start) mark.document) (sym same) (before.raised mark.document some)))
+    half_again some pair (inr (inl one)) =
+        inr (inr (newest_again (state_of start) mark.document (cells_at before.goes_on.cells mark.document) pair (before.raised mark.document some) one))
+    half_again some pair (inr (inr both)) = inr (inr both)
 
     -- it was given up within the milestones of the mark's document
     pub half_freed : (new : Store D disk) (slot : ℕ) → IsOldest (known_numbers (ring_of start)) slot segment → state_of store ≡ state_of start
         → IsMarkOf segment mark → IsHalfPut mark.document store before.goes_on new
-        → without_job mark.document (kept_jobs new) ≡ without_job mark.document (kept_jobs store) → IsHalfFreed start is_open new
-    half_freed new slot oldest state of put others = record {
+        → kept_jobs new ≡ without_job mark.document (kept_jobs store) → IsHalfFreed start is_open new
+    half_freed new slot oldest state of put jobs = record {
       goes_on = put.goes_on;
       same_table = put.same_table ∙ before.same_table;
       slot = slot;
@@ -235,33 +224,35 @@ module _ {D : Type 0} {disk : Ghosts D} where
       under_way = mark.document;
       needs = none_of of;
       own = elim (low_or_above (first mark.document) 0) [
-        | inr some ↦ half_again (jobs_for mark.document (kept_jobs new)) some state (cells_at put.goes_on.cells mark.document) put.own
-        | inl low ↦ first_half (omega (arith, low))
+        | inr some ↦ half_again some (cells_at put.goes_on.cells mark.document) own
+        | inl low ↦
+            let none : first mark.document ≡ 0 = omega (arith, low) in
+            subst (λ (p : Pair). IsHalfRaised (state_of start) mark.document p (cells_at put.goes_on.cells mark.document)) (before.spared mark.document none) own
       ];
+      dropped = ap (λ (l : List Job). jobs_for mark.document l) jobs ∙ none_own mark.document (kept_jobs store);
       others = λ document apart needed. elim (low_or_above (first document) 0) [
         | inl low ↦ inl (left document apart (omega (arith, low)))
         | inr some ↦ inr (
           subst (AreBothNewest (state_of start) document) (sym (put.others document apart)) (before.raised document some),
-          own_stay document mark.document (kept_jobs store) (kept_jobs new) apart others ∙ before.dropped document some,
+          others_jobs document apart ∙ before.dropped document some,
         )
       ];
     }
       where
-        first_half : first mark.document ≡ 0 → IsHalfRaised (state_of start) mark.document (cells_at is_open.cells mark.document) (jobs_for mark.document (kept_jobs start))
-            (cells_at put.goes_on.cells mark.document) (jobs_for mark.document (kept_jobs new))
-        first_half none =
-            subst (λ (s : State). IsHalfRaised s mark.document (cells_at is_open.cells mark.document) (jobs_for mark.document (kept_jobs start))
-            (cells_at put.goes_on.cells mark.document) (jobs_for mark.document (kept_jobs new))) state
-            (subst (λ (p : Pair). IsHalfRaised (state_of store) mark.document p (jobs_for mark.document (kept_jobs start))
-            (cells_at put.goes_on.cells mark.document) (jobs_for mark.document (kept_jobs new))) (before.spared mark.document none)
-            (subst (λ (l : List Job). IsHalfRaised (state_of store) mark.document (cells_at before.goes_on.cells mark.document) l
-            (cells_at put.goes_on.cells mark.document) (jobs_for mark.document (kept_jobs new))) (before.kept mark.document none) put.own))
+        own : IsHalfRaised (state_of start) mark.document (cells_at before.goes_on.cells mark.document) (cells_at put.goes_on.cells mark.document)
+        own =
+            subst (λ (s : State). IsHalfRaised s mark.document (cells_at before.goes_on.cells mark.document) (cells_at put.goes_on.cells mark.document)) state put.own
+
+        others_jobs : (document : ℕ) → document ≢ mark.document → jobs_for document (kept_jobs new) ≡ jobs_for document (kept_jobs store)
+        others_jobs document apart =
+            own_stay document mark.document (kept_jobs store) (kept_jobs new) apart
+            (ap (λ (l : List Job). without_job mark.document l) jobs ∙ others_without mark.document mark.document (kept_jobs store) refl)
 
         left : (document : ℕ) → document ≢ mark.document → first document ≡ 0
             → (cells_at put.goes_on.cells document ≡ cells_at is_open.cells document) × (jobs_for document (kept_jobs new) ≡ jobs_for document (kept_jobs start))
         left document apart none = (
           put.others document apart ∙ before.spared document none,
-          own_stay document mark.document (kept_jobs store) (kept_jobs new) apart others ∙ before.kept document none,
+          others_jobs document apart ∙ before.kept document none,
         )
 
   -- behind all marks the oldest segment may be retired

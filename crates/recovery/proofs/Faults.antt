@@ -1,5 +1,5 @@
 -- What calls of a store say of its device's faults, one after another, and what that says of the store.
-use Rattle.std.proofs.Common.{◌≡◌, ◌≢◌, ◌⊎◌, inl, inr, ℕ, List, false, refl, sym, ◌∙◌, ap, subst}
+use Rattle.std.proofs.Common.{◌≡◌, ◌≢◌, ◌⊎◌, inl, inr, ◌↔◌, ℕ, Bool, List, false, refl, sym, ◌∙◌, ap, subst}
 use Rattle.std.specs.Prelude.{Result, Ok, Err, OnOk, IfErr, IsErrOf}
 use Rattle.std.proofs.lemmas.Bool.{false≢true}
 use Rattle.disk.specs.declared.device.Disk.{Ghosts}
@@ -11,9 +11,11 @@ use Rattle.recovery.specs.declared.store.Store.{Store}
 use Rattle.recovery.specs.Faults.{FailsAtFaults}
 use Rattle.recovery.specs.Found.{FoundAs}
 use Rattle.recovery.specs.Goes.{Goes}
+use Rattle.recovery.specs.Unwritten.{IsUnchangedButJobs}
 use Rattle.recovery.specs.Open.{IsOpen, IsUnchanged, IsRetiredNow, device_of, state_of, has_failed}
 use Rattle.recovery.proofs.Refusals.{refusal_or, ok≢err}
-use Rattle.recovery.proofs.Going.{goes_call}
+use Rattle.recovery.proofs.Going.{goes_call, goes_still}
+use Rattle.recovery.proofs.Runs.{found_as, found_open}
 use Rattle.recovery.proofs.PutAtOnce.{is_false, refused_unfailed, goes_on_retired, goes_on_needed}
 
 module _ {D : Type 0} {disk : Ghosts D} where
@@ -120,6 +122,22 @@ module _ {D : Type 0} {disk : Ghosts D} where
       → IfErr result (λ e. e ≢ Fault → IsOpen old → IsOpen new)
   kept_by (Ok answer) faults goes = tt
   kept_by (Err refusal) faults goes = λ other. goes.opens (works_still refusal faults other)
+
+  -- the kept jobs alone changed afterwards
+  pub faults_but_jobs : {A : Type 0} (result : Result A Refusal) (old mid new : Store D disk) → has_failed old ≡ false → IsUnchangedButJobs mid new
+      → FailsAtFaults result old mid → FailsAtFaults result old new
+  faults_but_jobs result old mid new works same faults = record {
+    failed_before = λ failed. absurd (false≢true (sym works ∙ failed));
+    fault = λ told worked. subst (λ (d : D). Rose (disk.faults (device_of old)) (disk.faults d)) (sym same.device) (faults.fault told worked);
+    no_fault = subst (λ (d : D). IfErr result (λ e. e ≢ Fault → disk.faults d ≡ disk.faults (device_of old))) (sym same.device) faults.no_fault;
+    good = subst (λ (d : D). OnOk result (disk.faults d ≡ disk.faults (device_of old))) (sym same.device) faults.good;
+    fails = λ worked. (λ failed. (faults.fails worked).0 (sym same.failed ∙ failed), λ told. same.failed ∙ (faults.fails worked).1 told);
+    works = subst (λ (b : Bool). OnOk result (b ≡ false)) (sym same.failed) faults.works;
+    honest = subst (λ (d : D). disk.honest d ↔ disk.honest (device_of old)) (sym same.device) faults.honest;
+  }
+
+  pub goes_but_jobs : (old new : Store D disk) → IsUnchangedButJobs old new → (IsOpen old → IsOpen new) → Goes (λ content. FoundAs content (state_of old)) old new
+  goes_but_jobs old new same opens = goes_still same.device same.failed opens (λ is_open. found_as _ _ (found_open old is_open))
 
   -- a retirement, by its clauses
   pub retire_goes : (old new : Store D disk) (result : Result (Unit {0}) Refusal) → FailsAtFaults result old new

@@ -16,7 +16,7 @@ use Rattle.recovery.proofs.SparedJobs.{spared_same}
 module _ {D : Type 0} {disk : Ghosts D} where
   -- nothing was done
   pub keeps_others_none : (store : Store D disk) → KeepsOthers store store
-  keeps_others_none store = record { jobs = λ is_open slot segment oldest. spared_same segment store store refl; one_job = omega arith }
+  keeps_others_none store = record { jobs = λ is_open slot segment oldest. spared_same segment store store refl; no_more = omega arith }
 
   pub costs_none : (more : ℕ) (store : Store D disk) → CostsAtMost more store store
   costs_none more store = record { by_segment = λ slot segment oldest. omega arith; by_marks = omega arith }
@@ -45,7 +45,7 @@ module _ {D : Type 0} {disk : Ghosts D} where
   pub keeps_others_same : (old new : Store D disk) → kept_jobs new ≡ kept_jobs old → KeepsOthers old new
   keeps_others_same old new same = record {
     jobs = λ is_open slot segment oldest. spared_same segment old new same;
-    one_job = omega (arith, ap (λ (l : List Job). length l) same);
+    no_more = omega (arith, ap (λ (l : List Job). length l) same);
   }
 
   pub costs_few : (more : ℕ) (old new : Store D disk) → length (disk.past (device_of new)) ≤ length (disk.past (device_of old)) + more → CostsAtMost more old new

@@ -1,5 +1,5 @@
 -- The kept jobs of documents that have no entry in a segment, while it is freed.
-use Rattle.std.proofs.Common.{◌≡◌, ◌≢◌, ◌⊎◌, inl, inr, ℕ, ◌+◌, ◌≤◌, ◌<◌, arith, List, length, get_or, sym, ◌∙◌, ap, subst}
+use Rattle.std.proofs.Common.{◌≡◌, ◌≢◌, ◌⊎◌, inl, inr, ℕ, ◌+◌, ◌≤◌, ◌<◌, arith, List, length, get_or, refl, sym, ◌∙◌, ap, subst}
 use Rattle.std.proofs.lemmas.Bool.{cases_eq}
 use Rattle.disk.specs.declared.device.Disk.{Ghosts}
 use Rattle.milestone.specs.Job.{Job}
@@ -9,12 +9,11 @@ use Rattle.segments.specs.Numbers.{IsOldest}
 use Rattle.segments.specs.Ring.{known_numbers}
 use Rattle.recovery.specs.Jobs.{jobs_for, without_job}
 use Rattle.recovery.specs.steps.Freeing.{IsMarkElsewhere, IsMarkOf}
-use Rattle.recovery.specs.Unwritten.{MayKeepJob}
 use Rattle.recovery.specs.Open.{HasNone, KeepsJobs, ring_of, known_marks, kept_jobs}
 use Rattle.recovery.proofs.Covering.{elsewhere_or_of}
 use Rattle.recovery.proofs.Marked.{one_oldest}
 use Rattle.recovery.proofs.Marking.{marked_member}
-use Rattle.recovery.proofs.OtherJobs.{own_stay, fewer_without, one_more_with}
+use Rattle.recovery.proofs.OtherJobs.{own_stay, others_without, fewer_without}
 
 module _ {D : Type 0} {disk : Ghosts D} where
   -- nothing but other things changed
@@ -24,12 +23,7 @@ module _ {D : Type 0} {disk : Ghosts D} where
   pub spared_then : (segment : ℕ) (old mid new : Store D disk) → KeepsJobs segment old mid → kept_jobs new ≡ kept_jobs mid → KeepsJobs segment old new
   spared_then segment old mid new keeps same document spared = ap (λ (l : List Job). jobs_for document l) same ∙ keeps document spared
 
-  -- one job more is kept at most
-  pub may_keep_one : (document revision : ℕ) (old new : Store D disk) → MayKeepJob document revision old new → length (kept_jobs new) ≤ length (kept_jobs old) + 1
-  may_keep_one document revision old new (inl same) = omega (arith, ap (λ (l : List Job). length l) same)
-  may_keep_one document revision old new (inr one) = omega (arith, ap (λ (l : List Job). length l) one.2, one_more_with one.0 (kept_jobs old))
-
-  -- and none more where a document's are dropped
+  -- no more jobs are kept where a document's are dropped
   pub no_more_kept : (segment : ℕ) (mark : Mark) (old new : Store D disk) → (IsMarkElsewhere segment mark → new ≡ old)
       → (IsMarkOf segment mark → kept_jobs new ≡ without_job mark.document (kept_jobs old)) → length (kept_jobs new) ≤ length (kept_jobs old)
   no_more_kept segment mark old new still dropped = elim (elsewhere_or_of segment mark) [
@@ -46,17 +40,19 @@ module _ {D : Type 0} {disk : Ghosts D} where
   -- one mark more was looked at
   pub spared_more : (start store new : Store D disk) (segment place : ℕ) (mark : Mark) → place < length (known_marks start) → get_or (known_marks start) place mark ≡ mark
       → (IsMarkElsewhere segment mark → kept_jobs new ≡ kept_jobs store)
-      → without_job mark.document (kept_jobs new) ≡ without_job mark.document (kept_jobs store)
+      → (IsMarkOf segment mark → kept_jobs new ≡ without_job mark.document (kept_jobs store))
       → KeepsJobs segment start store → KeepsJobs segment start new
-  spared_more start store new segment place mark inside is same others keeps document none =
+  spared_more start store new segment place mark inside is same dropped keeps document none =
       now ∙ keeps document none
     where
       now : jobs_for document (kept_jobs new) ≡ jobs_for document (kept_jobs store)
-      now = elim (cases_eq mark.document document) [
-        | inr apart ↦ own_stay document mark.document (kept_jobs store) (kept_jobs new) (λ is. apart (sym is)) others
-        | inl own ↦ elim (elsewhere_or_of segment mark) [
-          | inl away ↦ ap (λ (l : List Job). jobs_for document l) (same away)
-          | inr of ↦
+      now = elim (elsewhere_or_of segment mark) [
+        | inl away ↦ ap (λ (l : List Job). jobs_for document l) (same away)
+        | inr of ↦ elim (cases_eq mark.document document) [
+          | inr apart ↦
+              own_stay document mark.document (kept_jobs store) (kept_jobs new) (λ is. apart (sym is))
+              (ap (λ (l : List Job). without_job mark.document l) (dropped of) ∙ others_without mark.document mark.document (kept_jobs store) refl)
+          | inl own ↦
               let here : HasNone segment mark.document start = subst (λ n. HasNone segment n start) (sym own) none in
               absurd (omega (arith, here, of.1, marked_member segment (known_marks start) place mark inside is of.0))
         ]

@@ -22,10 +22,10 @@ module _ {D : Type 0} {disk : Ghosts D} where
   abbrev pub IsSpent : Store D disk → Type 0
   IsSpent store = 2 ^ 64 - 1 ≤ newest_number (known_numbers (ring_of store))
 
-  -- Making room leaves the kept jobs of each document that has no entry in the oldest segment, and one job more at most.
+  -- Making room leaves the kept jobs of each document that has no entry in the oldest segment, and keeps no more jobs.
   pub record KeepsOthers (old new : Store D disk) : Type 0 where
     pub jobs : IsOpen old → (slot segment : ℕ) → IsOldest (known_numbers (ring_of old)) slot segment → KeepsJobs segment old new
-    pub one_job : length (kept_jobs new) ≤ length (kept_jobs old) + 1
+    pub no_more : length (kept_jobs new) ≤ length (kept_jobs old)
 
   -- Making room takes twelve calls of the device at most for each mark of the oldest segment, and so many more.
   pub record CostsAtMost (more : ℕ) (old new : Store D disk) : Type 0 where
@@ -33,11 +33,10 @@ module _ {D : Type 0} {disk : Ghosts D} where
         → length (disk.past (device_of new)) ≤ length (disk.past (device_of old)) + (12 * length (within_segment segment (known_marks old)) + more)
     pub by_marks : length (disk.past (device_of new)) ≤ length (disk.past (device_of old)) + (12 * length (known_marks old) + more)
 
-  -- Room was made: the oldest segment is closed, its marks are gone, and no more jobs are kept.
+  -- Room was made: the oldest segment is closed, and its marks are gone.
   pub record IsFreed (old new : Store D disk) : Type 0 where
     pub now : (is_open : IsOpen old) → IsFreedNow old is_open new
     pub marks : (slot segment : ℕ) → IsOldest (known_numbers (ring_of old)) slot segment → known_marks new ≡ without_segment segment (known_marks old)
-    pub jobs : length (kept_jobs new) ≤ length (kept_jobs old)
 
   -- Room was not made, and why: too few slots are open, and the store is left as it was; memory ran out, and some milestones may be put; or the
   -- device failed. The segments stay.
@@ -56,13 +55,12 @@ module _ {D : Type 0} {disk : Ghosts D} where
     pub calls_where_it_fits : fits_newest_segment old batch ≡ true → length (disk.past (device_of new)) ≤ length (disk.past (device_of old)) + 4
 
   -- A batch is committed: the cells and the slots are those of before, but for the batch, where it had room, and else those that making room
-  -- left. No more jobs are kept, and one mark more at most for each command.
+  -- left. One mark more is known at most for each command.
   pub record IsCommittedFreeing (batch : List Taken) (old new : Store D disk) : Type 0 where
     pub grow : all_grow (state_of old) batch ≡ true
     pub state : state_of new ≡ fold (state_of old) batch
     pub now : has_room old batch ≡ true → (is_open : IsOpen old) → IsCommittedNow batch old is_open new
     pub behind : has_room old batch ≡ false → (is_open : IsOpen old) → IsCommittedBehind batch old is_open new
-    pub jobs : length (kept_jobs new) ≤ length (kept_jobs old)
     pub marks : length (known_marks new) ≤ length (known_marks old) + length batch
 
   -- A batch is not committed, and why. The documents stay, and where the batch had room, all of the store. Where it had none, it is refused

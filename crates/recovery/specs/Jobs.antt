@@ -83,16 +83,3 @@ pub record IsMadeOf (documents : List DocumentRecord) (document revision : ℕ) 
   pub found : DocumentRecord
   pub there : slice_get documents document ≡ Some found
   pub replay : IsReplay found.past revision (units_of_job job) job.deltas
-
--- One job alone is kept of a document: it leads to the newest revision, and is made of what the document holds.
-pub record IsNewestJob (state : State) (document : ℕ) (jobs : List Job) : Type 0 where
-  pub job : Job
-  pub found : DocumentRecord
-  pub there : slice_get state.documents document ≡ Some found
-  pub to : IsJobTo state.documents document (revision_of found) job
-  pub made : IsMadeOf state.documents document (revision_of found) job
-  pub alone : jobs ≡ job ∷ []
-
--- the jobs that are kept of a document are those of before, or the one to its newest revision in their place
-abbrev pub MayKeepNewest : State → ℕ → List Job → List Job → Type 0
-MayKeepNewest state document before now = (now ≡ before) ⊎ IsNewestJob state document now

@@ -21,7 +21,7 @@ use Rattle.recovery.specs.Cells.{AreCellsOf, FitEach, lowest_known}
 use Rattle.recovery.specs.declared.marks.Mark.{Mark}
 use Rattle.recovery.specs.Marks.{marks_of, greatest_marked}
 use Rattle.recovery.specs.Marked.{AreMarked}
-use Rattle.recovery.specs.Jobs.{jobs_of, jobs_for, CanAllBePut, MayKeepNewest}
+use Rattle.recovery.specs.Jobs.{jobs_of, jobs_for, CanAllBePut}
 use Rattle.recovery.specs.Found.{limits_of, commands_of, HoldsParts, FoundAs}
 
 -- a content that stands for a state that agrees with the one before a batch, or with the one with it
@@ -49,12 +49,9 @@ pub record IsOnePut (state : State) (document : ℕ) (before after : Pair) : Typ
   pub there : slice_get state.documents document ≡ Some found
   pub put : after ≡ with_cell (newest_cell found) (freed before)
 
--- Milestones of a document were given up: no cell of it was put, or one, at its newest revision, or both. The job of the next one may be kept, in
--- place of those of before; those of before are dropped where one was put.
-abbrev pub IsHalfRaised : State → ℕ → Pair → List Job → Pair → List Job → Type 0
-IsHalfRaised state document cells jobs cells_now jobs_now =
-    ((cells_now ≡ cells) × MayKeepNewest state document jobs jobs_now)
-    ⊎ ((IsOnePut state document cells cells_now ⊎ AreBothNewest state document cells_now) × MayKeepNewest state document [] jobs_now)
+-- Milestones of a document were given up: no cell of it was put, or one, at its newest revision, or both.
+abbrev pub IsHalfRaised : State → ℕ → Pair → Pair → Type 0
+IsHalfRaised state document before after = (after ≡ before) ⊎ (IsOnePut state document before after ⊎ AreBothNewest state document after)
 
 module _ {D : Type 0} {disk : Ghosts D} where
   -- the device under a store
@@ -170,7 +167,7 @@ module _ {D : Type 0} {disk : Ghosts D} where
 
   -- Room was being made when it was given up, in the milestones of one document: the store goes on over the same slots. Each document that has no
   -- entry in the oldest segment is left as it was, with its kept jobs. So is each other one, or it has both its milestones and no kept job;
-  -- of the one document a milestone may be put or not, and the job of the next one may be kept.
+  -- the one document has some of them, and no kept job.
   pub record IsHalfFreed (old : Store D disk) (is_open : IsOpen old) (new : Store D disk) : Type 0 where
     pub goes_on : IsOpen new
     pub same_table : goes_on.table ≡ is_open.table
@@ -180,8 +177,8 @@ module _ {D : Type 0} {disk : Ghosts D} where
     pub spared : (document : ℕ) → HasNone segment document old → IsLeft old is_open new goes_on document
     pub under_way : ℕ
     pub needs : ¬ HasNone segment under_way old
-    pub own : IsHalfRaised (state_of old) under_way (cells_at is_open.cells under_way) (jobs_for under_way (kept_jobs old))
-        (cells_at goes_on.cells under_way) (jobs_for under_way (kept_jobs new))
+    pub own : IsHalfRaised (state_of old) under_way (cells_at is_open.cells under_way) (cells_at goes_on.cells under_way)
+    pub dropped : jobs_for under_way (kept_jobs new) ≡ []
     pub others : (document : ℕ) → document ≢ under_way → ¬ HasNone segment document old
         → IsLeft old is_open new goes_on document ⊎ IsRaised old new goes_on document
 

@@ -12,7 +12,6 @@ ghost use Rattle.recovery.specs.Marks.{within_segment};
 ghost use Rattle.recovery.specs.Open.{FitsSlot, IsOpen, IsUnchanged, IsHalfFreed, AreBothNewest, IsWithOrWithout, KeepsJobs, device_of, ring_of, state_of, known_marks, kept_jobs, has_failed, has_room};
 ghost use Rattle.recovery.specs.Run.{IsPutAt};
 ghost use Rattle.recovery.specs.steps.Freeing.{reached_in, MayReach, KeepsSegments, IsMarkElsewhere, IsMarkOf, IsPutOf, IsHalfPut, AreCovered};
-ghost use Rattle.recovery.specs.Unwritten.{MayKeepJob};
 
 use crate::marks::Mark;
 use crate::receipt::Receipt;
@@ -25,8 +24,8 @@ use std::alloc::Global;
 impl<D: Disk> Store<D> {
     /// Makes room in a journal that is full: of each document that has an entry in the oldest segment it puts milestones at its newest
     /// revision, until both its cells stand there, and retires the segment. `StillNeeded` comes exactly when fewer than two slots are
-    /// open, and then makes no call of the device. After `NoMemory` some of the milestones may be put, and the job of one that
-    /// wasn't may be kept. After a `Fault` the store has failed. The documents stay.
+    /// open, and then makes no call of the device. After `NoMemory` some of the milestones may be put. After a `Fault` the store has
+    /// failed. The documents stay. The jobs of those documents are dropped.
     pub fn free_oldest(&mut self, alloc: Global) -> Result<(), Refusal>
         // When each refusal comes.
         ensures faults { FailsAtFaults result self.old self.new }
@@ -112,8 +111,7 @@ impl<D: Disk> Store<D> {
             ≤ length (D.past (device_of self.old)) + 12 * length (known_marks self.old) }
         ensures keeps { KeepsSegments self.old self.new }
         ensures jobs { IsOpen self.old → KeepsJobs segment self.old self.new }
-        ensures no_more_jobs { OnOk result (length (kept_jobs self.new) ≤ length (kept_jobs self.old)) }
-        ensures one_job { OnErr result (length (kept_jobs self.new) ≤ length (kept_jobs self.old) + 1) }
+        ensures no_more_jobs { length (kept_jobs self.new) ≤ length (kept_jobs self.old) }
         ensures faults { FailsAtFaults result self.old self.new }
         ensures goes { Goes (λ content. FoundAs content (state_of self.old)) self.old self.new }
     {
@@ -140,13 +138,9 @@ impl<D: Disk> Store<D> {
             → IsPutOf mark.document (AreBothNewest (state_of self.old) mark.document) self.old is_open self.new) }
         ensures half { IfErr result (λ e. e ≢ Refusal.Fault → (is_open : IsOpen self.old)
             → IsHalfPut mark.document self.old is_open self.new) }
-        ensures dropped { OnOk result (IsMarkOf segment mark
-            → kept_jobs self.new ≡ without_job mark.document (kept_jobs self.old)) }
-        ensures one_job { OnErr result (length (kept_jobs self.new) ≤ length (kept_jobs self.old) + 1) }
+        ensures dropped { IsMarkOf segment mark → kept_jobs self.new ≡ without_job mark.document (kept_jobs self.old) }
         ensures calls { length (D.past (device_of self.new)) ≤ length (D.past (device_of self.old)) + 12 }
         ensures keeps { KeepsSegments self.old self.new }
-        ensures others { without_job mark.document (kept_jobs self.new)
-            ≡ without_job mark.document (kept_jobs self.old) }
         ensures faults { FailsAtFaults result self.old self.new }
         ensures goes { Goes (λ content. FoundAs content (state_of self.old)) self.old self.new }
     {
@@ -162,7 +156,8 @@ impl<D: Disk> Store<D> {
         self.raise(alloc, mark.document, mark.revision)
     }
 
-    // Puts a milestone of a document at its newest revision, which is no lower than this one.
+    // Puts a milestone of a document at its newest revision, which is no lower than this one. The document's job is dropped, whatever
+    // comes of it.
     fn raise(&mut self, alloc: Global, document: u32, revision: u64) -> Result<(), Refusal>
         requires working { has_failed self.old ≡ false }
         requires some { 1 ≤ revision }
@@ -172,21 +167,20 @@ impl<D: Disk> Store<D> {
             → reached_in (state_of self.old) document < revision }
         ensures put { OnOk result ((is_open : IsOpen self.old)
             → IsPutAt document (reached_in (state_of self.old) document) self.old is_open self.new) }
-        ensures dropped { OnOk result (kept_jobs self.new ≡ without_job document (kept_jobs self.old)) }
-        ensures job { OnErr result
-            (MayKeepJob document (reached_in (state_of self.old) document) self.old self.new) }
+        ensures dropped { kept_jobs self.new ≡ without_job document (kept_jobs self.old) }
         ensures unwritten { IfErr result (λ e. e ≢ Refusal.Fault → device_of self.new ≡ device_of self.old) }
         ensures calls { length (D.past (device_of self.new)) ≤ length (D.past (device_of self.old)) + 6 }
         ensures keeps { KeepsSegments self.old self.new }
-        ensures others { without_job document (kept_jobs self.new) ≡ without_job document (kept_jobs self.old) }
         ensures faults { FailsAtFaults result self.old self.new }
         ensures goes { Goes (λ content. FoundAs content (state_of self.old)) self.old self.new }
     {
         let newest = self.newest_of(document);
         if newest < revision {
+            self.give_up_job(document);
             return Err(Refusal::StillNeeded);
         }
         if let Err(refusal) = self.put_document(alloc, document, newest) {
+            self.give_up_job(document);
             return Err(or_needed(refusal));
         }
         Ok(())

@@ -141,7 +141,7 @@ impl Exchange {
     }
 
     // Puts the milestone that came of a job, and tells whether there was memory for it. It puts none where the job isn't the one that is
-    // kept of its document any more. Refused with `Fault` alone.
+    // kept of its document any more. The document is looked at again. Refused with `Fault` alone.
     fn put<D: Disk, J: Site>(
         &mut self,
         alloc: Global,
@@ -153,6 +153,7 @@ impl Exchange {
             → (has_failed (store_of flusher.new) ≡ true ↔ IsErrOf result Refusal.Fault) }
         ensures only { IfErr result (λ e. e ≡ Refusal.Fault) }
     {
+        self.queue.add(composed.job().document_number());
         if let Err(refusal) = flusher.put_milestone(alloc, &composed) {
             if refusal == Refusal::Fault {
                 return Err(refusal);
@@ -161,9 +162,7 @@ impl Exchange {
                 self.unput = Some(composed);
                 return Ok(false);
             }
-            return Ok(true);
         }
-        self.queue.add(composed.job().document_number());
         Ok(true)
     }
 

@@ -202,8 +202,8 @@ fn write_held<D: Disk, J: Site, R: Wait, G: Gate>(
     }
 }
 
-/// Makes turns until the hub is ended and all that was ordered is settled, or until a turn fails the board. It waits where nothing is
-/// to be taken, and where memory is wanted it lets other threads run and tries again. A document's job is due where it passes a multiple of
+/// Makes turns until the hub is ended and all that was ordered is settled, or until a turn fails the board. After a turn it waits where
+/// nothing is to be taken, and where memory is wanted it lets other threads run and tries again. A document's job is due where it passes a multiple of
 /// `every` revisions; 0 hands out none. At its end it lets go of its ends of the composers' channels, so that they end. It answers with the
 /// hub's token of its end, or with the one that the hub was told of a failure.
 ///
@@ -228,17 +228,38 @@ pub fn flush_all<D: Disk, J: Site, R: Wait, G: Gate>(
     flusher.kept();
     let mut upkeep = Upkeep::new(alloc, every, composers, flusher.state());
     for _ in rt.forever() {
+        if let Err(failed) = turn_on(rt, alloc, flusher, hub, writer, &mut upkeep, gate) {
+            return Err(failed);
+        }
         if !flusher.holds() {
             if let Err(idle) = hub.wait_work(rt, writer) {
                 return Ok(idle);
             }
         }
-        if let Err(stop) = flush_turn(rt, alloc, flusher, hub, writer, &mut upkeep, gate) {
-            if let Some(failed) = stop.into_failed() {
-                return Err(failed);
-            }
-            thread::yield_now();
-        }
     }
     unreachable!()
+}
+
+// Makes a turn. Where memory is wanted it lets other threads run. Refused where the turn fails the board.
+fn turn_on<D: Disk, J: Site, R: Wait, G: Gate>(
+    rt: &R,
+    alloc: Global,
+    flusher: &mut Flusher<D, J>,
+    hub: &Hub<D, J>,
+    writer: &mut Writer<J>,
+    upkeep: &mut Upkeep,
+    gate: &mut G,
+) -> Result<(), Failed<J>>
+    ensures writes { Writes J.start flusher.old flusher.new }
+    ensures fails { has_failed (store_of flusher.old) ≡ false
+        → (has_failed (store_of flusher.new) ≡ true ↔ IsErrOf result Refusal.Fault) }
+    ensures causes { IfErr result (λ e. e ≢ Refusal.Fault → IsTurnFailed flusher.old e flusher.new) }
+{
+    if let Err(stop) = flush_turn(rt, alloc, flusher, hub, writer, upkeep, gate) {
+        if let Some(failed) = stop.into_failed() {
+            return Err(failed);
+        }
+        thread::yield_now();
+    }
+    Ok(())
 }

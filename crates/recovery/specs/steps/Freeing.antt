@@ -47,8 +47,7 @@ module _ {D : Type 0} {disk : Ghosts D} where
     pub goes_on : IsOpen new
     pub same_table : goes_on.table ≡ is_open.table
     pub others : (number : ℕ) → number ≢ document → cells_at goes_on.cells number ≡ cells_at is_open.cells number
-    pub own : IsHalfRaised (state_of old) document (cells_at is_open.cells document) (jobs_for document (kept_jobs old))
-        (cells_at goes_on.cells document) (jobs_for document (kept_jobs new))
+    pub own : IsHalfRaised (state_of old) document (cells_at is_open.cells document) (cells_at goes_on.cells document)
 
   -- The documents of these marks of a segment are covered: the store goes on over the same slots. The cells of a document without a mark are as
   -- they were, and so are its kept jobs; both cells of each other document hold it at its newest revision, and no job of it is kept.

@@ -33,7 +33,6 @@ returns-then-has_room-clause-committed g c =
       state = of_ok c.commit.result receipt is e.state;
       now = λ there is_open. of_ok c.commit.result receipt is e.committed is_open;
       behind = λ none is_open. absurd (false≢true (sym none ∙ room));
-      jobs = omega (arith, ap (λ (l : List Job). length l) e.jobs);
       marks = of_ok c.commit.result receipt is e.marks;
     })
 
@@ -131,7 +130,6 @@ returns-clause-committed g c =
       behind = λ there is_open.
           let now = freed.now is_open in
           record { mid = c.free_oldest.new.self; freed = now; committed = of_ok c.commit-2.result receipt is e.committed now.goes_on };
-      jobs = omega (arith, freed.jobs, ap (λ (l : List Job). length l) e.jobs);
       marks = omega (arith, of_ok c.commit-2.result receipt is e.marks, c.free_oldest.ensures.no_more_marks);
     })
 
@@ -184,7 +182,7 @@ pub returns-clause-others : goal.returns-clause-others
 returns-clause-others g c = record {
   jobs = λ is_open slot segment oldest.
       spared_then segment c.args.self.now c.free_oldest.new.self c.commit-2.new.self (c.free_oldest.ensures.others.jobs is_open slot segment oldest) c.commit-2.ensures.jobs;
-  one_job = omega (arith, c.in_default.ensures.freed.jobs, ap (λ (l : List Job). length l) c.commit-2.ensures.jobs);
+  no_more = omega (arith, c.free_oldest.ensures.others.no_more, ap (λ (l : List Job). length l) c.commit-2.ensures.jobs);
 }
 
 pub returns-clause-costs : goal.returns-clause-costs

@@ -1,15 +1,13 @@
-use Rattle.std.proofs.Common.{◌≡◌, ◌≢◌, ◌∙◌, ⊎_elim, List, length, refl, ap, arith, rules}
-use Rattle.std.proofs.lemmas.Result.{on_ok_weaker, on_err_weaker}
+use Rattle.std.proofs.Common.{◌≡◌, ◌≢◌, ◌∙◌, ⊎_elim, List, refl, ap, arith, rules}
 use Rattle.milestone.specs.Job.{Job}
-use Rattle.recovery.specs.Jobs.{without_job}
-use Rattle.recovery.proofs.OtherJobs.{others_without, fewer_without}
-use Rattle.recovery.specs.Open.{IsOpen, kept_jobs, state_of}
-use Rattle.recovery.specs.steps.Freeing.{reached_in, IsMarkOf}
 use Rattle.revision.specs.State.{State}
+use Rattle.recovery.specs.Jobs.{without_job}
+use Rattle.recovery.specs.Open.{IsOpen, kept_jobs}
+use Rattle.recovery.specs.steps.Freeing.{reached_in, IsMarkOf}
 use Rattle.recovery.proofs.Going.{goes_nowhere, goes_same}
 use Rattle.recovery.proofs.Faults.{faults_on, works_still}
 use Rattle.recovery.proofs.Newest.{on_err, none_put, half_behind, covered_behind}
-use Rattle.recovery.proofs.SparedJobs.{may_keep_one}
+use Rattle.recovery.proofs.OtherJobs.{others_without}
 use Rattle.recovery.proofs.store.Store.cover_mark.Goals as goal
 
 -- another segment's mark
@@ -70,7 +68,6 @@ pub returns-in-Err-clause-half : goal.returns-in-Err-clause-half
 returns-in-Err-clause-half g c other is_open =
     none_put c.args.self.now c.raise.new.self is_open c.args.mark.document
     (c.raise.ensures.goes.opens (works_still c.in-Err.refusal c.in-Err.ensures.faults other) is_open) (c.in-Err.ensures.unwritten other)
-    c.in-Err.ensures.job
 
 -- the second one was put, or refused
 pub returns-clause-needed : goal.returns-clause-needed
@@ -86,33 +83,14 @@ returns-clause-covered g c =
     c.in_default.ensures.put c.raise-2.ensures.put
 
 pub returns-clause-dropped : goal.returns-clause-dropped
-returns-clause-dropped g c =
-    on_ok_weaker c.raise-2.result
-    (λ dropped of.
-    dropped
-    ∙ (ap (λ (l : List Job). without_job c.args.mark.document l) c.in_default.ensures.dropped ∙ others_without c.args.mark.document c.args.mark.document (kept_jobs c.args.self.now) refl))
+returns-clause-dropped g c of =
     c.raise-2.ensures.dropped
+    ∙ (ap (λ (l : List Job). without_job c.args.mark.document l) c.raise.ensures.dropped ∙ others_without c.args.mark.document c.args.mark.document (kept_jobs c.args.self.now) refl)
 
 pub returns-clause-half : goal.returns-clause-half
 returns-clause-half g c =
-    half_behind c.args.self.now c.raise.new.self c.raise-2.new.self c.args.mark.document c.raise-2.result c.in_default.ensures.put c.raise.ensures.keeps.state
-    c.in_default.ensures.dropped c.raise-2.ensures.unwritten c.raise-2.ensures.job c.raise-2.ensures.faults c.raise-2.ensures.goes
-
--- the job of the one that was refused is one more at most
-pub returns-in-Err-clause-one_job : goal.returns-in-Err-clause-one_job
-returns-in-Err-clause-one_job g c = may_keep_one c.args.mark.document (reached_in (state_of c.args.self.now) c.args.mark.document) c.args.self.now c.raise.new.self c.in-Err.ensures.job
-
-pub returns-clause-one_job : goal.returns-clause-one_job
-returns-clause-one_job g c =
-    let old = kept_jobs c.args.self.now in
-    on_err_weaker c.raise-2.result
-    (λ job. omega (
-      arith,
-      may_keep_one c.args.mark.document (reached_in (state_of c.raise.new.self) c.args.mark.document) c.raise.new.self c.raise-2.new.self job,
-      ap (λ (l : List Job). length l) c.in_default.ensures.dropped,
-      fewer_without c.args.mark.document old,
-    ))
-    c.raise-2.ensures.job
+    half_behind c.args.self.now c.raise.new.self c.raise-2.new.self c.args.mark.document c.raise-2.result c.in_default.ensures.put c.raise-2.ensures.unwritten c.raise-2.ensures.faults
+    c.raise-2.ensures.goes
 
 pub returns-clause-calls : goal.returns-clause-calls
 returns-clause-calls g c = omega (arith, c.raise.ensures.calls, c.raise-2.ensures.calls)
@@ -122,6 +100,3 @@ returns-clause-faults g c = faults_on c.in_default.field-0 c.raise-2.result c.in
 
 pub returns-clause-goes : goal.returns-clause-goes
 returns-clause-goes g c = goes_same c.raise.ensures.keeps.state c.raise.ensures.goes c.raise-2.ensures.goes
-
-pub returns-clause-others : goal.returns-clause-others
-returns-clause-others g c = c.raise-2.ensures.others ∙ c.raise.ensures.others

@@ -46,15 +46,15 @@ loop-place-preserved g c =
       goes = goes_same before.keeps.state before.goes c.cover_mark.ensures.goes;
       covered = λ is_open.
           covered_more c.args.segment place mark start store is_open inside is (before.covered is_open) new before.keeps.state c.cover_mark.ensures.elsewhere
-          (λ of. c.in_default.ensures.covered of (before.covered is_open).goes_on) c.in_default.ensures.dropped;
+          (λ of. c.in_default.ensures.covered of (before.covered is_open).goes_on) c.cover_mark.ensures.dropped;
       calls = calls_more c.args.segment place (length (g.D.Disk.past (device_of store))) (length (g.D.Disk.past (device_of new))) (length (g.D.Disk.past (device_of start)))
           (marks_of start.marks) mark inside is before.calls c.cover_mark.ensures.calls
           (λ away. ap (λ s. length (g.D.Disk.past (device_of s))) (c.cover_mark.ensures.elsewhere away));
       calls_by_marks = omega (arith, before.calls_by_marks, c.cover_mark.ensures.calls);
       jobs = λ is_open.
-          spared_more start store new c.args.segment place mark inside is (λ away. ap (λ s. kept_jobs s) (c.cover_mark.ensures.elsewhere away)) c.cover_mark.ensures.others
+          spared_more start store new c.args.segment place mark inside is (λ away. ap (λ s. kept_jobs s) (c.cover_mark.ensures.elsewhere away)) c.cover_mark.ensures.dropped
           (before.jobs is_open);
-      few_jobs = omega (arith, before.few_jobs, no_more_kept c.args.segment mark store new c.cover_mark.ensures.elsewhere c.in_default.ensures.dropped);
+      few_jobs = omega (arith, before.few_jobs, no_more_kept c.args.segment mark store new c.cover_mark.ensures.elsewhere c.cover_mark.ensures.dropped);
     }
 
 pub returns-in-Err-clause-needed : goal.returns-in-Err-clause-needed
@@ -77,7 +77,7 @@ returns-in-Err-clause-half g c other is_open =
     let inside : place < length (marks_of start.marks) = omega (arith, c.loop-place-test.true, c.mark_count-place-end.ensures) in
     let is : get_or (marks_of start.marks) place mark ≡ mark = subst (λ (l : List Mark). get_or l place mark ≡ mark) before.keeps.marks c.mark_at-mark.ensures in
     half_freed c.args.segment place mark start c.loop-place.self is_open inside is (before.covered is_open) c.cover_mark.new.self c.requires.oldest.0 c.requires.oldest.1 before.keeps.state
-    c.in-Err.ensures.of (c.in-Err.ensures.half other (before.covered is_open).goes_on) c.cover_mark.ensures.others
+    c.in-Err.ensures.of (c.in-Err.ensures.half other (before.covered is_open).goes_on) (c.cover_mark.ensures.dropped c.in-Err.ensures.of)
 
 pub returns-in-Err-clause-calls : goal.returns-in-Err-clause-calls
 returns-in-Err-clause-calls g c =
@@ -103,11 +103,16 @@ returns-in-Err-clause-jobs g c is_open =
     let before = c.loop-place.invariant in
     let inside : place < length (marks_of start.marks) = omega (arith, c.loop-place-test.true, c.mark_count-place-end.ensures) in
     let is : get_or (marks_of start.marks) place mark ≡ mark = subst (λ (l : List Mark). get_or l place mark ≡ mark) before.keeps.marks c.mark_at-mark.ensures in
-    spared_more start store c.cover_mark.new.self c.args.segment place mark inside is (λ away. ap (λ s. kept_jobs s) (c.cover_mark.ensures.elsewhere away)) c.cover_mark.ensures.others
+    spared_more start store c.cover_mark.new.self c.args.segment place mark inside is (λ away. ap (λ s. kept_jobs s) (c.cover_mark.ensures.elsewhere away)) c.cover_mark.ensures.dropped
     (before.jobs is_open)
 
-pub returns-in-Err-clause-one_job : goal.returns-in-Err-clause-one_job
-returns-in-Err-clause-one_job g c = omega (arith, c.loop-place.invariant.few_jobs, c.in-Err.ensures.one_job)
+pub returns-in-Err-clause-no_more_jobs : goal.returns-in-Err-clause-no_more_jobs
+returns-in-Err-clause-no_more_jobs g c =
+    omega (
+      arith,
+      c.loop-place.invariant.few_jobs,
+      no_more_kept c.args.segment c.mark_at-mark.result c.loop-place.self c.cover_mark.new.self c.cover_mark.ensures.elsewhere c.cover_mark.ensures.dropped,
+    )
 
 pub returns-clause-no_more_jobs : goal.returns-clause-no_more_jobs
 returns-clause-no_more_jobs g c = c.loop-place.invariant.few_jobs

@@ -65,7 +65,7 @@ returns-in-Err-clause-others g c =
     record {
       jobs = λ is_open slot segment oldest.
           spared_oldest store c.cover_segment.new.self found.0 c.in-Some.oldest slot segment found.1 oldest (c.cover_segment.ensures.jobs is_open);
-      one_job = c.in-Err.ensures.one_job;
+      no_more = c.cover_segment.ensures.no_more_jobs;
     }
 
 pub returns-in-Err-clause-costs : goal.returns-in-Err-clause-costs
@@ -94,7 +94,6 @@ returns-clause-freed g c =
       now = of_ok c.retire.result done is
           (freed_by store mid new oldest.0 c.in-Some.oldest c.retire.result oldest.1 c.in_default-cover_segment.ensures.covered c.retire.ensures.jobs c.retire.ensures.done);
       marks = of_ok c.retire.result done is (marks_gone store mid new c.retire.result c.cover_segment.ensures.keeps c.retire.ensures.marks);
-      jobs = omega (arith, c.in_default-cover_segment.ensures.no_more_jobs, ap (λ (l : List Job). length l) c.retire.ensures.jobs);
     })
 
 -- so its retirement isn't refused but for the device
@@ -126,7 +125,7 @@ returns-clause-others g c =
       jobs = λ is_open slot segment oldest.
           spared_then segment store mid c.retire.new.self
           (spared_oldest store mid found.0 c.in-Some.oldest slot segment found.1 oldest (c.cover_segment.ensures.jobs is_open)) c.retire.ensures.jobs;
-      one_job = omega (arith, c.in_default-cover_segment.ensures.no_more_jobs, ap (λ (l : List Job). length l) c.retire.ensures.jobs);
+      no_more = omega (arith, c.cover_segment.ensures.no_more_jobs, ap (λ (l : List Job). length l) c.retire.ensures.jobs);
     }
 
 pub returns-clause-costs : goal.returns-clause-costs
