@@ -14,7 +14,8 @@ use Rattle.document.specs.Places.{Cuts}
 use Rattle.delta.proofs.CallerLemmas.{units_below-counted, units_below-front, base_of-nf}
 use Rattle.compose.specs.Places.{tail}
 use Rattle.compose.specs.Composed.{units_after, beyond, composed, one_for}
-use Rattle.compose.specs.Many.{many_after, many, AreDefined, PartNone, applied, ComposesAll, lengths_of}
+use Rattle.compose.specs.Many.{many_after, many, AreDefined, applied, ComposesAll, lengths_of}
+use Rattle.compose.specs.Whole.{PartNone, IsWhole}
 use Rattle.compose.specs.Outcome.{CanCompose, CanComposeAll, IsComposeRefused, IsComposeAllRefused}
 use Rattle.compose.proofs.Compositions.{composes_by_normal}
 use Rattle.compose.proofs.Lengths.{lengths-one}
@@ -81,8 +82,10 @@ composes_all deltas = record {
   normal = normal-many [] deltas refl;
   defined = λ d defined. defined-many d [] deltas (omega arith) defined;
   effect = λ d defined. effect-many d [] deltas (omega arith) defined;
-  whole = λ d defined wholes. whole-many d [] deltas (omega arith) (whole-nothing d) defined wholes;
 }
+
+pub whole_all : (deltas : List (List Operation)) → IsWhole (many deltas) deltas
+whole_all deltas d defined wholes = whole-many d [] deltas (omega arith) (whole-nothing d) defined wholes
 
 -- how far they have been composed: what holds of the one with those that are left holds of all
 pub record AreComposed (deltas : List (List Operation)) (one : List Operation) (left : List (List Operation)) : Type 0 where

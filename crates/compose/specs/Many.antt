@@ -5,7 +5,6 @@ use Rattle.delta.specs.Operation.{Operation, base_of, out_of}
 use Rattle.delta.specs.Gaps.{counted, apply}
 use Rattle.delta.specs.Normal.{IsNormal}
 use Rattle.delta.specs.Places.{IsDefined}
-use Rattle.document.specs.Places.{Cuts}
 use Rattle.compose.specs.Composed.{one_for}
 
 -- the first and then all others, each over what is there
@@ -22,23 +21,16 @@ abbrev pub AreDefined : List Element → List (List Operation) → Type 0
 AreDefined d [] = Unit {0}
 AreDefined d (first ∷ others) = IsDefined d (counted first) × AreDefined (apply d (counted first)) others
 
--- each parts no pair of what those before it leave of a document
-abbrev pub PartNone : List Element → List (List Operation) → Type 0
-PartNone d [] = Unit {0}
-PartNone d (first ∷ others) = (¬ (Cuts d (counted first))) × PartNone (apply d (counted first)) others
-
 -- a document after all of them
 abbrev pub applied : List Element → List (List Operation) → List Element
 applied d [] = d
 applied d (first ∷ others) = applied (apply d (counted first)) others
 
--- one composes all: it is in normal form, and where all are defined in turn, so is it, with the same result; where they part no pair
--- in turn, it parts none
+-- one composes all: it is in normal form, and where all are defined in turn, so is it, with the same result
 pub record ComposesAll (one : List Operation) (deltas : List (List Operation)) : Type 0 where
   pub normal : IsNormal one
   pub defined : (d : List Element) → AreDefined d deltas → IsDefined d (counted one)
   pub effect : (d : List Element) → AreDefined d deltas → apply d (counted one) ≡ applied d deltas
-  pub whole : (d : List Element) → AreDefined d deltas → PartNone d deltas → ¬ (Cuts d (counted one))
 
 -- the base and the output lengths of all, added up
 abbrev pub lengths_of : List (List Operation) → ℕ

@@ -3,7 +3,8 @@ ghost use Rattle.std.specs.Prelude.{◌≡◌, ◌+◌, ◌<◌, ◌≤◌, ◌^
 ghost use Rattle.delta.specs.Element.{Element};
 ghost use Rattle.compose.specs.Composes.{Composes};
 ghost use Rattle.compose.specs.Composed.{one_for};
-ghost use Rattle.compose.specs.Many.{many, AreDefined, PartNone, ComposesAll, lengths_of};
+ghost use Rattle.compose.specs.Many.{many, AreDefined, ComposesAll, lengths_of};
+ghost use Rattle.compose.specs.Whole.{PartNone, IsWhole};
 ghost use Rattle.compose.specs.Outcome.{CanCompose, CanComposeAll, IsComposeRefused, IsComposeAllRefused};
 
 use crate::laying::{end, lay, lay_over};
@@ -40,6 +41,7 @@ pub fn compose(alloc: Global, first: &Delta, second: &Delta) -> Result<Delta, Re
 pub fn compose_many(alloc: Global, deltas: &[Delta]) -> Result<Delta, Refusal>
     ensures one { IfOk result (λ one. one ≡ many deltas.now) }
     ensures composes { IfOk result (λ one. ComposesAll one deltas.now) }
+    ensures whole { IfOk result (λ one. IsWhole one deltas.now) }
     ensures accepted { OnOk result (CanComposeAll [] deltas.now) }
     ensures only { IfErr result (IsComposeAllRefused [] deltas.now) }
     ensures long { result ≡ Err Refusal.BadOps → 2 ^ 48 < lengths_of deltas.now }

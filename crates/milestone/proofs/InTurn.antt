@@ -7,11 +7,12 @@ use Rattle.delta.specs.Operation.{Operation, base_of}
 use Rattle.delta.specs.Gaps.{counted, apply}
 use Rattle.delta.proofs.CallerLemmas.{length-apply_counted}
 use Rattle.document.specs.Outcome.{IsAccepted}
-use Rattle.compose.specs.Many.{AreDefined, PartNone, applied, ComposesAll, lengths_of}
+use Rattle.compose.specs.Many.{AreDefined, applied, lengths_of}
+use Rattle.compose.specs.Whole.{PartNone}
 use Rattle.revision.specs.Past.{StandInTurn}
 use Rattle.revision.proofs.CallerLemmas.{stand-take, stand-drop}
 use Rattle.milestone.specs.Job.{Job, KeepLengths, IsJob, units_of_job}
-use Rattle.milestone.specs.Halves.{IsPart, first_half, second_half}
+use Rattle.milestone.specs.Halves.{IsPart, ComposesPart, first_half, second_half}
 
 -- they are defined in turn, and part no pair
 are_defined : (units : List Element) (deltas : List (List Operation)) → StandInTurn units deltas → AreDefined units deltas
@@ -34,17 +35,17 @@ short_after units [] short turn = short
 short_after units (first ∷ others) short turn = short_after (apply units (counted first)) others turn.0.2 turn.1
 
 -- the one delta for them makes it of the units, and is accepted there
-pub one_makes : (units : List Element) (deltas : List (List Operation)) (one : List Operation) → StandInTurn units deltas → ComposesAll one deltas
+pub one_makes : (units : List Element) (deltas : List (List Operation)) (one : List Operation) → StandInTurn units deltas → ComposesPart one deltas
     → apply units (counted one) ≡ applied units deltas
-one_makes units deltas one turn composes = composes.effect units (are_defined units deltas turn)
+one_makes units deltas one turn composes = composes.all.effect units (are_defined units deltas turn)
 
 pub one_accepted : (units : List Element) (deltas : List (List Operation)) (one : List Operation) → length units ≤ 2 ^ 48 → StandInTurn units deltas
-    → ComposesAll one deltas → IsAccepted units (counted one)
+    → ComposesPart one deltas → IsAccepted units (counted one)
 one_accepted units deltas one short turn composes =
     let defined = are_defined units deltas turn in (
-      composes.defined units defined,
+      composes.all.defined units defined,
       composes.whole units defined (part_none units deltas turn),
-      omega (arith, ap length (composes.effect units defined), short_after units deltas short turn),
+      omega (arith, ap length (composes.all.effect units defined), short_after units deltas short turn),
     )
 
 -- a part of them has no longer lengths
@@ -88,44 +89,44 @@ applied-parts (suc n) units [] = refl
 applied-parts (suc n) units (first ∷ others) = applied-parts n (apply units (counted first)) others
 
 -- the one delta for all, on the units of the job
-pub all_accepted : (job : Job) (units : List Element) (one : List Operation) → IsJob job → units ≡ units_of_job job → ComposesAll one job.deltas
+pub all_accepted : (job : Job) (units : List Element) (one : List Operation) → IsJob job → units ≡ units_of_job job → ComposesPart one job.deltas
     → IsAccepted units (counted one)
 all_accepted job units one is same composes =
     subst (λ (d : List Element). IsAccepted d (counted one)) (sym same) (one_accepted (units_of_job job) job.deltas one (job_short job is) is.stand composes)
 
-pub all_made : (job : Job) (units : List Element) (one : List Operation) → IsJob job → units ≡ units_of_job job → ComposesAll one job.deltas
+pub all_made : (job : Job) (units : List Element) (one : List Operation) → IsJob job → units ≡ units_of_job job → ComposesPart one job.deltas
     → apply units (counted one) ≡ applied (units_of_job job) job.deltas
 all_made job units one is same composes = ap (λ d. apply d (counted one)) same ∙ one_makes (units_of_job job) job.deltas one is.stand composes
 
 -- that for the first half
 pub first_accepted : (job : Job) (units : List Element) (one : List Operation) (half : List (List Operation)) → IsJob job → units ≡ units_of_job job
-    → half ≡ first_half job.deltas → ComposesAll one half → IsAccepted units (counted one)
+    → half ≡ first_half job.deltas → ComposesPart one half → IsAccepted units (counted one)
 first_accepted job units one half is same is_half composes =
     subst (λ (d : List Element). IsAccepted d (counted one)) (sym same)
     (one_accepted (units_of_job job) (first_half job.deltas) one (job_short job is) (stand-take (length job.deltas / 2) (units_of_job job) job.deltas is.stand)
-    (subst (ComposesAll one) is_half composes))
+    (subst (ComposesPart one) is_half composes))
 
 pub first_made : (job : Job) (units : List Element) (one : List Operation) (half : List (List Operation)) → IsJob job → units ≡ units_of_job job
-    → half ≡ first_half job.deltas → ComposesAll one half → apply units (counted one) ≡ applied (units_of_job job) (first_half job.deltas)
+    → half ≡ first_half job.deltas → ComposesPart one half → apply units (counted one) ≡ applied (units_of_job job) (first_half job.deltas)
 first_made job units one half is same is_half composes =
     ap (λ d. apply d (counted one)) same
     ∙ one_makes (units_of_job job) (first_half job.deltas) one (stand-take (length job.deltas / 2) (units_of_job job) job.deltas is.stand)
-    (subst (ComposesAll one) is_half composes)
+    (subst (ComposesPart one) is_half composes)
 
 -- and that for the second, on what the first makes
 pub second_accepted : (job : Job) (units : List Element) (one : List Operation) (half : List (List Operation)) → IsJob job
-    → units ≡ applied (units_of_job job) (first_half job.deltas) → half ≡ second_half job.deltas → ComposesAll one half → IsAccepted units (counted one)
+    → units ≡ applied (units_of_job job) (first_half job.deltas) → half ≡ second_half job.deltas → ComposesPart one half → IsAccepted units (counted one)
 second_accepted job units one half is same is_half composes =
     subst (λ (d : List Element). IsAccepted d (counted one)) (sym same)
     (one_accepted (applied (units_of_job job) (first_half job.deltas)) (second_half job.deltas) one
     (short_after (units_of_job job) (first_half job.deltas) (job_short job is) (stand-take (length job.deltas / 2) (units_of_job job) job.deltas is.stand))
-    (stand-drop (length job.deltas / 2) (units_of_job job) job.deltas is.stand) (subst (ComposesAll one) is_half composes))
+    (stand-drop (length job.deltas / 2) (units_of_job job) job.deltas is.stand) (subst (ComposesPart one) is_half composes))
 
 pub second_made : (job : Job) (units : List Element) (one : List Operation) (half : List (List Operation)) → IsJob job
-    → units ≡ applied (units_of_job job) (first_half job.deltas) → half ≡ second_half job.deltas → ComposesAll one half
+    → units ≡ applied (units_of_job job) (first_half job.deltas) → half ≡ second_half job.deltas → ComposesPart one half
     → apply units (counted one) ≡ applied (units_of_job job) job.deltas
 second_made job units one half is same is_half composes =
     ap (λ d. apply d (counted one)) same
     ∙ (one_makes (applied (units_of_job job) (first_half job.deltas)) (second_half job.deltas) one (stand-drop (length job.deltas / 2) (units_of_job job) job.deltas is.stand)
-    (subst (ComposesAll one) is_half composes)
+    (subst (ComposesPart one) is_half composes)
     ∙ applied-parts (length job.deltas / 2) (units_of_job job) job.deltas)

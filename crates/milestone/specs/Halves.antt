@@ -2,7 +2,8 @@
 use Rattle.std.specs.Prelude.{◌≡◌, ◌/◌, ◌≤◌, ◌^◌, List, length, take, drop}
 use Rattle.delta.specs.Element.{Element}
 use Rattle.delta.specs.Operation.{Operation}
-use Rattle.compose.specs.Many.{lengths_of}
+use Rattle.compose.specs.Many.{ComposesAll, lengths_of}
+use Rattle.compose.specs.Whole.{IsWhole}
 use Rattle.revision.specs.Past.{StandInTurn}
 use Rattle.milestone.specs.Job.{Job}
 
@@ -11,6 +12,11 @@ pub record IsPart (deltas : List (List Operation)) : Type 0 where
   pub units : List Element
   pub stand : StandInTurn units deltas
   pub lengths : lengths_of deltas ≤ 2 ^ 48
+
+-- One delta composes a part: it has the effect of its deltas, wherever they are defined, and parts no pair where they part none.
+pub record ComposesPart (one : List Operation) (deltas : List (List Operation)) : Type 0 where
+  pub all : ComposesAll one deltas
+  pub whole : IsWhole one deltas
 
 -- of an odd number of deltas the second half has one more
 abbrev pub first_half : List (List Operation) → List (List Operation)

@@ -1,7 +1,6 @@
 //! Half of a job's deltas, and the one delta for it.
 ghost use Rattle.std.specs.Prelude.{◌≡◌, IfOk, IfErr, IsOkUnless};
-ghost use Rattle.compose.specs.Many.{ComposesAll};
-ghost use Rattle.milestone.specs.Halves.{IsPart, first_half, second_half};
+ghost use Rattle.milestone.specs.Halves.{IsPart, ComposesPart, first_half, second_half};
 
 use crate::job::{Job, copies};
 use compose::compose_many;
@@ -52,8 +51,8 @@ pub struct PartDone {
 impl Model for PartDone {
     ghost use Rattle.std.specs.Prelude.{List};
     ghost use Rattle.std.specs.Coded.{coded_list};
-    ghost use Rattle.compose.specs.Many as all;
     ghost use Rattle.delta.specs.Operation.{Operation, operation_code};
+    ghost use Rattle.milestone.specs.Halves as spec;
 
     ghost Value = { List (List Operation) };
 
@@ -61,7 +60,7 @@ impl Model for PartDone {
 
     ghost view = { λ d. d.part };
 
-    ghost invariant = { λ d. all.ComposesAll d.one d.part };
+    ghost invariant = { λ d. spec.ComposesPart d.one d.part };
 }
 
 impl PartDone {
@@ -74,7 +73,7 @@ impl PartDone {
 
     /// The one delta for them.
     pub fn one(&self) -> &Delta
-        ensures { ComposesAll result.now self.now }
+        ensures { ComposesPart result.now self.now }
     {
         &self.one
     }
@@ -128,7 +127,7 @@ fn part_of(alloc: Global, deltas: &[Delta]) -> Result<Part, Refusal>
 /// The one delta for deltas that stand in turn on some units. Refused for want of memory alone.
 pub(crate) fn one_for(alloc: Global, deltas: &[Delta]) -> Result<Delta, Refusal>
     requires { IsPart deltas.now }
-    ensures composes { IfOk result (λ one. ComposesAll one deltas.now) }
+    ensures composes { IfOk result (λ one. ComposesPart one deltas.now) }
     ensures only { IsOkUnless result Refusal.NoMemory }
 {
     match compose_many(alloc, deltas) {

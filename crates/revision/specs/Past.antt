@@ -21,11 +21,6 @@ abbrev pub StandInTurn : List Element → List (List Operation) → Type 0
 StandInTurn units [] = Unit {0}
 StandInTurn units (taken ∷ others) = IsAccepted units (counted taken) × StandInTurn (apply units (counted taken)) others
 
--- so do the first of them, and those that are left, on the document after the first
-abbrev pub PartsStand : Type 0
-PartsStand = (count : ℕ) (units : List Element) (deltas : List (List Operation)) → StandInTurn units deltas
-    → StandInTurn units (take count deltas) × StandInTurn (applied units (take count deltas)) (drop count deltas)
-
 -- the document at a revision that is held
 abbrev pub units_at : ℕ → List Element → List (List Operation) → ℕ → List Element
 units_at floor units deltas revision = applied units (take (revision - floor) deltas)

@@ -5,7 +5,7 @@ ghost use Rattle.utf16.specs.Units.{units_of};
 ghost use Rattle.revision.specs.Spellable.{IsText};
 ghost use Rattle.revision.specs.Acceptance.{TakenGrows};
 ghost use Rattle.revision.specs.Parting.{PartsTold};
-ghost use Rattle.revision.specs.Past.{PartsStand};
+ghost use Rattle.revision.specs.Replay.{PartsStand};
 ghost use Rattle.revision.specs.Agree.{AgreeSame, AgreeTurned, AgreeThrough, AgreeingContinue, AgreeingGrow, AgreeingAnswer, AgreeingAnswerHeld};
 ghost use Rattle.revision.specs.Invariants.{EmptyIsState, GrowingKeeps, AdoptingKeeps, ContinuingKeeps};
 ghost use Rattle.revision.specs.Floors.{FromItself, FromTwice, FromNewest, FromLonger, ChangeMakes};

@@ -4,8 +4,9 @@ use Rattle.std.proofs.lemmas.Result.{err_from_is_err_and}
 use Rattle.refusal.specs.declared.Refusal.TheVariants.{BadOps}
 use Rattle.delta.specs.Operation.{Operation}
 use Rattle.compose.specs.Many.{many_after, ComposesAll}
+use Rattle.compose.specs.Whole.{IsWhole}
 use Rattle.compose.specs.Outcome.{IsComposeRefused}
-use Rattle.compose.proofs.ManyDeltas.{AreComposed, drop-here, composes_all, composed-step, composed-refused, long-many, wants_memory}
+use Rattle.compose.proofs.ManyDeltas.{AreComposed, drop-here, composes_all, whole_all, composed-step, composed-refused, long-many, wants_memory}
 use Rattle.compose.proofs.Outcomes.{handed_on, refused_so, each_err}
 use Rattle.compose.proofs.composing.compose_many.Goals as goal
 
@@ -41,3 +42,9 @@ returns-clause-composes c =
     subst (λ o. ComposesAll o c.args.deltas.now)
     (sym (ap (many_after c.loop-delta.one) (sym (drop_of_length-le c.args.deltas.now c.loop-delta-test.false)) ∙ c.loop-delta.invariant.same))
     (composes_all c.args.deltas.now)
+
+pub returns-clause-whole : goal.returns-clause-whole
+returns-clause-whole c =
+    subst (λ o. IsWhole o c.args.deltas.now)
+    (sym (ap (many_after c.loop-delta.one) (sym (drop_of_length-le c.args.deltas.now c.loop-delta-test.false)) ∙ c.loop-delta.invariant.same))
+    (whole_all c.args.deltas.now)
