@@ -13,6 +13,16 @@ use Rattle.recovery.proofs.HandedOut.{same_error}
 use Rattle.recovery.proofs.Refusals.{ok≢err, refusal_or}
 use Rattle.recovery.proofs.SparedJobs.{spared_same}
 
+-- what a retirement tells, freeing tells
+pub needed_or_fault : (refusal : Refusal) → (refusal ≡ StillNeeded) ⊎ (refusal ≡ Fault) → (refusal ≡ StillNeeded) ⊎ ((refusal ≡ NoMemory) ⊎ (refusal ≡ Fault))
+needed_or_fault refusal (inl needed) = inl needed
+needed_or_fault refusal (inr fault) = inr (inr fault)
+
+-- a retirement takes no memory
+one_memory : (refusal : Refusal) → (refusal ≡ StillNeeded) ⊎ (refusal ≡ Fault) → refusal ≡ NoMemory → ⊥
+one_memory refusal (inl is) memory = let same : StillNeeded ≡ NoMemory = sym is ∙ memory in cc
+one_memory refusal (inr is) memory = let same : Fault ≡ NoMemory = sym is ∙ memory in cc
+
 module _ {D : Type 0} {disk : Ghosts D} where
   -- nothing was done
   pub keeps_others_none : (store : Store D disk) → KeepsOthers store store
@@ -23,23 +33,12 @@ module _ {D : Type 0} {disk : Ghosts D} where
 
   pub unfreed_none : (refusal : Refusal) (store : Store D disk) → (refusal ≡ StillNeeded) ⊎ (refusal ≡ Fault) → (refusal ≡ StillNeeded → HasFew store) → IsUnfreed refusal store store
   unfreed_none refusal store only few = record {
-    only = left only;
+    only = needed_or_fault refusal only;
     ring = refl;
     marks = refl;
-    needed = λ is is_open. (few is, same);
-    half = λ memory. absurd (no_memory_here only memory);
+    needed = λ is is_open. (few is, record { device = refl; shape = refl; ring = refl; cells = refl; marks = refl; jobs = refl; state = refl; failed = refl });
+    half = λ memory. absurd (one_memory refusal only memory);
   }
-    where
-      left : (refusal ≡ StillNeeded) ⊎ (refusal ≡ Fault) → (refusal ≡ StillNeeded) ⊎ ((refusal ≡ NoMemory) ⊎ (refusal ≡ Fault))
-      left (inl needed) = inl needed
-      left (inr fault) = inr (inr fault)
-
-      no_memory_here : (refusal ≡ StillNeeded) ⊎ (refusal ≡ Fault) → refusal ≡ NoMemory → ⊥
-      no_memory_here (inl is) memory = let same : StillNeeded ≡ NoMemory = sym is ∙ memory in cc
-      no_memory_here (inr is) memory = let same : Fault ≡ NoMemory = sym is ∙ memory in cc
-
-      same : IsUnchanged store store
-      same = record { device = refl; shape = refl; ring = refl; cells = refl; marks = refl; jobs = refl; state = refl; failed = refl }
 
   -- a call that makes few calls of the device, and leaves the kept jobs, and others then
   pub keeps_others_same : (old new : Store D disk) → kept_jobs new ≡ kept_jobs old → KeepsOthers old new
@@ -59,9 +58,9 @@ module _ {D : Type 0} {disk : Ghosts D} where
 
   pub costs_on : (more few : ℕ) (old mid new : Store D disk) → CostsAtMost more old mid → length (disk.past (device_of new)) ≤ length (disk.past (device_of mid)) + few
       → CostsAtMost (more + few) old new
-  costs_on more few old mid new first then = record {
-    by_segment = λ slot segment oldest. omega (arith, first.by_segment slot segment oldest, then);
-    by_marks = omega (arith, first.by_marks, then);
+  costs_on more few old mid new first behind = record {
+    by_segment = λ slot segment oldest. omega (arith, first.by_segment slot segment oldest, behind);
+    by_marks = omega (arith, first.by_marks, behind);
   }
 
 -- a commit doesn't tell that a segment is needed, nor does freeing tell that there is no room
@@ -79,18 +78,9 @@ no_needed (Ok answer) only told = ok≢err answer StillNeeded told
 no_needed {A} (Err refusal) only told = one_needed refusal only (ap (refusal_or {T = A} StillNeeded) told)
 
 -- nor does a retirement take memory
-one_memory : (refusal : Refusal) → (refusal ≡ StillNeeded) ⊎ (refusal ≡ Fault) → refusal ≡ NoMemory → ⊥
-one_memory refusal (inl is) memory = let same : StillNeeded ≡ NoMemory = sym is ∙ memory in cc
-one_memory refusal (inr is) memory = let same : Fault ≡ NoMemory = sym is ∙ memory in cc
-
 pub no_memory : {A : Type 0} (result : Result A Refusal) → IfErr result (λ e. (e ≡ StillNeeded) ⊎ (e ≡ Fault)) → IsErrOf result NoMemory → ⊥
 no_memory (Ok answer) only told = ok≢err answer NoMemory told
 no_memory {A} (Err refusal) only told = one_memory refusal only (ap (refusal_or {T = A} NoMemory) told)
-
--- what a retirement tells, freeing tells
-pub needed_or_fault : (refusal : Refusal) → (refusal ≡ StillNeeded) ⊎ (refusal ≡ Fault) → (refusal ≡ StillNeeded) ⊎ ((refusal ≡ NoMemory) ⊎ (refusal ≡ Fault))
-needed_or_fault refusal (inl needed) = inl needed
-needed_or_fault refusal (inr fault) = inr (inr fault)
 
 pub not_full : (refusal : Refusal) → (refusal ≡ StillNeeded) ⊎ ((refusal ≡ NoMemory) ⊎ (refusal ≡ Fault)) → refusal ≡ JournalFull → ⊥
 not_full refusal (inl is) full = let same : StillNeeded ≡ JournalFull = sym is ∙ full in cc
