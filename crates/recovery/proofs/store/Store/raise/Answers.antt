@@ -32,6 +32,9 @@ returns-then-newest-revision-clause-faults g c =
 pub returns-then-newest-revision-clause-goes : goal.returns-then-newest-revision-clause-goes
 returns-then-newest-revision-clause-goes g c = goes_but_jobs c.args.self.now c.give_up_job.new.self c.give_up_job.ensures.same c.give_up_job.ensures.open
 
+pub returns-then-newest-revision-clause-unwritten : goal.returns-then-newest-revision-clause-unwritten
+returns-then-newest-revision-clause-unwritten g c other = c.give_up_job.ensures.same.device
+
 -- in an open store nothing speaks against the milestone
 pub returns-in-Err-clause-needed : goal.returns-in-Err-clause-needed
 returns-in-Err-clause-needed g c told is_open =
