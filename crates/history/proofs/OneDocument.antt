@@ -55,8 +55,8 @@ agreeing-keeps limits (Some found) cell past agree =
       last = omega (arith, past.last, here);
       count = subst (λ s. count_of s ≤ limits.sources) sources kept.count;
       sources = subst (λ r. are_sources r cell.sources.entries ≡ true) here (subst (λ (s : Sources). are_sources (revision_of found) s.entries ≡ true) sources kept.sources);
-      weight = subst (λ u. weight_of u (count_of cell.sources) ≤ limits.weight) units
-          (subst (λ s. weight_of (content_of found).units (count_of s) ≤ limits.weight) sources kept.weight);
+      weight = subst (λ u. weight_of limits u cell.sources ≤ limits.weight) units
+          (subst (λ s. weight_of limits (content_of found).units s ≤ limits.weight) sources kept.weight);
     }
 
 -- a cell that keeps the limits begins a past that keeps them

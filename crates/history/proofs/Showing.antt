@@ -3,7 +3,7 @@ use Rattle.std.proofs.Common.{◌≡◌, ℕ, ◌+◌, ◌-◌, ◌≤◌, max, 
 use Rattle.std.specs.Prelude.{◌&&◌, ◌==◌, not, nat_le}
 use Rattle.std.proofs.lemmas.Bool.{and_parts, eqb-true}
 use Rattle.revision.specs.Command.{Taken}
-use Rattle.revision.specs.Sources.{last_of}
+use Rattle.revision.specs.Sources.{window_of}
 use Rattle.revision.specs.Past.{Past, Change, newest, empty_past, from_floor, with_change}
 use Rattle.revision.specs.Floors.{longer}
 use Rattle.revision.specs.State.{Limits, DocumentRecord, revision_of, newest_revision, units_of, sources_of, last_of_all, has_place, keeps, continues_by_name, continues, change_of, record_by_name, record_after, all_continue, record_after_all}
@@ -113,12 +113,12 @@ next-revision limits found taken h = by_name found taken.name h
         omega (arith, eqb-true _ _ numbers.0)
     by_name (Some found) None h =
         let kept = and_parts ((taken.revision == revision_of found + 1) && not (revision_of found == last_of_all)
-        && (taken.number == (last_of taken.source (sources_of found)).number + 1) && nat_le taken.number last_of_all
+        && (taken.number == (window_of taken.source (sources_of found)).number + 1) && nat_le taken.number last_of_all
         && has_place limits taken.source (sources_of found)) (keeps limits (units_of found) (sources_of found) taken) h in
         let place = and_parts ((taken.revision == revision_of found + 1) && not (revision_of found == last_of_all)
-        && (taken.number == (last_of taken.source (sources_of found)).number + 1) && nat_le taken.number last_of_all) _ kept.0 in
+        && (taken.number == (window_of taken.source (sources_of found)).number + 1) && nat_le taken.number last_of_all) _ kept.0 in
         let number = and_parts ((taken.revision == revision_of found + 1) && not (revision_of found == last_of_all)
-        && (taken.number == (last_of taken.source (sources_of found)).number + 1)) _ place.0 in
+        && (taken.number == (window_of taken.source (sources_of found)).number + 1)) _ place.0 in
         let next = and_parts ((taken.revision == revision_of found + 1) && not (revision_of found == last_of_all)) _ number.0 in
         let first = and_parts (taken.revision == revision_of found + 1) _ next.0 in
         eqb-true _ _ first.0

@@ -150,6 +150,7 @@ are_limits shape in_range =
       width = omega (arith, ranges.slot);
       some_revision = ranges.keep_low;
       keep = ranges.keep;
+      retry = omega arith;
     }
 
 -- with an open gate in front, what is prepared is an empty store

@@ -8,7 +8,7 @@ use Rattle.std.proofs.lemmas.List.Concat.{flat_map-append}
 use Rattle.disk.specs.declared.device.Disk.{Ghosts}
 use Rattle.revision.specs.Command.{Taken}
 use Rattle.revision.specs.Past.{Past, Change, newest, empty_past, from_floor, with_change}
-use Rattle.revision.specs.Sources.{last_of}
+use Rattle.revision.specs.Sources.{window_of}
 use Rattle.revision.specs.State.{newest_revision, Limits, DocumentRecord, State, revision_of, sources_of, units_of, last_of_all, has_place, keeps, change_of, continues, continues_by_name, record_by_name, record_after, all_continue}
 use Rattle.history.specs.Entries.{of_document, greatest}
 use Rattle.history.specs.Cell.{Pair, cells_at, OfBoth}
@@ -48,12 +48,12 @@ next_reached limits None taken (Some name) is =
     omega (arith, eqb-true _ _ (and_parts (taken.revision == 1) (taken.number == 1) last.0).0)
 next_reached limits (Some found) taken None is =
     let kept = and_parts ((taken.revision == revision_of found + 1) && not (revision_of found == last_of_all)
-    && (taken.number == (last_of taken.source (sources_of found)).number + 1) && nat_le taken.number last_of_all
+    && (taken.number == (window_of taken.source (sources_of found)).number + 1) && nat_le taken.number last_of_all
     && has_place limits taken.source (sources_of found)) (keeps limits (units_of found) (sources_of found) taken) is in
     let place = and_parts ((taken.revision == revision_of found + 1) && not (revision_of found == last_of_all)
-    && (taken.number == (last_of taken.source (sources_of found)).number + 1) && nat_le taken.number last_of_all) _ kept.0 in
+    && (taken.number == (window_of taken.source (sources_of found)).number + 1) && nat_le taken.number last_of_all) _ kept.0 in
     let number = and_parts ((taken.revision == revision_of found + 1) && not (revision_of found == last_of_all)
-    && (taken.number == (last_of taken.source (sources_of found)).number + 1)) _ place.0 in
+    && (taken.number == (window_of taken.source (sources_of found)).number + 1)) _ place.0 in
     let next = and_parts ((taken.revision == revision_of found + 1) && not (revision_of found == last_of_all)) _ number.0 in
     eqb-true _ _ (and_parts (taken.revision == revision_of found + 1) _ next.0).0
 next_reached limits (Some found) taken (Some name) is = absurd cc

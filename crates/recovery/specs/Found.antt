@@ -17,7 +17,14 @@ use Rattle.recovery.specs.Layout.{IsLaidOut}
 
 -- how much a store of this shape may hold
 abbrev pub limits_of : Shape → Limits
-limits_of shape = record { docs = shape.docs; sources = shape.sources; weight = shape.cell - 128; width = shape.slot - 19; keep = shape.keep }
+limits_of shape = record {
+  docs = shape.docs;
+  sources = shape.sources;
+  weight = shape.cell - 128;
+  width = shape.slot - 19;
+  keep = shape.keep;
+  retry = 8;
+}
 
 -- a store of this shape without documents
 abbrev pub empty_state : Shape → State
