@@ -1,10 +1,10 @@
 -- A command that stands in a state stands in what comes of it, and was taken.
 use Rattle.std.proofs.Common.{◌≡◌, ℕ, suc, ◌+◌, ◌≤◌, Bool, true, false, cond, ◌&&◌, List, [], ◌∷◌, Option, Some, None, refl, sym, ap, ◌∙◌, subst, arith, inl, inr}
-use Rattle.std.specs.Prelude.{◌⊎◌, ◌<◌, nat_le, bytes_eq, slice_get, IsSomeAnd, Any}
+use Rattle.std.specs.Prelude.{◌⊎◌, ◌<◌, nat_le, nat_lt, bytes_eq, slice_get, IsSomeAnd, Any}
 use Rattle.std.proofs.lemmas.Bool.{and_parts, cases_lt}
 use Rattle.std.proofs.lemmas.Bool.Decides.{nat_tests}
 use Rattle.std.proofs.lemmas.Slice.Eq.{bytes_eq-Decides}
-use Rattle.refusal.specs.declared.Refusal.TheVariants.{Exists, OldNumber}
+use Rattle.refusal.specs.declared.Refusal.TheVariants.{Exists, Gap, OldNumber}
 use Rattle.revision.specs.Command.{Action, Create, Edit, Undo, Command, Taken}
 use Rattle.revision.specs.Window.{Window, taken_as, taken_next, revision_in}
 use Rattle.revision.specs.Sources.{Sources, window_of}
@@ -127,15 +127,22 @@ first_case true one other is = refl
 first_case false one other is = absurd (cc)
 
 by_number-old : (window : Window) (number : ℕ) (next : Answer) → revision_in number window ≡ None → number < window.number → by_number window number next ≡ Refuses OldNumber
-by_number-old window number next none lower = ap (λ o. by_retry o _) none ∙ first_case _ _ _ (is_old number window.number lower)
+by_number-old window number next none lower =
+    ap (λ o. by_retry o (cond (nat_le number window.number) (Refuses OldNumber) (cond (nat_lt (window.number + 1) number) (Refuses Gap) next))) none
+    ∙ first_case _ _ _ (is_old number window.number lower)
+
+by_number-again : (window : Window) (number revision : ℕ) (next : Answer) → revision_in number window ≡ Some revision → by_number window number next ≡ Repeats revision
+by_number-again window number revision next is =
+    ap (λ o. by_retry o (cond (nat_le number window.number) (Refuses OldNumber) (cond (nat_lt (window.number + 1) number) (Refuses Gap) next))) is
 
 -- where its document is found
 module _ (state : State) (command : Command) (found : ℕ × DocumentRecord) where
   answered-again : (action : Action) (revision : ℕ) → revision_in command.number (window_of command.source (sources_of found.1)) ≡ Some revision
       → answer_to state command action (Some found) ≡ Repeats revision
   answered-again (Create delta) revision is = ap (λ o. by_retry o (Refuses Exists)) is
-  answered-again (Edit base delta) revision is = ap (λ o. by_retry o _) is
-  answered-again Undo revision is = ap (λ o. by_retry o _) is
+  answered-again (Edit base delta) revision is =
+      by_number-again (window_of command.source (sources_of found.1)) command.number revision (edit state found.0 found.1 command base delta) is
+  answered-again Undo revision is = by_number-again (window_of command.source (sources_of found.1)) command.number revision (undo state found.0 found.1 command) is
 
   answered-old : (action : Action) → revision_in command.number (window_of command.source (sources_of found.1)) ≡ None
       → command.number < (window_of command.source (sources_of found.1)).number → answer_to state command action (Some found) ≡ Refuses (refusal_of_old action)

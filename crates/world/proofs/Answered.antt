@@ -122,6 +122,11 @@ number_made window number revision next anew h = by_found (revision_in number wi
         let gap = asked_again (nat_lt (window.number + 1) number) (Refuses Gap) next revision (λ e. cc) old.1 in
         anew gap.1
 
+-- and a number that made a revision is a retry
+number_again : (window : Window) (number revision : ℕ) (next : Answer) → revision_in number window ≡ Some revision → by_number window number next ≡ Repeats revision
+number_again window number revision next is =
+    ap (λ made. by_retry made (cond (nat_le number window.number) (Refuses OldNumber) (cond (nat_lt (window.number + 1) number) (Refuses Gap) next))) is
+
 -- where the document of the command's name is found
 module _ (state : State) (number : ℕ) (found : DocumentRecord) (command : Command) (there : find command.name 0 state.documents ≡ Some (number, found)) where
   own_window : window_in command.name command.source (all_shown state) ≡ window_of command.source (sources_of found)
@@ -194,8 +199,9 @@ module _ (state : State) (number : ℕ) (found : DocumentRecord) (command : Comm
   found_again : (action : Action) (revision : ℕ) → revision_in command.number (window_of command.source (sources_of found)) ≡ Some revision
       → answer_to state command action (Some (number, found)) ≡ Repeats revision
   found_again (Create delta) revision is = ap (λ found. by_retry found (Refuses Exists)) is
-  found_again (Edit base delta) revision is = ap (λ made. by_retry made _) is
-  found_again Undo revision is = ap (λ made. by_retry made _) is
+  found_again (Edit base delta) revision is =
+      number_again (window_of command.source (sources_of found)) command.number revision (edit state number found command base delta) is
+  found_again Undo revision is = number_again (window_of command.source (sources_of found)) command.number revision (undo state number found command) is
 
 -- where it isn't
 module _ (state : State) (command : Command) (fresh : find command.name 0 state.documents ≡ None) where
@@ -262,5 +268,5 @@ made_repeats state command revision h = by_place (find command.name 0 state.docu
     none_made false place e = cc
 
     by_place : (there : Option (ℕ × DocumentRecord)) → find command.name 0 state.documents ≡ there → answer_to state command command.action there ≡ Repeats revision
-    by_place None is = absurd (none_made _ _ (sym (ap (revision_in command.number) (none_there state command is)) ∙ h))
+    by_place None is = absurd (none_made (nat_lt 0 (command.number + 0)) (command.number + 0 - 1) (sym (ap (revision_in command.number) (none_there state command is)) ∙ h))
     by_place (Some found) is = found_again state found.0 found.1 command is command.action revision (sym (ap (revision_in command.number) (own_window state found.0 found.1 command is)) ∙ h)
