@@ -32,6 +32,7 @@ use std::thread::Threads;
 const PARTS: u64 = 2;
 
 /// What serving over a pair of streams gives back: the store, the streams, and how it ended.
+#[derive(Drop)]
 pub struct Streamed<I, O, D: Disk> {
     pub store: Store<D>,
     pub input: I,

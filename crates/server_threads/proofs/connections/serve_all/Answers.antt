@@ -15,12 +15,6 @@ serve_desks-requires-send-K g c κs within =
     (desk_send (record { mir = named 2; lft = κs.1.1.0 }) (param 3 g.row.D) (param 0 g.row.J) (param 1 g.row.R) g.J.Site g.J.Ledger
     c.type_bounds.send-J c.type_bounds.sync-J c.type_bounds.sync-R))
 
-t1 : goal.serve_desks-requires-send-K
-t1 g c κs within =
-    let desk = desk_send (record { mir = named 2; lft = κs.1.1.0 }) (param 3 g.row.D) (param 0 g.row.J) (param 1 g.row.R) g.J.Site g.J.Ledger
-    c.type_bounds.send-J c.type_bounds.sync-J c.type_bounds.sync-R in
-    search (param_send, arg_send) depth 4
-
 pub returns-in-Ok-clause-served : goal.returns-in-Ok-clause-served
 returns-in-Ok-clause-served g c = each_served g.J.Site.start c.args.desks.items c.in-Ok.desks.items c.in-Ok.ensures.served c.requires.first
 
