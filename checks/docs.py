@@ -7,6 +7,7 @@ usage: checks/docs.py     in any folder; it prints a line for each finding, and 
   broken, and with what the head imports.
 - What README.md and the files of docs/ quote as code exists: one file has all words of a name as State::plan, and a path is that of a file.
 - Each `old:` of an edit stands once in its file, as the pairs before it leave that.
+- The files that docs/PROMISES.md says to read have so many lines, and together so many hundreds.
 - crates.txt lists each crate, behind those that it stands on.
 
 What is quoted and is neither a name nor a path (a line of JSON, a command line, a formula) isn't looked at.
@@ -141,9 +142,31 @@ def check_quoted():
                     find(document, f"there is no `{quoted}`")
 
 
+# A file without its crate stands in the folder, or in the crate, of the file before it.
+def check_lengths():
+    document = TOP / "docs/PROMISES.md"
+    text = document.read_text()
+    together = 0
+    for names, counts in re.findall(r"^\| (\w+/[\w/., ]+) \| ([\d, ]+) \|", text, re.M):
+        folder = CRATES
+        for name, count in zip(names.split(", "), counts.split(", "), strict=True):
+            path = next((it for it in (CRATES / name, folder / name, folder.parent / name) if it.is_file()), None)
+            if path is None:
+                find(document, f"there is no file {name}")
+                continue
+            folder = path.parent
+            lines = len(path.read_text().splitlines())
+            together += lines
+            if lines != int(count):
+                find(document, f"{path.relative_to(CRATES)} has {lines} lines, and not {count}")
+    if f"{round(together, -2):,} lines" not in text:
+        find(document, f"the files to read have {together:,} lines")
+
+
 check_order()
 check_edits()
 check_callers()
 check_quoted()
+check_lengths()
 print("\n".join(findings) or "All of it agrees.")
 sys.exit(1 if findings else 0)

@@ -1,5 +1,5 @@
 -- What a command comes to.
-use Rattle.std.specs.Prelude.{◌≡◌, ℕ, List, Ok}
+use Rattle.std.specs.Prelude.{◌≡◌, ◌++◌, ◌∷◌, [], ℕ, List, Ok}
 use Rattle.delta.specs.Operation.{Operation}
 use Rattle.algebra.specs.Text.{text_of}
 use Rattle.algebra.specs.Words.{deltas_in}
@@ -21,3 +21,7 @@ ComesTo (Apply document delta) outcome =
 -- a text prints the delta that a command comes to
 abbrev pub PrintsOutcome : Task → List ℕ → Type 0
 PrintsOutcome task text = (made : List Operation) × ComesTo task (Ok made) × (text ≡ text_of made)
+
+-- and this line does, with its end
+abbrev pub PrintsLine : Task → List ℕ → Type 0
+PrintsLine task line = (made : List Operation) × ComesTo task (Ok made) × (line ≡ text_of made ++ 10 ∷ [])

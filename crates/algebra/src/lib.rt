@@ -1,11 +1,11 @@
 //! What the commands `richd delta ..` come to: deltas as texts, what is made of them, and the text that is printed.
 //!
 //! A `Task` is to compose two deltas, to transform one past another, to invert one on a document, or to apply one.
-//! `Task::answer` gives the text `{"ops":[..]}` of the result, without a line end, or the refusal. It promises both
-//! exactly: what a command comes to stands in specs/Tasks.antt, over the deltas that its texts describe
+//! `Task::answer` gives the text `{"ops":[..]}` of the result, without a line end, or the refusal, and `Task::line` the line.
+//! They promise both exactly: what a command comes to stands in specs/Tasks.antt, over the deltas that its texts describe
 //! (specs/Words.antt) and what comes of two deltas (specs/Outcomes.antt); how a delta is printed stands in
 //! specs/Text.antt; and that a command comes to one thing only, and what the results do to documents, is in `laws`. The
-//! calling program reads the words of a command line, prints the text or the refusal, and gives the status.
+//! calling program reads the words of a command line, writes the line or the refusal, and gives the status.
 //!
 //! It stands on `compose`, `xform` and `document` for the results, and on `optext` for operations as JSON.
 //!

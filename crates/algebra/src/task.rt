@@ -2,7 +2,7 @@
 ghost use Rattle.std.specs.Prelude.{◌≡◌, ◌⊎◌, IfOk, IfErr};
 ghost use Rattle.std.specs.String.{string_bytes};
 ghost use Rattle.optext.specs.Answer.{IsAnswerOf};
-ghost use Rattle.algebra.specs.Tasks.{ComesTo, PrintsOutcome};
+ghost use Rattle.algebra.specs.Tasks.{ComesTo, PrintsOutcome, PrintsLine};
 
 use crate::making::{applied, composed, inverted, transformed};
 use crate::reading::read_both;
@@ -46,6 +46,16 @@ impl<'a> Task<'a> {
         let made = self.made(alloc)?;
         let text = write_delta(alloc, &made)?;
         Ok(text)
+    }
+
+    /// The same text as a line, with its end.
+    pub fn line(self, alloc: Global) -> Result<String, Refusal>
+        ensures line { IfOk result (λ line. PrintsLine self.entry (string_bytes line)) }
+        ensures refusal { IfErr result (λ refusal. ComesTo self.entry (Err refusal) ⊎ (refusal ≡ Refusal.NoMemory)) }
+    {
+        let mut line = self.answer(alloc)?;
+        line.push('\n')?;
+        Ok(line)
     }
 
     // what the command comes to

@@ -1,3 +1,4 @@
--- Laws of `laws`, as the proofs of other crates cite them.
+-- Laws of `laws`, and lemmas, as the proofs of other crates cite them.
 pub use Rattle.flusher.proofs.Fitting.{fits_slot}
-pub use Rattle.flusher.proofs.Beginnings.{commands-append, fewer, longer, within_write}
+pub use Rattle.flusher.proofs.Beginnings.{commands-append, fewer, longer, these, within_write}
+pub use Rattle.flusher.proofs.Holdings.{refusal_in, same_batch}

@@ -1,14 +1,15 @@
 -- What a flusher holds, and how it fits the state of its store.
-use Rattle.std.proofs.Common.{◌≡◌, ◌≢◌, ◌⊎◌, inl, inr, ℕ, Bool, true, false, ◌&&◌, List, [], ◌∷◌, ◌++◌, length, ◌<◌, ◌≤◌, Option, Some, None, refl, sym, ◌∙◌, ap, subst, append-nil, arith}
+use Rattle.std.proofs.Common.{◌≡◌, ◌≢◌, ◌⊎◌, inl, inr, true, false, List, [], ◌∷◌, ◌++◌, length, ◌<◌, ◌≤◌, ◌+◌, ◌^◌, Option, Some, None, refl, sym, ◌∙◌, ap, subst, append-nil, arith}
 use Rattle.std.specs.Prelude.{Result, Ok, Err, OnOk, OnErr, IfOk, IfErr, IfSome, IfNone, IsErrOf, option_to_list}
-use Rattle.std.proofs.lemmas.Bool.{and_parts}
+use Rattle.std.proofs.lemmas.Bool.{and_parts, false≢true}
+use mathlib.Core.List.{IsPrefix}
 use Rattle.std.specs.Option.{option_map}
 use Rattle.disk.specs.Crash.{LeavesOnly}
 use Rattle.refusal.specs.declared.Refusal.{Refusal}
-use Rattle.refusal.specs.declared.Refusal.TheVariants.{StillNeeded, Fault}
+use Rattle.refusal.specs.declared.Refusal.TheVariants.{JournalFull, Stranger, StillNeeded, NoMemory, Fault}
 use Rattle.disk.specs.declared.device.Disk.{Ghosts}
 use Rattle.revision.specs.Command.{Taken}
-use Rattle.revision.specs.State.{State, fold, grown, grows, all_grow, first_grows}
+use Rattle.revision.specs.State.{State, fold, grown, grows, all_grow}
 use Rattle.recovery.specs.declared.store.Store.{Store}
 use Rattle.recovery.specs.Faults.{FailsAtFaults}
 use Rattle.recovery.specs.Found.{commands_of, FoundAs}
@@ -19,9 +20,13 @@ use Rattle.recovery.specs.Marked.{MayRetire}
 use Rattle.recovery.specs.Run.{IsTaken, IsWhy}
 use Rattle.recovery.specs.Goes.{Goes}
 use Rattle.recovery.proofs.CallerLemmas.{goes_none, goes_call, open_unchanged, found_as, found_open}
+use Rattle.world.specs.World.{Entry, takens}
+use Rattle.published.specs.Order.{IsLegal}
+use Rattle.published.proofs.CallerLemmas.{begun_grows}
 use Rattle.view.specs.Published.{Published}
+use Rattle.view.specs.Stages.{IsNext}
 use Rattle.hub.specs.Runs.{Run}
-use Rattle.flusher.specs.Flushers.{IsCommittedTo, IsLeftWithout, IsRunCommitted, IsHeldCommitted, IsGivenUp}
+use Rattle.flusher.specs.Flushers.{IsCommittedTo, IsLeftWithout, IsHeldCommitted, IsGivenUp}
 use Rattle.flusher.proofs.Beginnings.{commands-append, fold-append}
 
 -- the refusal of an answer, or this one where there is none
@@ -75,20 +80,9 @@ module _ {D : Type 0} {disk : Ghosts D} (old new : Store D disk) where
       subst (λ (l : List (List Taken)). IsGivenUp l old new) (sym is)
       (let left : IsLeftWithout batch old new = record { with_room = unchanged; behind = freed } in left)
 
-  run_of : (run : List Taken) → 0 < length run → IsCommittedTo run old new → IsRunCommitted run old new
-  run_of [] some done = absurd (let none : ⊥ = omega arith in none)
-  run_of (first ∷ others) some done = done
-
-  pub run_committed : (run : List Taken) (batches : List (List Taken)) → batches ≡ run ∷ [] → 0 < length run → IsHeldCommitted batches old new → IsRunCommitted run old new
-  run_committed run batches is some done = run_of run some (subst (λ (l : List (List Taken)). IsHeldCommitted l old new) is done)
-
 module _ {D : Type 0} {disk : Ghosts D} where
   pub committed_none : (store : Store D disk) (batches : List (List Taken)) → batches ≡ [] → IsHeldCommitted batches store store
   committed_none store batches none = subst (λ (l : List (List Taken)). IsHeldCommitted l store store) (sym none) refl
-
--- an Ok is no refusal
-pub no_error : {A : Type 0} (answer : A) (refusal : Refusal) → IsErrOf (Ok answer) refusal → ⊥
-no_error answer refusal is = cc
 
 module _ {D : Type 0} {disk : Ghosts D} (old new : Store D disk) where
   -- what a retirement leaves, whatever it answers
@@ -153,31 +147,64 @@ kept_published start state before after kept is =
     kept ∙ ap (λ (l : List (List Taken)). fold start (commands_of l)) (sym (append-nil (before.told ++ before.unpublished)))
     ∙ ap (λ (p : Published). fold start (commands_of (p.told ++ p.unpublished))) (sym is)
 
--- Further commands continue what these make, so all of them continue the state.
-all_join : (state : State) (first more : List Taken) → all_grow state first ≡ true → all_grow (fold state first) more ≡ true → all_grow state (first ++ more) ≡ true
-all_join state [] more all behind = behind
-all_join state (command ∷ others) more all behind =
-    let parts = and_parts (grows state command) (all_grow (grown state command) others) all in
-    ap (λ (b : Bool). b && all_grow (grown state command) (others ++ more)) parts.0 ∙ all_join (grown state command) others more parts.1 behind
+grow_behind : (front back : List Taken) (state : State) → all_grow state (front ++ back) ≡ true → all_grow (fold state front) back ≡ true
+grow_behind [] back state grow = grow
+grow_behind (first ∷ others) back state grow =
+    grow_behind others back (grown state first) (and_parts (grows state first) (all_grow (grown state first) (others ++ back)) grow).1
 
--- one batch that is committed more continues the others
-pub grown_more : (start old : State) (before after : Published) (receipt batch : List Taken) → old ≡ fold start (commands_of (before.told ++ before.unpublished)) → before.unpublished ≡ []
-    → all_grow start (commands_of (before.told ++ before.unpublished)) ≡ true → after ≡ record before { unpublished = receipt ∷ [] } → receipt ≡ batch → all_grow old batch ≡ true
-    → all_grow start (commands_of (after.told ++ after.unpublished)) ≡ true
-grown_more start old before after receipt batch kept none all is same more =
-    let told : commands_of (before.told ++ before.unpublished) ≡ commands_of before.told =
-    ap (λ (l : List (List Taken)). commands_of (before.told ++ l)) none ∙ ap commands_of (append-nil before.told) in
-    ap (λ (p : Published). all_grow start (commands_of (p.told ++ p.unpublished))) is
-    ∙ ap (all_grow start) (commands-append before.told (receipt ∷ []) ∙ ap (λ (c : List Taken). commands_of before.told ++ c) (append-nil receipt ∙ same))
-    ∙ all_join start (commands_of before.told) batch (ap (all_grow start) (sym told) ∙ all)
-    (ap (λ (s : State). all_grow s batch) (ap (fold start) (sym told) ∙ sym kept) ∙ more)
+-- A batch that goes on with what is published, in a legal history, continues what the store holds.
+held_grows : (start state : State) (told committed : List (List Taken)) (batch : List Taken) (order : List Entry) → IsLegal start order
+    → IsPrefix (commands_of told ++ batch) (takens order) → state ≡ fold start (commands_of (told ++ committed)) → committed ≡ [] → all_grow state batch ≡ true
+held_grows start state told committed batch order legal begins kept none =
+    ap (λ (s : State). all_grow s batch)
+    (kept ∙ ap (λ (l : List (List Taken)). fold start (commands_of (told ++ l))) none ∙ ap (λ (l : List (List Taken)). fold start (commands_of l)) (append-nil told))
+    ∙ grow_behind (commands_of told) batch start (begun_grows start (commands_of told ++ batch) order legal begins)
 
--- the batch that is held is published: the commands are the same
-pub grown_published : (start : State) (before after : Published) → all_grow start (commands_of (before.told ++ before.unpublished)) ≡ true
-    → after ≡ record { told = before.told ++ before.unpublished; unpublished = [] } → all_grow start (commands_of (after.told ++ after.unpublished)) ≡ true
-grown_published start before after all is =
-    ap (λ (p : Published). all_grow start (commands_of (p.told ++ p.unpublished))) is
-    ∙ ap (λ (l : List (List Taken)). all_grow start (commands_of l)) (append-nil (before.told ++ before.unpublished)) ∙ all
+-- So its commit isn't refused as a stranger's.
+pub no_stranger : (start begin state : State) (told named committed : List (List Taken)) (run batch : List Taken) (order : List Entry) (refusal : Refusal) → begin ≡ start
+    → named ≡ told → batch ≡ run → IsLegal start order → IsPrefix (commands_of named ++ run) (takens order)
+    → state ≡ fold begin (commands_of (told ++ committed)) → committed ≡ [] → (refusal ≡ Stranger → all_grow state batch ≡ false)
+    → ((refusal ≡ JournalFull) ⊎ ((refusal ≡ StillNeeded) ⊎ (refusal ≡ Stranger))) ⊎ ((refusal ≡ NoMemory) ⊎ (refusal ≡ Fault))
+    → ((refusal ≡ JournalFull) ⊎ (refusal ≡ StillNeeded)) ⊎ ((refusal ≡ NoMemory) ⊎ (refusal ≡ Fault))
+no_stranger start begin state told named committed run batch order refusal begun same alike legal next kept none stranger only = by_case only
+  where
+    there : state ≡ fold start (commands_of (told ++ committed))
+    there = kept ∙ ap (λ (s : State). fold s (commands_of (told ++ committed))) begun
+
+    goes_on : IsPrefix (commands_of told ++ run) (takens order)
+    goes_on = subst (λ (l : List (List Taken)). IsPrefix (commands_of l ++ run) (takens order)) same next
+
+    grow : all_grow state batch ≡ true
+    grow = ap (all_grow state) alike ∙ held_grows start state told committed run order legal goes_on there none
+
+    by_case : ((refusal ≡ JournalFull) ⊎ ((refusal ≡ StillNeeded) ⊎ (refusal ≡ Stranger))) ⊎ ((refusal ≡ NoMemory) ⊎ (refusal ≡ Fault))
+        → ((refusal ≡ JournalFull) ⊎ (refusal ≡ StillNeeded)) ⊎ ((refusal ≡ NoMemory) ⊎ (refusal ≡ Fault))
+    by_case (inl (inl full)) = inl (inl full)
+    by_case (inl (inr (inl needed))) = inl (inr needed)
+    by_case (inl (inr (inr strange))) = absurd (false≢true (sym (stranger strange) ∙ grow))
+    by_case (inr other) = inr other
+
+-- the next part of the order, for a publisher
+pub next_by : (told named : List (List Taken)) (batch receipt order : List Taken) → named ≡ told → receipt ≡ batch → 1 ≤ length batch
+    → length (commands_of named) + length batch < 2 ^ 64 → IsPrefix (commands_of named ++ batch) order → IsNext (commands_of told) receipt order
+next_by told named batch receipt order same is some few next =
+    subst (λ (l : List (List Taken)). IsNext (commands_of l) receipt order) same
+    (subst (λ (r : List Taken). IsNext (commands_of named) r order) (sym is) (record { some = some; few = few; next = next }))
+
+-- what is published and held, with what is committed between, of which there is none
+pub ordered_held : (told committed waiting : List (List Taken)) (run : List Taken) (order : List Entry) → committed ≡ [] → waiting ≡ run ∷ []
+    → IsPrefix (commands_of told ++ run) (takens order) → IsPrefix (commands_of (told ++ (committed ++ waiting))) (takens order)
+ordered_held told committed waiting run order none is begins =
+    subst (λ (l : List Taken). IsPrefix l (takens order))
+    (sym (ap (λ (l : List (List Taken)). commands_of (told ++ (l ++ waiting))) none ∙ ap (λ (l : List (List Taken)). commands_of (told ++ l)) is
+    ∙ commands-append told (run ∷ []) ∙ ap (λ (l : List Taken). commands_of told ++ l) (append-nil run)))
+    begins
+
+pub ordered_none : (told committed waiting : List (List Taken)) (order : List Entry) → waiting ≡ [] → IsPrefix (commands_of (told ++ committed)) (takens order)
+    → IsPrefix (commands_of (told ++ (committed ++ waiting))) (takens order)
+ordered_none told committed waiting order none begins =
+    subst (λ (l : List (List Taken)). IsPrefix (commands_of (told ++ l)) (takens order))
+    (sym (ap (λ (l : List (List Taken)). committed ++ l) none ∙ append-nil committed)) begins
 
 -- A publish leaves a publisher as it was, or has published what it was given.
 pub published_or_not : {E : Type 0} (result : Result (Option (List Taken × List (List Taken))) E) (old new : Published)
@@ -196,21 +223,7 @@ pub kept_moved : (start state : State) (old new : Published) → (new ≡ old) �
 kept_moved start state old new (inl same) kept = kept ∙ ap (λ (p : Published). fold start (commands_of (p.told ++ p.unpublished))) (sym same)
 kept_moved start state old new (inr is) kept = kept_published start state old new kept is
 
-pub grown_moved : (start : State) (old new : Published) → (new ≡ old) ⊎ (new ≡ record { told = old.told ++ old.unpublished; unpublished = [] })
-    → all_grow start (commands_of (old.told ++ old.unpublished)) ≡ true → all_grow start (commands_of (new.told ++ new.unpublished)) ≡ true
-grown_moved start old new (inl same) grown = ap (λ (p : Published). all_grow start (commands_of (p.told ++ p.unpublished))) same ∙ grown
-grown_moved start old new (inr is) grown = grown_published start old new grown is
-
 pub few_moved : (old new : Published) → (new ≡ old) ⊎ (new ≡ record { told = old.told ++ old.unpublished; unpublished = [] })
     → length old.unpublished ≤ 1 → length new.unpublished ≤ 1
 few_moved old new (inl same) few = omega (arith, few, ap (λ (p : Published). length p.unpublished) same)
 few_moved old new (inr is) few = omega (arith, ap (λ (p : Published). length p.unpublished) is)
-
--- where commands continue a state, their first one does
-first_of_all : (state : State) (commands : List Taken) → all_grow state commands ≡ true → first_grows state commands ≡ true
-first_of_all state [] all = refl
-first_of_all state (first ∷ others) all = (and_parts (grows state first) (all_grow (grown state first) others) all).0
-
--- and so does that of the batch that was held
-pub first_of_held : (state : State) (batch : List Taken) (batches : List (List Taken)) → batches ≡ batch ∷ [] → all_grow state (commands_of batches) ≡ true → first_grows state batch ≡ true
-first_of_held state batch batches is all = first_of_all state batch (ap (all_grow state) (sym (ap commands_of is ∙ append-nil batch)) ∙ all)

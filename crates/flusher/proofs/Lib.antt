@@ -1,13 +1,4 @@
 pub mod Beginnings
-pub mod Evens
-pub mod Running
-pub mod Steps
 pub mod Holdings
 pub mod Fitting
 pub mod CallerLemmas
-pub mod Answering
-pub mod Resting
-pub mod Scheduling
-pub mod Living
-pub mod Refusing
-pub mod Counting

@@ -13,18 +13,6 @@ pub record IsBeginning (least : ℕ) (start : State) (batches : List (List Taken
   pub enough : least ≤ length (commands_of first)
   pub found : FoundAs content (fold start (commands_of first))
 
--- The content stands for a state that agrees with the one after the first commands of the order, so many of them at least, and where
--- these end a batch ends.
-pub record IsFirst (least : ℕ) (start : State) (order : List Taken) (batches : List (List Taken)) (content : List ℕ) : Type 0 where
-  pub count : ℕ
-  pub enough : least ≤ count
-  pub within : count ≤ length order
-  pub first : List (List Taken)
-  pub more : List (List Taken)
-  pub whole : first ++ more ≡ batches
-  pub ends : commands_of first ≡ take count order
-  pub found : FoundAs content (fold start (take count order))
-
 -- What was published is the order as far as it is settled, and what the flusher still has to publish is what is taken off beyond that.
 pub record AreParts (order : List Taken) (settled taken : ℕ) (told rest : List (List Taken)) : Type 0 where
   pub published : commands_of told ≡ take settled order

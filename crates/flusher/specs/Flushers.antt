@@ -1,5 +1,5 @@
 -- What a flusher holds, and what a write makes of it.
-use Rattle.std.specs.Prelude.{◌≡◌, ◌⊎◌, ◌≤◌, ◌<◌, ◌+◌, ◌-◌, ◌^◌, ℕ, min, true, false, Option, Some, None, List, [], ◌∷◌, ◌++◌, length}
+use Rattle.std.specs.Prelude.{◌≡◌, ◌⊎◌, ◌≤◌, ◌<◌, ◌+◌, ◌-◌, ◌^◌, ℕ, min, true, false, List, [], ◌∷◌, ◌++◌, length}
 use Rattle.disk.specs.declared.device.Disk.{Ghosts}
 use Rattle.revision.specs.Command.{Taken}
 use Rattle.revision.specs.State.{State}
@@ -36,11 +36,6 @@ module _ {D : Type 0} {disk : Ghosts D} where
   pub record IsCommittedTo (batch : List Taken) (old new : Store D disk) : Type 0 where
     pub with_room : has_room old batch ≡ true → (is_open : IsOpen old) → IsCommittedNow batch old is_open new
     pub behind : has_room old batch ≡ false → (is_open : IsOpen old) → IsCommittedBehind batch old is_open new
-
-  -- the commands of a run are committed as one batch; of none the store is left as it was
-  abbrev pub IsRunCommitted : List Taken → Store D disk → Store D disk → Type 0
-  IsRunCommitted [] old new = new ≡ old
-  IsRunCommitted (first ∷ others) old new = IsCommittedTo (first ∷ others) old new
 
   -- the batch that was to be committed, where there was one, is committed; and where there was none the store is left as it was
   abbrev pub IsHeldCommitted : List (List Taken) → Store D disk → Store D disk → Type 0

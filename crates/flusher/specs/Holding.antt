@@ -1,14 +1,10 @@
 -- The parts of a flusher, as contracts name them.
-use Rattle.std.specs.Prelude.{◌≡◌, Some, List, [], ◌∷◌, option_to_list}
+use Rattle.std.specs.Prelude.{◌≡◌, List, option_to_list}
 use Rattle.std.specs.Option.{option_map}
 use Rattle.disk.specs.declared.device.Disk.{Ghosts}
 use Rattle.revision.specs.Command.{Taken}
-use Rattle.revision.specs.State.{fold}
 use Rattle.recovery.specs.declared.store.Store.{Store}
-use Rattle.recovery.specs.Found.{commands_of}
 use Rattle.recovery.specs.Open.{state_of}
-use Rattle.published.specs.NotAdded.{IsNotAdded}
-use Rattle.published.specs.declared.longer.NotAdded.{NotAdded}
 use Rattle.flusher.specs.declared.flusher.Flusher.{Flusher}
 
 module _ {D J : Type 0} {disk : Ghosts D} where
@@ -26,22 +22,6 @@ module _ {D J : Type 0} {disk : Ghosts D} where
   -- the batch that is held and not committed yet, if there is one
   abbrev pub waiting_of : Flusher D J disk → List (List Taken)
   waiting_of flusher = option_to_list (option_map (λ r. r.commands) flusher.waiting)
-
-  -- The batch that is committed can't be published, and the flusher has noted why: the log of what is published is longer than what was
-  -- published here, or counts as much as it can.
-  pub record CannotPublish (flusher : Flusher D J disk) : Type 0 where
-    pub batch : List Taken
-    pub committed : committed_of flusher ≡ batch ∷ []
-    pub why : NotAdded J
-    pub noted : flusher.barred ≡ Some why
-    pub not_added : IsNotAdded (told_of flusher) batch why
-
-  -- The batch that was held is committed, and it or the one that was committed before can't be published.
-  pub record IsLost (old new : Flusher D J disk) : Type 0 where
-    pub waiting : waiting_of new ≡ []
-    pub committed : ¬ (committed_of new ≡ [])
-    pub barred : CannotPublish new
-    pub state : state_of (store_of new) ≡ fold (state_of (store_of old)) (commands_of (waiting_of old))
 
   -- The batch that was held isn't committed.
   pub record IsUncommitted (old new : Flusher D J disk) : Type 0 where

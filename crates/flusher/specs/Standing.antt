@@ -1,16 +1,17 @@
--- A board, a flusher and its store at one moment of a thread's run, and how a run goes on from one such moment to another.
-use Rattle.std.specs.Prelude.{◌≡◌, ◌≤◌, ℕ, false, List, [], ◌++◌, length}
+-- A board, a flusher and its store at one moment of a thread's run.
+use Rattle.std.specs.Prelude.{◌≡◌, ◌≤◌, List, [], ◌++◌, length}
 use Rattle.disk.specs.declared.device.Disk.{Ghosts}
-use Rattle.disk.specs.Crash.{MayLeaveNow}
 use Rattle.revision.specs.Command.{Taken}
 use Rattle.revision.specs.State.{State, fold}
 use Rattle.world.specs.Board.{Board}
 use Rattle.world.specs.World.{Entry, takens}
 use Rattle.recovery.specs.declared.store.Store.{Store}
 use Rattle.recovery.specs.Found.{commands_of}
-use Rattle.recovery.specs.Open.{IsOpen, device_of, state_of, has_failed}
-use Rattle.recovery.specs.Goes.{Goes}
-use Rattle.flusher.specs.Batches.{IsBeginning, AreParts}
+use Rattle.recovery.specs.Open.{state_of}
+use Rattle.hub.specs.Legal.{Board as HubBoard}
+use Rattle.flusher.specs.declared.flusher.Flusher.{Flusher}
+use Rattle.flusher.specs.Batches.{AreParts}
+use Rattle.flusher.specs.Holding.{store_of, told_of, committed_of, waiting_of}
 
 -- What the board has, and the batches that it was told of; the batches that were published; the batch that is committed and not
 -- published yet, and the one that isn't committed yet, each a list of one batch or of none; and the store.
@@ -23,11 +24,7 @@ pub record Standing (D : Type 0) (disk : Ghosts D) : Type 0 where
   pub store : Store D disk
 
 module _ {D : Type 0} {disk : Ghosts D} where
-  -- all batches that were taken off so far, in order
-  abbrev pub batches_of : Standing D disk → List (List Taken)
-  batches_of here = here.told ++ (here.committed ++ here.waiting)
-
-  -- the board's counts lie in its order, and its order as far as it is taken off is those batches
+  -- the board's counts lie in its order, and its order as far as it is taken off is the batches that were taken off so far
   pub record IsEven (here : Standing D disk) : Type 0 where
     pub settled : here.board.settled ≤ here.board.taken
     pub taken : here.board.taken ≤ length here.board.order
@@ -41,12 +38,13 @@ module _ {D : Type 0} {disk : Ghosts D} where
     pub waiting : here.waiting ≡ []
     pub state : state_of here.store ≡ fold start (commands_of here.told)
 
-  -- From one moment to a later one: a crash at any moment between leaves some first batches of those that are there at the end, and
-  -- no fewer commands than were settled at the beginning; and a crash at the end no fewer than are settled then.
-  pub record RunGoes (start : State) (old new : Standing D disk) : Type 0 where
-    pub even : IsEven new
-    pub settled : old.board.settled ≤ new.board.settled
-    pub more : (l : List (List Taken)) × (batches_of new ≡ old.told ++ l)
-    pub goes : Goes (IsBeginning old.board.settled start (batches_of new)) old.store new.store
-    pub lasts : has_failed old.store ≡ false → IsOpen old.store
-        → (content : List ℕ) → MayLeaveNow disk (device_of new.store) content → IsBeginning new.board.settled start (batches_of new) content
+module _ {D J : Type 0} {disk : Ghosts D} where
+  abbrev pub standing : HubBoard → Flusher D J disk → Standing D disk
+  standing board flusher = record {
+    board = board.board;
+    known = board.told;
+    told = told_of flusher;
+    committed = committed_of flusher;
+    waiting = waiting_of flusher;
+    store = store_of flusher;
+  }

@@ -2,9 +2,12 @@
 ghost use Rattle.std.specs.Prelude.{List, ◌≡◌, ◌≢◌, ◌⊎◌, ◌↔◌, ◌<◌, ◌≤◌, ◌^◌, [], ◌∷◌, ◌++◌, true, false, Some, None, length, OnOk, OnErr, IfOk, IfErr, IfSome, IfNone, IsErrOf};
 ghost use Rattle.std.specs.Option.{ForSome};
 ghost use Rattle.revision.specs.Command.{Taken};
-ghost use Rattle.revision.specs.State.{fold, all_grow, first_grows};
+ghost use mathlib.Core.List.{IsPrefix};
+ghost use Rattle.revision.specs.State.{fold};
 ghost use Rattle.recovery.specs.Found.{commands_of};
 ghost use Rattle.recovery.specs.Open.{FitsSlot, state_of};
+ghost use Rattle.world.specs.World.{takens};
+ghost use Rattle.published.specs.Order.{IsLegal};
 ghost use Rattle.flusher.specs.Flushers.{MayCommit};
 
 use crate::begun::Begun;
@@ -12,25 +15,23 @@ use crate::gate::{Gate, Moment};
 use crate::written::{Written, to_settle};
 use disk::Disk;
 use hub::Run;
-use published::{NotAdded, Site, Told};
+use published::{Ordered, Site, Told};
 use recovery::Store;
 use refusal::Refusal;
 use std::alloc::Global;
 use std::sync::Wait;
-use view::{Publisher, Unpublished, Viewer};
+use view::{Publisher, Viewer};
 
-/// The store, what publishes its batches to readers, at most one run that is to be written as a batch, and what kept a batch from being
-/// published, if anything did.
+/// The store, what publishes its batches to readers, and at most one run that is to be written as a batch, which follows what is published.
 pub struct Flusher<D: Disk, J: Site> {
     pub(crate) store: Store<D>,
     publisher: Publisher<D, J>,
     waiting: Option<Run<D, J>>,
-    barred: Option<NotAdded<J>>,
     begun: Begun<J>,
     ghost kept: { state_of store ≡ fold begun (commands_of (publisher.told ++ publisher.unpublished)) },
-    ghost grown: { all_grow begun (commands_of (publisher.told ++ publisher.unpublished)) ≡ true },
     ghost few: { length publisher.unpublished ≤ 1 },
     ghost fits: { ForSome waiting (λ run. MayCommit (state_of store) run.commands publisher.unpublished) },
+    ghost placed: { ForSome waiting (λ run. run.place ≡ length (commands_of publisher.told)) },
 }
 
 impl<D: Disk, J: Site> Flusher<D, J> {
@@ -39,7 +40,7 @@ impl<D: Disk, J: Site> Flusher<D, J> {
     ghost use Rattle.recovery.specs.Open.{IsOpen, IsUnchanged, IsFreedNow, IsWithOrWithout, has_failed, has_room, ring_of};
     ghost use Rattle.flusher.specs.Flushers.{IsUsedUp, IsWritten, IsHeldCommitted, IsGivenUp, cap_of};
     ghost use Rattle.recovery.specs.Goes.{Goes};
-    ghost use Rattle.flusher.specs.Holding.{IsLost, IsUncommitted, store_of, told_of, committed_of, waiting_of};
+    ghost use Rattle.flusher.specs.Holding.{IsUncommitted, store_of, told_of, committed_of, waiting_of};
 
     // A flusher of which nothing was published yet.
     pub(crate) fn of(store: Store<D>, publisher: Publisher<D, J>, begun: Begun<J>) -> Flusher<D, J>
@@ -52,7 +53,6 @@ impl<D: Disk, J: Site> Flusher<D, J> {
             store,
             publisher,
             waiting: None,
-            barred: None,
             begun,
         }
     }
@@ -65,11 +65,36 @@ impl<D: Disk, J: Site> Flusher<D, J> {
         self.begun.is_start();
     }
 
-    /// Each command of these batches continues what those before it make of the start.
-    pub fn grown(&self)
-        ensures { all_grow J.start (commands_of (told_of self.now ++ committed_of self.now)) ≡ true }
+    /// The order, a legal history from the start, with what is published first, then what is committed, and then what is held. It takes no
+    /// memory.
+    pub fn ordered(&self) -> Ordered<J>
+        ensures legal { IsLegal J.start result }
+        ensures begins { IsPrefix (commands_of (told_of self.now ++ (committed_of self.now ++ waiting_of self.now)))
+            (takens result) }
     {
-        self.begun.is_start();
+        match &self.waiting {
+            Some(run) => {
+                let ordered = run.goes_on(self.publisher.told());
+                ordered.legal();
+                ordered
+            }
+            None => {
+                let ordered = self.publisher.ordered();
+                ordered.legal();
+                ordered
+            }
+        }
+    }
+
+    /// Each token of what is published names a prefix of what is published and committed here. It takes no memory.
+    pub fn covers(&mut self, told: &Told<D, J>)
+        ensures begins { IsPrefix told.now (told_of self.old ++ committed_of self.old) }
+        ensures store { store_of self.new ≡ store_of self.old }
+        ensures told { told_of self.new ≡ told_of self.old }
+        ensures committed { committed_of self.new ≡ committed_of self.old }
+        ensures waiting { waiting_of self.new ≡ waiting_of self.old }
+    {
+        self.publisher.covers(told);
     }
 
     /// One batch at most is committed and not published yet, and one at most is held.
@@ -81,13 +106,14 @@ impl<D: Disk, J: Site> Flusher<D, J> {
     }
 
     /// Holds a run as the batch that the next `commit_held` or `write` commits. It has to be one that a board took off for this flusher's
-    /// `cap`. It takes no memory.
+    /// `cap`, which follows what is published, and nothing else may be held or unpublished. It takes no memory.
     pub fn hold(&mut self, run: Run<D, J>)
         requires none { (committed_of self.old ≡ []) × (waiting_of self.old ≡ []) }
         requires some { 1 ≤ length run.commands }
         requires short { length run.commands < 2 ^ 32 }
         requires fits { FitsSlot (state_of (store_of self.old)) run.commands }
         requires cap { run.cap ≡ cap_of (state_of (store_of self.old)) }
+        requires next { run.place ≡ length (commands_of (told_of self.old)) }
         ensures store { store_of self.new ≡ store_of self.old }
         ensures told { told_of self.new ≡ told_of self.old }
         ensures committed { committed_of self.new ≡ committed_of self.old }
@@ -97,9 +123,9 @@ impl<D: Disk, J: Site> Flusher<D, J> {
     }
 
     /// Commits the batch that is held, if it isn't yet, and keeps the receipt. Where the journal is full the oldest segment is freed
-    /// first, by milestones of its documents. Refused as `Store::commit_freeing` refuses it; the batch is held still then. So in an open
-    /// store neither `JournalFull` nor `StillNeeded` comes before the numbers of its segments are used up, and where there is room for the
-    /// batch, want of memory isn't told of one whose first command doesn't continue the state. The readers are shown nothing new.
+    /// first, by milestones of its documents. Refused as `Store::commit_freeing` refuses it, but never with `Stranger`, since the batch is the
+    /// next part of the order; the batch is held still then. So in an open store neither `JournalFull` nor `StillNeeded` comes before the
+    /// numbers of its segments are used up. The readers are shown nothing new.
     pub fn commit_held(&mut self, alloc: Global) -> Result<(), Refusal>
         // A crash at any moment leaves the state before it, or the one with the batch.
         ensures goes { Goes (IsWithOrWithout (state_of (store_of self.old)) (commands_of (waiting_of self.old)))
@@ -117,7 +143,7 @@ impl<D: Disk, J: Site> Flusher<D, J> {
         // The cells and the slots are those of before, but for the batch, where it had room, and else those that freeing left.
         ensures committed { OnOk result (IsHeldCommitted (waiting_of self.old) (store_of self.old) (store_of self.new)) }
         // Where it had room, all of the store is as it was, and else the oldest segment is freed, or partly freed.
-        ensures given_up { (IsErrOf result Refusal.Stranger) ⊎ (IsErrOf result Refusal.NoMemory)
+        ensures given_up { IsErrOf result Refusal.NoMemory
             → IsGivenUp (waiting_of self.old) (store_of self.old) (store_of self.new) }
 
         // When each refusal comes.
@@ -143,38 +169,34 @@ impl<D: Disk, J: Site> Flusher<D, J> {
             → IsFreedNow (store_of self.old) is_open (store_of self.new) }
         ensures never_full { (IsErrOf result Refusal.JournalFull) ⊎ (IsErrOf result Refusal.StillNeeded)
             → IsUsedUp (store_of self.old) }
-        ensures stranger { IsErrOf result Refusal.Stranger
-            → all_grow (state_of (store_of self.old)) (commands_of (waiting_of self.old)) ≡ false }
-        ensures grow { OnOk result
-            (all_grow (state_of (store_of self.old)) (commands_of (waiting_of self.old)) ≡ true) }
-        ensures memory { IsErrOf result Refusal.NoMemory → (batch : List Taken) → waiting_of self.old ≡ batch ∷ []
-            → has_room (store_of self.old) batch ≡ true
-            → first_grows (state_of (store_of self.old)) batch ≡ true }
-        ensures only { IfErr result (λ e. ((e ≡ Refusal.JournalFull)
-            ⊎ ((e ≡ Refusal.StillNeeded) ⊎ (e ≡ Refusal.Stranger)))
+        ensures only { IfErr result (λ e. ((e ≡ Refusal.JournalFull) ⊎ (e ≡ Refusal.StillNeeded))
             ⊎ ((e ≡ Refusal.NoMemory) ⊎ (e ≡ Refusal.Fault))) }
     {
         match self.waiting.take() {
             None => Ok(()),
-            Some(batch) => match self.store.commit_freeing(alloc, batch.commands()) {
-                Ok(receipt) => {
-                    batch.committed(&receipt);
-                    self.publisher.accept(receipt);
-                    Ok(())
+            Some(batch) => {
+                self.begun.is_start();
+                let ordered = batch.goes_on(self.publisher.told());
+                ordered.legal();
+                match self.store.commit_freeing(alloc, batch.commands()) {
+                    Ok(receipt) => {
+                        batch.committed(&receipt);
+                        self.publisher.accept(receipt, ordered);
+                        Ok(())
+                    }
+                    Err(refusal) => {
+                        fill(&mut self.waiting, batch);
+                        Err(refusal)
+                    }
                 }
-                Err(refusal) => {
-                    fill(&mut self.waiting, batch);
-                    Err(refusal)
-                }
-            },
+            }
         }
     }
 
     /// Commits the batch that is held, if it isn't yet, and publishes it, between the gate's moments: gives the receipt of the commit
     /// and the token that ends with the batch, to be settled by, or `None` where no batch is held. On a refusal the next call goes on where this one
     /// stopped: the same batch is committed, or published, by then. Refused as `commit_held`, with `JournalFull` or `StillNeeded` where
-    /// the journal is full and can't be freed, and then as the publish: for want of memory, or with `StoreFailed` where the log of what is
-    /// published can't be made longer, and the flusher notes why. The batch is on the disk then.
+    /// the journal is full and can't be freed, and then as the publish, with `NoMemory` alone. The batch is on the disk then.
     pub fn write<R: Wait, G: Gate>(
         &mut self,
         rt: &R,
@@ -200,21 +222,14 @@ impl<D: Disk, J: Site> Flusher<D, J> {
         // The cells and the slots are those of before, but for the batch, where it had room, and else those that freeing left; where no
         // batch waits the store is as it was.
         ensures committed { OnOk result (IsHeldCommitted (waiting_of self.old) (store_of self.old) (store_of self.new)) }
-        ensures given_up { IsErrOf result Refusal.Stranger
-            → IsGivenUp (waiting_of self.old) (store_of self.old) (store_of self.new) }
-        ensures lost_store { IsErrOf result Refusal.StoreFailed
-            → IsHeldCommitted (waiting_of self.old) (store_of self.old) (store_of self.new) }
         ensures memory { IsErrOf result Refusal.NoMemory
             → ((waiting_of self.new ≡ waiting_of self.old)
             × IsGivenUp (waiting_of self.old) (store_of self.old) (store_of self.new))
             ⊎ ((waiting_of self.new ≡ [])
             × IsHeldCommitted (waiting_of self.old) (store_of self.old) (store_of self.new)) }
 
-        // Whether the batch is committed after a refusal: after `StoreFailed` it is, and isn't published, after `NoMemory` it may be, and
-        // after any other it isn't.
-        ensures lost { IsErrOf result Refusal.StoreFailed → IsLost self.old self.new }
-        ensures uncommitted { IfErr result (λ e. e ≢ Refusal.NoMemory → e ≢ Refusal.StoreFailed
-            → IsUncommitted self.old self.new) }
+        // After `NoMemory` the batch may be committed, and after any other refusal it isn't.
+        ensures uncommitted { IfErr result (λ e. e ≢ Refusal.NoMemory → IsUncommitted self.old self.new) }
 
         // A failure of the device is told as such, and nothing else is.
         ensures fails { has_failed (store_of self.old) ≡ false
@@ -239,17 +254,8 @@ impl<D: Disk, J: Site> Flusher<D, J> {
             → IsFreedNow (store_of self.old) is_open (store_of self.new) }
         ensures never_full { (IsErrOf result Refusal.JournalFull) ⊎ (IsErrOf result Refusal.StillNeeded)
             → IsUsedUp (store_of self.old) }
-        ensures stranger { IsErrOf result Refusal.Stranger
-            → all_grow (state_of (store_of self.old)) (commands_of (waiting_of self.old)) ≡ false }
-        ensures grow { OnOk result
-            (all_grow (state_of (store_of self.old)) (commands_of (waiting_of self.old)) ≡ true) }
-        // Of a batch whose first command doesn't continue the state, and which has room, want of memory isn't told.
-        ensures first_grows { IsErrOf result Refusal.NoMemory → (batch : List Taken)
-            → waiting_of self.old ≡ batch ∷ [] → has_room (store_of self.old) batch ≡ true
-            → first_grows (state_of (store_of self.old)) batch ≡ true }
-        ensures only { IfErr result (λ e. (((e ≡ Refusal.JournalFull)
-            ⊎ ((e ≡ Refusal.StillNeeded) ⊎ (e ≡ Refusal.Stranger)))
-            ⊎ ((e ≡ Refusal.NoMemory) ⊎ (e ≡ Refusal.Fault))) ⊎ (e ≡ Refusal.StoreFailed)) }
+        ensures only { IfErr result (λ e. ((e ≡ Refusal.JournalFull) ⊎ (e ≡ Refusal.StillNeeded))
+            ⊎ ((e ≡ Refusal.NoMemory) ⊎ (e ≡ Refusal.Fault))) }
     {
         gate.pass(Moment::BeforeCommit);
         if let Err(refusal) = self.commit_held(alloc) {
@@ -258,11 +264,7 @@ impl<D: Disk, J: Site> Flusher<D, J> {
         gate.pass(Moment::AfterCommit);
         match self.publisher.publish(rt, alloc) {
             Ok(published) => Ok(to_settle(published)),
-            Err(Unpublished::NoMemory) => Err(Refusal::NoMemory),
-            Err(Unpublished::NotAdded(why)) => {
-                self.barred = Some(why);
-                Err(Refusal::StoreFailed)
-            }
+            Err(refusal) => Err(refusal),
         }
     }
 
@@ -303,7 +305,6 @@ impl<D: Disk, J: Site> Flusher<D, J> {
             store,
             publisher,
             waiting,
-            barred: _,
             begun: _,
         } = self;
         publisher.end(rt);

@@ -1,30 +1,5 @@
-//! What holds of every run of a thread, and over all lives of a server: laws, as contracts of functions that do nothing.
+//! What holds of batches, for the crates above: laws, as contracts of functions that do nothing.
 ghost use Rattle.flusher.specs.Laws as law;
-ghost use Rattle.flusher.specs.Schedule.{AreNumbered, FirstIsSchedule, IsNumbered, RunIsSchedule};
-ghost use Rattle.flusher.specs.Lives.{AllLives, LivesGoOn, OneLife, RunGoesOn};
-
-use crate::calls::Call;
-use disk::Disk;
-use published::Site;
-
-/// A run of calls that were answered one after another, as `drive` promises of its own, is a list of a world's events: each command
-/// that was submitted, each batch that is taken off, written, shown and settled, each acknowledgement, and each milestone. The world
-/// that these events make has just the run's board, its tickets, and the acknowledgements that gave a token; it shows what is settled, a
-/// crash leaves just that, and it has not failed. So what `world::laws::every_schedule` says of every list of events holds of every run.
-pub fn run_is_a_schedule<D: Disk, J: Site>()
-    ensures goes_on { RunIsSchedule D J ⟦<D as Disk>⟧ }
-    ensures first { FirstIsSchedule D J ⟦<D as Disk>⟧ }
-{}
-
-/// Over all lives of a server, of which each began with what the crash before it had left: no acknowledged edit is missing, none is taken
-/// twice, and none changes its revision. What was acknowledged in any life and comes again is answered as a retry, with its revision,
-/// unless its source has sent a greater number since.
-pub fn lives<D: Disk, J: Site>()
-    ensures one { OneLife D J ⟦<D as Disk>⟧ }
-    ensures all { AllLives D J ⟦<D as Disk>⟧ }
-    ensures run { RunGoesOn D J ⟦<D as Disk>⟧ }
-    ensures go_on { LivesGoOn D J ⟦<D as Disk>⟧ }
-{}
 
 /// A batch of as many bytes as a flusher's cap fits a slot.
 pub fn cap_fits_slot()
@@ -38,21 +13,3 @@ pub fn first_batches()
     ensures more { law.MoreBatches }
     ensures during_write { law.WithinWrite }
 {}
-
-/// The number of each command of these calls is one that a world takes, since a command's type keeps it so.
-pub fn are_numbered(calls: &[Call])
-    ensures { AreNumbered calls.now }
-{
-    for call in calls {
-        is_numbered(call);
-    }
-}
-
-// The number of a call's command, where it has one.
-fn is_numbered(call: &Call)
-    ensures { IsNumbered call.now }
-{
-    if let Call::Submit(command) = call {
-        let _ = command.number();
-    }
-}

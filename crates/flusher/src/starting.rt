@@ -3,8 +3,7 @@ ghost use Rattle.std.specs.Prelude.{◌≡◌, ◌+◌, [], false, IfOk, IfErr};
 ghost use Rattle.recovery.specs.Open.{state_of};
 ghost use Rattle.world.specs.Board.{begun_board};
 ghost use Rattle.flusher.specs.Holding.{store_of, told_of, committed_of, waiting_of};
-ghost use Rattle.flusher.specs.Standing.{IsCalm};
-ghost use Rattle.flusher.specs.Run.{standing};
+ghost use Rattle.flusher.specs.Standing.{IsCalm, standing};
 
 use crate::begun::Begun;
 use crate::flusher::Flusher;
@@ -24,8 +23,8 @@ pub struct StartFault<D: Disk> {
     pub refusal: Refusal,
 }
 
-/// The flusher of a store, and the board of its commands with so many seats to give. The run's name has the log, the ledger and the
-/// state that the store holds. Refused for want of memory alone.
+/// The flusher of a store, and the board of its commands with so many seats to give. The run's name has the logs, the ledger and the
+/// state that the store holds. Refused out of memory alone.
 pub fn start<D: Disk, J: Site>(
     alloc: Global,
     store: Store<D>,
@@ -50,15 +49,15 @@ pub fn start<D: Disk, J: Site>(
     let begun = Begun::<J>::of(store.state());
     match store.state().copy(alloc) {
         Err(refusal) => {
-            let (_log, _told) = opened.named::<D, J>();
+            let (_log, _told, _order) = opened.named::<D, J>(store.state());
             Err(StartFault { store, refusal })
         }
         Ok(state) => match Publisher::new(alloc, opened, store.state()) {
             Err(refusal) => Err(StartFault { store, refusal }),
             Ok(made) => {
-                let (publisher, told) = made;
+                let (publisher, told, order) = made;
+                let board = Board::new(alloc, &store, state, told, order, blank, seats);
                 let flusher = Flusher::of(store, publisher, begun);
-                let board = Board::new(alloc, state, told, blank, seats);
                 Ok((flusher, board))
             }
         },

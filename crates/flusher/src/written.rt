@@ -1,7 +1,10 @@
 //! A batch that was written and isn't settled yet.
-ghost use Rattle.std.specs.Prelude.{◌≡◌, IfOk, IfErr};
+ghost use Rattle.std.specs.Prelude.{◌≡◌, length, IsOk, OnOk, OnErr, IfOk, IfErr};
+ghost use Rattle.world.specs.Board.{settled_more};
+ghost use Rattle.recovery.specs.Found.{commands_of};
+ghost use Rattle.hub.specs.Runs.{MaySettle};
 
-use hub::{Failed, Hub, Settled, Unsettled, Writer};
+use hub::{Board, Failed, Hub, Settled, Unsettled, Writer};
 use published::{Site, Told};
 use recovery::Receipt;
 use refusal::Refusal;
@@ -9,7 +12,8 @@ use std::marker::Model;
 use std::sync::Wait;
 
 /// A batch that was committed and published, and that the board has to settle next: the receipt of its commit, and the token that ends with
-/// it. Only `Flusher::write` makes one. It isn't `Drop`, so that each one is settled, or the hub is told that the store has failed.
+/// it. Only `Flusher::write` makes one. It isn't `Drop`: each one is settled, or the hub is told that the store has failed, or a board of the
+/// same thread has refused it.
 pub struct Written<D, J: Site> {
     receipt: Receipt<D>,
     told: Told<D, J>,
@@ -47,12 +51,17 @@ impl<D, J: Site> Written<D, J> {
         }
     }
 
-    // Its receipt and its token, for a board of the same thread.
-    pub(crate) fn parts(self) -> (Receipt<D>, Told<D, J>)
-        ensures { result ≡ self }
+    /// Settles it on a board of the same thread, as `Board::settle` does. Refused with `Stranger` alone, where it isn't what the board has to
+    /// settle next; the board is unchanged then, and the batch, which is on the disk, stays unsettled.
+    pub fn settle_on(self, board: &mut Board<D, J>) -> Result<(), Refusal>
+        ensures ok { OnOk result (board.new
+            ≡ record board.old { board = settled_more board.old.board (length self.0); told = self.1 }) }
+        ensures stranger { MaySettle board.old.board self.0 (length (commands_of self.1)) → IsOk result }
+        ensures only { IfErr result (λ e. e ≡ Refusal.Stranger) }
+        ensures unchanged { OnErr result (board.new ≡ board.old) }
     {
         let Written { receipt, told } = self;
-        (receipt, told)
+        board.settle(&receipt, told)
     }
 }
 

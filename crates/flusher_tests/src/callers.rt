@@ -1,4 +1,4 @@
-//! The callers that open `lib.rt` of flusher and of turns.
+//! The callers that open `lib.rt` of lives and of turns.
 ghost use Rattle.std.specs.Prelude.{◌≡◌, ◌++◌, List, None, false, OnOk};
 ghost use Rattle.disk.specs.Crash.{LeavesOnly};
 ghost use Rattle.revision.specs.Command.{Taken};
@@ -6,14 +6,14 @@ ghost use Rattle.revision.specs.State.{fold};
 ghost use Rattle.world.specs.World.{takens};
 ghost use Rattle.recovery.specs.Found.{commands_of};
 ghost use Rattle.recovery.specs.Open.{IsOpen, device_of, state_of, has_failed};
-ghost use Rattle.flusher.specs.Batches.{IsFirst};
 ghost use Rattle.flusher.specs.Holding.{store_of, told_of};
-ghost use Rattle.flusher.specs.Standing.{IsCalm, batches_of};
-ghost use Rattle.flusher.specs.Run.{standing};
+ghost use Rattle.flusher.specs.Standing.{IsCalm, standing};
+ghost use Rattle.lives.specs.Run.{IsFirst, batches_of};
 
 use disk::Disk;
-use flusher::{Call, Driven, Flusher, OpenGate, drive};
+use flusher::{Flusher, OpenGate};
 use hub::{Board, Failed, Hub, Idle, Seat, Writer};
+use lives::{Call, Driven, drive};
 use published::Site;
 use revision::Command;
 use std::alloc::Global;

@@ -6,7 +6,8 @@ use crate::rows::Step::{Submit, Turn};
 use crate::rows::{Gives, Row, SHAPE, calls_of, is_answered};
 use disk::{Disk, MemDisk};
 use fixtures::new_store;
-use flusher::{Flusher, drive, start};
+use flusher::{Flusher, start};
+use lives::drive;
 use milestone::compose_job;
 use published::{Opened, Site};
 use recovery::Store;
@@ -68,6 +69,7 @@ fn put_after_the_create<J: Site, R: Wait + Abort + AllocGlobal>(
 #[test]
 fn what_comes_of_a_job_is_put_once(rt: HostRuntime) {
     let store = new_store(rt.alloc(), SHAPE).expect(&rt, "a store");
-    let disk = put_after_the_create::<Brand, _>(&rt, store, Opened::new(), Blank::new(2));
+    let opened = Opened::new().expect(&rt, "logs");
+    let disk = put_after_the_create::<Brand, _>(&rt, store, opened, Blank::new(2));
     assert!(rt; disk.bytes().get(64).copied() == Some(0xa5));
 }

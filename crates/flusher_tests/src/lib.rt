@@ -1,6 +1,6 @@
-//! Tests of `flusher` and of `turns`, by their public calls alone.
+//! Tests of `flusher`, of `lives` and of `turns`, by their public calls alone.
 //!
-//! `callers` has the callers that open `lib.rt` of both, proved.
+//! `callers` has the callers that open `lib.rt` of `lives` and of `turns`, proved.
 #![tactic(auto)]
 
 #[cfg(test)]
@@ -13,6 +13,8 @@ mod jobs;
 mod rows;
 #[cfg(test)]
 mod runs;
+#[cfg(test)]
+mod seats;
 #[cfg(test)]
 mod shows;
 #[cfg(test)]

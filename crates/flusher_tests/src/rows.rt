@@ -4,8 +4,9 @@ ghost use Rattle.recovery.specs.Open.{state_of, has_failed};
 
 use disk::Disk;
 use fixtures::{command, wide_command};
-use flusher::{Answer, Call, Driven, drive, start};
+use flusher::start;
 use hub::Ticket;
+use lives::{Answer, Call, Driven, drive};
 use published::{Opened, Site};
 use recovery::{Shape, Store};
 use refusal::Refusal;
@@ -80,14 +81,14 @@ pub fn calls_of(rt: &(impl Abort + AllocGlobal), rows: &[Row]) -> Vec<Call> {
     calls
 }
 
-fn ordered(tickets: &[Ticket], at: usize) -> Gives {
+fn ordered<J: Site>(tickets: &[Ticket<J>], at: usize) -> Gives {
     match tickets.get(at) {
         Some(ticket) => Gives::Ordered(at, ticket.reply(), ticket.length()),
         None => Gives::NoTicket,
     }
 }
 
-fn given<D, J: Site>(answer: &Answer<D, J>, tickets: &[Ticket]) -> Gives {
+fn given<D, J: Site>(answer: &Answer<D, J>, tickets: &[Ticket<J>]) -> Gives {
     match answer {
         Answer::Submitted(at) => ordered(tickets, *at),
         Answer::Turned(count) => Gives::Settled(*count),
@@ -164,13 +165,6 @@ pub fn stops<D: Disk + Drop, R: Wait + Abort + AllocGlobal>(
 ) -> D
     requires { has_failed store ≡ false }
 {
-    driven::<_, Brand, R>(
-        rt,
-        store,
-        Opened::new(),
-        Blank::new(2),
-        rows,
-        count,
-        stopped,
-    )
+    let opened = Opened::new().expect(rt, "logs");
+    driven::<_, Brand, R>(rt, store, opened, Blank::new(2), rows, count, stopped)
 }

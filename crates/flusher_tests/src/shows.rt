@@ -4,6 +4,7 @@ ghost use Rattle.recovery.specs.Open.{state_of};
 ghost use Rattle.flusher.specs.Holding.{committed_of, waiting_of};
 
 use crate::rows::SHAPE;
+use crate::seats::{acknowledged, submitted};
 use disk::MemDisk;
 use fixtures::{command, new_store, newest};
 use flusher::{Flusher, Gate, Moment, start};
@@ -49,7 +50,9 @@ fn hold_next<J: Site, R: Wait + Abort + AllocGlobal>(
         Ok(run) => run,
         Err(refusal) => panic!(rt; "{refusal}"),
     };
-    assert_eq!(rt; run.len(), 1);
+    if run.len() != 1 || run.place() as u64 != flusher.told().len() {
+        panic!(rt; "it isn't the next command");
+    }
     flusher.hold(run);
 }
 
@@ -68,12 +71,12 @@ fn is_shown<J: Site, R: Wait + Abort + AllocGlobal>(
 {
     let alloc = rt.alloc();
     let next = command(alloc, number, 1).expect(rt, "a command");
-    let ticket = hub.submit(rt, alloc, seat, &next).expect(rt, "taken");
+    let ticket = submitted(rt, hub, seat, &next);
     hold_next(rt, flusher, hub, writer);
     let written = flusher.write(rt, alloc, gate).expect(rt, "written");
     let batch = written.expect(rt, "a batch");
     assert!(rt; batch.settle(rt, hub, writer).is_ok());
-    let told = hub.wait_ack(rt, &ticket).expect(rt, "acknowledged");
+    let told = acknowledged(rt, hub, &ticket);
     assert!(rt; told.len() == number);
     assert!(rt; gate.before == Ok(number.saturating_sub(1)) && gate.after == gate.before);
     assert!(rt; gate.viewer.read(newest) == Ok(number));
@@ -110,5 +113,6 @@ fn two_batches<J: Site, R: Wait + Abort + AllocGlobal>(
 #[test]
 fn what_is_committed_is_shown_once_it_is_published(rt: HostRuntime) {
     let store = new_store(rt.alloc(), SHAPE).expect(&rt, "a store");
-    two_batches::<Brand, _>(&rt, store, Opened::new(), Blank::new(2));
+    let opened = Opened::new().expect(&rt, "logs");
+    two_batches::<Brand, _>(&rt, store, opened, Blank::new(2));
 }

@@ -3,6 +3,7 @@ ghost use Rattle.std.specs.Prelude.{◌≡◌};
 ghost use Rattle.recovery.specs.Open.{state_of};
 
 use crate::rows::SHAPE;
+use crate::seats::{acknowledged, submitted as ordered};
 use disk::MemDisk;
 use fixtures::{command, new_store};
 use flusher::{Flusher, Gate, Moment, start};
@@ -69,13 +70,12 @@ fn submitted<J: Site, R: Wait + Abort + AllocGlobal>(
 ) -> u64 {
     let alloc = rt.alloc();
     let first = command(alloc, 1, 1).expect(rt, "a command");
-    let ticket = hub.submit(rt, alloc, one, &first).expect(rt, "taken");
+    let ticket = ordered(rt, hub, one, &first);
     assert!(rt; wait_for(reached));
     let second = command(alloc, 2, 1).expect(rt, "a command");
-    let last = hub.submit(rt, alloc, other, &second).expect(rt, "taken");
-    let _ = hub.wait_ack(rt, &ticket).expect(rt, "acknowledged");
-    let told = hub.wait_ack(rt, &last).expect(rt, "acknowledged");
-    told.len()
+    let last = ordered(rt, hub, other, &second);
+    let _ = acknowledged(rt, hub, &ticket);
+    acknowledged(rt, hub, &last).len()
 }
 
 // Submits both, and then ends the hub.
@@ -167,5 +167,6 @@ fn beside<J: Site + Send + Sync, R: Threads + Wait + Abort + AllocGlobal + Sync>
 #[test]
 fn second_is_ordered_while_first_is_written(rt: HostRuntime) {
     let store = new_store(rt.alloc(), SHAPE).expect(&rt, "a store");
-    beside::<Brand, _>(&rt, store, Opened::new(), Blank::new(3));
+    let opened = Opened::new().expect(&rt, "logs");
+    beside::<Brand, _>(&rt, store, opened, Blank::new(3));
 }

@@ -1,35 +1,47 @@
 -- A command more leaves the order a legal history.
-use Rattle.std.proofs.Common.{◌≡◌, ℕ, ◌+◌, ◌≤◌, arith, List, [], ◌∷◌, ◌++◌, length, refl, sym, ap, subst, ◌∙◌, length-append}
+use Rattle.std.proofs.Common.{◌≡◌, ℕ, ◌+◌, ◌≤◌, arith, List, [], ◌∷◌, ◌++◌, length, refl, sym, ap, subst, ◌∙◌, append_assoc, length-append}
 use Rattle.std.specs.Prelude.{Option, Some, None}
 use Rattle.std.proofs.lemmas.List.{map-append}
+use mathlib.Core.List.{IsPrefix}
 use Rattle.revision.specs.Command.{Taken, Command}
 use Rattle.revision.specs.State.{State, grown, fold}
 use Rattle.revision.specs.Acceptance.{Answer, Takes, Repeats, Refuses, Reply, TakenAt, AgainAt, answer}
-use Rattle.world.specs.Board.{Board, Ticket, submitted, submitted_by, ticket_by, ticket_of}
+use Rattle.world.specs.Board.{Board, Ticket, begun_board, submitted, submitted_by, ticket_by, ticket_of}
 use Rattle.world.specs.World.{Entry, entry_of, takens}
-use Rattle.hub.specs.Legal.{IsLegal, IsHistory, IsWithin, counted}
-
-legal-more : (state : State) (entries : List Entry) (entry : Entry) → IsLegal state entries
-    → answer (fold state (takens entries)) entry.command ≡ Takes entry.taken → IsLegal state (entries ++ entry ∷ [])
-legal-more state [] entry legal is = (is, tt)
-legal-more state (first ∷ others) entry legal is = (legal.0, legal-more (grown state first.taken) others entry legal.1 is)
+use Rattle.recovery.specs.Found.{commands_of}
+use Rattle.published.specs.Order.{HasNumber}
+use Rattle.published.proofs.CallerLemmas.{legal_more}
+use Rattle.hub.specs.Legal.{IsHistory, IsWithin, counted}
 
 fold-more : (state : State) (commands : List Taken) (taken : Taken) → fold state (commands ++ taken ∷ []) ≡ grown (fold state commands) taken
 fold-more state [] taken = refl
 fold-more state (first ∷ others) taken = fold-more (grown state first) others taken
 
+-- a board of which nothing was taken yet
+pub begun_within : (start : State) (told : List (List Taken)) → told ≡ [] → IsWithin (begun_board start) told
+begun_within start told none =
+    subst (λ (t : List (List Taken)). IsWithin (begun_board start) t) (sym none)
+    (record { settled = omega arith; taken = omega arith; published = refl; begins = ([], refl) })
+
+-- what begins the order begins it with one more
+begins-more : (xs : List Taken) (order : List Entry) (entry : Entry) → IsPrefix xs (takens order) → IsPrefix xs (takens (order ++ entry ∷ []))
+begins-more xs order entry (more, is) = (
+  more ++ entry.taken ∷ [],
+  sym (append_assoc xs more (entry.taken ∷ [])) ∙ ap (λ l. l ++ entry.taken ∷ []) is ∙ sym (map-append (λ (e : Entry). e.taken) order (entry ∷ [])),
+)
+
 module _ (board : Board Entry) (command : Command) where
-  answered : (due : Answer) → IsHistory board → answer board.state command ≡ due → IsHistory (submitted_by (entry_of command) board due)
-  answered (Takes taken) history is = record {
-    legal = legal-more board.start board.order (entry_of command taken) history.legal (ap (λ s. answer s command) (sym history.state) ∙ is);
+  answered : (due : Answer) → HasNumber command → IsHistory board → answer board.state command ≡ due → IsHistory (submitted_by (entry_of command) board due)
+  answered (Takes taken) numbered history is = record {
+    legal = legal_more board.start board.order (entry_of command taken) history.legal (numbered, ap (λ s. answer s command) (sym history.state) ∙ is);
     state = ap (λ s. grown s taken) history.state ∙ sym (ap (fold board.start) (map-append (λ (e : Entry). e.taken) board.order (entry_of command taken ∷ []))
         ∙ fold-more board.start (takens board.order) taken);
   }
-  answered (Repeats revision) history is = history
-  answered (Refuses refusal) history is = history
+  answered (Repeats revision) numbered history is = history
+  answered (Refuses refusal) numbered history is = history
 
-  history_submitted : IsHistory board → IsHistory (submitted (entry_of command) board command)
-  history_submitted history = answered (answer board.state command) history refl
+  history_submitted : HasNumber command → IsHistory board → IsHistory (submitted (entry_of command) board command)
+  history_submitted numbered history = answered (answer board.state command) numbered history refl
 
   counted_by : (due : Answer) (ticket : Ticket) → Some ticket ≡ ticket_by board command due
       → (length (submitted_by (entry_of command) board due).order ≡ counted (length board.order) ticket.reply) × (ticket.command ≡ command)
@@ -54,6 +66,7 @@ module _ (board : Board Entry) (command : Command) where
     settled = within.settled;
     taken = omega (arith, within.taken, length-append board.order (entry_of command taken ∷ []));
     published = within.published;
+    begins = begins-more (commands_of told) board.order (entry_of command taken) within.begins;
   }
   within_by told (Repeats revision) within = within
   within_by told (Refuses refusal) within = within
@@ -66,10 +79,10 @@ module _ (board : Board Entry) (command : Command) where
   -- all that a board's type says goes on
   pub submitted_goes_on : (new : Board Entry) (told : List (List Taken)) (start : State) (total after : ℕ) (reply : Reply) (ticket : Ticket)
       → new ≡ submitted (entry_of command) board command → Some ticket ≡ ticket_of board command → reply ≡ ticket.reply
-      → IsHistory board → IsWithin board told → board.start ≡ start → total ≡ length board.order → after ≡ counted total reply
+      → HasNumber command → IsHistory board → IsWithin board told → board.start ≡ start → total ≡ length board.order → after ≡ counted total reply
       → IsHistory new × IsWithin new told × (new.start ≡ start) × (after ≡ length new.order)
-  submitted_goes_on new told start total after reply ticket is given replied history within begun sum counts_it = (
-    subst IsHistory (sym is) (history_submitted history),
+  submitted_goes_on new told start total after reply ticket is given replied numbered history within begun sum counts_it = (
+    subst IsHistory (sym is) (history_submitted numbered history),
     subst (λ (b : Board Entry). IsWithin b told) (sym is) (within_by told (answer board.state command) within),
     ap (λ (b : Board Entry). b.start) is ∙ start_by (answer board.state command) ∙ begun,
     counts_it ∙ ap (λ n. counted n reply) sum ∙ ap (λ r. counted (length board.order) r) replied

@@ -1,6 +1,6 @@
 pub mod CallerLemmas
 pub mod Fitting
-pub mod Giving
+pub mod Placing
 pub mod Histories
 pub mod Waking
 pub mod Widths

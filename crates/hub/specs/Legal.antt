@@ -1,13 +1,12 @@
 -- What stands behind the lock at any time that it is free.
-use Rattle.std.specs.Prelude.{◌≡◌, ◌≤◌, ◌+◌, ◌⊎◌, ℕ, Bool, true, List, [], ◌∷◌, length, Some, Result, Ok, Err}
-use Rattle.refusal.specs.declared.Refusal.{Refusal}
-use Rattle.refusal.specs.declared.Refusal.TheVariants.{NoMemory, StoreFailed}
-use Rattle.revision.specs.Command.{Taken, Command}
-use Rattle.revision.specs.State.{State, grown, fold}
-use Rattle.revision.specs.Planned.{may_want_memory}
-use Rattle.revision.specs.Acceptance.{Takes, Refuses, Reply, TakenAt, AgainAt, Refused, answer}
+use Rattle.std.specs.Prelude.{◌≡◌, ◌≤◌, ◌+◌, ℕ, Bool, List, length}
+use mathlib.Core.List.{IsPrefix}
+use Rattle.revision.specs.Command.{Taken}
+use Rattle.revision.specs.State.{State, fold}
+use Rattle.revision.specs.Acceptance.{Reply, TakenAt, AgainAt, Refused}
 use Rattle.recovery.specs.Found.{commands_of}
-use Rattle.world.specs.Board.{Board as Inner, Ticket, ticket_of}
+use Rattle.published.specs.Order.{IsLegal}
+use Rattle.world.specs.Board.{Board as Inner}
 use Rattle.world.specs.World.{Entry, takens}
 
 -- a board of a world, whether the store under it has failed, the batches that were published up to what is settled, and how many seats
@@ -18,21 +17,23 @@ pub record Board : Type 0 where
   pub told : List (List Taken)
   pub left : ℕ
 
--- A legal history from a state: each command was taken as the rule of acceptance says at that point.
-abbrev pub IsLegal : State → List Entry → Type 0
-IsLegal state [] = Unit {0}
-IsLegal state (first ∷ others) = (answer state first.command ≡ Takes first.taken) × IsLegal (grown state first.taken) others
+-- seats that are used no longer: how many they are, and how many commands they have counted together
+pub record Tally : Type 0 where
+  pub seats : ℕ
+  pub counted : ℕ
 
 -- the order is a legal history from the start, of which the state is the fold
 pub record IsHistory (board : Inner Entry) : Type 0 where
   pub legal : IsLegal board.start board.order
   pub state : board.state ≡ fold board.start (takens board.order)
 
--- No more is settled than is taken off, no more is taken off than the order has, and what was published is as long as what is settled.
+-- No more is settled than is taken off, no more is taken off than the order has, and what was published is the prefix of the order that is
+-- settled.
 pub record IsWithin (board : Inner Entry) (told : List (List Taken)) : Type 0 where
   pub settled : board.settled ≤ board.taken
   pub taken : board.taken ≤ length board.order
   pub published : length (commands_of told) ≡ board.settled
+  pub begins : IsPrefix (commands_of told) (takens board.order)
 
 -- how many commands a seat has counted after a reply: one more where the command was taken
 abbrev pub counted : ℕ → Reply → ℕ
@@ -50,11 +51,3 @@ pub record WasOrdered (start : State) (count : ℕ) : Type 0 where
   pub board : Inner Entry
   pub run : IsOfRun start board
   pub ordered : count ≡ length board.order
-
--- What a board gave for a command at some moment of such a run: the world's ticket, or a refusal of the rule of acceptance, or none for
--- want of memory, where the answer then rested on what is to be made in memory, or since the store had failed.
-abbrev pub WasGiven : State → Command → Result Ticket Refusal → Type 0
-WasGiven start command (Ok ticket) = (board : Inner Entry) × IsOfRun start board × (Some ticket ≡ ticket_of board command)
-WasGiven start command (Err refusal) =
-    ((board : Inner Entry) × IsOfRun start board × (refusal ≡ NoMemory) × (may_want_memory command.action (answer board.state command) ≡ true))
-    ⊎ ((refusal ≡ StoreFailed) ⊎ ((board : Inner Entry) × IsOfRun start board × (answer board.state command ≡ Refuses refusal)))

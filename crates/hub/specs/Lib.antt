@@ -1,3 +1,5 @@
+pub mod Given
 pub mod Legal
+pub mod Placed
 pub mod Runs
 pub mod Waiting

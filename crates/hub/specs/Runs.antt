@@ -1,5 +1,5 @@
 -- Which commands of the order make a batch.
-use Rattle.std.specs.Prelude.{◌≡◌, ◌⊎◌, ◌<◌, ◌≤◌, ◌+◌, ℕ, true, List, drop, length, take}
+use Rattle.std.specs.Prelude.{◌≡◌, ◌⊎◌, ◌<◌, ◌≤◌, ◌+◌, ◌^◌, ℕ, true, List, drop, length, take}
 use Rattle.revision.specs.Command.{Taken}
 use Rattle.journal.specs.BatchSpelling.{batch_width}
 use Rattle.world.specs.Board.{Board, can_settle}
@@ -12,10 +12,17 @@ pub record IsLongest (cap : ℕ) (commands : List Taken) (count : ℕ) : Type 0 
   pub fits : (count ≡ 0) ⊎ (batch_width (take count commands) ≤ cap)
   pub longest : count < length commands → cap < batch_width (take (count + 1) commands)
 
--- A run that was taken off: its commands, and how many bytes their batch could have.
+-- A run that was taken off: its commands, how many bytes their batch could have, and how many commands the order has before them.
 pub record Run : Type 0 where
   pub commands : List Taken
   pub cap : ℕ
+  pub place : ℕ
+
+-- the commands of a run are the next ones of the order after so many, and these are fewer than 2^64 with them
+pub record IsPart (commands : List Taken) (place : ℕ) (order : List Entry) : Type 0 where
+  pub within : place + length commands ≤ length order
+  pub few : place + length commands < 2 ^ 64
+  pub part : commands ≡ take (length commands) (drop place (takens order))
 
 -- the commands that are not taken off yet
 abbrev pub untaken : Board Entry → List Taken

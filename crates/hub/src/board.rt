@@ -1,30 +1,35 @@
 //! The board.
-ghost use Rattle.std.specs.Prelude.{◌≡◌, ◌⊎◌, ◌↔◌, ◌≤◌, ◌<◌, ◌+◌, ◌-◌, ◌^◌, min, true, false, [], Some, None, Ok, length, IfOk, IfErr, IfSome, OnOk, OnErr, IsTrue, IsOk, IsErrOf};
+ghost use Rattle.std.specs.Prelude.{◌≡◌, ◌⊎◌, ◌↔◌, ◌≤◌, ◌<◌, ◌+◌, ◌-◌, ◌^◌, ◌++◌, ◌∷◌, true, false, List, [], Some, None, Ok, length, IfOk, IfErr, IfSome, OnOk, OnErr, IsTrue, IsOk, IsErrOf};
+ghost use mathlib.Core.List.{IsPrefix};
 ghost use Rattle.revision.specs.Acceptance.{answer, Refuses};
 ghost use Rattle.revision.specs.Planned.{may_want_memory};
 ghost use Rattle.recovery.specs.Found.{commands_of};
+ghost use Rattle.recovery.specs.Open.{state_of};
 ghost use Rattle.world.specs.Board.{begun_board, submitted, ticket_of, next_run, taken_more, settled_more, can_ack};
-ghost use Rattle.world.specs.World.{entry_of, takens};
+ghost use Rattle.world.specs.World.{Entry as Kept, entry_of, takens};
 ghost use Rattle.hub.specs.Legal.{IsHistory, IsOfRun, IsWithin, counted};
+ghost use Rattle.hub.specs.Placed.{IsPlaced, StandsFirst, WasSubmitted};
 ghost use Rattle.hub.specs.Runs.{IsLongest, untaken, MaySettle};
 
 use crate::run::{Run, copied, is_beginning, longest};
-use crate::seat::{PLACES, Seat, Ticket, count};
-use published::{Site, Told};
-use recovery::Receipt;
+use crate::seat::{PLACES, Seat, Tally, Ticket, count};
+use disk::Disk;
+use published::{Order, Ordered, Site, Told};
+use recovery::{Receipt, Store};
 use refusal::Refusal;
-use revision::{Command, State};
+use revision::{Command, Reply, State};
 use std::alloc::Global;
 use std::marker::Model;
 use std::sync::ledger::{Blank, Book, Share};
-use world::Board as Inner;
+use world::{Board as Inner, Entry};
 
 /// The order of the commands that were taken since a store was opened, with the state after them, how many are taken off to be written
 /// and how many of those are settled; the token of what was published up to there; whether the store has failed; and the ledger of the
-/// seats, whose counts add up to the length of the order.
+/// seats, whose counts add up to the length of the order. It owns the run's order, and makes it longer as its own grows.
 #[derive(Drop)]
 pub struct Board<D, J: Site> {
     board: Inner,
+    order: Order<J>,
     failed: bool,
     told: Told<D, J>,
     seats: Book<J>,
@@ -42,28 +47,38 @@ impl<D, J: Site> Model for Board<D, J> {
     ghost view = { λ b. record { board = b.board; failed = b.failed; told = b.told; left = b.left } };
 
     ghost invariant = { λ b. spec.IsHistory b.board × spec.IsWithin b.board b.told × (b.board.start ≡ J.start)
-        × (b.seats.total ≡ length b.board.order) × (b.spare.parts ≡ b.left + 1) };
+        × (b.seats.total ≡ length b.board.order) × (b.spare.parts ≡ b.left + 1) × (b.order ≡ b.board.order)
+        × (b.spare.amount ≡ 0) };
 }
 
 impl<D, J: Site> Board<D, J> {
-    /// The board of a state that a store was opened with, with the token of its start, and a ledger of so many seats. It takes no memory.
+    /// The board of a store, by a copy of its state, with the token of the start, the order, and a ledger of so many seats. Who has no store
+    /// can't make one. It takes no memory.
     pub fn new(
         alloc: Global,
+        store: &Store<D>,
         state: State,
         told: Told<D, J>,
+        order: Order<J>,
         blank: Blank,
         seats: u32,
     ) -> Board<D, J>
+    where
+        D: Disk,
+        requires store { state_of store.now ≡ J.start }
         requires start { state ≡ J.start }
         requires told { told ≡ [] }
+        requires order { order ≡ [] }
         requires name { blank.name ≡ J.name }
         requires parts { blank.parts ≡ J.parts }
         requires seats { blank.parts ≡ seats + 1 }
         ensures { result ≡ record { board = begun_board state; failed = false; told = []; left = seats } }
     {
+        let _ = store;
         let (book, spare) = blank.open::<J>();
         Board {
             board: Inner::new(alloc, state),
+            order,
             failed: false,
             told,
             seats: book,
@@ -98,11 +113,33 @@ impl<D, J: Site> Board<D, J> {
         self.board.settled()
     }
 
+    // How many commands of the order are taken off.
+    pub(crate) fn taken(&self) -> usize
+        ensures taken { result ≡ self.now.board.taken }
+        ensures bound { result ≤ length self.now.board.order }
+    {
+        self.board.taken()
+    }
+
+    // The token of the whole order.
+    pub(crate) fn order(&self) -> Ordered<J>
+        ensures { result ≡ self.now.board.order }
+    {
+        self.order.ordered()
+    }
+
     /// The token of what was published, up to what is settled.
     pub fn told(&self) -> &Told<D, J>
         ensures { result.now ≡ self.now.told }
     {
         &self.told
+    }
+
+    // Whether the store has failed.
+    pub(crate) fn has_failed(&self) -> bool
+        ensures { result ≡ self.now.failed }
+    {
+        self.failed
     }
 
     /// Whether all commands of the order are taken off.
@@ -130,18 +167,6 @@ impl<D, J: Site> Board<D, J> {
         Ok(Seat { share, place })
     }
 
-    /// Takes a seat back, so that it can be given again. What was counted of it stays counted. It takes no memory.
-    pub fn give_back(&mut self, seat: Seat<J>)
-        ensures { self.new ≡ record self.old { left = min (self.old.left + 1) (2 ^ 32 - 1) } }
-    {
-        let Seat { share, place } = seat;
-        self.used[place] = self.used[place].saturating_sub(1);
-        if self.left < u32::MAX {
-            self.spare.merge(share);
-            self.left += 1;
-        }
-    }
-
     /// Answers a command by the rule of acceptance. One that is taken is put behind the order and counted on the seat, and any other leaves the board and the seat alone. The
     /// ticket has the reply, and the length of the order that has to be settled before the reply may be given, for a retry too.
     /// Refused with `StoreFailed` where the store has failed, else as `State::plan` refuses it; nothing has changed then.
@@ -151,7 +176,7 @@ impl<D, J: Site> Board<D, J> {
         alloc: Global,
         seat: &mut Seat<J>,
         command: &Command,
-    ) -> Result<Ticket, Refusal>
+    ) -> Result<Ticket<J>, Refusal>
         ensures ok { OnOk result (self.new
             ≡ record self.old { board = submitted (entry_of command.now) self.old.board command.now }) }
         ensures ticket { IfOk result (λ ticket. Some ticket ≡ ticket_of self.old.board command.now) }
@@ -175,10 +200,12 @@ impl<D, J: Site> Board<D, J> {
         let _ = command.number();
         match self.board.submit(alloc, command) {
             Ok(ticket) => {
+                order_taken(&mut self.order, &self.board, &ticket);
                 count(&mut self.seats, &mut seat.share, ticket.reply());
                 Ok(Ticket {
                     ticket,
                     place: seat.place,
+                    order: self.order.ordered(),
                 })
             }
             Err(refusal) => Err(refusal),
@@ -191,6 +218,7 @@ impl<D, J: Site> Board<D, J> {
         ensures longest { IfOk result (λ run. IsLongest cap (untaken self.old.board) (length run.commands)) }
         ensures run { IfOk result (λ run. run.commands ≡ takens (next_run self.old.board (length run.commands))) }
         ensures cap { IfOk result (λ run. run.cap ≡ cap) }
+        ensures place { IfOk result (λ run. run.place ≡ self.old.board.taken) }
         ensures board { IfOk result (λ run. self.new
             ≡ record self.old { board = taken_more self.old.board (length run.commands) }) }
         ensures only { IfErr result (λ e. e ≡ Refusal.NoMemory) }
@@ -204,17 +232,19 @@ impl<D, J: Site> Board<D, J> {
         Ok(run)
     }
 
-    /// Settles a batch that was committed, by the receipt of its commit and the token of its publish. Refused with `Stranger` just where the batch isn't the
-    /// next part of the order after what is settled, some of it isn't taken off, it is empty, or what was published doesn't end with
-    /// it; nothing has changed then. It takes no memory.
+    /// Settles a batch that was committed, by its receipt and the token of its publish. Refused with `Stranger` exactly where the batch isn't the
+    /// next part of the order that is taken off, or the token has not as many commands as the order has with it; nothing has changed then.
+    /// What the token names begins the order in any case. It takes no memory.
     pub fn settle(&mut self, receipt: &Receipt<D>, told: Told<D, J>) -> Result<(), Refusal>
         ensures ok { OnOk result (self.new
             ≡ record self.old { board = settled_more self.old.board (length receipt.now); told = told }) }
         ensures may { OnOk result (MaySettle self.old.board receipt.now (length (commands_of told))) }
         ensures stranger { MaySettle self.old.board receipt.now (length (commands_of told)) → IsOk result }
+        ensures begins { IsPrefix (commands_of told) (takens self.old.board.order) }
         ensures only { IfErr result (λ e. e ≡ Refusal.Stranger) }
         ensures unchanged { OnErr result (self.new ≡ self.old) }
     {
+        self.order.covers(&told);
         let batch = receipt.batch();
         if !is_beginning(batch, self.board.unsettled()) {
             return Err(Refusal::Stranger);
@@ -228,19 +258,58 @@ impl<D, J: Site> Board<D, J> {
 
     /// Acknowledges a ticket: the token of what was published, just where the ticket's length is settled, which stays so once the store has failed. Else
     /// refused with `StoreFailed` where the store has failed, and `None` where it hasn't. It takes no memory.
-    pub fn ack(&self, ticket: &Ticket) -> Result<Option<Told<D, J>>, Refusal>
+    pub fn ack(&self, ticket: &Ticket<J>) -> Result<Option<Told<D, J>>, Refusal>
         ensures settled { (can_ack self.now.board ticket.now ≡ true) ↔ (result ≡ Ok (Some self.now.told)) }
         ensures waits { (result ≡ Ok None) ↔ ((can_ack self.now.board ticket.now ≡ false) × (self.now.failed ≡ false)) }
         ensures holds { IfOk result (λ told. IfSome told (λ t. ticket.now.length ≤ length (commands_of t))) }
+        ensures stands { IfOk result (λ told. IfSome told (λ t. StandsFirst J.start ticket.now (commands_of t))) }
         ensures only { IfErr result (λ e. e ≡ Refusal.StoreFailed) }
+        ensures failed { OnErr result (self.now.failed ≡ true) }
     {
         if self.board.acknowledges(&ticket.ticket) {
+            ticket.stands(&self.told);
             return Ok(Some(self.told.copy()));
         }
         if self.failed {
             return Err(Refusal::StoreFailed);
         }
         Ok(None)
+    }
+
+    /// A tally of no seats. It takes no memory.
+    pub fn tally(&mut self) -> Tally<J>
+        ensures none { result ≡ record { seats = 0; counted = 0 } }
+        ensures same { self.new ≡ self.old }
+    {
+        Tally {
+            share: self.spare.empty(),
+        }
+    }
+
+    /// Ends the board, of which all seats were given and are tallied: its order is a legal history, which begins as a token of it has it, and
+    /// is as long as what the seats have counted. It gives that length, and takes no memory.
+    pub fn end(self, seats: Tally<J>, ordered: &Ordered<J>) -> usize
+        requires all { seats.seats + 1 ≡ J.parts }
+        ensures ordered { result ≡ length self.board.order }
+        ensures run { IsOfRun J.start self.board }
+        ensures begins { IsPrefix ordered.now self.board.order }
+        ensures counts { length self.board.order ≡ seats.counted }
+    {
+        let count = self.ordered();
+        let Board {
+            board: _board,
+            mut order,
+            failed: _,
+            told: _told,
+            seats: mut book,
+            spare: mut all,
+            left: _,
+            used: _,
+        } = self;
+        order.holds(ordered);
+        all.merge(seats.share);
+        book.audit(&mut all);
+        count
     }
 
     /// Notes that the store has failed. It takes no memory.
@@ -262,4 +331,26 @@ fn least(used: &[u32; 64]) -> usize
         }
     }
     best
+}
+
+// Puts the command of a ticket that the board has just given behind the run's order, if the board took it.
+fn order_taken<J: Site>(order: &mut Order<J>, board: &Inner, ticket: &world::Ticket)
+    requires { WasSubmitted J.start order.old ticket.now board.now }
+    ensures order { order.new ≡ board.now.order }
+    ensures placed { IsPlaced J.start order.new ticket.now }
+{
+    match ticket.reply() {
+        Reply::Taken { rev: _ } => order.put(last_ordered(board)),
+        Reply::Again { rev: _ } => {}
+    }
+}
+
+// The command that was ordered last, which isn't taken off yet.
+fn last_ordered(board: &Inner) -> &Entry
+    requires { board.now.taken < length board.now.order }
+    ensures { (before : List Kept) (last : Kept) → board.now.order ≡ before ++ last ∷ []
+        → board.now.taken ≤ length before → result.now ≡ last }
+{
+    let untaken = board.untaken();
+    &untaken[untaken.len() - 1]
 }

@@ -2,13 +2,16 @@
 ghost use Rattle.std.specs.Prelude.{◌≡◌, ◌⊎◌, ◌≤◌, [], length, IfOk, IfErr, IfSome, OnErr};
 ghost use Rattle.journal.specs.BatchSpelling.{batch_width};
 ghost use Rattle.recovery.specs.Found.{commands_of};
-ghost use Rattle.hub.specs.Legal.{counted, WasGiven, WasOrdered};
+ghost use Rattle.hub.specs.Given.{WasGiven};
+ghost use Rattle.hub.specs.Legal.{counted, WasOrdered};
+ghost use Rattle.hub.specs.Placed.{StandsFirst};
 
 use crate::board::Board;
 use crate::kept::{Closer, Kept, Writer};
+use crate::not_submitted::NotSubmitted;
 use crate::run::Run;
 use crate::seat::{Seat, Ticket};
-use crate::tokens::{Failed, Idle, Settled};
+use crate::tokens::{Ended, Failed, Idle, Settled, Stopped, Work};
 use crate::unsettled::Unsettled;
 use published::{Site, Told};
 use recovery::Receipt;
@@ -42,16 +45,16 @@ impl<D, J: Site> Hub<D, J> {
     }
 
     /// Submits a command to the board, and wakes the flusher. The ticket is of this command, and the seat counts it just where the
-    /// reply is that it was taken. Refused as `Board::submit` refuses it, and with `StoreFailed` once the end was called, since nobody
-    /// would write it; the seat is as it was then. What is given, a ticket or a refusal, is what a board gives that
-    /// some legal history from the run's start makes.
+    /// reply is that it was taken. Refused as `Board::submit` refuses it, and once the end was called, since nobody would write it; the
+    /// seat is unchanged then. That the store had failed or the hub had ended is said by a token that the hub alone makes. A ticket, or
+    /// another refusal, is what a board gives that some legal history from the run's start makes.
     pub fn submit<R: Wait>(
         &self,
         rt: &R,
         alloc: Global,
         seat: &mut Seat<J>,
         command: &Command,
-    ) -> Result<Ticket, Refusal>
+    ) -> Result<Ticket<J>, NotSubmitted<J>>
         ensures given { WasGiven J.start command.now result }
         ensures command { IfOk result (λ ticket. ticket.command ≡ command.now) }
         ensures counts { IfOk result (λ ticket. seat.new ≡ counted seat.old ticket.reply) }
@@ -78,8 +81,8 @@ impl<D, J: Site> Hub<D, J> {
     }
 
     /// Settles a batch by its receipt and the token of its publish, as `Board::settle` does, and wakes those who wait for it: the board has
-    /// then settled all that this token names. A refusal shows a moment of the hub's board at which just this batch can't be settled by
-    /// just this token.
+    /// then settled all that this token names. A refusal shows a moment of the hub's board at which exactly this batch can't be settled by
+    /// exactly this token.
     pub fn settle<R: Wait>(
         &self,
         rt: &R,
@@ -112,27 +115,28 @@ impl<D, J: Site> Hub<D, J> {
         failed
     }
 
-    /// What `Board::ack` gives for a ticket, at once: a token that holds the ticket's length, `None` where it isn't settled yet, or `StoreFailed`.
-    pub fn ack<R: Wait>(&self, rt: &R, ticket: &Ticket) -> Result<Option<Told<D, J>>, Refusal>
+    /// What `Board::ack` gives for a ticket, at once: a token that holds the ticket's length, `None` where it isn't settled yet, or the token
+    /// that the store has failed.
+    pub fn ack<R: Wait>(&self, rt: &R, ticket: &Ticket<J>) -> Result<Option<Told<D, J>>, Stopped<J>>
         ensures holds { IfOk result (λ told. IfSome told (λ t. ticket.now.length ≤ length (commands_of t))) }
-        ensures only { IfErr result (λ e. e ≡ Refusal.StoreFailed) }
+        ensures stands { IfOk result (λ told. IfSome told (λ t. StandsFirst J.start ticket.now (commands_of t))) }
     {
-        self.kept.lock(rt).board().ack(ticket)
+        self.kept.lock(rt).ack(ticket)
     }
 
-    /// Waits until a ticket's length is settled, and gives a token that holds it. Refused with `StoreFailed` where the store failed
-    /// before.
-    pub fn wait_ack<R: Wait>(&self, rt: &R, ticket: &Ticket) -> Result<Told<D, J>, Refusal>
+    /// Waits until a ticket's length is settled, and gives a token that holds it, by which its order is a prefix of what is published. Refused
+    /// with the token that the store has failed, where it failed before that.
+    pub fn wait_ack<R: Wait>(&self, rt: &R, ticket: &Ticket<J>) -> Result<Told<D, J>, Stopped<J>>
         ensures holds { IfOk result (λ told. ticket.now.length ≤ length (commands_of told)) }
-        ensures only { IfErr result (λ e. e ≡ Refusal.StoreFailed) }
+        ensures stands { IfOk result (λ told. StandsFirst J.start ticket.now (commands_of told)) }
     {
         let place = ticket.place();
         let mut kept = self.kept.lock(rt);
         for _ in rt.forever() {
-            match kept.board().ack(ticket) {
+            match kept.ack(ticket) {
                 Ok(Some(told)) => return Ok(told),
                 Ok(None) => {}
-                Err(refusal) => return Err(refusal),
+                Err(stopped) => return Err(stopped),
             }
             kept.await_at(place, ticket.length());
             kept = self.moved[place].wait(rt, kept);
@@ -140,27 +144,48 @@ impl<D, J: Site> Hub<D, J> {
         unreachable!()
     }
 
-    /// Waits until a command of the order isn't taken off, and answers `None`; a token where the end was called and all are.
-    pub fn wait_work<R: Wait>(&self, rt: &R, writer: &mut Writer<J>) -> Option<Idle<J>> {
+    /// Waits until a command of the order isn't taken off, and answers with the token of that; with the other one where the end was called and
+    /// all are.
+    pub fn wait_work<R: Wait>(&self, rt: &R, writer: &mut Writer<J>) -> Result<Work<J>, Idle<J>> {
         let _ = writer;
         let mut kept = self.kept.lock(rt);
         for _ in rt.forever() {
             if !kept.board().is_idle() {
-                return None;
+                return Ok(Work::by_board(kept.board()));
             }
             if kept.has_ended() {
-                return Some(Idle::by_kept(&kept));
+                return Err(Idle::by_kept(&kept));
             }
             kept = self.work.wait(rt, kept);
         }
         unreachable!()
     }
 
-    /// Tells the flusher that nothing more will be submitted. From then on `submit` is refused with `StoreFailed`, so that nobody waits
-    /// for a turn that doesn't come.
-    pub fn end<R: Wait>(&self, rt: &R, closer: &mut Closer<J>) {
-        self.kept.lock(rt).end(closer);
+    /// Tells the flusher that nothing more will be submitted, and answers with the token of that. From then on `submit` is refused with
+    /// `StoreFailed`, so that nobody waits for a turn that doesn't come.
+    pub fn end<R: Wait>(&self, rt: &R, closer: &mut Closer<J>) -> Ended<J> {
+        let ended = self.kept.lock(rt).end(closer);
         self.work.notify_all();
+        ended
+    }
+
+    /// A seat more, of which nothing is counted yet, as `Board::seat` gives it. Refused with `NoSeat` alone, where none is left to give. It
+    /// takes no memory.
+    pub fn seat<R: Wait>(&self, rt: &R, closer: &mut Closer<J>) -> Result<Seat<J>, Refusal>
+        ensures new { IfOk result (λ seat. seat ≡ 0) }
+        ensures only { IfErr result (λ e. e ≡ Refusal.NoSeat) }
+    {
+        self.kept.lock(rt).seat(closer)
+    }
+
+    /// Gives the board back, once nobody shares the hub any more. It takes no memory, and waits for nobody.
+    pub fn into_board(self) -> Board<D, J> {
+        let Hub {
+            kept,
+            moved: _moved,
+            work: _work,
+        } = self;
+        kept.into_inner().into_board()
     }
 
     /// How many commands the order has: as many as that of a board of this run had at some moment.

@@ -1,17 +1,20 @@
 //! What lies under the hub's lock, and the two rights to change it that a session doesn't have.
-ghost use Rattle.std.specs.Prelude.{◌≡◌, ◌⊎◌, ◌↔◌, ◌<◌, true, false, [], length, min, set, get_or, replicate, IfOk, IfErr, IsOk, IsTrue, IsErrOf, OnOk, OnErr};
+ghost use Rattle.std.specs.Prelude.{◌≡◌, ◌⊎◌, ◌↔◌, ◌<◌, ◌≤◌, ◌+◌, true, false, [], length, min, set, get_or, replicate, IfOk, IfErr, IfSome, IsOk, IsTrue, IsErrOf, OnOk, OnErr};
 ghost use Rattle.recovery.specs.Found.{commands_of};
 ghost use Rattle.revision.specs.Acceptance.{answer, Refuses};
 ghost use Rattle.world.specs.Board.{next_run, settled_more, submitted, taken_more};
 ghost use Rattle.world.specs.World.{entry_of, takens};
-ghost use Rattle.hub.specs.Legal.{counted, WasGiven};
+ghost use Rattle.hub.specs.Given.{IsStopped, refusal_of, WasGiven};
+ghost use Rattle.hub.specs.Legal.{counted};
+ghost use Rattle.hub.specs.Placed.{StandsFirst};
 ghost use Rattle.hub.specs.Runs.{IsLongest, untaken, MaySettle};
 ghost use Rattle.hub.specs.Waiting.{AreWoken, nobody};
 
 use crate::board::Board;
+use crate::not_submitted::NotSubmitted;
 use crate::run::Run;
 use crate::seat::{PLACES, Seat, Ticket};
-use crate::tokens::{Failed, Settled};
+use crate::tokens::{Ended, Failed, Settled, Stopped};
 use crate::unsettled::Unsettled;
 use published::{Site, Told};
 use recovery::Receipt;
@@ -28,7 +31,7 @@ pub struct Writer<J: Site> {
     of: PhantomData<J>,
 }
 
-/// The right to end a hub. `Hub::new` makes the only one of its hub, and it can't be copied.
+/// The right to end a hub, and to give its seats out. `Hub::new` makes the only one of its hub, and it can't be copied.
 #[derive(Drop)]
 pub struct Closer<J: Site> {
     of: PhantomData<J>,
@@ -36,7 +39,7 @@ pub struct Closer<J: Site> {
 
 // What lies under the lock: the board; for each place the least length of the order that a thread waits there to be settled, the
 // greatest number where none does; and whether the end was called. Other modules have nothing of it but its calls: these lend the board
-// for reading alone, give no seat, and ask for the `Writer` or the `Closer` for whatever isn't a session's.
+// for reading alone, and ask for the `Writer` or the `Closer` for whatever isn't a session's.
 #[derive(Drop)]
 pub(crate) struct Kept<D, J: Site> {
     board: Board<D, J>,
@@ -65,6 +68,18 @@ impl<D, J: Site> Kept<D, J> {
         (kept, Writer { of: PhantomData }, Closer { of: PhantomData })
     }
 
+    // gives the board back
+    pub(crate) fn into_board(self) -> Board<D, J>
+        ensures { result ≡ self.board }
+    {
+        let Kept {
+            board,
+            awaited: _,
+            ended: _,
+        } = self;
+        board
+    }
+
     // the board, to be read
     pub(crate) fn board(&self) -> &Board<D, J>
         ensures { result.now ≡ self.now.board }
@@ -90,11 +105,35 @@ impl<D, J: Site> Kept<D, J> {
     }
 
     // notes that the end was called
-    pub(crate) fn end(&mut self, closer: &mut Closer<J>)
+    pub(crate) fn end(&mut self, closer: &mut Closer<J>) -> Ended<J>
         ensures { self.new ≡ record self.old { ended = true } }
     {
         let _ = closer;
         self.ended = true;
+        Ended::by_kept(self)
+    }
+
+    // a seat more, as `Board::seat` gives it
+    pub(crate) fn seat(&mut self, closer: &mut Closer<J>) -> Result<Seat<J>, Refusal>
+        ensures ok { OnOk result (self.old.board ≡ record self.new.board { left = self.new.board.left + 1 }) }
+        ensures new { IfOk result (λ seat. seat ≡ 0) }
+        ensures none { (self.old.board.left ≡ 0) ↔ IsErrOf result Refusal.NoSeat }
+        ensures only { IfErr result (λ e. e ≡ Refusal.NoSeat) }
+        ensures unchanged { OnErr result (self.new ≡ self.old) }
+    {
+        let _ = closer;
+        self.board.seat()
+    }
+
+    // what `Board::ack` gives
+    pub(crate) fn ack(&self, ticket: &Ticket<J>) -> Result<Option<Told<D, J>>, Stopped<J>>
+        ensures holds { IfOk result (λ told. IfSome told (λ t. ticket.now.length ≤ length (commands_of t))) }
+        ensures stands { IfOk result (λ told. IfSome told (λ t. StandsFirst J.start ticket.now (commands_of t))) }
+    {
+        match self.board.ack(ticket) {
+            Ok(answer) => Ok(answer),
+            Err(_) => Err(Stopped::by_board(&self.board)),
+        }
     }
 
     // submits a command to the board, unless the end was called
@@ -103,7 +142,7 @@ impl<D, J: Site> Kept<D, J> {
         alloc: Global,
         seat: &mut Seat<J>,
         command: &Command,
-    ) -> Result<Ticket, Refusal>
+    ) -> Result<Ticket<J>, NotSubmitted<J>>
         ensures ok { OnOk result (self.new
             ≡ record self.old {
               board = record
@@ -114,15 +153,18 @@ impl<D, J: Site> Kept<D, J> {
         ensures command { IfOk result (λ ticket. ticket.command ≡ command.now) }
         ensures counts { IfOk result (λ ticket. seat.new ≡ counted seat.old ticket.reply) }
         ensures uncounted { OnErr result (seat.new ≡ seat.old) }
-        ensures ended { self.old.ended ≡ true → IsErrOf result Refusal.StoreFailed }
-        ensures failed { self.old.board.failed ≡ true → IsErrOf result Refusal.StoreFailed }
+        ensures ended { self.old.ended ≡ true → IsStopped result }
+        ensures failed { self.old.board.failed ≡ true → IsStopped result }
         ensures refused { self.old.ended ≡ false → self.old.board.failed ≡ false
-            → IfErr result (λ e. (e ≡ Refusal.NoMemory) ⊎ (answer self.old.board.board.state command.now ≡ Refuses e)) }
+            → IfErr result (λ e. (refusal_of e ≡ Refusal.NoMemory) ⊎ (answer self.old.board.board.state command.now ≡ Refuses (refusal_of e))) }
     {
         if self.ended {
-            return Err(Refusal::StoreFailed);
+            return Err(NotSubmitted::Stopped(Stopped::by_kept(self)));
         }
-        self.board.submit(alloc, seat, command)
+        match self.board.submit(alloc, seat, command) {
+            Ok(ticket) => Ok(ticket),
+            Err(refusal) => Err(NotSubmitted::by_board(&self.board, refusal)),
+        }
     }
 
     // takes the next run off the board, as `Board::take` does

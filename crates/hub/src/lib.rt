@@ -1,23 +1,30 @@
 //! The board that many sessions order their edits on, and from which one flusher takes batches; and the hub, which is that board
 //! behind its lock.
 //!
-//! A `Board` is the value behind the lock. Its order is a legal history from the state that the store was opened with, and its state is
-//! the fold of that order; no more of it is settled than is taken off, the published batches that it was told of have as many
-//! commands as are settled, and its order is as long as what its seats have counted. This holds whenever the lock is free, by its
-//! type. Each call moves the board as the definition of that step in `world` says (specs/Legal.antt, specs/Runs.antt). What is
+//! A `Board` is the value behind the lock. It owns the run's order (`published::Order`), which is a legal history from the state that the
+//! store was opened with, and its state is the fold of that order; no more of it is settled than is taken off, the published batches that it
+//! was told of are the prefix that is settled, and its order is as long as what its seats have counted. This holds whenever the lock is
+//! free, by its type. Each call moves the board as the definition of that step in `world` says (specs/Legal.antt, specs/Runs.antt). What is
 //! settled was committed: `Board::settle` wants the receipt of a commit, which a store alone makes, and the token of a publish.
 //!
-//! What `take` takes off is a `Run`, which nothing else makes and nobody can change: so a flusher can only hold what a board took off. It
-//! isn't `Drop`, so no path lets one go: it ends by the receipt of its commit, or with its store.
+//! A `Ticket` has a token of the order up to its length, in which its command has its place as the rule of acceptance says
+//! (specs/Placed.antt). So by the token of what is published alone, without the board, its order is a prefix of that (`Ticket::stands`).
 //!
-//! What is the flusher's, to take, to settle, to wait for work and to fail, asks for a hub's `Writer`, and to end it for its `Closer`:
-//! `Hub::new` gives one of each, which can't be copied, so that no session's desk can do any of it. The hub's own calls can't either: what
-//! lies under the lock stands in a module of its own (src/kept.rt), which lends the board for reading alone, gives no seat, and asks for
-//! the same rights. So `Hub::submit` can't take, settle, fail or end, and `Hub::wait_work`, which is lent a `Writer` alone, can't end.
+//! What `take` takes off is a `Run`, which nothing else makes and nobody can change: so a flusher can only hold what a board took off. It
+//! isn't `Drop`, so no path lets one go: it ends by the receipt of its commit, with its store, or where it doesn't follow what is
+//! published. Where it does, it gives the token of the order by which it is published (`Run::goes_on`).
+//!
+//! What is the flusher's, to take, to settle, to wait for work and to fail, asks for a hub's `Writer`, and to end it or to give its seats
+//! out for its `Closer`: `Hub::new` gives one of each, which can't be copied, so that no session's desk can do any of it. The hub's own calls
+//! can't either: what lies under the lock stands in a module of its own (src/kept.rt), which lends the board for reading alone, and asks for
+//! the same rights. So `Hub::submit` can't take, settle, fail, end or give a seat, and `Hub::wait_work`, which is lent a `Writer` alone,
+//! can't end.
 //!
 //! Some answers are tokens that nothing else makes: `Settled` where a batch was settled, `Failed` where the hub was told of a failure,
-//! `Idle` where it was ended and nothing is left to take, `Nothing` where a run was taken off empty. A function that answers with one has
-//! called it. `Unsettled`, by which a hub refuses to settle a batch, shows a moment of its board at which that batch can't be settled.
+//! `Work` where a command isn't taken off, `Idle` where the hub was ended and nothing is left to take, `Ended` where it was ended, `Nothing`
+//! where a run was taken off empty, `Stopped` where a board had failed or a hub had ended, and so no command is submitted. Whoever answers
+//! with one had it of such a call, this one or an earlier one. `Unsettled`, by which a hub refuses to settle a batch, shows a moment of its board at
+//! which that batch can't be settled.
 //!
 //! A `Hub` is shared by threads: sessions submit and wait for their acknowledgements, and one flusher takes batches, writes them with
 //! the board unlocked, and settles them. After it has let the lock go, `settle` wakes the seats whose tickets are covered
@@ -26,8 +33,9 @@
 //! A caller, with its contract, which `hub_tests` proves as it stands:
 //!
 //! ```text
-//! ghost use Rattle.std.specs.Prelude.{◌≡◌, ◌≤◌, length, IfOk};
+//! ghost use Rattle.std.specs.Prelude.{◌≡◌, IfOk};
 //! ghost use Rattle.recovery.specs.Found.{commands_of};
+//! ghost use Rattle.hub.specs.Placed.{StandsFirst};
 //!
 //! use hub::{Hub, Seat, Ticket};
 //! use published::{Site, Told};
@@ -36,20 +44,25 @@
 //! use std::alloc::Global;
 //! use std::sync::Wait;
 //!
-//! /// Submits a command, and waits until its reply may be given: the token that comes with it holds what the reply rests on.
+//! /// Submits a command, and waits until its reply may be given: the token that comes with it has the ticket's order first.
 //! pub fn submit_and_wait<D, J: Site, R: Wait>(
 //!     rt: &R,
 //!     alloc: Global,
 //!     hub: &Hub<D, J>,
 //!     seat: &mut Seat<J>,
 //!     command: &Command,
-//! ) -> Result<(Ticket, Told<D, J>), Refusal>
+//! ) -> Result<(Ticket<J>, Told<D, J>), Refusal>
 //!     ensures command { IfOk result (λ done. done.0.command ≡ command.now) }
-//!     ensures holds { IfOk result (λ done. done.0.length ≤ length (commands_of done.1)) }
+//!     ensures stands { IfOk result (λ done. StandsFirst J.start done.0 (commands_of done.1)) }
 //! {
-//!     let ticket = hub.submit(rt, alloc, seat, command)?;
-//!     let told = hub.wait_ack(rt, &ticket)?;
-//!     Ok((ticket, told))
+//!     let ticket = match hub.submit(rt, alloc, seat, command) {
+//!         Ok(ticket) => ticket,
+//!         Err(why) => return Err(why.refusal()),
+//!     };
+//!     match hub.wait_ack(rt, &ticket) {
+//!         Ok(told) => Ok((ticket, told)),
+//!         Err(stopped) => Err(stopped.refusal()),
+//!     }
 //! }
 //! ```
 //!
@@ -59,10 +72,10 @@
 //! # What isn't promised
 //!
 //! - What a hub's call did to the board under the lock: no clause can name the board at that moment. The tokens that it moves say
-//!   some of it (a ticket, a seat's count, a `Told`), and tests the rest. `Hub::submit` says that its answer, a
-//!   ticket or a refusal, is one that a board gives which some legal history from the run's start makes; that the hub's own board stood
-//!   so no clause says. So it may say that memory is short or that the store failed where it isn't so, or refuse by a history that never
-//!   was, and tests speak of that.
+//!   some of it (a ticket, a seat's count, a `Told`), and tests the rest. That a command has its place in the order a ticket says. Of a
+//!   refusal `Hub::submit` says that it is one that a board gives which some legal history from the run's start makes; that the hub's own
+//!   board stood so no clause says. So it may say that memory is short where it isn't so, or refuse by a history that never was, and tests
+//!   speak of that. That the store has failed it says by a token alone.
 //! - That a thread which waits is ever woken.
 //! - That a ticket is asked for at the board that gave it. A seat and a token are of one run by their types.
 #![tactic(auto)]
@@ -70,6 +83,7 @@
 mod board;
 mod hub;
 mod kept;
+mod not_submitted;
 mod run;
 mod seat;
 mod tokens;
@@ -78,7 +92,8 @@ mod unsettled;
 pub use board::Board;
 pub use hub::Hub;
 pub use kept::{Closer, Writer};
+pub use not_submitted::NotSubmitted;
 pub use run::Run;
-pub use seat::{Seat, Ticket};
-pub use tokens::{Failed, Idle, Nothing, Settled};
+pub use seat::{Seat, Tally, Ticket};
+pub use tokens::{Ended, Failed, Idle, Nothing, Settled, Stopped, Work};
 pub use unsettled::Unsettled;

@@ -1,5 +1,7 @@
 //! Runs of the order: which make a batch, a copy of one, and whether a batch is one.
-ghost use Rattle.std.specs.Prelude.{◌≡◌, ◌↔◌, ◌≤◌, true, length, take, IfOk, IsOkUnless, IsTrue};
+ghost use Rattle.std.specs.Prelude.{◌≡◌, ◌≢◌, ◌↔◌, ◌<◌, ◌+◌, ◌^◌, ◌++◌, length, take, IfOk, IsOkUnless, IsTrue};
+ghost use mathlib.Core.List.{IsPrefix};
+ghost use Rattle.recovery.specs.Found.{commands_of};
 ghost use Rattle.world.specs.Board.{next_run};
 ghost use Rattle.world.specs.World.{takens};
 ghost use Rattle.hub.specs.Runs.{IsLongest, untaken};
@@ -7,7 +9,7 @@ ghost use Rattle.hub.specs.Runs.{IsLongest, untaken};
 use crate::board::Board;
 use crate::tokens::Nothing;
 use disk::Disk;
-use published::Site;
+use published::{Ordered, Site, Told};
 use recovery::{Receipt, Store};
 use refusal::Refusal;
 use revision::Taken;
@@ -17,10 +19,14 @@ use world::Entry;
 
 /// A run that was taken off a board to be written, with how many bytes its batch could have. Only a board's `take` makes one, of the
 /// longest run that fits, and it can't be changed: so what is written is what the board took off. It isn't `Drop`, so that no run is
-/// lost: it ends with the receipt of its commit, or where it has no command, or with the store that would have written it.
+/// lost: it ends with the receipt of its commit, or where it has no command, or where it doesn't follow what is published, or with the store
+/// that would have written it. It has a token of
+/// the order, and knows its place there.
 pub struct Run<D, J: Site> {
     commands: Vec<Taken>,
     cap: u32,
+    place: usize,
+    order: Ordered<J>,
     of: PhantomData<(D, J)>,
 }
 
@@ -29,7 +35,9 @@ impl<D, J: Site> Model for Run<D, J> {
 
     ghost Value = { spec.Run };
 
-    ghost view = { λ r. record { commands = r.commands.items; cap = r.cap } };
+    ghost view = { λ r. record { commands = r.commands.items; cap = r.cap; place = r.place } };
+
+    ghost invariant = { λ r. spec.IsPart r.commands.items r.place r.order };
 }
 
 impl<D, J: Site> Run<D, J> {
@@ -37,14 +45,47 @@ impl<D, J: Site> Run<D, J> {
     pub(crate) fn by_board(board: &Board<D, J>, commands: Vec<Taken>, cap: u32) -> Run<D, J>
         requires longest { IsLongest cap (untaken board.now.board) (length commands.items) }
         requires run { commands.items ≡ takens (next_run board.now.board (length commands.items)) }
-        ensures { result ≡ record { commands = commands.items; cap = cap } }
+        ensures { result ≡ record { commands = commands.items; cap = cap; place = board.now.board.taken } }
     {
-        let _ = board;
+        let _count = board.ordered();
         Run {
             commands,
             cap,
+            place: board.taken(),
+            order: board.order(),
             of: PhantomData,
         }
+    }
+
+    /// How many commands the order has before its own.
+    pub fn place(&self) -> usize
+        ensures { result ≡ self.now.place }
+    {
+        self.place
+    }
+
+    /// The order with its commands, where it goes on with what a token names: as many commands as the order has before its own.
+    pub fn goes_on(&self, told: &Told<D, J>) -> Ordered<J>
+        requires { self.now.place ≡ length (commands_of told.now) }
+        ensures next { IsPrefix (commands_of told.now ++ self.now.commands) (takens result) }
+        ensures few { length (commands_of told.now) + length self.now.commands < 2 ^ 64 }
+    {
+        told.begins_order(&self.order);
+        self.order.copy()
+    }
+
+    /// Ends a run that doesn't follow what a token names: the order has more commands before its own, or fewer. It is never written.
+    pub fn apart(self, told: &Told<D, J>)
+        requires { self.place ≢ length (commands_of told.now) }
+    {
+        let Run {
+            commands: _commands,
+            cap: _,
+            place: _,
+            order: _order,
+            of: _,
+        } = self;
+        let _ = told;
     }
 
     /// How many commands it has.
@@ -68,6 +109,8 @@ impl<D, J: Site> Run<D, J> {
         let Run {
             commands: _commands,
             cap: _,
+            place: _,
+            order: _order,
             of: _,
         } = self;
         let _ = receipt;
@@ -81,6 +124,8 @@ impl<D, J: Site> Run<D, J> {
         let Run {
             commands: _commands,
             cap,
+            place: _,
+            order: _order,
             of: _,
         } = self;
         Nothing::by_run(cap)
@@ -95,6 +140,8 @@ impl<D, J: Site> Run<D, J> {
         let Run {
             commands: _commands,
             cap: _,
+            place: _,
+            order: _order,
             of: _,
         } = self;
         store

@@ -1,9 +1,11 @@
 //! Seats and tickets.
-ghost use Rattle.std.specs.Prelude.{◌≡◌, ◌+◌, ◌<◌, Ok};
+ghost use Rattle.std.specs.Prelude.{◌≡◌, ◌+◌, ◌<◌, ◌≤◌, length, Ok};
+ghost use Rattle.recovery.specs.Found.{commands_of};
 ghost use Rattle.revision.specs.Planned.{reply_of};
 ghost use Rattle.hub.specs.Legal.{counted};
+ghost use Rattle.hub.specs.Placed.{IsPlaced, StandsFirst};
 
-use published::Site;
+use published::{Ordered, Site, Told};
 use revision::Reply;
 use std::marker::Model;
 use std::sync::ledger::{Book, Share};
@@ -29,26 +31,59 @@ impl<J: Site> Model for Seat<J> {
     ghost invariant = { λ s. (s.share.parts ≡ 1) × (s.place < 64) };
 }
 
-/// A command's reply, and the length of the order that has to be settled before the reply may be given. Only a board's `submit` makes
-/// one. Contracts see the command too, which takes no memory.
+/// What seats have counted that are used no longer. Contracts see it as how many seats these are, and what they have counted together.
 #[derive(Drop)]
-pub struct Ticket {
-    pub(crate) ticket: world::Ticket,
-    pub(crate) place: usize,
+pub struct Tally<J: Site> {
+    pub(crate) share: Share<J>,
 }
 
-impl Model for Ticket {
+impl<J: Site> Model for Tally<J> {
+    ghost use Rattle.hub.specs.Legal as spec;
+
+    ghost Value = { spec.Tally };
+
+    ghost view = { λ t. record { seats = t.share.parts; counted = t.share.amount } };
+}
+
+impl<J: Site> Tally<J> {
+    /// Adds a seat, which is used no longer. It takes no memory.
+    pub fn add(&mut self, seat: Seat<J>)
+        ensures { self.new ≡ record { seats = self.old.seats + 1; counted = self.old.counted + seat } }
+    {
+        self.share.merge(seat.share);
+    }
+}
+
+/// A command's reply, and the length of the order that has to be settled before the reply may be given. Only a board's `submit` makes
+/// one. Contracts see the command too, which takes no memory. It has a token of the order up to that length, in which its command has its
+/// place.
+#[derive(Drop)]
+pub struct Ticket<J: Site> {
+    pub(crate) ticket: world::Ticket,
+    pub(crate) place: usize,
+    pub(crate) order: Ordered<J>,
+}
+
+impl<J: Site> Model for Ticket<J> {
     ghost use Rattle.std.specs.Prelude.{◌<◌};
     ghost use Rattle.world.specs.Board as spec;
+    ghost use Rattle.hub.specs.Placed.{IsPlaced};
 
     ghost Value = { spec.Ticket };
 
     ghost view = { λ t. t.ticket };
 
-    ghost invariant = { λ t. t.place < 64 };
+    ghost invariant = { λ t. (t.place < 64) × IsPlaced J.start t.order t.ticket };
 }
 
-impl Ticket {
+impl<J: Site> Ticket<J> {
+    /// The order up to its length, in which its command has its place.
+    pub fn order(&self) -> &Ordered<J>
+        ensures { IsPlaced J.start result.now self.now }
+    {
+        &self.order
+    }
+
     /// The reply.
     pub fn reply(&self) -> Reply
         ensures { reply_of (Ok result) ≡ self.now.reply }
@@ -61,6 +96,15 @@ impl Ticket {
         ensures { result ≡ self.now.length }
     {
         self.ticket.length()
+    }
+
+    /// Where all of the order up to its length is published, its order is a prefix of what is. It takes no memory.
+    pub fn stands<D>(&self, told: &Told<D, J>)
+        requires { self.now.length ≤ length (commands_of told.now) }
+        ensures { StandsFirst J.start self.now (commands_of told.now) }
+    {
+        self.order.legal();
+        told.covers(&self.order);
     }
 
     // where its seat waits

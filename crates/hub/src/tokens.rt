@@ -1,5 +1,5 @@
 //! What a hub gives alone: tokens that show that it was called.
-ghost use Rattle.std.specs.Prelude.{◌≡◌, [], true};
+ghost use Rattle.std.specs.Prelude.{◌≡◌, ◌≢◌, [], true};
 ghost use Rattle.hub.specs.Runs.{untaken};
 
 use crate::board::Board;
@@ -116,5 +116,74 @@ impl<J: Site> Idle<J> {
     {
         let _ = kept;
         Idle { of: PhantomData }
+    }
+}
+
+/// That a hub's board had a command that wasn't taken off. Only `Hub::wait_work` makes one, of what lies under the hub's lock then.
+#[derive(Drop)]
+pub struct Work<J: Site> {
+    of: PhantomData<J>,
+}
+
+impl<J: Site> Work<J> {
+    // This board had one.
+    pub(crate) fn by_board<D>(board: &Board<D, J>) -> Work<J>
+        requires { untaken board.now.board ≢ [] }
+    {
+        let _ = board;
+        Work { of: PhantomData }
+    }
+}
+
+/// That a hub's end was called. Only `Hub::end` makes one.
+#[derive(Drop)]
+pub struct Ended<J: Site> {
+    of: PhantomData<J>,
+}
+
+impl<J: Site> Ended<J> {
+    // What lies under a lock was found so.
+    pub(crate) fn by_kept<D>(kept: &Kept<D, J>) -> Ended<J>
+        requires { kept.now.ended ≡ true }
+    {
+        let _ = kept;
+        Ended { of: PhantomData }
+    }
+}
+
+/// That a board of the run had failed, or that its hub had ended: nothing is submitted from then on. Only a hub makes one, of what lies under
+/// its lock. It takes no memory.
+#[derive(Drop)]
+pub struct Stopped<J: Site> {
+    of: PhantomData<J>,
+}
+
+impl<J: Site> Stopped<J> {
+    // This board had failed.
+    pub(crate) fn by_board<D>(board: &Board<D, J>) -> Stopped<J>
+        requires { board.now.failed ≡ true }
+    {
+        let _ = board;
+        Stopped { of: PhantomData }
+    }
+
+    // What lies under a lock was found ended.
+    pub(crate) fn by_kept<D>(kept: &Kept<D, J>) -> Stopped<J>
+        requires { kept.now.ended ≡ true }
+    {
+        let _ = kept;
+        Stopped { of: PhantomData }
+    }
+
+    /// Another one of the same.
+    pub fn copy(&self) -> Stopped<J> {
+        Stopped { of: PhantomData }
+    }
+
+    /// What a session is told of it.
+    pub fn refusal(&self) -> Refusal
+        ensures { result ≡ Refusal.StoreFailed }
+    {
+        Refusal::StoreFailed
     }
 }

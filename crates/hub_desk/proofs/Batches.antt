@@ -1,5 +1,5 @@
 -- Published batches, of which some begin others, and what they make of a state.
-use Rattle.std.proofs.Common.{◌≡◌, ◌≤◌, ◌++◌, ◌&&◌, Bool, true, false, List, [], ◌∷◌, length, length-append, refl, sym, ap, subst, ◌∙◌, append_assoc, append-nil, arith}
+use Rattle.std.proofs.Common.{◌≡◌, ◌++◌, ◌&&◌, Bool, true, false, List, [], ◌∷◌, refl, sym, ap, subst, ◌∙◌, append_assoc}
 use mathlib.Core.List.{IsPrefix}
 use Rattle.revision.specs.Command.{Taken}
 use Rattle.revision.specs.State.{State, grows, grown, all_grow, fold}
@@ -12,20 +12,16 @@ commands-joined [] back = refl
 commands-joined (batch ∷ others) back =
     ap (λ (l : List Taken). batch ++ l) (commands-joined others back) ∙ sym (append_assoc batch (commands_of others) (commands_of back))
 
--- what begins others has no more commands
-pub no_more : (old new : List (List Taken)) → IsPrefix old new → length (commands_of old) ≤ length (commands_of new)
-no_more old new (back, is) =
-    subst (λ (l : List (List Taken)). length (commands_of old) ≤ length (commands_of l)) is
-    (let joined = ap (λ (l : List Taken). length l) (commands-joined old back) in
-    let sum = length-append (commands_of old) (commands_of back) in
-    omega (arith, joined, sum))
+-- the commands of what begins others begin theirs
+pub commands_begin : (old new : List (List Taken)) → IsPrefix old new → IsPrefix (commands_of old) (commands_of new)
+commands_begin old new (back, is) = (commands_of back, sym (commands-joined old back) ∙ ap commands_of is)
 
 and_right : (a b : Bool) → (a && b) ≡ true → b ≡ true
 and_right true b h = h
 and_right false b h = cc
 
 -- the commands behind others grow what those make
-grow_behind : (front back : List Taken) (state : State) → all_grow state (front ++ back) ≡ true
+pub grow_behind : (front back : List Taken) (state : State) → all_grow state (front ++ back) ≡ true
     → (all_grow (fold state front) back ≡ true) × (fold state (front ++ back) ≡ fold (fold state front) back)
 grow_behind [] back state grow = (grow, refl)
 grow_behind (first ∷ others) back state grow = grow_behind others back (grown state first) (and_right (grows state first) (all_grow (grown state first) (others ++ back)) grow)

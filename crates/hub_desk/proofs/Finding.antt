@@ -141,7 +141,7 @@ begun limits taken h =
     (eqb-true _ _ numbers.0, eqb-true _ _ numbers.1)
 
 -- What a source has last after a change of a past, whose revision is the next one.
-last-changed : (keep : ℕ) (past : Past) (taken : Taken) (source : List ℕ) → taken.revision ≡ newest past + 1
+pub last-changed : (keep : ℕ) (past : Past) (taken : Taken) (source : List ℕ) → taken.revision ≡ newest past + 1
     → last_of source (sources_at (with_change keep past (change_of taken)) (newest (with_change keep past (change_of taken))))
     ≡ cond (bytes_eq taken.source source) (noted taken) (last_of source (sources_at past (newest past)))
 last-changed keep past taken source next =

@@ -17,7 +17,7 @@ use Rattle.hub_desk.specs.Laws.{refusal_of_old, IsNotTakenAgain, StandsLater, St
 use Rattle.hub_desk.proofs.Finding.{noted, Leaves, grown-leaves}
 
 -- where the document is found
-abbrev StandsWhere : Command → ℕ → Option (ℕ × DocumentRecord) → Type 0
+abbrev pub StandsWhere : Command → ℕ → Option (ℕ × DocumentRecord) → Type 0
 StandsWhere command revision there = IsSomeAnd there (λ found. Reaches command.number revision (last_of command.source (sources_of found.1)))
 
 reached : (command : Command) (revision : ℕ) (there : Option (ℕ × DocumentRecord)) → StandsWhere command revision there

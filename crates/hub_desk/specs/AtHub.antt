@@ -1,5 +1,5 @@
 -- What passes between a session and its desk at a hub.
-use Rattle.std.specs.Prelude.{◌≡◌, ◌⊎◌, ◌≤◌, ℕ, List, length, Some, None, Ok, Err}
+use Rattle.std.specs.Prelude.{◌≡◌, ◌⊎◌, ℕ, Bool, true, List, Some, None, Ok, Err}
 use mathlib.Core.List.{IsPrefix}
 use Rattle.refusal.specs.declared.Refusal.{Refusal}
 use Rattle.refusal.specs.declared.Refusal.TheVariants.{NoMemory, StoreFailed}
@@ -7,43 +7,47 @@ use Rattle.revision.specs.Command.{Command, Taken}
 use Rattle.revision.specs.State.{State, fold}
 use Rattle.recovery.specs.Found.{commands_of}
 use Rattle.world.specs.Board.{Ticket}
-use Rattle.hub.specs.Legal.{counted, WasGiven}
+use Rattle.hub.specs.Legal.{counted}
+use Rattle.hub.specs.Given.{GaveTicket, WasRefused}
+use Rattle.hub.specs.Placed.{StandsFirst}
 use Rattle.session.specs.declared.reply.Reply.{Reply}
 use Rattle.session.specs.Alone.{answered}
 use Rattle.session.specs.Exchange.{Exchange, Answered, Shown}
-use Rattle.session.specs.Reply.{rev_of}
-use Rattle.hub_desk.specs.Standing.{StandsIn}
 
--- a desk: the published batches that it was told of, those that it has shown, and how many commands its seat has counted
+-- a desk: the published batches that it was told of, those that it has shown, how many commands its seat has counted, and whether it has
+-- the hub's token that the store had failed or the hub had ended
 pub record Desk : Type 0 where
   pub told : List (List Taken)
   pub shown : List (List Taken)
   pub counted : ℕ
+  pub stopped : Bool
 
 -- A command was submitted at a hub whose run began with this state: its ticket is of just this command, a board of the run gave it, and
 -- the seat counts it just where it was taken.
 pub record Submits (start : State) (old : Desk) (command : Command) (ticket : Ticket) (new : Desk) : Type 0 where
   pub of_command : ticket.command ≡ command
-  pub given : WasGiven start command (Ok ticket)
+  pub given : GaveTicket start command ticket
   pub counts : new.counted ≡ counted old.counted ticket.reply
   pub told : IsPrefix old.told new.told
   pub shown : new.shown ≡ old.shown
 
--- It is answered by its ticket, once what the desk was told of holds the ticket's length, and once the state that those batches make of
--- the start of the run has the command, as the revision of the reply. What is shown from then on begins with them.
+-- It is answered by its ticket, once the ticket's order, in which the command has its place as the rule of acceptance says, is a prefix of
+-- what the desk was told of. What is shown from then on begins with that.
 pub record Acknowledges (start : State) (old : Desk) (command : Command) (reply : Reply) (new : Desk) : Type 0 where
   pub ticket : Ticket
   pub submits : Submits start old command ticket new
   pub answer : answered ticket.reply ≡ Ok reply
-  pub holds : ticket.length ≤ length (commands_of new.told)
-  pub stands : StandsIn (fold start (commands_of new.told)) command (rev_of reply)
+  pub stands : StandsFirst start ticket (commands_of new.told)
 
--- It is refused as a board of the run refused it, or for want of memory at the desk, and leaves the desk as it was; or the store failed
--- before it was settled or shown.
+-- The hub gave its token that the store had failed or that it had ended, in place of a ticket, or before the command was settled.
+pub record Stops (start : State) (old : Desk) (command : Command) (new : Desk) : Type 0 where
+  pub token : new.stopped ≡ true
+  pub submits : (new ≡ record old { stopped = true }) ⊎ ((ticket : Ticket) × Submits start old command ticket new)
+
+-- It is refused as a board of the run refused it, or out of memory at the desk, and leaves the desk unchanged; or the hub is stopped.
 abbrev pub Refuses : State → Desk → Command → Refusal → Desk → Type 0
 Refuses start old command refusal new =
-    ((new ≡ old) × ((refusal ≡ NoMemory) ⊎ WasGiven start command (Err refusal)))
-    ⊎ ((refusal ≡ StoreFailed) × (ticket : Ticket) × Submits start old command ticket new)
+    ((new ≡ old) × ((refusal ≡ NoMemory) ⊎ WasRefused start command refusal)) ⊎ ((refusal ≡ StoreFailed) × Stops start old command new)
 
 -- What passes between such a desk and a session, and what that leaves. What is shown is what the published batches make of the
 -- start of the run, with all that the desk was told of before.

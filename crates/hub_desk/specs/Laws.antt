@@ -1,5 +1,5 @@
 -- What follows where a command stands in a state: each law is promised by a function of `laws`.
-use Rattle.std.specs.Prelude.{◌≡◌, ◌⊎◌, ◌≤◌, ◌<◌, ℕ, true, List, Some, Any}
+use Rattle.std.specs.Prelude.{◌≡◌, ◌⊎◌, ◌≤◌, ◌<◌, ℕ, true, List, Some, Ok, Any}
 use mathlib.Core.List.{IsPrefix}
 use Rattle.refusal.specs.declared.Refusal.{Refusal}
 use Rattle.refusal.specs.declared.Refusal.TheVariants.{Exists, OldNumber}
@@ -8,9 +8,14 @@ use Rattle.revision.specs.State.{State, DocumentRecord, find, all_grow, fold}
 use Rattle.revision.specs.Acceptance.{Repeats, Refuses, answer}
 use Rattle.revision.specs.Agree.{Agree}
 use Rattle.recovery.specs.Found.{commands_of}
+use Rattle.world.specs.Board.{Ticket}
 use Rattle.world.specs.Law.{last_held}
+use Rattle.hub.specs.Placed.{StandsFirst}
+use Rattle.session.specs.declared.reply.Reply.{Reply}
+use Rattle.session.specs.Alone.{answered}
 use Rattle.session.specs.Exchange.{Exchange}
 use Rattle.session.specs.Replies.{Asks}
+use Rattle.session.specs.Reply.{rev_of}
 use Rattle.hub_desk.specs.AtHub.{Desk, PassesAtHub}
 use Rattle.hub_desk.specs.Standing.{StandsIn, AllStand}
 
@@ -49,6 +54,11 @@ abbrev pub WasTakenAmong : Type 0
 WasTakenAmong = (state : State) (commands : List Taken) (command : Command) (revision : ℕ) → all_grow state commands ≡ true
     → (last_held state command).number < command.number → StandsIn (fold state commands) command revision
     → Any (IsTakenOf (fold state commands) command revision) commands
+
+-- A command whose ticket's order is a prefix of commands that continue the start stands in what these make, as the revision of its reply.
+abbrev pub PlacedStands : Type 0
+PlacedStands = (start : State) (ticket : Ticket) (commands : List Taken) (reply : Reply) → all_grow start commands ≡ true
+    → StandsFirst start ticket commands → answered ticket.reply ≡ Ok reply → StandsIn (fold start commands) ticket.command (rev_of reply)
 
 -- No exchange makes a desk forget what it was told of.
 abbrev pub ToldKept : Type 0

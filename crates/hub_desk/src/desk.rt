@@ -1,20 +1,19 @@
 //! A desk at a hub.
-ghost use Rattle.std.specs.Prelude.{◌≡◌, ◌≤◌, ◌↔◌, ℕ, IsTrue, ◌<◌, ◌+◌, ◌++◌, [], ◌∷◌, length, Ok, IfErr, IfOk, OnOk, OnErr};
+ghost use Rattle.std.specs.Prelude.{◌≡◌, ◌≤◌, ℕ, IsTrue, ◌<◌, ◌+◌, ◌++◌, [], ◌∷◌, true, false, length, Ok, IfErr, IfOk, OnOk, OnErr};
 ghost use Rattle.std.specs.Vec.{vec_len, vec_capacity};
 ghost use mathlib.Core.List.{IsPrefix};
 ghost use Rattle.recovery.specs.Found.{commands_of};
 ghost use Rattle.revision.specs.State as state;
+ghost use Rattle.hub.specs.Given.{refusal_of};
+ghost use Rattle.hub.specs.Placed.{StandsFirst};
 ghost use Rattle.session.specs.Alone.{answered};
 ghost use Rattle.session.specs.Ahead as ahead;
 ghost use Rattle.session.specs.Replies.{Asks};
-ghost use Rattle.session.specs.Reply.{rev_of};
 ghost use Rattle.hub_desk.specs.AtHub as at_hub;
 ghost use Rattle.hub_desk.specs.AtHub.{PassesAtHub};
-ghost use Rattle.hub_desk.specs.Standing.{StandsIn};
-ghost use Rattle.hub_desk.specs.Tickets.{AreOf, IsOf, AnswersFor, counted_by, counted_all, last_by, last_of, with_count};
+ghost use Rattle.hub_desk.specs.Tickets.{AreOf, IsOf, AnswersFor, counted_by, counted_all, last_by, last_of, noted, with_count};
 
-use crate::standing::stands;
-use hub::{Hub, Seat, Ticket};
+use hub::{Hub, NotSubmitted, Seat, Stopped, Ticket};
 use published::{Site, Told};
 use refusal::Refusal;
 use revision::{Command, State};
@@ -24,9 +23,9 @@ use std::marker::Model;
 use std::sync::Wait;
 use view::Viewer;
 
-/// Answers each command once it is settled at the hub and the state that readers are shown has it, and shows what is published. It
-/// owns a seat of the hub and a viewer of the same run, for one session after another. Contracts see it as the published batches that it was told of, those that it has shown,
-/// and how many commands its seat has counted.
+/// Answers each command once it is settled at the hub, by its ticket and the token of what is published, and shows what is published. It
+/// owns a seat of the hub and a viewer of the same run, for one session after another. Contracts see it as the published batches that it was
+/// told of, those that it has shown, how many commands its seat has counted, and whether it has the hub's token that it is stopped.
 #[derive(Drop)]
 pub struct HubDesk<'a, D, J: Site, R> {
     rt: &'a R,
@@ -34,15 +33,17 @@ pub struct HubDesk<'a, D, J: Site, R> {
     seat: Seat<J>,
     viewer: Viewer<D, J>,
     shown: Told<D, J>,
+    stopped: Option<Stopped<J>>,
 }
 
 impl<'a, D, J: Site, R> Model for HubDesk<'a, D, J, R> {
+    ghost use Rattle.std.specs.Prelude.{is_some};
     ghost use mathlib.Core.List.{IsPrefix};
     ghost use Rattle.hub_desk.specs.AtHub as spec;
 
     ghost Value = { spec.Desk };
 
-    ghost view = { λ d. record { told = d.viewer; shown = d.shown; counted = d.seat } };
+    ghost view = { λ d. record { told = d.viewer; shown = d.shown; counted = d.seat; stopped = is_some d.stopped } };
 
     ghost invariant = { λ d. IsPrefix d.shown d.viewer };
 }
@@ -55,7 +56,7 @@ impl<'a, D, J: Site, R> HubDesk<'a, D, J, R> {
         seat: Seat<J>,
         viewer: Viewer<D, J>,
     ) -> HubDesk<'a, D, J, R>
-        ensures { result ≡ record { told = viewer; shown = viewer; counted = seat } }
+        ensures { result ≡ record { told = viewer; shown = viewer; counted = seat; stopped = false } }
     {
         let shown = viewer.told();
         HubDesk {
@@ -64,6 +65,7 @@ impl<'a, D, J: Site, R> HubDesk<'a, D, J, R> {
             seat,
             viewer,
             shown,
+            stopped: None,
         }
     }
 
@@ -78,68 +80,64 @@ impl<'a, D, J: Site, R> HubDesk<'a, D, J, R> {
             seat,
             viewer,
             shown: _,
+            stopped: _,
         } = self;
         (seat, viewer)
     }
 
-    // Whether what the viewer was told of holds a ticket's length.
-    fn holds(&self, ticket: &Ticket) -> bool
-        ensures { IsTrue result ↔ (ticket.now.length ≤ length (commands_of self.now.told)) }
+    // Whether what the viewer was told of holds a ticket's length. Where it does, the ticket's order is a prefix of that.
+    fn holds(&self, ticket: &Ticket<J>) -> bool
+        ensures { IsTrue result → StandsFirst J.start ticket.now (commands_of self.now.told) }
     {
-        ticket.length() as u64 <= self.viewer.told().len()
-    }
-
-    // Looks whether the state that readers are shown has a command, as the revision of its reply. It waits for nobody, and takes no
-    // memory. Refused with `StoreFailed` alone, where the state hasn't, which a board that keeps its order leaves no room for, or where
-    // the view has ended.
-    fn look(&mut self, command: &Command, reply: Reply) -> Result<(), Refusal>
-        ensures kept { IsPrefix self.old.told self.new.told }
-        ensures others { self.new ≡ record self.old { told = self.new.told } }
-        ensures stands { OnOk result
-            (StandsIn (state.fold J.start (commands_of self.new.told)) command.now (rev_of reply)) }
-        ensures only { IfErr result (λ e. e ≡ Refusal.StoreFailed) }
-    {
-        let shown = self.viewer.read(
-            |state: &State| -> bool
-                ensures { IsTrue result ↔ StandsIn state.now command.entry.now (rev_of reply) }
-            { stands(state, command, reply) },
-        )?;
-        if shown {
-            return Ok(());
+        let told = self.viewer.told();
+        if ticket.length() as u64 > told.len() {
+            return false;
         }
-        Err(Refusal::StoreFailed)
+        ticket.stands(&told);
+        true
     }
 
-    // The reply of a ticket that is settled, once the state that readers are shown has its command. Refused with `StoreFailed` alone.
-    fn reply_shown(&mut self, command: &Command, ticket: &Ticket) -> Result<Reply, Refusal>
-        ensures kept { IsPrefix self.old.told self.new.told }
-        ensures others { self.new ≡ record self.old { told = self.new.told } }
-        ensures answer { IfOk result (λ reply. answered ticket.now.reply ≡ Ok reply) }
-        ensures stands { IfOk result (λ reply.
-            StandsIn (state.fold J.start (commands_of self.new.told)) command.now (rev_of reply)) }
-        ensures only { IfErr result (λ e. e ≡ Refusal.StoreFailed) }
+    // Notes that the hub is stopped, and gives what the session is told of that.
+    fn stop(&mut self, token: Stopped<J>) -> Refusal
+        ensures refusal { result ≡ Refusal.StoreFailed }
+        ensures noted { self.new ≡ record self.old { stopped = true } }
     {
-        let reply = reply_of(ticket);
-        self.look(command, reply)?;
-        Ok(reply)
+        let refusal = token.refusal();
+        self.stopped = Some(token);
+        refusal
+    }
+
+    // Notes why a command wasn't submitted, and gives what the session is told of that.
+    fn refused(&mut self, why: &NotSubmitted<J>) -> Refusal
+        ensures refusal { result ≡ refusal_of why.now }
+        ensures noted { self.new ≡ noted self.old why.now }
+    {
+        match why {
+            NotSubmitted::Stopped(token) => self.stop(token.copy()),
+            NotSubmitted::ByBoard(refusal) => *refusal,
+        }
     }
 }
 
 impl<D, J: Site, R: Wait> HubDesk<'_, D, J, R> {
-    // Waits until a ticket is settled, unless the viewer was told of that, and tells the viewer. Refused with `StoreFailed` alone.
-    fn await_ticket(&mut self, ticket: &Ticket) -> Result<(), Refusal>
+    // Waits until a ticket is settled, and tells the viewer. Refused with `StoreFailed` alone, and then the desk has the hub's token.
+    fn await_ticket(&mut self, ticket: &Ticket<J>) -> Result<(), Refusal>
         ensures kept { IsPrefix self.old.told self.new.told }
-        ensures others { self.new ≡ record self.old { told = self.new.told } }
-        ensures holds { OnOk result (ticket.now.length ≤ length (commands_of self.new.told)) }
-        ensures only { IfErr result (λ e. e ≡ Refusal.StoreFailed) }
+        ensures others { self.new ≡ record self.old { told = self.new.told; stopped = self.new.stopped } }
+        ensures stands { OnOk result (StandsFirst J.start ticket.now (commands_of self.new.told)) }
+        ensures only { IfErr result (λ e. (e ≡ Refusal.StoreFailed) × (self.new.stopped ≡ true)) }
     {
-        let told = self.hub.wait_ack(self.rt, ticket)?;
-        self.viewer.learn(&told);
-        Ok(())
+        match self.hub.wait_ack(self.rt, ticket) {
+            Ok(told) => {
+                self.viewer.learn(&told);
+                Ok(())
+            }
+            Err(token) => Err(self.stop(token)),
+        }
     }
 
     // Submits a command, and waits for nothing but the board. What it gives, a ticket or a refusal, a board of the run gave.
-    fn submit(&mut self, alloc: Global, command: &Command) -> Result<Ticket, Refusal>
+    fn submit(&mut self, alloc: Global, command: &Command) -> Result<Ticket<J>, NotSubmitted<J>>
         ensures of_command { IsOf J.start command.now result }
         ensures counts { self.new ≡ with_count self.old (counted_by self.old.counted result) }
     {
@@ -152,7 +150,7 @@ impl<D, J: Site, R: Wait> HubDesk<'_, D, J, R> {
         &mut self,
         alloc: Global,
         sent: &[Sent],
-    ) -> Result<Vec<Result<Ticket, Refusal>>, Refusal>
+    ) -> Result<Vec<Result<Ticket<J>, NotSubmitted<J>>>, Refusal>
         ensures of_these { IfOk result (λ tickets. AreOf J.start (ahead.commands_of sent.now) tickets.items) }
         ensures as_many { IfOk result (λ tickets. vec_len tickets ≡ length sent.now) }
         ensures counts { IfOk result (λ tickets. self.new
@@ -170,16 +168,16 @@ impl<D, J: Site, R: Wait> HubDesk<'_, D, J, R> {
 
     // Waits until a ticket is settled, unless the viewer was told of that: for the last of the tickets that were submitted with it,
     // whose settlement settles all of them. Where the store failed before that, the ticket is asked for by itself, and that waits no
-    // more. Refused with `StoreFailed` alone.
+    // more. Refused with `StoreFailed` alone, and then the desk has the hub's token.
     fn await_among(
         &mut self,
-        ticket: &Ticket,
-        tickets: &[Result<Ticket, Refusal>],
+        ticket: &Ticket<J>,
+        tickets: &[Result<Ticket<J>, NotSubmitted<J>>],
     ) -> Result<(), Refusal>
         ensures kept { IsPrefix self.old.told self.new.told }
-        ensures others { self.new ≡ record self.old { told = self.new.told } }
-        ensures holds { OnOk result (ticket.now.length ≤ length (commands_of self.new.told)) }
-        ensures only { IfErr result (λ e. e ≡ Refusal.StoreFailed) }
+        ensures others { self.new ≡ record self.old { told = self.new.told; stopped = self.new.stopped } }
+        ensures stands { OnOk result (StandsFirst J.start ticket.now (commands_of self.new.told)) }
+        ensures only { IfErr result (λ e. (e ≡ Refusal.StoreFailed) × (self.new.stopped ≡ true)) }
     {
         if self.holds(ticket) {
             return Ok(());
@@ -191,33 +189,33 @@ impl<D, J: Site, R: Wait> HubDesk<'_, D, J, R> {
         self.await_ticket(ticket)
     }
 
-    // What is answered by a submission of a command: its ticket's reply, once the ticket is settled and the command is shown, or why it
-    // was refused.
+    // What is answered by a submission of a command: its ticket's reply, once the ticket is settled, or why it was refused.
     fn answer_by(
         &mut self,
         command: &Command,
-        submitted: &Result<Ticket, Refusal>,
-        tickets: &[Result<Ticket, Refusal>],
+        submitted: &Result<Ticket<J>, NotSubmitted<J>>,
+        tickets: &[Result<Ticket<J>, NotSubmitted<J>>],
     ) -> Result<Reply, Refusal>
-        ensures others { self.new ≡ record self.old { told = self.new.told } }
+        ensures others { self.new ≡ record self.old { told = self.new.told; stopped = self.new.stopped } }
         ensures answer { AnswersFor J.start self.old command.now submitted.now result self.new }
     {
+        let _ = command;
         match submitted {
-            Ok(ticket) => {
-                self.await_among(ticket, tickets)?;
-                self.reply_shown(command, ticket)
-            }
-            Err(refusal) => Err(*refusal),
+            Ok(ticket) => match self.await_among(ticket, tickets) {
+                Ok(()) => Ok(reply_of(ticket)),
+                Err(refusal) => Err(refusal),
+            },
+            Err(why) => Err(self.refused(why)),
         }
     }
 
     // Answers commands in order by their submissions. The seat has counted all of them already, and by the answers it counts them
     // one after another.
-    fn answer_all(&mut self, sent: &mut Vec<Sent>, tickets: &[Result<Ticket, Refusal>])
+    fn answer_all(&mut self, sent: &mut Vec<Sent>, tickets: &[Result<Ticket<J>, NotSubmitted<J>>])
         requires of_these { AreOf J.start (ahead.commands_of sent.old.items) tickets.now }
         requires as_many { length tickets.now ≡ vec_len sent.old }
         ensures commands { ahead.commands_of sent.new.items ≡ ahead.commands_of sent.old.items }
-        ensures others { self.new ≡ record self.old { told = self.new.told } }
+        ensures others { self.new ≡ record self.old { told = self.new.told; stopped = self.new.stopped } }
         ensures answered { (count : ℕ)
             → Asks (PassesAtHub J.start) (with_count self.old count) (ahead.exchanges_of sent.new.items)
             (with_count self.new (counted_all count tickets.now)) }
@@ -239,9 +237,9 @@ impl<D, J: Site, R: Wait> Desk for HubDesk<'_, D, J, R> {
     ghost reached = { λ desk. fold J.start (commands_of desk.shown) };
 
     fn ask(&mut self, alloc: Global, command: &Command) -> Result<Reply, Refusal> {
-        let ticket = self.submit(alloc, command)?;
-        self.await_ticket(&ticket)?;
-        self.reply_shown(command, &ticket)
+        let submitted = self.submit(alloc, command);
+        let others = Vec::new(alloc);
+        self.answer_by(command, &submitted, &others)
     }
 
     fn ask_all(&mut self, alloc: Global, sent: &mut Vec<Sent>) {
@@ -259,7 +257,7 @@ impl<D, J: Site, R: Wait> Desk for HubDesk<'_, D, J, R> {
 }
 
 // What a session is answered by a ticket.
-fn reply_of(ticket: &Ticket) -> Reply
+fn reply_of<J: Site>(ticket: &Ticket<J>) -> Reply
     ensures { answered ticket.now.reply ≡ Ok result }
 {
     match ticket.reply() {
@@ -269,7 +267,10 @@ fn reply_of(ticket: &Ticket) -> Reply
 }
 
 // The last of tickets that were submitted one after another, or the first one where there is no further one.
-fn last_ticket<'t>(first: &'t Ticket, tickets: &'t [Result<Ticket, Refusal>]) -> &'t Ticket
+fn last_ticket<'t, J: Site>(
+    first: &'t Ticket<J>,
+    tickets: &'t [Result<Ticket<J>, NotSubmitted<J>>],
+) -> &'t Ticket<J>
     ensures { result.now ≡ last_of first.now tickets.now }
 {
     let mut last = first;
@@ -280,7 +281,10 @@ fn last_ticket<'t>(first: &'t Ticket, tickets: &'t [Result<Ticket, Refusal>]) ->
 }
 
 // The ticket of a submission, or the one before where it was refused.
-fn later_ticket<'t>(last: &'t Ticket, submitted: &'t Result<Ticket, Refusal>) -> &'t Ticket
+fn later_ticket<'t, J: Site>(
+    last: &'t Ticket<J>,
+    submitted: &'t Result<Ticket<J>, NotSubmitted<J>>,
+) -> &'t Ticket<J>
     ensures { result.now ≡ last_by last.now submitted.now }
 {
     match submitted {
@@ -290,7 +294,10 @@ fn later_ticket<'t>(last: &'t Ticket, submitted: &'t Result<Ticket, Refusal>) ->
 }
 
 // Puts a submission behind others, for which there is room.
-fn push_in_room(tickets: &mut Vec<Result<Ticket, Refusal>>, submitted: Result<Ticket, Refusal>)
+fn push_in_room<J: Site>(
+    tickets: &mut Vec<Result<Ticket<J>, NotSubmitted<J>>>,
+    submitted: Result<Ticket<J>, NotSubmitted<J>>,
+)
     requires { vec_len tickets.old < vec_capacity tickets.old }
     ensures items { tickets.new.items ≡ tickets.old.items ++ submitted ∷ [] }
     ensures len { vec_len tickets.new ≡ vec_len tickets.old + 1 }
@@ -301,7 +308,7 @@ fn push_in_room(tickets: &mut Vec<Result<Ticket, Refusal>>, submitted: Result<Ti
     }
 }
 
-// Answers each command with want of memory, which leaves a desk as it is.
+// Answers each command with `NoMemory`, which leaves a desk unchanged.
 fn refuse_all(sent: &mut Vec<Sent>, refusal: Refusal)
     requires memory { refusal ≡ Refusal.NoMemory }
     ensures commands { ahead.commands_of sent.new.items ≡ ahead.commands_of sent.old.items }

@@ -1,9 +1,14 @@
 //! What follows where a command stands in a state. Each is a function that does nothing: its contract is the law.
-ghost use Rattle.hub_desk.specs.Laws.{IsNotTakenAgain, StandsLater, StandsAlike, WasTakenAmong, ToldKept, AcknowledgedStand};
+ghost use Rattle.hub_desk.specs.Laws.{IsNotTakenAgain, PlacedStands, StandsLater, StandsAlike, WasTakenAmong, ToldKept, AcknowledgedStand};
 
 /// A command that stands in a state and is sent again isn't taken: it is a retry with its revision, or its number is old.
 pub fn sent_again()
     ensures { IsNotTakenAgain }
+{}
+
+/// Where the order of its ticket is published, a command stands in what is published.
+pub fn placed_stands()
+    ensures { PlacedStands }
 {}
 
 /// It stands in each later state, and in each that agrees: so also in what a crash leaves of the batches that made the state and of

@@ -1,15 +1,15 @@
 //! A session's desk at a hub.
 //!
 //! A `HubDesk` submits each command to the hub by its seat, waits until the ticket is settled, and tells its viewer of the token that
-//! it is given. Then it looks through the viewer whether the state that readers are shown has the command. Only then it answers: so what
-//! it answers as taken stands in the state that the published batches make, whatever the hub did. What it shows is
-//! read through the viewer, which waits for nobody. Commands of lines that were sent ahead are submitted one after another, and then one
-//! wait, for the last ticket, serves for all of them. `specs/AtHub.antt` says what passes between it and a session,
-//! `specs/Standing.antt` when a command stands in a state, and `laws` what that is good for.
+//! it is given. The ticket and that token are both of the run's one order: so the ticket's order, in which the command has its place, is a
+//! prefix of what is published, and the desk answers without a look at the state. What it shows is read through the viewer, which waits for
+//! nobody. Commands of lines that were sent ahead are submitted one after another, and then one wait, for the last ticket, serves for all of
+//! them. It answers a command with `StoreFailed` only by a token that the hub alone makes, and keeps that. `specs/AtHub.antt` says what passes between it
+//! and a session, `specs/Standing.antt` when a command stands in a state, and `laws` what that is good for.
 //!
 //! It is a crate of its own, so that `session` stands on nothing of stores and threads.
 //!
-//! A caller, with its contract, which `listening_tests` proves:
+//! A caller, with its contract, which `server_threads_tests` proves:
 //!
 //! ```text
 //! ghost use Rattle.std.specs.Prelude.{IfErr, IfOk};
@@ -23,7 +23,7 @@
 //! use std::alloc::Global;
 //! use std::sync::Wait;
 //!
-//! /// Answers a command at a hub once it is settled and shown: what the desk shows from then on has it.
+//! /// Answers a command at a hub once it is settled: what the desk shows from then on has it.
 //! pub fn answer<D, J: Site, R: Wait>(
 //!     alloc: Global,
 //!     desk: &mut HubDesk<'_, D, J, R>,
@@ -39,6 +39,5 @@
 
 mod desk;
 pub mod laws;
-mod standing;
 
 pub use desk::HubDesk;

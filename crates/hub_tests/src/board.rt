@@ -1,7 +1,9 @@
 //! A board over a store in memory, as rows: batches that fit their slots, and what is settled.
 ghost use Rattle.std.specs.Prelude.{◌≡◌};
+ghost use Rattle.recovery.specs.Open.{state_of};
 
-use crate::rows::Step::{Ack, Fail, Order, Publish, Settle, Submit, Take};
+use crate::publishing::Publishing;
+use crate::rows::Step::{Ack, Fail, Order, Settle, Submit, Take};
 use crate::rows::{Gives, Life, Row, SHAPE, given, stands};
 use disk::{Disk, MemDisk};
 use fixtures::{new_store, open_store};
@@ -10,7 +12,6 @@ use published::{Opened, Site};
 use recovery::{Pick, Store};
 use refusal::Refusal;
 use revision::Reply::{Again, Taken};
-use revision::State;
 use std::marker::Brand;
 use std::process::Abort;
 use std::sync::ledger::Blank;
@@ -25,7 +26,7 @@ const FAILED: Gives = Gives::Refused(Refusal::StoreFailed);
 
 /// The entries have 41, 51 and 236 bytes, and a batch has 4 more: two batches fit their slots. Only the next part is settled, and only where
 /// what is published ends with it.
-const IN_TWO: [Row; 17] = [
+const IN_TWO: [Row; 15] = [
     (Submit(1, 1), FIRST),
     (Submit(2, 14), SECOND),
     (Submit(3, 199), Gives::Ordered(Taken { rev: 3 }, 3)),
@@ -34,8 +35,6 @@ const IN_TWO: [Row; 17] = [
     (Take, Gives::Committed(2)),
     (Take, Gives::Committed(1)),
     (Take, Gives::Committed(0)),
-    (Publish(0), Gives::Published(2)),
-    (Publish(1), Gives::Published(3)),
     (Settle(1, 2), STRANGER),
     (Settle(0, 2), STRANGER),
     (Settle(0, 1), Gives::Settled),
@@ -63,11 +62,10 @@ const OF_242: [Row; 5] = [
 ];
 
 /// What is settled is acknowledged after a failure, and nothing else.
-const FAILING: [Row; 11] = [
+const FAILING: [Row; 10] = [
     (Submit(1, 1), FIRST),
     (Submit(1, 1), Gives::Ordered(Again { rev: 1 }, 1)),
     (Take, Gives::Committed(1)),
-    (Publish(0), Gives::Published(1)),
     (Settle(0, 1), Gives::Settled),
     (Submit(2, 14), SECOND),
     (Submit(2, 14), Gives::Ordered(Again { rev: 2 }, 2)),
@@ -85,26 +83,26 @@ const RUNS: [(&[Row], u64, u64); 4] = [
     (&FAILING, 1, 1),
 ];
 
-// What each row gives, at a board of one seat and without commands. The store comes back.
+// What each row gives, at a board of a store, with one seat and without commands. The store comes back.
 fn lived<J: Site, R: Abort + AllocGlobal>(
     rt: &R,
+    store: Store<MemDisk>,
     opened: Opened,
     blank: Blank,
-    state: State,
     rows: &[Row],
 ) -> Store<MemDisk>
     requires book { opened ≡ J.book }
     requires name { blank.name ≡ J.name }
     requires parts { blank.parts ≡ J.parts }
     requires seats { blank.parts ≡ 2 }
-    requires start { state ≡ J.start }
+    requires start { state_of store ≡ J.start }
 {
     let alloc = rt.alloc();
-    let (log, told) = opened.named::<MemDisk, J>();
-    let mut board = Board::new(alloc, state, told.copy(), blank, 1);
+    let state = store.state().copy(alloc).expect(rt, "memory");
+    let (log, told, order) = opened.named::<MemDisk, J>(store.state());
+    let mut board = Board::new(alloc, &store, state, told.copy(), order, blank, 1);
     let seat = board.seat().expect(rt, "a seat");
-    let store = new_store(alloc, SHAPE).expect(rt, "a store");
-    let mut life = Life::new(rt, board, seat, store, log, told);
+    let mut life = Life::new(rt, board, seat, store, Publishing::new(log, told));
     for row in rows {
         assert_eq!(rt; given(rt, &mut life, &row.0), row.1);
     }
@@ -125,8 +123,9 @@ fn is_opened_at(
 #[test]
 fn each_step_of_a_board_gives_its_answer(rt: HostRuntime) {
     for (rows, revision, letters) in &RUNS {
-        let state = State::new(rt.alloc(), SHAPE.limits());
-        let store = lived::<Brand, _>(&rt, Opened::new(), Blank::new(2), state, *rows);
+        let store = new_store(rt.alloc(), SHAPE).expect(&rt, "a store");
+        let opened = Opened::new().expect(&rt, "logs");
+        let store = lived::<Brand, _>(&rt, store, opened, Blank::new(2), *rows);
         is_opened_at(&rt, store, *revision, *letters);
     }
 }

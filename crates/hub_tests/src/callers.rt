@@ -1,6 +1,7 @@
 //! How a hub is called.
-ghost use Rattle.std.specs.Prelude.{◌≡◌, ◌≤◌, length, IfOk};
+ghost use Rattle.std.specs.Prelude.{◌≡◌, IfOk};
 ghost use Rattle.recovery.specs.Found.{commands_of};
+ghost use Rattle.hub.specs.Placed.{StandsFirst};
 
 use hub::{Hub, Seat, Ticket};
 use published::{Site, Told};
@@ -9,18 +10,23 @@ use revision::Command;
 use std::alloc::Global;
 use std::sync::Wait;
 
-/// Submits a command, and waits until its reply may be given: the token that comes with it holds what the reply rests on.
+/// Submits a command, and waits until its reply may be given: the token that comes with it has the ticket's order first.
 pub fn submit_and_wait<D, J: Site, R: Wait>(
     rt: &R,
     alloc: Global,
     hub: &Hub<D, J>,
     seat: &mut Seat<J>,
     command: &Command,
-) -> Result<(Ticket, Told<D, J>), Refusal>
+) -> Result<(Ticket<J>, Told<D, J>), Refusal>
     ensures command { IfOk result (λ done. done.0.command ≡ command.now) }
-    ensures holds { IfOk result (λ done. done.0.length ≤ length (commands_of done.1)) }
+    ensures stands { IfOk result (λ done. StandsFirst J.start done.0 (commands_of done.1)) }
 {
-    let ticket = hub.submit(rt, alloc, seat, command)?;
-    let told = hub.wait_ack(rt, &ticket)?;
-    Ok((ticket, told))
+    let ticket = match hub.submit(rt, alloc, seat, command) {
+        Ok(ticket) => ticket,
+        Err(why) => return Err(why.refusal()),
+    };
+    match hub.wait_ack(rt, &ticket) {
+        Ok(told) => Ok((ticket, told)),
+        Err(stopped) => Err(stopped.refusal()),
+    }
 }

@@ -1,8 +1,9 @@
 //! The life of a board as rows: what is done, and what that gives.
+use crate::publishing::Publishing;
 use disk::MemDisk;
 use fixtures::{command, commit};
 use hub::{Board, Seat, Ticket};
-use published::{Log, Site, Told};
+use published::{Site, Told};
 use recovery::{Receipt, Shape, Store};
 use refusal::Refusal;
 use revision::{Reply, State};
@@ -21,17 +22,15 @@ pub const SHAPE: Shape = Shape {
 /// Bytes of a batch at most, so that it finds room in an empty slot.
 pub const CAP: u32 = 241;
 
-/// What is done. Tickets, batches and tokens have their places; the token at 0 is the start.
+/// What is done. Tickets, batches and tokens have their places; the token at 0 is the start, and each batch has the next one.
 #[derive(Clone, Copy)]
 pub enum Step {
     /// Submits the command of this number, with so many letters.
     Submit(u64, u32),
     /// Looks at what the order makes.
     Order,
-    /// Takes the next batch, and commits it.
+    /// Takes the next batch, commits it and publishes it.
     Take,
-    /// Puts the batch of this place behind the newest token.
-    Publish(usize),
     /// Settles the batch of this place by the token of that one.
     Settle(usize, usize),
     /// Acknowledges the ticket of this place.
@@ -48,8 +47,6 @@ pub enum Gives {
     Stands(u64, u64),
     /// The batch has so many commands.
     Committed(usize),
-    /// The token has so many commands.
-    Published(u64),
     Settled,
     /// A token of so many commands.
     Acked(u64),
@@ -68,8 +65,8 @@ pub struct Life<J: Site> {
     board: Board<MemDisk, J>,
     seat: Seat<J>,
     store: Store<MemDisk>,
-    log: Log<MemDisk, J>,
-    tickets: Vec<Ticket>,
+    publishing: Publishing<J>,
+    tickets: Vec<Ticket<J>>,
     batches: Vec<Receipt<MemDisk>>,
     tokens: Vec<Told<MemDisk, J>>,
 }
@@ -80,16 +77,15 @@ impl<J: Site> Life<J> {
         board: Board<MemDisk, J>,
         seat: Seat<J>,
         store: Store<MemDisk>,
-        log: Log<MemDisk, J>,
-        start: Told<MemDisk, J>,
+        publishing: Publishing<J>,
     ) -> Life<J> {
         let mut tokens = Vec::new(rt.alloc());
-        assert!(rt; tokens.push(start).is_ok());
+        assert!(rt; tokens.push(publishing.told().copy()).is_ok());
         Life {
             board,
             seat,
             store,
-            log,
+            publishing,
             tickets: Vec::new(rt.alloc()),
             batches: Vec::new(rt.alloc()),
             tokens,
@@ -101,7 +97,7 @@ impl<J: Site> Life<J> {
             board: _,
             seat: _,
             store,
-            log: _,
+            publishing: _,
             tickets: _,
             batches: _,
             tokens: _,
@@ -142,30 +138,20 @@ fn committed<J: Site>(rt: &(impl Abort + AllocGlobal), life: &mut Life<J>) -> Gi
         run.nothing();
         return Gives::Committed(0);
     }
+    if run.place() as u64 != life.publishing.told().len() {
+        run.apart(life.publishing.told());
+        return Gives::Nothing;
+    }
+    let ordered = run.goes_on(life.publishing.told());
     match commit(rt.alloc(), &mut life.store, run.commands()) {
         Ok(receipt) => {
             run.committed(&receipt);
+            life.publishing.add(&receipt, &ordered);
+            assert!(rt; life.tokens.push(life.publishing.told().copy()).is_ok());
             assert!(rt; life.batches.push(receipt).is_ok());
             Gives::Committed(count)
         }
         Err(refusal) => panic!(rt; "{refusal}"),
-    }
-}
-
-fn published<J: Site>(rt: &impl Abort, life: &mut Life<J>, batch: usize) -> Gives {
-    let Some(receipt) = life.batches.get(batch) else {
-        return Gives::Nothing;
-    };
-    let Some(newest) = life.tokens.last() else {
-        return Gives::Nothing;
-    };
-    match newest.add(&life.log, receipt) {
-        Ok(told) => {
-            let gives = Gives::Published(told.len());
-            assert!(rt; life.tokens.push(told).is_ok());
-            gives
-        }
-        Err(_) => Gives::Nothing,
     }
 }
 
@@ -199,7 +185,6 @@ pub fn given<J: Site>(rt: &(impl Abort + AllocGlobal), life: &mut Life<J>, step:
         Step::Submit(number, letters) => submitted(rt, life, number, letters),
         Step::Order => stands(life.board.state()),
         Step::Take => committed(rt, life),
-        Step::Publish(batch) => published(rt, life, batch),
         Step::Settle(batch, token) => settled(life, batch, token),
         Step::Ack(ticket) => acknowledged(life, ticket),
         Step::Fail => {

@@ -1,12 +1,14 @@
-//! Seats of a board: so many are given, and one that is given back can be given again.
+//! Seats of a board: so many are given, and then none is left.
 ghost use Rattle.std.specs.Prelude.{◌≡◌};
+ghost use Rattle.recovery.specs.Open.{state_of};
 
 use crate::rows::SHAPE;
 use disk::MemDisk;
+use fixtures::new_store;
 use hub::{Board, Seat};
 use published::{Opened, Site};
+use recovery::Store;
 use refusal::Refusal;
-use revision::State;
 use std::marker::Brand;
 use std::process::Abort;
 use std::sync::ledger::Blank;
@@ -21,25 +23,29 @@ fn none_is_left<J: Site, R: Abort>(rt: &R, board: &mut Board<MemDisk, J>) {
     assert!(rt; matches!(board.seat(), Err(Refusal::NoSeat)));
 }
 
-fn two_seats<J: Site, R: Abort + AllocGlobal>(rt: &R, opened: Opened, blank: Blank, state: State)
+fn two_seats<J: Site, R: Abort + AllocGlobal>(
+    rt: &R,
+    store: Store<MemDisk>,
+    opened: Opened,
+    blank: Blank,
+)
     requires book { opened ≡ J.book }
     requires name { blank.name ≡ J.name }
     requires parts { blank.parts ≡ J.parts }
     requires seats { blank.parts ≡ 3 }
-    requires start { state ≡ J.start }
+    requires start { state_of store ≡ J.start }
 {
-    let (_, told) = opened.named::<MemDisk, J>();
-    let mut board = Board::new(rt.alloc(), state, told, blank, 2);
-    let one = seat_of(rt, &mut board);
+    let state = store.state().copy(rt.alloc()).expect(rt, "memory");
+    let (_log, told, order) = opened.named::<MemDisk, J>(store.state());
+    let mut board = Board::new(rt.alloc(), &store, state, told, order, blank, 2);
     let _ = seat_of(rt, &mut board);
-    none_is_left(rt, &mut board);
-    board.give_back(one);
     let _ = seat_of(rt, &mut board);
     none_is_left(rt, &mut board);
 }
 
 #[test]
-fn seats_are_given_again(rt: HostRuntime) {
-    let state = State::new(rt.alloc(), SHAPE.limits());
-    two_seats::<Brand, _>(&rt, Opened::new(), Blank::new(3), state);
+fn seats_are_given_until_none_is_left(rt: HostRuntime) {
+    let store = new_store(rt.alloc(), SHAPE).expect(&rt, "a store");
+    let opened = Opened::new().expect(&rt, "logs");
+    two_seats::<Brand, _>(&rt, store, opened, Blank::new(3));
 }

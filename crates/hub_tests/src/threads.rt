@@ -1,14 +1,15 @@
 //! A hub between threads: one orders commands and waits for each, another writes what was ordered in batches.
 ghost use Rattle.std.specs.Prelude.{◌≡◌};
+ghost use Rattle.recovery.specs.Open.{state_of};
 
+use crate::publishing::Publishing;
 use crate::rows::{CAP, SHAPE};
 use disk::MemDisk;
 use fixtures::{command, commit, new_store};
 use hub::{Board, Closer, Hub, Seat, Ticket, Writer};
-use published::{Log, Opened, Site, Told};
+use published::{Opened, Site};
 use recovery::{Receipt, Shape, Store};
 use refusal::Refusal;
-use revision::State;
 use std::alloc::Global;
 use std::marker::Brand;
 use std::process::Abort;
@@ -20,15 +21,19 @@ use std::thread::{Threads, join};
 fn acknowledged<J: Site, R: Wait>(
     rt: &R,
     hub: &Hub<MemDisk, J>,
-    ticket: &Ticket,
+    ticket: &Ticket<J>,
 ) -> Result<u64, Refusal> {
-    let told = hub.wait_ack(rt, ticket)?;
+    let told = match hub.wait_ack(rt, ticket) {
+        Ok(told) => told,
+        Err(stopped) => return Err(stopped.refusal()),
+    };
     if told.len() < ticket.length() as u64 {
         return Err(Refusal::Stranger);
     }
-    match hub.ack(rt, ticket)? {
-        Some(told) => Ok(told.len()),
-        None => Err(Refusal::Stranger),
+    match hub.ack(rt, ticket) {
+        Ok(Some(told)) => Ok(told.len()),
+        Ok(None) => Err(Refusal::Stranger),
+        Err(stopped) => Err(stopped.refusal()),
     }
 }
 
@@ -41,8 +46,10 @@ fn submitted_one<J: Site, R: Wait>(
     edit: &(u64, u32),
 ) -> Result<u64, Refusal> {
     let command = command(alloc, edit.0, edit.1)?;
-    let ticket = hub.submit(rt, alloc, seat, &command)?;
-    acknowledged(rt, hub, &ticket)
+    match hub.submit(rt, alloc, seat, &command) {
+        Ok(ticket) => acknowledged(rt, hub, &ticket),
+        Err(why) => Err(why.refusal()),
+    }
 }
 
 // Submits commands of these numbers and lengths, each after the one before was acknowledged, and counts the commands that the last
@@ -75,18 +82,29 @@ fn submitted_all<J: Site, R: Wait>(
     answer
 }
 
-// Commits the next run, and gives the store back with the receipt.
+// Commits the next run and publishes it, and gives the store back with the receipt.
 fn committed<J: Site, R: Wait>(
     rt: &R,
     alloc: Global,
     hub: &Hub<MemDisk, J>,
     writer: &mut Writer<J>,
     mut store: Store<MemDisk>,
+    publishing: &mut Publishing<J>,
 ) -> Result<(Store<MemDisk>, Receipt<MemDisk>), Refusal> {
     let run = hub.take(rt, alloc, writer, CAP)?;
+    if run.len() == 0 {
+        run.nothing();
+        return Err(Refusal::Stranger);
+    }
+    if run.place() as u64 != publishing.told().len() {
+        run.apart(publishing.told());
+        return Err(Refusal::Stranger);
+    }
+    let ordered = run.goes_on(publishing.told());
     match commit(alloc, &mut store, run.commands()) {
         Ok(receipt) => {
             run.committed(&receipt);
+            publishing.add(&receipt, &ordered);
             Ok((store, receipt))
         }
         Err(refusal) => {
@@ -96,20 +114,16 @@ fn committed<J: Site, R: Wait>(
     }
 }
 
-// Puts a batch behind those of the newest token, and settles it.
+// Settles a batch by the token of all that is published.
 fn settled<J: Site, R: Wait>(
     rt: &R,
     hub: &Hub<MemDisk, J>,
     writer: &mut Writer<J>,
-    log: &Log<MemDisk, J>,
-    told: &Told<MemDisk, J>,
+    publishing: &Publishing<J>,
     receipt: &Receipt<MemDisk>,
-) -> Result<Told<MemDisk, J>, Refusal> {
-    match told.add(log, receipt) {
-        Ok(more) => match hub.settle(rt, writer, receipt, more.copy()) {
-            Ok(_settled) => Ok(more),
-            Err(_) => Err(Refusal::Stranger),
-        },
+) -> Result<(), Refusal> {
+    match hub.settle(rt, writer, receipt, publishing.told().copy()) {
+        Ok(_settled) => Ok(()),
         Err(_) => Err(Refusal::Stranger),
     }
 }
@@ -121,18 +135,16 @@ fn written<J: Site, R: Wait>(
     hub: &Hub<MemDisk, J>,
     writer: &mut Writer<J>,
     mut store: Store<MemDisk>,
-    log: &Log<MemDisk, J>,
-    start: &Told<MemDisk, J>,
+    publishing: &mut Publishing<J>,
 ) -> Result<u64, Refusal> {
-    let mut told = start.copy();
     let mut batches: u64 = 0;
     for _ in rt.forever() {
-        if let Some(_idle) = hub.wait_work(rt, writer) {
+        if let Err(_idle) = hub.wait_work(rt, writer) {
             return Ok(batches);
         }
-        let (after, receipt) = committed(rt, alloc, hub, writer, store)?;
+        let (after, receipt) = committed(rt, alloc, hub, writer, store, publishing)?;
         store = after;
-        told = settled(rt, hub, writer, log, &told, &receipt)?;
+        settled(rt, hub, writer, publishing, &receipt)?;
         batches = batches.saturating_add(1);
     }
     unreachable!()
@@ -145,10 +157,9 @@ fn written_or_failed<J: Site, R: Wait>(
     hub: &Hub<MemDisk, J>,
     writer: &mut Writer<J>,
     store: Store<MemDisk>,
-    log: &Log<MemDisk, J>,
-    start: &Told<MemDisk, J>,
+    publishing: &mut Publishing<J>,
 ) -> Result<u64, Refusal> {
-    match written(rt, alloc, hub, writer, store, log, start) {
+    match written(rt, alloc, hub, writer, store, publishing) {
         Ok(batches) => Ok(batches),
         Err(refusal) => Err(hub.fail(rt, writer, refusal).refusal()),
     }
@@ -156,37 +167,39 @@ fn written_or_failed<J: Site, R: Wait>(
 
 fn both<J: Site + Send + Sync, R: Threads + Wait + Abort + AllocGlobal + Sync>(
     rt: &R,
+    store: Store<MemDisk>,
     opened: Opened,
     blank: Blank,
-    state: State,
-    slots: u32,
     edits: &[(u64, u32)],
 ) -> (Result<u64, Refusal>, Result<u64, Refusal>)
     requires book { opened ≡ J.book }
     requires name { blank.name ≡ J.name }
     requires parts { blank.parts ≡ J.parts }
     requires seats { blank.parts ≡ 65 }
-    requires start { state ≡ J.start }
+    requires start { state_of store ≡ J.start }
 {
     let alloc = rt.alloc();
-    let store = new_store(alloc, Shape { slots, ..SHAPE }).expect(rt, "a store");
-    let (log, told) = opened.named::<_, J>();
-    let mut board = Board::new(alloc, state, told.copy(), blank, 64);
-    let mut seat = board.seat().expect(rt, "a seat");
+    let state = store.state().copy(alloc).expect(rt, "memory");
+    let (log, told, order) = opened.named::<_, J>(store.state());
+    let board = Board::new(alloc, &store, state, told.copy(), order, blank, 64);
+    let mut publishing = Publishing::new(log, told);
     let (hub, mut writer, mut closer) = Hub::new(board);
+    let mut seat = hub.seat(rt, &mut closer).expect(rt, "a seat");
     join(
         rt,
         || submitted_all(rt, alloc, &hub, &mut closer, &mut seat, edits),
-        || written_or_failed(rt, alloc, &hub, &mut writer, store, &log, &told),
+        || written_or_failed(rt, alloc, &hub, &mut writer, store, &mut publishing),
     )
 }
 
 // Five batches of one command each: an acknowledgement is waited for before the next.
 #[test]
 fn one_submits_while_the_other_writes(rt: HostRuntime) {
-    let state = State::new(rt.alloc(), SHAPE.limits());
+    let shape = Shape { slots: 8, ..SHAPE };
+    let store = new_store(rt.alloc(), shape).expect(&rt, "a store");
+    let opened = Opened::new().expect(&rt, "logs");
     let edits = [(1, 1), (2, 14), (3, 20), (3, 20), (4, 9)];
-    let (held, batches) = both::<Brand, _>(&rt, Opened::new(), Blank::new(65), state, 8, &edits);
+    let (held, batches) = both::<Brand, _>(&rt, store, opened, Blank::new(65), &edits);
     assert!(rt; held.expect(&rt, "acknowledged") == 4);
     assert!(rt; batches.expect(&rt, "written") == 4);
 }
@@ -194,9 +207,10 @@ fn one_submits_while_the_other_writes(rt: HostRuntime) {
 // The journal is full after the second slot: who waits is told that the store failed.
 #[test]
 fn who_waits_is_told_of_a_failure(rt: HostRuntime) {
-    let state = State::new(rt.alloc(), SHAPE.limits());
+    let store = new_store(rt.alloc(), SHAPE).expect(&rt, "a store");
+    let opened = Opened::new().expect(&rt, "logs");
     let edits = [(1, 190), (2, 199), (3, 199)];
-    let (held, batches) = both::<Brand, _>(&rt, Opened::new(), Blank::new(65), state, 2, &edits);
+    let (held, batches) = both::<Brand, _>(&rt, store, opened, Blank::new(65), &edits);
     assert!(rt; matches!(held, Err(Refusal::StoreFailed)));
     assert!(rt; matches!(batches, Err(Refusal::JournalFull)));
 }

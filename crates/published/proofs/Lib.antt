@@ -1,3 +1,3 @@
 pub mod Beginnings
-pub mod Adding
+pub mod Orders
 pub mod CallerLemmas

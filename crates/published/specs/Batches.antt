@@ -1,14 +1,16 @@
 -- What was published: batches, the oldest first.
 use Rattle.std.specs.Prelude.{◌<◌, List, length}
 use mathlib.Core.List.{IsPrefix}
-use Rattle.logbook.specs.Pages.{Book}
 use Rattle.revision.specs.Command.{Taken}
+use Rattle.revision.specs.State.{State}
+use Rattle.published.specs.Books.{Books}
 
 -- the other list begins with this one, and goes on
 abbrev pub IsShorter : List (List Taken) → List (List Taken) → Type 0
 IsShorter batches others = IsPrefix batches others × (length batches < length others)
 
--- which log, and a beginning of the batches in it
+-- which run, its start as a list of one, and a beginning of the batches in its log
 pub record Mark : Type 0 where
-  pub book : Book
+  pub book : Books
+  pub start : List State
   pub batches : List (List Taken)

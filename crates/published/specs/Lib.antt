@@ -1,3 +1,3 @@
 pub mod Batches
-pub mod NotAdded
-pub mod Rules
+pub mod Books
+pub mod Order

@@ -1,8 +1,11 @@
-//! What holds of published batches. Each function does nothing: its contract is the law.
-ghost use Rattle.std.specs.Prelude.{◌≡◌, ◌≤◌, ◌++◌, ◌∷◌, [], List, length};
+//! What holds of published batches and of the order. Each function does nothing: its contract is the law.
+ghost use Rattle.std.specs.Prelude.{◌≡◌, ◌≤◌, ◌++◌, ◌∷◌, [], List, length, true};
 ghost use mathlib.Core.List.{IsPrefix};
 ghost use Rattle.revision.specs.Command.{Taken};
+ghost use Rattle.revision.specs.State.{State, fold, all_grow};
 ghost use Rattle.recovery.specs.Found.{commands_of};
+ghost use Rattle.world.specs.World.{Entry, takens};
+ghost use Rattle.published.specs.Order.{IsLegal, WasTaken};
 
 /// The commands of batches and of further ones are those of the first, and then those of the others.
 pub fn commands_join()
@@ -21,4 +24,12 @@ pub fn beginnings()
     ensures shorter { (first more all : List (List Taken)) → IsPrefix first all → IsPrefix more all
         → length first ≤ length more → IsPrefix first more }
     ensures whole { (first all : List (List Taken)) → IsPrefix first all → length all ≤ length first → first ≡ all }
+{}
+
+/// A legal history stays one with a command more that the rule of acceptance takes, and commands that are a prefix of it continue its start.
+pub fn histories()
+    ensures more { (state : State) (entries : List Entry) (entry : Entry) → IsLegal state entries
+        → WasTaken (fold state (takens entries)) entry → IsLegal state (entries ++ entry ∷ []) }
+    ensures grow { (state : State) (commands : List Taken) (entries : List Entry) → IsLegal state entries
+        → IsPrefix commands (takens entries) → all_grow state commands ≡ true }
 {}

@@ -1,70 +1,108 @@
 //! The log of a run.
 ghost use Rattle.std.specs.Prelude.{◌≡◌, []};
-ghost use Rattle.published.specs.Rules.{head_of};
+ghost use mathlib.Core.List.{IsPrefix};
 
-use crate::batch::{Batch, Law};
+use crate::batch::Batch;
 use crate::mark::Mark;
+use crate::order::Order;
 use crate::site::Site;
 use crate::told::Told;
-use logbook::{Seen, Start, Word};
+use ownlog::Owner;
+use revision::State;
 use std::marker::{Model, PhantomData};
+use world::Entry;
 
-/// An empty log that no run has yet. Contracts see it as the log's own name.
+/// The empty logs of a run that has no name yet. Contracts see them as their own names.
 pub struct Opened {
-    head: Word<Batch, u64, Law>,
-    seen: Seen<Batch, u64, Law>,
+    batches: Owner<Batch>,
+    order: Owner<Entry>,
+    start: Owner<State>,
 }
 
 impl Model for Opened {
     ghost use Rattle.std.specs.Prelude.{◌≡◌, []};
-    ghost use Rattle.logbook.specs.Pages.{Book, book_coded};
-    ghost use Rattle.published.specs.Rules.{head_of};
+    ghost use Rattle.published.specs.Books.{Books, books_coded};
 
-    ghost Value = { Book };
+    ghost Value = { Books };
 
-    ghost coded = { book_coded };
+    ghost coded = { books_coded };
 
-    ghost view = { λ o. o.seen.book };
+    ghost view = { λ o. record { published = o.batches.book; ordered = o.order.book } };
 
-    ghost invariant = { λ o. (o.seen.log ≡ []) × (o.head ≡ head_of o.seen.book) };
+    ghost invariant = { λ o. (o.batches.items ≡ []) × (o.order.items ≡ []) × (o.start.items ≡ []) };
 }
 
 impl Opened {
-    /// A new log. It takes no memory.
-    pub fn new() -> Opened {
-        let (seen, mut first, _second) = Seen::open(Start::alone(), 0, 0);
-        Opened {
-            head: Word::tracked(0, &mut first),
-            seen,
-        }
+    /// New logs. `None` where a word of theirs was changed before it was made, for which there is no room. It takes no memory.
+    pub fn new() -> Option<Opened> {
+        Some(Opened {
+            batches: Owner::open()?,
+            order: Owner::open()?,
+            start: Owner::open()?,
+        })
     }
 
-    /// The log as that of a run, and the token of its start, which names no batch. It takes no memory.
-    pub fn named<D, J: Site>(self) -> (Log<D, J>, Told<D, J>)
-        requires { self ≡ J.book }
-        ensures { result.1 ≡ [] }
+    /// The logs as those of a run that begins with a state, and the token of its start, which names no batch. It takes no memory.
+    pub fn named<D, J: Site>(self, state: &State) -> (Log<D, J>, Told<D, J>, Order<J>)
+        requires book { self ≡ J.book }
+        requires start { state.now ≡ J.start }
+        ensures log { result.0 ≡ [] }
+        ensures told { result.1 ≡ [] }
+        ensures order { result.2 ≡ [] }
     {
-        let Opened { head, seen } = self;
-        let log = Log {
-            head,
-            of: PhantomData,
-        };
+        let Opened {
+            batches,
+            order,
+            mut start,
+        } = self;
+        start.append(state);
         let told = Told {
             mark: Mark {
                 batches: 0,
                 len: 0,
-                seen,
+                log: batches.front(),
+                order: order.front(),
+                start: start.front(),
             },
             of: PhantomData,
         };
-        (log, told)
+        let log = Log {
+            owner: batches,
+            of: PhantomData,
+        };
+        let order = Order {
+            owner: order,
+            of: PhantomData,
+        };
+        (log, told, order)
     }
 }
 
-/// The log of a run over a device of this type: the word that counts its batches. Who owns it alone publishes.
+/// The log of what a run over a device of this type has published. Only who owns it publishes. Contracts see it as its batches, the oldest
+/// first. It takes a word of memory, however long it is.
 #[derive(Drop)]
 pub struct Log<D, J: Site> {
-    pub(crate) head: Word<Batch, u64, Law>,
+    pub(crate) owner: Owner<Batch>,
     pub(crate) of: PhantomData<(D, J)>,
-    ghost head_is: { head ≡ head_of J.book },
+}
+
+impl<D, J: Site> Model for Log<D, J> {
+    ghost use Rattle.std.specs.Prelude.{◌≡◌, List};
+    ghost use Rattle.revision.specs.Command.{Taken};
+
+    ghost Value = { List (List Taken) };
+
+    ghost view = { λ l. l.owner.items };
+
+    ghost invariant = { λ l. l.owner.book ≡ J.book.published };
+}
+
+impl<D, J: Site> Log<D, J> {
+    /// Each token names a prefix of the log. It takes no memory.
+    pub fn covers(&mut self, told: &Told<D, J>)
+        ensures begins { IsPrefix told.now self.old }
+        ensures same { self.new ≡ self.old }
+    {
+        self.owner.covers(&told.mark.log);
+    }
 }

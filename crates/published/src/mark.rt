@@ -1,29 +1,39 @@
 //! A beginning of a log, without the run's name.
 ghost use Rattle.std.specs.Prelude.{◌≡◌};
 
-use crate::batch::{Batch, Law};
-use logbook::Seen;
+use crate::batch::Batch;
+use ownlog::Front;
+use revision::State;
 use std::marker::Model;
+use world::Entry;
 
-/// A beginning of the log that was seen, with the log's own name. It is what a `Told` has inside, for a type that can't carry the
-/// run's name, and takes no memory.
+/// A beginning of the log that was seen, with the log's own name, and a beginning of the order that has its commands. It is what a
+/// `Told` has inside, for a type that can't carry the run's name, and takes no memory.
 #[derive(Drop)]
 pub struct Mark {
     pub(crate) batches: u64,
     pub(crate) len: u64,
-    pub(crate) seen: Seen<Batch, u64, Law>,
+    pub(crate) log: Front<Batch>,
+    pub(crate) order: Front<Entry>,
+    pub(crate) start: Front<State>,
 }
 
 impl Model for Mark {
-    ghost use Rattle.std.specs.Prelude.{◌≡◌, length};
+    ghost use Rattle.std.specs.Prelude.{◌≡◌, ◌≤◌, length};
     ghost use Rattle.recovery.specs.Found.{commands_of};
     ghost use Rattle.published.specs.Batches as spec;
+    ghost use Rattle.published.specs.Order.{AreOrdered};
 
     ghost Value = { spec.Mark };
 
-    ghost view = { λ m. record { book = m.seen.book; batches = m.seen.log } };
+    ghost view = { λ m. record {
+      book = record { published = m.log.book; ordered = m.order.book };
+      start = m.start.items;
+      batches = m.log.items;
+    } };
 
-    ghost invariant = { λ m. (m.batches ≡ length m.seen.log) × (m.len ≡ length (commands_of m.seen.log)) };
+    ghost invariant = { λ m. (m.batches ≡ length m.log.items) × (m.len ≡ length (commands_of m.log.items))
+        × (m.batches ≤ m.len) × AreOrdered m.start.items m.log.items m.order.items };
 }
 
 impl Mark {
@@ -34,7 +44,9 @@ impl Mark {
         Mark {
             batches: self.batches,
             len: self.len,
-            seen: self.seen.again(),
+            log: self.log.copy(),
+            order: self.order.copy(),
+            start: self.start.copy(),
         }
     }
 }

@@ -2,13 +2,13 @@
 use std::marker::Brand;
 use std::sync::ledger::Ledger;
 
-/// Names a run: the log of what it publishes, and the state that its store was opened with; and by `Ledger` its seats. Whatever has to
-/// agree on these carries one type of this trait.
+/// Names a run: the log of its order and the log of what it publishes, and the state that its store was opened with; and by `Ledger` its
+/// seats. Whatever has to agree on these carries one type of this trait.
 pub trait Site: Ledger {
-    ghost use Rattle.logbook.specs.Pages.{Book};
+    ghost use Rattle.published.specs.Books.{Books};
     ghost use Rattle.revision.specs.State.{State};
 
-    ghost book: { Book };
+    ghost book: { Books };
 
     ghost start: { State };
 }
@@ -17,7 +17,10 @@ pub trait Site: Ledger {
 impl Site for Brand {
     ghost use Rattle.std.specs.Prelude.{[]};
 
-    ghost book = { record { number = 0; log_name = 0; cells_name = 0 } };
+    ghost book = { record {
+      published = record { number = 0; log_name = 0; cells_name = 0 };
+      ordered = record { number = 0; log_name = 0; cells_name = 0 };
+    } };
 
     ghost start = { record {
       limits = record { docs = 0; sources = 0; weight = 0; width = 0; keep = 0 };

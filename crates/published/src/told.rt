@@ -1,23 +1,21 @@
 //! The token of what was published.
-ghost use Rattle.std.specs.Prelude.{◌≡◌, ◌⊎◌, ◌∷◌, ◌++◌, [], length, IfOk, IfErr, MatchBool};
+ghost use Rattle.std.specs.Prelude.{◌≡◌, ◌⊎◌, ◌≤◌, ◌<◌, ◌+◌, ◌^◌, ◌∷◌, ◌++◌, [], true, length, MatchBool};
 ghost use mathlib.Core.List.{IsPrefix};
+ghost use Rattle.revision.specs.State.{all_grow};
 ghost use Rattle.recovery.specs.Found.{commands_of};
+ghost use Rattle.world.specs.World.{takens};
 ghost use Rattle.published.specs.Batches.{IsShorter};
-ghost use Rattle.published.specs.NotAdded.{IsNotAdded};
 
-use crate::batch::{Add, Batch, Law, Nothing};
+use crate::batch::OfReceipt;
 use crate::log::Log;
-use crate::longer::{Longer, NotAdded};
 use crate::mark::Mark;
+use crate::order::Ordered;
 use crate::site::Site;
-use logbook::Offer;
 use recovery::Receipt;
 use std::marker::{Model, PhantomData};
 
-/// The most batches and the most commands that a log counts.
-const MOST: u64 = 1 << 62;
-
-/// A token of what was published: a beginning of the run's log that was seen. Contracts see it as its batches, the oldest first.
+/// A token of what was published: a beginning of the run's log that was seen. Its commands are a beginning of the run's order. Contracts
+/// see it as its batches, the oldest first.
 #[derive(Drop)]
 pub struct Told<D, J: Site> {
     pub(crate) mark: Mark,
@@ -25,14 +23,14 @@ pub struct Told<D, J: Site> {
 }
 
 impl<D, J: Site> Model for Told<D, J> {
-    ghost use Rattle.std.specs.Prelude.{◌≡◌, List};
+    ghost use Rattle.std.specs.Prelude.{◌≡◌, List, [], ◌∷◌};
     ghost use Rattle.revision.specs.Command.{Taken};
 
     ghost Value = { List (List Taken) };
 
     ghost view = { λ t. t.mark.batches };
 
-    ghost invariant = { λ t. t.mark.book ≡ J.book };
+    ghost invariant = { λ t. (t.mark.book ≡ J.book) × (t.mark.start ≡ J.start ∷ []) };
 }
 
 impl<D, J: Site> Told<D, J> {
@@ -57,8 +55,7 @@ impl<D, J: Site> Told<D, J> {
     pub fn begins(&self, other: &Told<D, J>) -> bool
         ensures { MatchBool result (IsPrefix self.now other.now) (IsShorter other.now self.now) }
     {
-        let mut both = self.mark.seen.again();
-        both.learn(&other.mark.seen);
+        self.mark.log.meets(&other.mark.log);
         self.mark.batches <= other.mark.batches
     }
 
@@ -84,58 +81,73 @@ impl<D, J: Site> Told<D, J> {
         *self = self.longer(other);
     }
 
-    /// Publishes a batch that was committed behind the batches of this token, and gives the token that ends with it. Refused where
-    /// something else was published behind them, which the answer shows, so never while this token is of the whole log; and where the log
-    /// would count more than 2^62 batches or commands. It takes no memory.
-    pub fn add(&self, log: &Log<D, J>, receipt: &Receipt<D>) -> Result<Told<D, J>, NotAdded<J>>
-        ensures added { IfOk result (λ told. told ≡ self.now ++ receipt.now ∷ []) }
-        ensures refused { IfErr result (λ why. IsNotAdded self.now receipt.now why) }
+    /// Each of its commands continues what those before it make of the run's start. It takes no memory.
+    pub fn grows(&self)
+        ensures { all_grow J.start (commands_of self.now) ≡ true }
     {
-        let batches = self.mark.batches;
-        let more = receipt.batch().len() as u64;
-        if batches >= MOST || self.mark.len >= MOST || more >= MOST {
-            return Err(NotAdded::Full);
+        let _order = self.mark.order.copy();
+    }
+
+    /// All that a token of the order has is published, where that is no more than what is published. It takes no memory.
+    pub fn covers(&self, ordered: &Ordered<J>)
+        requires { length ordered.now ≤ length (commands_of self.now) }
+        ensures { IsPrefix (takens ordered.now) (commands_of self.now) }
+    {
+        self.mark.order.meets(&ordered.front);
+    }
+
+    /// What is published begins the order that a token has, where that is no shorter. It takes no memory.
+    pub fn begins_order(&self, ordered: &Ordered<J>)
+        requires { length (commands_of self.now) ≤ length ordered.now }
+        ensures { IsPrefix (commands_of self.now) (takens ordered.now) }
+    {
+        self.mark.order.meets(&ordered.front);
+    }
+
+    /// A token of the order that has all its commands first. It takes no memory.
+    pub fn ordered(&self) -> Ordered<J>
+        ensures { IsPrefix (commands_of self.now) (takens result) }
+    {
+        Ordered {
+            front: self.mark.order.copy(),
+            of: PhantomData,
         }
-        let mut seen = self.mark.seen.again();
-        let mut offer: Offer<Batch, u64, Law, Nothing> = seen.plain::<Nothing, Receipt<D>, Add>(
-            receipt,
-        );
-        let mut pen = seen.no_pen();
-        let found = log
-            .head
-            .compare_exchange::<Add, Nothing>(
-                batches,
-                batches + 1,
-                &mut seen,
-                &mut offer,
-                &mut pen,
-            );
-        if found != batches {
-            return Err(NotAdded::Behind(Longer {
-                seen,
-                of: PhantomData,
-            }));
-        }
-        Ok(Told {
+    }
+
+    /// Publishes a batch that was committed behind the batches of this token, which has to be of the whole log, and gives the token that ends
+    /// with it. The batch has to be the next part of the order, and the log counts fewer than 2^64 commands. It takes no memory.
+    pub fn add(&self, log: &mut Log<D, J>, receipt: &Receipt<D>, ordered: &Ordered<J>) -> Told<D, J>
+        requires whole { log.old ≡ self.now }
+        requires some { 1 ≤ length receipt.now }
+        requires few { length (commands_of self.now) + length receipt.now < 2 ^ 64 }
+        requires next { IsPrefix (commands_of self.now ++ receipt.now) (takens ordered.now) }
+        ensures told { result ≡ self.now ++ receipt.now ∷ [] }
+        ensures log { log.new ≡ self.now ++ receipt.now ∷ [] }
+    {
+        log.owner.append_as::<Receipt<D>, OfReceipt>(receipt);
+        Told {
             mark: Mark {
-                batches: batches + 1,
-                len: self.mark.len + more,
-                seen,
+                batches: self.mark.batches + 1,
+                len: self.mark.len + receipt.batch().len() as u64,
+                log: log.owner.front(),
+                order: ordered.front.copy(),
+                start: self.mark.start.copy(),
             },
             of: PhantomData,
-        })
+        }
     }
 
     /// What it has inside, without the run's name. It takes no memory.
     pub fn mark(&self) -> Mark
-        ensures { result ≡ record { book = J.book; batches = self.now } }
+        ensures { result ≡ record { book = J.book; start = J.start ∷ []; batches = self.now } }
     {
         self.mark.copy()
     }
 
     /// The token of a mark of this run's log. It takes no memory.
     pub fn of_mark(mark: Mark) -> Told<D, J>
-        requires { mark.book ≡ J.book }
+        requires book { mark.book ≡ J.book }
+        requires start { mark.start ≡ J.start ∷ [] }
         ensures { result ≡ mark.batches }
     {
         Told {

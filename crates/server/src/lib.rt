@@ -1,8 +1,11 @@
 //! The program `richd`, as a call over its words and its standard streams.
 //!
-//! `run` reads the words and makes, serves or prints the store of a file; `serve_on`, of `listening`, serves many sessions over TCP. It
-//! stands on `words` for what the words ask for, on `serving` for a session over the standard streams and for what is printed, and on
-//! `recovery` and `disk` for the store in a file.
+//! `run` reads the words and makes, serves or prints the store of a file; `run_given` takes the words from the system. `dump` writes a
+//! line for each document of a state (`specs/Dump.antt`), and `print_answer` the line of what a task on deltas comes to
+//! (`specs/Deltas.antt`). Sessions are served by `serve_streams` and `serve_on` of `server_threads`.
+//!
+//! It stands on `words` for what the words ask for, on `server_threads` for the sessions, on `algebra` for the tasks on deltas and for how a
+//! delta is printed, and on `recovery` and `disk` for the store in a file.
 //!
 //! A caller, with its contract, which `server_tests` proves as it stands:
 //!
@@ -36,7 +39,12 @@
 //! ```
 #![tactic(auto)]
 
+mod deltas;
+mod documents;
+pub mod laws;
 mod program;
 
-pub use listening::serve_on;
-pub use program::run;
+pub use deltas::print_answer;
+pub use documents::dump;
+pub use program::{run, run_given};
+pub use server_threads::serve_on;

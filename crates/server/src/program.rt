@@ -1,26 +1,25 @@
 //! The program over its words and its standard streams.
 ghost use Rattle.std.specs.Prelude.{◌≤◌};
 
+use crate::deltas::print_answer;
+use crate::documents::dump;
 use clap::error::ErrorKind;
 use disk::{Fault, FileDisk};
-use listening::{serve_on, serve_streams};
 use recovery::{OpenFault, Pick, Shape, Store};
 use refusal::Refusal;
+use server_threads::{serve_on, serve_streams};
 use serving::Failure;
-use serving::deltas::print_answer;
-use serving::desk::StoreDesk;
-use serving::dump::dump;
-use serving::serve::serve;
 use session::Stream;
 use std::alloc::Global;
 use std::convert::AsStr;
+use std::env::Env;
 use std::fs::{self, File};
 use std::io::{Read, Write};
 use std::net::{Net, SocketAddr, TcpListener, TcpStream};
 use std::rt::Files;
 use std::sync::Wait;
-use std::thread::{self, Threads};
-use words::{Invocation, ShapeOptions};
+use std::thread::Threads;
+use words::{Invocation, ShapeOptions, given};
 
 /// Runs the program, and answers its status: 0 for success, 1 for a refusal or a standard stream that failed, 2 for
 /// words that it can't use. The first word is the program's path.
@@ -49,6 +48,27 @@ pub fn run<
         Ok(()) => 0,
         Err(Failure::Refused(refusal)) => tell(refusal, errors),
         Err(Failure::Stream) => 1,
+    }
+}
+
+/// Runs the program over the words that the system gives it, as `run` does. Words that aren't UTF-8 can't be used.
+pub fn run_given<
+    R: Files<File = File>
+        + AllocGlobal
+        + Env
+        + Net<Listener = TcpListener, Stream = TcpStream>
+        + Threads
+        + Wait
+        + Sync,
+    I: Read,
+    O: Write,
+    E: Write,
+>(rt: &R, input: &mut I, output: &mut O, errors: &mut E) -> u8
+    ensures { result ≤ 2 }
+{
+    match given(rt) {
+        Ok(words) => run(rt, words.as_slice(), input, output, errors),
+        Err(fault) => show_usage(&fault, output, errors),
     }
 }
 
@@ -133,7 +153,7 @@ fn pick_of(older: bool) -> Pick {
     if older { Pick::Older } else { Pick::Newer }
 }
 
-// Serves one session over the streams, beside a thread that writes. Where the system gives no thread, this one does both in turn.
+// Serves one session over the streams, beside a thread that writes.
 fn serve_alone<R: AllocGlobal + Threads + Wait + Sync, I: Read, O: Write>(
     rt: &R,
     store: Store<FileDisk>,
@@ -141,22 +161,11 @@ fn serve_alone<R: AllocGlobal + Threads + Wait + Sync, I: Read, O: Write>(
     input: &mut I,
     output: &mut O,
 ) -> Result<(), Failure> {
-    let mut stream = Stream::new(output);
-    if gives_thread(rt) {
-        let (_store, served) = serve_streams(rt, rt.alloc(), store, input, &mut stream, every);
-        return served;
-    }
-    let mut desk = StoreDesk::new(store, every);
-    serve(rt.alloc(), &mut desk, input, &mut stream)
-}
-
-// Whether the system gives a thread more: one is made, which does nothing.
-fn gives_thread<R: Threads + Wait>(rt: &R) -> bool {
-    thread::scope(thread::scope_env(), rt, |scope| scope.spawn(|| ()).is_ok())
+    serve_streams(rt, rt.alloc(), store, input, Stream::new(output), every).served
 }
 
 // Serves the store to those who connect to the address, once it has told where it listens. It ends where the listener fails. An address
-// that can't be had is a fault; where the system gives no thread, memory is wanted.
+// that can't be had is a fault.
 fn listen<
     R: AllocGlobal + Net<Listener = TcpListener, Stream = TcpStream> + Threads + Wait + Sync,
     O: Write,
@@ -168,9 +177,6 @@ fn listen<
     output: &mut O,
 ) -> Result<(), Failure> {
     let (listener, bound) = bind(rt, address)?;
-    if !gives_thread(rt) {
-        return Err(Failure::Refused(Refusal::NoMemory));
-    }
     if writeln!(output, "listening {bound}").is_err() || output.flush().is_err() {
         return Err(Failure::Stream);
     }

@@ -1,17 +1,11 @@
 //! The callers that stand at the head of `lib.rt` of refusal, words and serving.
-ghost use Rattle.std.specs.Prelude.{◌≡◌, ◌≤◌, ◌<◌, ◌⊎◌, ◌++◌, ◌∷◌, ◌↔◌, [], List, Err, false, length, IfOk, IfErr};
+ghost use Rattle.std.specs.Prelude.{◌≡◌, ◌≤◌, ◌<◌, ◌⊎◌, ◌++◌, ◌∷◌, [], Err, false, length, IfOk, IfErr, OnOk};
 ghost use Rattle.std.specs.String.{string_bytes};
-ghost use Rattle.recovery.specs.Open.{IsOpen, has_failed, state_of};
-ghost use Rattle.serving.specs.Asked.{state_after};
-ghost use Rattle.session.specs.Exchange.{Exchange};
+ghost use Rattle.std.specs.Io.KnownBytes.{IsAtEnd};
 
-use disk::Disk;
-use recovery::Store;
 use refusal::Refusal;
-use serving::Failure;
-use serving::desk::StoreDesk;
-use serving::serve::serve;
-use session::Output;
+use serving::{Failure, serve_session};
+use session::{Desk, Output, Session, Shelf};
 use std::alloc::Global;
 use std::io::Read;
 use words::Invocation;
@@ -40,19 +34,17 @@ pub fn file_in<'a>(alloc: Global, words: &'a [&'a str]) -> Result<Option<&'a str
     })
 }
 
-/// Serves one session over an opened store. The store then holds what it held, with all that was answered as taken.
-pub fn serve_store<D: Disk + Drop, I: Read, O: Output>(
+/// Serves a whole session, from its beginning to the end of the input. Then all that was written is sent on.
+pub fn serve_whole<K: Desk, I: Read, O: Output>(
     alloc: Global,
-    store: Store<D>,
+    desk: &mut K,
     input: &mut I,
     output: &mut O,
-) -> Result<Store<D>, Failure>
-    requires works { has_failed store ≡ false }
-    requires open { IsOpen store }
-    ensures { IfOk result (λ after. (asked : List Exchange)
-        × (state_of after ≡ state_after (state_of store) asked)) }
+) -> Result<(), Failure>
+    ensures at_end { OnOk result (IsAtEnd (I.remaining input.new)) }
+    ensures sent { OnOk result (O.has_failed output.new ≡ false) }
 {
-    let mut desk = StoreDesk::new(store, 256);
-    serve(alloc, &mut desk, input, output)?;
-    Ok(desk.into_store())
+    let mut session = Session::new(alloc)?;
+    let mut shelf = Shelf::new(alloc)?;
+    serve_session(alloc, &mut session, desk, &mut shelf, input, output)
 }

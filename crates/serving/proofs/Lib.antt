@@ -1,6 +1,1 @@
-mod Fronts
-mod Dumps
 mod Streams
-mod Asking
-mod Worked
-mod KeptUp

@@ -1,5 +1,5 @@
 -- Pieces of the input, as they are read.
-use Rattle.std.proofs.Common.{◌++◌, ◌<◌, false, ℕ, zero, suc, List, [], ◌∷◌, take, drop, length, slice_index, Option, Some, None, ◌≡◌, ◌≢◌, refl, sym, ap, subst, ◌∙◌, append_assoc, append-nil, arith}
+use Rattle.std.proofs.Common.{◌++◌, ◌<◌, false, ℕ, zero, suc, List, [], ◌∷◌, take, drop, length, slice_index, Option, Some, None, Result, Ok, Err, OnErr, ◌≡◌, ◌≢◌, refl, sym, ap, subst, ◌∙◌, append_assoc, append-nil, arith}
 use Rattle.std.proofs.lemmas.Bool.{false≢true}
 use Rattle.std.specs.Prelude.{◌==◌}
 use Rattle.std.specs.Io.KnownBytes.{Appends, Consumes, Keeps}
@@ -10,6 +10,11 @@ use Rattle.session.specs.Replies.{Asks, Feeds, Stops}
 use Rattle.session.specs.Calls.{Call, Fed, OfPiece, TellsNews, StopsNews}
 use Rattle.serving.specs.Serving.{AreServedBy, no_bytes, within_line, line_end, ServesBytes, Serves, StopsAt, AtOnce, InReplies, InNews, StopsBytes, StopsServing, IsFedAtOnce, BeginsWithEnd}
 use Rattle.session.proofs.CallerLemmas.{asks-joined, appends-both, calls-joined, calls-one}
+
+-- what holds anyhow holds of a call that fails
+pub on_err : {T E : Type 0} {P : Type 0} (r : Result T E) → P → OnErr r P
+on_err (Ok x) h = tt
+on_err (Err e) h = h
 
 pub keeps-same : (a : Option (List ℕ)) → Keeps a a
 keeps-same None = tt
@@ -262,19 +267,3 @@ module _ {D : Type 0} (does : D → Exchange → D → Type 0) where
     consumed = serves.consumed;
     stops = stops-served serves.bytes old new d e o p serves.serves;
   }
-
-  -- what was asked by then
-  asked-at : (rest : List ℕ) (old : Session) (d e : D) (o p : Option (List ℕ)) → StopsAt does old d o rest e p → (asked : List Exchange) × Asks does d asked e
-  asked-at rest old d e o p (AtOnce others q kept) = ([], refl)
-  asked-at rest old d e o p (InReplies bytes others new f q at_once stopped) =
-      (stopped.fed.asked ++ stopped.asked, asks-joined does stopped.fed.asked stopped.asked d stopped.desk_mid f stopped.fed.asks stopped.asks)
-  asked-at rest old d e o p (InNews others mid new between f replied q fed stopped) = (
-    fed.asked ++ Shown stopped.shown ∷ [],
-    asks-joined does fed.asked (Shown stopped.shown ∷ []) d between f fed.asks (f, stopped.shows, refl),
-  )
-
-  pub asked-stopped : (old : Session) (d e : D) (i j o p : Option (List ℕ)) → StopsServing does old d e i j o p → (asked : List Exchange) × Asks does d asked e
-  asked-stopped old d e i j o p stopped =
-      let stops = stopped.stops in
-      let last = asked-at stops.rest stops.mid stops.desk_mid e stops.output_mid p stops.stopped in
-      (stops.served.asked ++ last.0, asks-joined does stops.served.asked last.0 d stops.desk_mid e stops.served.asks last.1)

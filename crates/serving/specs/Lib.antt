@@ -1,5 +1,1 @@
-pub mod Desk
-pub mod Dump
-pub mod Deltas
 pub mod Serving
-pub mod Asked

@@ -1,55 +1,41 @@
-//! What the program does over one store, or over none, in one thread: it serves a session over a pair of streams, prints a store, and
-//! prints what deltas come to.
+//! One session over a pair of streams, by any desk.
 //!
-//! A session over the streams writes what comes of the lines of its input, with the answers of its desk, and the news after each line
-//! (`specs/Serving.antt`); the desk answers from its store, and acknowledges a command when it is on the device (`specs/Desk.antt`);
-//! `dump` writes each document's line (`specs/Dump.antt`), and `print_answer` the line of what a task on deltas comes to. What holds of all
-//! that is asked of a desk over a store is in `laws`.
+//! `serve_session` reads the input piece by piece and feeds it to a session line by line, so that the replies to a line and the news after
+//! it are out before the next one is taken. What it writes is what comes of the lines of its input, with the answers of its desk, and the
+//! news after each line (`specs/Serving.antt`). A `Failure` is why a program ends before its end.
 //!
-//! It stands on `session` for lines and replies, on `recovery` for the store, on `revision` for what becomes of a command, and on
-//! `algebra` for the tasks on deltas.
+//! It stands on `session` for lines and replies.
 //!
 //! A caller, with its contract, which is proved as it stands:
 //!
 //! ```text
-//! ghost use Rattle.std.specs.Prelude.{◌≡◌, List, false, IfOk};
-//! ghost use Rattle.recovery.specs.Open.{IsOpen, has_failed, state_of};
-//! ghost use Rattle.serving.specs.Asked.{state_after};
-//! ghost use Rattle.session.specs.Exchange.{Exchange};
+//! ghost use Rattle.std.specs.Prelude.{◌≡◌, false, OnOk};
+//! ghost use Rattle.std.specs.Io.KnownBytes.{IsAtEnd};
 //!
-//! use disk::Disk;
-//! use recovery::Store;
-//! use serving::Failure;
-//! use serving::desk::StoreDesk;
-//! use serving::serve::serve;
-//! use session::Output;
+//! use serving::{Failure, serve_session};
+//! use session::{Desk, Output, Session, Shelf};
 //! use std::alloc::Global;
 //! use std::io::Read;
 //!
-//! /// Serves one session over an opened store. The store then holds what it held, with all that was answered as taken.
-//! pub fn serve_store<D: Disk + Drop, I: Read, O: Output>(
+//! /// Serves a whole session, from its beginning to the end of the input. Then all that was written is sent on.
+//! pub fn serve_whole<K: Desk, I: Read, O: Output>(
 //!     alloc: Global,
-//!     store: Store<D>,
+//!     desk: &mut K,
 //!     input: &mut I,
 //!     output: &mut O,
-//! ) -> Result<Store<D>, Failure>
-//!     requires works { has_failed store ≡ false }
-//!     requires open { IsOpen store }
-//!     ensures { IfOk result (λ after. (asked : List Exchange)
-//!         × (state_of after ≡ state_after (state_of store) asked)) }
+//! ) -> Result<(), Failure>
+//!     ensures at_end { OnOk result (IsAtEnd (I.remaining input.new)) }
+//!     ensures sent { OnOk result (O.has_failed output.new ≡ false) }
 //! {
-//!     let mut desk = StoreDesk::new(store, 256);
-//!     serve(alloc, &mut desk, input, output)?;
-//!     Ok(desk.into_store())
+//!     let mut session = Session::new(alloc)?;
+//!     let mut shelf = Shelf::new(alloc)?;
+//!     serve_session(alloc, &mut session, desk, &mut shelf, input, output)
 //! }
 //! ```
 #![tactic(auto)]
 
-pub mod deltas;
-pub mod desk;
-pub mod dump;
 mod failure;
-pub mod laws;
-pub mod serve;
+mod serve;
 
 pub use failure::Failure;
+pub use serve::serve_session;

@@ -1,68 +1,17 @@
 //! One session over a pair of streams.
 ghost use Rattle.std.specs.Prelude.{◌≡◌, ◌⊎◌, ◌≤◌, ◌<◌, ◌∷◌, ◌++◌, List, ℕ, [], None, Some, true, false, take, length, IfOk, IfErr, IsErrOf, OnOk, OnErr};
 ghost use Rattle.std.specs.Io.KnownBytes.{Consumes, IsAtEnd, Keeps};
-ghost use Rattle.recovery.specs.Open.{IsOpen, has_failed as store_has_failed};
-ghost use Rattle.serving.specs.Asked.{KeepsAll};
-ghost use Rattle.serving.specs.Desk.{PassesAtStore, store_of, has_failed};
-ghost use Rattle.session.specs.Exchange.{Exchange};
 ghost use Rattle.session.specs.Line.{HasNoEnd};
-ghost use Rattle.session.specs.Replies.{Asks};
 ghost use Rattle.session.specs.Shelf.{Fits};
-ghost use Rattle.serving.specs.Serving.{Serves, ServesBytes, StopsBytes, StopsServing, IsServed, IsServedSoFar, BeginsWithEnd, beginning};
+ghost use Rattle.serving.specs.Serving.{Serves, ServesBytes, StopsBytes, StopsServing, BeginsWithEnd};
 
-use crate::desk::StoreDesk;
 use crate::failure::Failure;
-use disk::Disk;
-use refusal::Refusal;
 use session::{Desk, Output, Session, Shelf, text_length};
 use std::alloc::Global;
 use std::io::{ErrorKind, Read};
 
 /// How many bytes are read at once.
 const PIECE: usize = 8192;
-
-/// Serves one session to the end of the input, with the news after each line, and ends with `StoreFailed` where the store has
-/// failed by then. A stream that fails ends it at once (`Stream`), and so does `NoMemory` at its beginning.
-pub fn serve<D: Disk, I: Read, O: Output>(
-    alloc: Global,
-    desk: &mut StoreDesk<D>,
-    input: &mut I,
-    output: &mut O,
-) -> Result<(), Failure>
-    // What is written is what comes of all the input, with the answers of the desk, and the news after each line.
-    ensures served { OnOk result (IsServed PassesAtStore desk.old desk.new
-        (I.remaining input.old) (I.remaining input.new) (O.contents output.old) (O.contents output.new)) }
-    // Whatever ends it: the desk was asked commands one after another, and a crash at any moment, or afterwards, leaves
-    // all that was acknowledged before it.
-    ensures keeps { has_failed desk.old ≡ false → store_has_failed (store_of desk.old) ≡ false
-        → IsOpen (store_of desk.old)
-        → (asked : List Exchange) × Asks PassesAtStore desk.old asked desk.new
-        × KeepsAll ⟦<D as Disk>⟧ desk.old desk.new asked }
-    // Where a stream fails: what was written is what comes of a first part of the input that was taken, and a beginning of what comes of the
-    // text of a line behind it, or of a line end; nothing behind that was asked. Where the output hasn't failed, all that comes of what was taken is written.
-    ensures stopped { IsErrOf result Failure.Stream → StopsServing PassesAtStore beginning desk.old desk.new
-        (I.remaining input.old) (I.remaining input.new) (O.contents output.old) (O.contents output.new) }
-    ensures cause { IsErrOf result Failure.Stream → (O.has_failed output.new ≡ true)
-        ⊎ (IsServedSoFar PassesAtStore desk.old desk.new (I.remaining input.old) (I.remaining input.new)
-        (O.contents output.old) (O.contents output.new)) }
-    ensures sent { OnOk result (O.has_failed output.new ≡ false) }
-    ensures works { OnOk result (has_failed desk.new ≡ false) }
-    ensures failed { IsErrOf result (Failure.Refused Refusal.StoreFailed) → (has_failed desk.new ≡ true)
-        × IsServed PassesAtStore desk.old desk.new
-        (I.remaining input.old) (I.remaining input.new) (O.contents output.old) (O.contents output.new) }
-    ensures no_memory { IsErrOf result (Failure.Refused Refusal.NoMemory) → (desk.new ≡ desk.old)
-        × (input.new ≡ input.old) × (output.new ≡ output.old) }
-    ensures only { IfErr result (λ e. (e ≡ Failure.Stream)
-        ⊎ ((e ≡ Failure.Refused Refusal.StoreFailed) ⊎ (e ≡ Failure.Refused Refusal.NoMemory))) }
-{
-    let mut session = Session::new(alloc)?;
-    let mut shelf = Shelf::new(alloc)?;
-    serve_session(alloc, &mut session, desk, &mut shelf, input, output)?;
-    if desk.has_failed() {
-        return Err(Failure::Refused(Refusal::StoreFailed));
-    }
-    Ok(())
-}
 
 /// Serves a session by a desk, up to the end of the input, with the news after each line. A stream that fails ends it at once
 /// (`Stream`).

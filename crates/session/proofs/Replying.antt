@@ -57,13 +57,12 @@ module _ {D : Type 0} (does : D → Exchange → D → Type 0) where
       ([], rw (presented, text) (Greeted name (due_ok _ _ due ∙ ap (λ (r : Request). Ok r) is)), refl)
   greeted bytes (Some line) old new name (Err e) desk request is due text presented unchanged = ([], rw unchanged NotTaken, refl)
 
-  pub asked : (o : Partial) (old : Session) (command : Command) (text : List ℕ) (desk desk' : D) (request : Request)
-      → request ≡ Ask command → IfSome o (λ line. IsAnswer (request_of old.peer.source line) (Ok request))
-      → ((answer : Result Reply Refusal) × does desk (Answered command answer) desk' × IsLine (answer_line command answer) text)
-      → IfSome o (Responds old old desk desk' text)
-  asked None old command text desk desk' request is due told = tt
-  asked (Some line) old command text desk desk' request is due told =
-      (Answered command told.0 ∷ [], Asked command told.0 text (due_ok _ _ due ∙ ap (λ (r : Request). Ok r) is) told.2, (desk', told.1, refl))
+  -- a line that is not taken, for want of memory
+  pub not_taken : {T E : Type 0} (bytes : T → List ℕ) (o : Partial) (old : Session) (result : Result T E) (desk : D)
+      → IfOk result (λ t. bytes t ≡ refusal_line NoMemory) → IfSome o (Responds old old desk desk (text_told bytes result))
+  not_taken bytes None old result desk text = tt
+  not_taken bytes (Some line) old (Ok t) desk text = ([], rw text NotTaken, refl)
+  not_taken bytes (Some line) old (Err e) desk text = ([], NotTaken, refl)
 
   pub was_read : (o : Partial) (old : Session) (doc : List ℕ) (question : Question) (text : List ℕ) (desk desk' : D) (request : Request)
       → request ≡ Read doc question → IfSome o (λ line. IsAnswer (request_of old.peer.source line) (Ok request))

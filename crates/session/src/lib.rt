@@ -3,17 +3,18 @@
 //! A session takes its input in pieces of any size, cuts it into lines (`specs/Line.antt`), and writes one line of reply for
 //! each. A line is a JSON text with a message (`specs/Message.antt`); what it asks for, or the first refusal that holds,
 //! stands in `specs/Request.antt`. A command is asked of the session's desk, once, and the reply tells what the desk
-//! answered; of a document it tells what the state says that the desk shows (`specs/Reads.antt`). Between lines it tells the
+//! answered; a command for which the session has no memory is answered `NoMemory`, and the desk isn't asked. Of a document the
+//! reply tells what the state says that the desk shows (`specs/Reads.antt`). Between lines the session tells the
 //! news of the documents that it follows (`specs/Subscriptions.antt`, `specs/News.antt`). How a line is printed is in
 //! `specs/Reply.antt`. What is written of the input over any desk stands in `specs/Replies.antt`, what comes of any pieces and
 //! news in `specs/Calls.antt`, and both over a state alone, as functions of the input, in `specs/Alone.antt`. What a line's text
-//! and its end are, that pieces don't matter, and that each revision is told once, is in `laws`.
+//! and its end are, that pieces don't matter, and that each revision is told at most once, is in `laws`.
 //!
 //! It writes to an `Output`, which takes nothing more once a write has failed (`Stream` makes one of a writer). A write that
-//! fails ends the session, and nothing else does; what was written then is a beginning of what was due.
+//! fails ends the session, and nothing else does; what was written then is a prefix of what was due.
 //!
-//! It stands on `optext` for the operations of a message, and on `revision` for commands and states. A desk over a store
-//! stays with the program.
+//! It stands on `optext` for the operations of a message, and on `revision` for commands and states. The desk that the
+//! program has is one at a hub (`hub_desk`).
 //!
 //! A caller, with its contract, which is proved as it stands:
 //!

@@ -335,7 +335,7 @@ impl Session {
         self.line.clear();
     }
 
-    // The reply to the line, which is complete and asks for this.
+    // The reply to the line, which is complete and asks for this. A command is not taken here: it is sent ahead.
     fn respond<D: Desk>(
         &mut self,
         alloc: Global,
@@ -354,7 +354,8 @@ impl Session {
     {
         match request {
             Ok(Request::Greet(source)) => self.greet(alloc, source),
-            Ok(Request::Ask(command)) => ask(alloc, desk, &command),
+            // A command for which those sent ahead found no room.
+            Ok(Request::Ask(_command)) => refusal_reply(alloc, Refusal::NoMemory),
             Ok(Request::Read(name, question)) => answer(alloc, desk, shelf, &name, question),
             Ok(Request::Subscribe(name, rev)) => self.subscribe(alloc, desk, name, rev),
             Ok(Request::Unsubscribe(name)) => self.unsubscribe(alloc, &name),
@@ -476,19 +477,6 @@ fn reply_of(alloc: Global, sent: &Sent) -> Result<String, AllocError>
 {
     match sent.answer {
         Ok(reply) => acknowledgement(alloc, &sent.command, reply),
-        Err(refusal) => refusal_reply(alloc, refusal),
-    }
-}
-
-// Asks the desk once, and tells what it answers.
-fn ask<D: Desk>(alloc: Global, desk: &mut D, command: &Command) -> Result<String, AllocError>
-    ensures later { IsLater (D.reached desk.old) (D.reached desk.new) }
-    ensures told { (answer : Result reply.Reply refusal.Refusal)
-        × D.does desk.old (Answered command.now answer) desk.new
-        × IsLine (answer_line command.now answer) (text_told (λ t. string_bytes t) result) }
-{
-    match desk.ask(alloc, command) {
-        Ok(reply) => acknowledgement(alloc, command, reply),
         Err(refusal) => refusal_reply(alloc, refusal),
     }
 }

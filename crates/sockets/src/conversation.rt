@@ -1,66 +1,48 @@
-//! One session over a connection.
-ghost use Rattle.std.specs.Prelude.{◌≡◌};
+//! A conversation: a session over any reader and writer.
+ghost use Rattle.std.specs.Prelude.{◌≡◌, ◌≤◌, [], None, Some, true, false, take, length, Option, IfSome, OnOk, OnErr};
+ghost use Rattle.std.specs.Io.KnownBytes.{Consumes, Keeps};
+ghost use Rattle.session.specs.Calls.{TellsNews};
+ghost use Rattle.session.specs.Replies.{Feeds, Stops};
 ghost use Rattle.session.specs.Shelf.{Fits};
+ghost use Rattle.sockets.specs.Conversation.{beginning, Answers, Converses, IsConversation, StopsConversing, StopsIn};
 
 use crate::hall::Hall;
-use session::{Desk, Output, Session, SessionEnded, Shelf, Stream};
+use session::{Desk, Output, Session, SessionEnded, Shelf};
 use std::alloc::Global;
-use std::io::{BufWriter, ErrorKind, Read};
-use std::net::{Shutdown, TcpStream};
-use std::time::Duration;
+use std::io::{ErrorKind, Read};
 
 /// How many bytes are read at once.
 const PIECE: usize = 8192;
 
-/// How long a read waits, in milliseconds, before the news are told.
-const READ_WAIT: u64 = 100;
-
-/// How long a write waits for a peer that doesn't read, in milliseconds. One that took no byte in that time fails.
-const WRITE_WAIT: u64 = 5_000;
-
-/// Serves one session over a connection until its peer closes it, a call on it fails, or the hall ends. Where memory for the session is
-/// wanted the connection is left without a byte. Where a write fails the connection is shut down, and what is held back is dropped.
-pub fn converse<K: Desk>(alloc: Global, hall: &Hall, desk: &mut K, stream: &TcpStream) {
-    if !is_ready(stream) {
-        return;
-    }
+/// Has a conversation by a desk, from a session's beginning until the input ends or fails, a write fails, or the hall ends. Where the
+/// session is out of memory nothing is read or written.
+pub fn converse<K: Desk, I: Read, O: Output>(
+    alloc: Global,
+    hall: &Hall,
+    desk: &mut K,
+    input: &mut I,
+    output: &mut O,
+) -> Result<(), SessionEnded>
+    // What was written is the replies to what was read, in order, and the news after each piece of it and each wait for one.
+    ensures answered { OnOk result (IsConversation K.does desk.old desk.new
+        (I.remaining input.old) (I.remaining input.new) (O.contents output.old) (O.contents output.new)) }
+    // A write that fails ends it. What was due before was written, and a prefix of what that write was to write.
+    ensures stopped { OnErr result (StopsConversing K.does beginning desk.old desk.new
+        (I.remaining input.old) (I.remaining input.new) (O.contents output.old) (O.contents output.new)) }
+    ensures cause { OnErr result (O.has_failed output.new ≡ true) }
+    ensures sent { O.has_failed output.old ≡ false → OnOk result (O.has_failed output.new ≡ false) }
+{
     let Ok(mut session) = Session::new(alloc) else {
-        return;
+        return Ok(());
     };
     let Ok(mut shelf) = Shelf::new(alloc) else {
-        return;
+        return Ok(());
     };
-    let Ok(writer) = BufWriter::new(alloc, stream) else {
-        return;
-    };
-    let mut input = stream;
-    let mut output = Stream::new(writer);
-    let answered = answer_all(
-        alloc,
-        hall,
-        &mut session,
-        desk,
-        &mut shelf,
-        &mut input,
-        &mut output,
-    );
-    if answered.is_err() {
-        // the writer tries once more as it is dropped, which is not to wait again
-        let _ = stream.shutdown(Shutdown::Both);
-    }
+    take_turns(alloc, hall, &mut session, desk, &mut shelf, input, output)
 }
 
-// Sets how long the connection waits. Small replies leave at once.
-fn is_ready(stream: &TcpStream) -> bool {
-    let read_wait = Duration::from_millis(READ_WAIT);
-    let write_wait = Duration::from_millis(WRITE_WAIT);
-    stream.set_nodelay(true).is_ok()
-        && stream.set_read_timeout(Some(read_wait)).is_ok()
-        && stream.set_write_timeout(Some(write_wait)).is_ok()
-}
-
-// Answers what comes, and tells the news after each read and each wait for one.
-fn answer_all<K: Desk, I: Read, O: Output>(
+// Takes turns until the conversation is over.
+fn take_turns<K: Desk, I: Read, O: Output>(
     alloc: Global,
     hall: &Hall,
     session: &mut Session,
@@ -70,23 +52,28 @@ fn answer_all<K: Desk, I: Read, O: Output>(
     output: &mut O,
 ) -> Result<(), SessionEnded>
     requires fits { Fits (K.reached desk.old) shelf.old }
-    ensures fits { Fits (K.reached desk.new) shelf.new }
+    requires works { session.old.ended ≡ false }
+    ensures answered { OnOk result (Converses K.does session.old session.new desk.old desk.new
+        (I.remaining input.old) (I.remaining input.new) (O.contents output.old) (O.contents output.new)) }
+    ensures stopped { OnErr result (StopsConversing K.does session.old desk.old desk.new
+        (I.remaining input.old) (I.remaining input.new) (O.contents output.old) (O.contents output.new)) }
+    ensures cause { OnErr result (O.has_failed output.new ≡ true) }
+    ensures sent { O.has_failed output.old ≡ false → OnOk result (O.has_failed output.new ≡ false) }
 {
     let mut piece = [0; PIECE];
-    'pieces: for _ in 0..u64::MAX {
-        if hall.has_ended()
-            || !answer_piece(alloc, session, desk, shelf, input, &mut piece, output)?
-        {
+    'turns: for _ in 0..u64::MAX {
+        if hall.has_ended() {
             return Ok(());
         }
-        tell_news(alloc, session, desk, shelf, output)?;
+        if !take_turn(alloc, session, desk, shelf, input, &mut piece, output)? {
+            return Ok(());
+        }
     }
     Ok(())
 }
 
-// Reads a piece of the input into `piece` and answers its lines. The answer is whether the connection goes on; it does where nothing
-// came in time.
-fn answer_piece<K: Desk, I: Read, O: Output>(
+// Reads what comes into `piece` and answers it. The answer is whether the conversation goes on; it does where nothing came in time.
+fn take_turn<K: Desk, I: Read, O: Output>(
     alloc: Global,
     session: &mut Session,
     desk: &mut K,
@@ -96,15 +83,34 @@ fn answer_piece<K: Desk, I: Read, O: Output>(
     output: &mut O,
 ) -> Result<bool, SessionEnded>
     requires fits { Fits (K.reached desk.old) shelf.old }
+    requires works { session.old.ended ≡ false }
     ensures fits { Fits (K.reached desk.new) shelf.new }
+    ensures answered { OnOk result (Converses K.does session.old session.new desk.old desk.new
+        (I.remaining input.old) (I.remaining input.new) (O.contents output.old) (O.contents output.new)) }
+    ensures stopped { OnErr result (StopsConversing K.does session.old desk.old desk.new
+        (I.remaining input.old) (I.remaining input.new) (O.contents output.old) (O.contents output.new)) }
+    ensures cause { OnErr result (O.has_failed output.new ≡ true) }
+    ensures works { OnOk result (session.new.ended ≡ false) }
+    ensures sent { O.has_failed output.old ≡ false → OnOk result (O.has_failed output.new ≡ false) }
+{
+    let Some(count) = read_piece(input, piece) else {
+        return Ok(false);
+    };
+    answer(alloc, session, desk, shelf, &piece[..count], output)?;
+    Ok(true)
+}
+
+// Reads what comes, no byte where nothing came in time. `None` where the input has ended or failed.
+fn read_piece<I: Read>(input: &mut I, piece: &mut [u8; PIECE]) -> Option<usize>
+    ensures within { IfSome result (λ n. n ≤ length piece.new) }
+    ensures given { IfSome result (λ n. Consumes (I.remaining input.old) (I.remaining input.new) (take n piece.new)) }
+    ensures kept { result ≡ None → Consumes (I.remaining input.old) (I.remaining input.new) [] }
 {
     match input.read(piece) {
-        Ok(0) => Ok(false),
-        Ok(count) => {
-            session.feed(alloc, &piece[..count], output, desk, shelf)?;
-            Ok(true)
-        }
-        Err(error) => Ok(is_pause(error.kind())),
+        Ok(0) => None,
+        Ok(count) => Some(count),
+        Err(error) if is_pause(error.kind()) => Some(0),
+        Err(_) => None,
     }
 }
 
@@ -113,18 +119,53 @@ fn is_pause(kind: ErrorKind) -> bool {
     kind == ErrorKind::WouldBlock || kind == ErrorKind::TimedOut || kind == ErrorKind::Interrupted
 }
 
-// Tells the news of the documents that are followed, and sends on all that was written.
-fn tell_news<K: Desk, O: Output>(
+// Answers a piece, tells the news of the documents that are followed, and sends on all that was written.
+fn answer<K: Desk, O: Output>(
     alloc: Global,
     session: &mut Session,
     desk: &mut K,
-    shelf: &Shelf,
+    shelf: &mut Shelf,
+    piece: &[u8],
     output: &mut O,
 ) -> Result<(), SessionEnded>
-    requires fits { Fits (K.reached desk.old) shelf.now }
-    ensures fits { Fits (K.reached desk.new) shelf.now }
+    requires fits { Fits (K.reached desk.old) shelf.old }
+    requires works { session.old.ended ≡ false }
+    ensures fits { Fits (K.reached desk.new) shelf.new }
+    ensures answered { OnOk result (Answers K.does session.old piece.now session.new desk.old desk.new
+        (O.contents output.old) (O.contents output.new)) }
+    ensures stopped { OnErr result (StopsIn K.does session.old desk.old (O.contents output.old) piece.now desk.new
+        (O.contents output.new)) }
+    ensures cause { OnErr result (O.has_failed output.new ≡ true) }
+    ensures works { OnOk result (session.new.ended ≡ false) }
+    ensures sent { OnOk result (O.has_failed output.new ≡ false) }
 {
+    reply(alloc, session, desk, shelf, piece, output)?;
     session.on_news(alloc, output, desk)?;
     output.flush()?;
     Ok(())
+}
+
+// Feeds what came, if anything did.
+fn reply<K: Desk, O: Output>(
+    alloc: Global,
+    session: &mut Session,
+    desk: &mut K,
+    shelf: &mut Shelf,
+    piece: &[u8],
+    output: &mut O,
+) -> Result<(), SessionEnded>
+    requires fits { Fits (K.reached desk.old) shelf.old }
+    requires works { session.old.ended ≡ false }
+    ensures fits { Fits (K.reached desk.new) shelf.new }
+    ensures fed { OnOk result (Feeds K.does session.old piece.now session.new desk.old desk.new
+        (O.contents output.old) (O.contents output.new)) }
+    ensures stopped { OnErr result (Stops K.does session.old piece.now session.new desk.old desk.new
+        (O.contents output.old) (O.contents output.new)) }
+    ensures cause { OnErr result (O.has_failed output.new ≡ true) }
+    ensures works { OnOk result (session.new.ended ≡ false) }
+{
+    if piece.is_empty() {
+        return Ok(());
+    }
+    session.feed(alloc, piece, output, desk, shelf)
 }

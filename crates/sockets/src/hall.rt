@@ -4,7 +4,7 @@ ghost use Rattle.std.specs.Prelude.{◌≤◌, length};
 use std::alloc::{AllocError, Global};
 use std::collections::VecDeque;
 use std::net::TcpStream;
-use std::sync::atomic::{AtomicBool, Ordering};
+use std::sync::atomic::{AtomicBool, AtomicUsize, Ordering};
 use std::sync::{Condvar, Mutex, Wait};
 
 /// The connections that wait, and how many threads are free to serve one. No more wait than are free.
@@ -46,6 +46,8 @@ pub struct Hall {
     places: Mutex<Places>,
     changed: Condvar,
     ended: AtomicBool,
+    /// The desk that got no thread, by its place among the desks, or a number above all places.
+    without_thread: AtomicUsize,
 }
 
 impl Hall {
@@ -59,6 +61,7 @@ impl Hall {
             }),
             changed: Condvar::new(),
             ended: AtomicBool::new(false),
+            without_thread: AtomicUsize::new(usize::MAX),
         })
     }
 
@@ -88,6 +91,16 @@ impl Hall {
         self.ended.store(true, Ordering::SeqCst);
         self.places.lock(rt).ended = true;
         self.changed.notify_all();
+    }
+
+    /// Notes that the desk at this place got no thread.
+    pub fn turn_away(&self, place: usize) {
+        self.without_thread.store(place, Ordering::SeqCst);
+    }
+
+    /// Whether the desk at this place got a thread, as far as is noted.
+    pub fn has_thread(&self, place: usize) -> bool {
+        self.without_thread.load(Ordering::SeqCst) != place
     }
 
     /// Whether the hall has ended.

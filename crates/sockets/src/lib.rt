@@ -7,9 +7,12 @@
 //! one, and the system takes a little more where it seemed full, so that this comes about after 5 to 15 seconds. When the listener fails
 //! each session ends within its next read.
 //!
-//! A caller, which `listening_tests` proves safe as it stands:
+//! A caller, with its contract, which is proved as it stands:
 //!
 //! ```text
+//! ghost use Rattle.std.specs.Prelude.{◌∷◌, [], IfOk};
+//! ghost use Rattle.sockets.specs.Desks.{HaveServed};
+//!
 //! use session::Desk;
 //! use sockets::serve_desks;
 //! use std::alloc::{AllocError, Global};
@@ -17,29 +20,39 @@
 //! use std::sync::Wait;
 //! use std::thread::Threads;
 //!
-//! /// Serves one connection after another by a single desk, until the listener fails.
+//! /// Serves one connection after another by a single desk, until the listener fails. What it exchanged is what conversations ask.
 //! pub fn serve_in_turn<
 //!     K: Desk + Send + Drop,
 //!     R: Threads + Wait + Sync,
 //!     N: OpenListener<Stream = TcpStream>,
-//! >(rt: &R, alloc: Global, desk: K, listener: &N) -> Result<(), AllocError> {
+//! >(rt: &R, alloc: Global, desk: K, listener: &N) -> Result<Vec<K>, AllocError>
+//!     ensures { IfOk result (λ after. HaveServed K.does (desk ∷ []) after.items) }
+//! {
 //!     let mut desks = Vec::new(alloc);
 //!     desks.push(desk)?;
-//!     serve_desks(rt, alloc, desks, listener)
+//!     Ok(serve_desks(rt, alloc, desks, listener)?)
 //! }
 //! ```
 //!
 //! # What is proved
 //!
-//! What a session answers and writes is the contract of `session` for any desk. This layer adds safety, that no connection waits for a
-//! thread that isn't free (the hall's own invariant), and that a shelf stays right of what its desk shows. Of sockets a contract can say
-//! no more than counts of bytes, so that connections are served, closed and given places again is tested. The listener is a parameter, so
-//! that a test can give one that fails.
+//! A conversation is a session over any reader and writer: what it writes is the replies to what it read, in order, and the news after
+//! each piece of it and after each wait for one; and where a write fails, what was due before and a prefix of what that write was to write
+//! (`specs/Conversation.antt`, `converse`). `serve_desks` gives its desks back in their order, each with what it exchanged: what is asked in
+//! conversations, one after another (`specs/Desks.antt`). No connection waits for a thread that isn't free (the hall's own invariant), and a
+//! shelf stays right of what its desk shows.
+//!
+//! Of the bytes of a socket a contract can say no more than counts. So a desk's conversations are some conversations, whoever had them; and
+//! that a connection is given to a conversation and nothing else is written to it (`connection.rt`), that connections are served, closed and
+//! given places again is tested. The listener is a parameter, so that a test can give one that fails.
 #![tactic(auto)]
 
 mod accepting;
+mod begun;
+mod connection;
 mod conversation;
 mod hall;
 mod serving;
+mod threads;
 
 pub use serving::serve_desks;

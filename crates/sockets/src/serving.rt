@@ -1,57 +1,85 @@
 //! Desks over a listener.
+ghost use Rattle.std.specs.Prelude.{◌≡◌, IfOk, IfErr, vec_len};
+ghost use Rattle.sockets.specs.Room.{HasRoom};
+ghost use Rattle.sockets.specs.Desks.{HaveServed};
+
 use crate::accepting::accept_all;
-use crate::conversation::converse;
+use crate::begun::{Begun, end_all};
 use crate::hall::Hall;
+use crate::threads::{ServedBy, begin_all};
 use session::Desk;
-use std::alloc::{AllocError, Global};
+use std::alloc::{AllocError, AllocFailed, Global};
 use std::net::{OpenListener, TcpStream};
 use std::sync::Wait;
 use std::thread::{self, Threads};
 
-/// Serves those who connect until the listener fails, and returns when each session has ended. Each desk has a thread of its own, which
-/// serves one connection after another by it; where none is free, or no thread could be made, a connection is closed without a byte.
-/// Refused for want of memory alone, before it serves anybody.
+/// Serves those who connect until the listener fails, and gives the desks back when each session has ended. Each desk has a thread of its
+/// own, which serves one connection after another by it; where none is free, or no thread could be made, a connection is closed without a
+/// byte. Out of memory it is refused before it serves anybody.
 pub fn serve_desks<
     K: Desk + Send + Drop,
     R: Threads + Wait + Sync,
     N: OpenListener<Stream = TcpStream>,
->(rt: &R, alloc: Global, desks: Vec<K>, listener: &N) -> Result<(), AllocError> {
-    let hall = Hall::new(alloc, desks.len())?;
-    serve_in(rt, alloc, &hall, desks, listener);
-    Ok(())
+>(rt: &R, alloc: Global, desks: Vec<K>, listener: &N) -> Result<Vec<K>, AllocFailed<Vec<K>>>
+    // They come back in their order, each asked for what conversations ask, one after another.
+    ensures served { IfOk result (λ after. HaveServed K.does desks.items after.items) }
+    ensures refused { IfErr result (λ failed. failed.value ≡ desks) }
+{
+    match Room::new(alloc, desks.len()) {
+        Ok(room) => Ok(serve_in(rt, alloc, room, desks, listener)),
+        Err(AllocError) => Err(AllocFailed { value: desks }),
+    }
+}
+
+/// All the memory that serving takes beside that of its sessions.
+struct Room<K: Desk + Drop> {
+    hall: Hall,
+    begun: Vec<Begun<K, ServedBy<K>>>,
+    served: Vec<K>,
+}
+
+impl<K: Desk + Drop> Room<K> {
+    // Room for so many desks.
+    fn new(alloc: Global, desks: usize) -> Result<Room<K>, AllocError>
+        ensures { IfOk result (λ room. HasRoom desks room.begun × HasRoom desks room.served) }
+    {
+        Ok(Room {
+            hall: Hall::new(alloc, desks)?,
+            begun: Vec::with_capacity(alloc, desks)?,
+            served: Vec::with_capacity(alloc, desks)?,
+        })
+    }
 }
 
 // A thread for each desk, and the loop that takes connections.
 fn serve_in<K: Desk + Send + Drop, R: Threads + Wait + Sync, N: OpenListener<Stream = TcpStream>>(
     rt: &R,
     alloc: Global,
-    hall: &Hall,
+    room: Room<K>,
     desks: Vec<K>,
     listener: &N,
-) {
-    thread::scope(thread::scope_env(), rt, |scope| {
-        for desk in desks {
-            if scope
-                .spawn(move || serve_desk(rt, alloc, hall, desk))
-                .is_ok()
-            {
-                hall.free_one(rt);
-            }
-        }
-        accept_all(rt, hall, listener);
-        hall.end(rt);
-    });
-}
-
-// Serves one connection after another until the hall ends.
-fn serve_desk<K: Desk + Drop, R: Wait>(rt: &R, alloc: Global, hall: &Hall, desk: K) {
-    let mut desk = desk;
-    for _ in rt.forever() {
-        let Some(stream) = hall.next(rt) else {
-            return;
-        };
-        converse(alloc, hall, &mut desk, &stream);
-        drop(stream);
-        hall.free_one(rt);
-    }
+) -> Vec<K>
+    requires begun { HasRoom (vec_len desks) room.begun }
+    requires served { HasRoom (vec_len desks) room.served }
+    ensures { HaveServed K.does desks.items result.items }
+{
+    let Room {
+        hall,
+        begun,
+        served,
+    } = room;
+    let hall = &hall;
+    thread::scope(
+        thread::scope_env(),
+        rt,
+        |scope| -> Vec<K>
+            requires { HasRoom (vec_len desks) begun × HasRoom (vec_len desks) served }
+            ensures { HaveServed K.does desks.items result.items }
+        {
+            let begun = begin_all(scope, rt, alloc, hall, desks, begun);
+            accept_all(rt, hall, listener);
+            hall.end(rt);
+            end_all(rt, begun, served)
+        },
+    )
 }

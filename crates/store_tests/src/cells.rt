@@ -188,10 +188,10 @@ fn one_of_two_cells_is_picked(rt: HostRuntime) {
 fn cells_of_two_documents(rt: HostRuntime) {
     let second = with_bytes_at(&rt, &CELL, NUMBER, &[1]);
     let device = empty(&rt);
-    is_opened_as(&rt, &with_bytes_at(&rt, &device, 576, &second), DAMAGED);
+    let named = with_bytes_at(&rt, &second, NAME, b"e");
+    is_opened_as(&rt, &with_bytes_at(&rt, &device, 576, &named), DAMAGED);
     let first = with_cell(&rt, &device, 64, 0, &[0xa5]);
     is_opened_as(&rt, &with_bytes_at(&rt, &first, 576, &second), DAMAGED);
-    let named = with_bytes_at(&rt, &second, NAME, b"e");
     is_opened_as(
         &rt,
         &with_bytes_at(&rt, &first, 576, &named),

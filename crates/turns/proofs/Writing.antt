@@ -5,9 +5,9 @@ use Rattle.std.proofs.lemmas.Bool.{false≢true, cases_lt}
 use mathlib.Core.List.{IsPrefix}
 use Rattle.disk.specs.declared.device.Disk.{Ghosts}
 use Rattle.refusal.specs.declared.Refusal.{Refusal}
-use Rattle.refusal.specs.declared.Refusal.TheVariants.{JournalFull, Stranger, StillNeeded, StoreFailed, NoMemory, Fault}
+use Rattle.refusal.specs.declared.Refusal.TheVariants.{JournalFull, Stranger, StillNeeded, NoMemory, Fault}
 use Rattle.revision.specs.Command.{Taken}
-use Rattle.revision.specs.State.{State, fold, all_grow}
+use Rattle.revision.specs.State.{State, fold}
 use Rattle.published.specs.Batches.{IsShorter}
 use Rattle.published.proofs.CallerLemmas.{prefix_shorter, prefix_whole}
 use Rattle.recovery.specs.declared.store.Store.{Store}
@@ -18,9 +18,9 @@ use Rattle.recovery.proofs.CallerLemmas.{goes_none, goes_map, goes_on, found_now
 use Rattle.flusher.specs.declared.flusher.Flusher.{Flusher}
 use Rattle.flusher.specs.Batches.{IsBeginning}
 use Rattle.flusher.specs.Flushers.{IsUsedUp, IsWritten}
-use Rattle.flusher.specs.Holding.{IsLost, IsUncommitted, store_of, told_of, committed_of, waiting_of}
+use Rattle.flusher.specs.Holding.{IsUncommitted, store_of, told_of, committed_of, waiting_of}
 use Rattle.flusher.proofs.CallerLemmas.{commands-append, fewer, longer, within_write}
-use Rattle.turns.specs.Writing.{WasAt, IsKeptUp, IsFullFor, IsOneMore, IsTurnFailed, given_to, told_count, Writes}
+use Rattle.turns.specs.Writing.{WasAt, IsKeptUp, IsFullFor, IsOneMore, IsTurnFailed, IsUntouched, given_to, told_count, Writes}
 use Rattle.turns.specs.Turning.{HasTurned}
 use Rattle.turns.specs.declared.turned.Turned.{Turned}
 use Rattle.turns.specs.declared.turned.Turned.TheVariants.{Settled, Nothing}
@@ -38,6 +38,12 @@ held_found : (start state : State) (told committed waiting : List (List Taken)) 
     → IsWithOrWithout state (commands_of waiting) content → IsBeginning (length (commands_of told)) start (told ++ (committed ++ waiting)) content
 held_found start state told committed waiting content kept found =
     within_write (length (commands_of told)) start state (told ++ (committed ++ waiting)) (told ++ committed) waiting content (sym (append_assoc told committed waiting)) (no_fewer told committed) kept found
+
+-- and these have all commands that are published and committed
+held_all : (start state : State) (told committed waiting : List (List Taken)) (content : List ℕ) → Kept start state told committed
+    → IsWithOrWithout state (commands_of waiting) content → IsBeginning (length (commands_of (told ++ committed))) start (told ++ (committed ++ waiting)) content
+held_all start state told committed waiting content kept found =
+    within_write (length (commands_of (told ++ committed))) start state (told ++ (committed ++ waiting)) (told ++ committed) waiting content (sym (append_assoc told committed waiting)) (omega arith) kept found
 
 -- a beginning of batches is no longer than they are, and makes no more commands
 prefix-length : (first all : List (List Taken)) → IsPrefix first all → (length first ≤ length all) × (length (commands_of first) ≤ length (commands_of all))
@@ -92,6 +98,17 @@ module _ {D J : Type 0} {disk : Ghosts D} where
         goes = goes_on
             (goes_map (λ content found. longer (told_count old) start (given_to mid) (given_to new) more.0 content more.1 found) first.goes)
             (goes_map (λ content found. fewer (told_count mid) (told_count old) start (given_to new) content least found) second.goes);
+        held =
+            let was = second.held in
+            record {
+              between = was.between;
+              state = was.state;
+              works = λ worked. was.works (works worked);
+              before = goes_on
+                  (goes_map (λ content found. longer (told_count old) start (given_to mid) (given_to new) more.0 content more.1 found) first.goes)
+                  (goes_map (λ content found. fewer (told_count mid) (told_count old) start (given_to new) content least found) was.before);
+              behind = was.behind;
+            };
         lasts = λ worked is_open. second.lasts (works worked) (first.goes.opens (works worked) is_open);
         each = λ front further begins. by_moment front further (compare front (told_of mid) (told_of new) begins (second.told.0, sym second.told.1)) begins;
       }
@@ -125,11 +142,45 @@ module _ {D J : Type 0} {disk : Ghosts D} where
             behind = was.behind;
           }
 
+  -- what is published and committed was so at the beginning
+  was_before : (start : State) (old new : Flusher D J disk) → Kept start (state_of (store_of old)) (told_of old) (committed_of old)
+      → Goes (IsWithOrWithout (state_of (store_of old)) (commands_of (waiting_of old))) (store_of old) (store_of new)
+      → told_of new ++ committed_of new ≡ told_of old ++ committed_of old → given_to new ≡ given_to old
+      → WasAt start (told_count old) (told_of new ++ committed_of new) (given_to new) (store_of old) (store_of new)
+  was_before start old new kept goes holds same =
+      subst (λ (l : List (List Taken)). WasAt start (told_count old) l (given_to new) (store_of old) (store_of new)) (sym holds)
+      (subst (λ (b : List (List Taken)). WasAt start (told_count old) (told_of old ++ committed_of old) b (store_of old) (store_of new)) (sym same)
+      (record {
+        between = store_of old;
+        state = kept;
+        works = λ works. works;
+        before = goes_none (store_of old) (λ is_open. held_found start (state_of (store_of old)) (told_of old) (committed_of old) (waiting_of old) _ kept
+            (inl (found_as _ _ (found_open (store_of old) is_open))));
+        behind = goes_map (λ content found. held_all start (state_of (store_of old)) (told_of old) (committed_of old) (waiting_of old) content kept found) goes;
+      }))
+
+  -- it is so at the end
+  was_after : (start : State) (old new : Flusher D J disk) → Kept start (state_of (store_of old)) (told_of old) (committed_of old)
+      → Kept start (state_of (store_of new)) (told_of new) (committed_of new)
+      → Goes (IsWithOrWithout (state_of (store_of old)) (commands_of (waiting_of old))) (store_of old) (store_of new)
+      → (has_failed (store_of old) ≡ false → has_failed (store_of new) ≡ false) → given_to new ≡ given_to old
+      → WasAt start (told_count old) (told_of new ++ committed_of new) (given_to new) (store_of old) (store_of new)
+  was_after start old new kept after goes works same = record {
+    between = store_of new;
+    state = after;
+    works = works;
+    before = goes_map (λ content found. subst (λ (b : List (List Taken)). IsBeginning (told_count old) start b content) (sym same)
+        (held_found start (state_of (store_of old)) (told_of old) (committed_of old) (waiting_of old) content kept found)) goes;
+    behind = goes_none (store_of new) (λ is_open. held_all start (state_of (store_of new)) (told_of new) (committed_of new) (waiting_of new) _ after
+        (inl (found_as _ _ (found_open (store_of new) is_open))));
+  }
+
   -- what was given is the same, and no more is published
   pub writes_same : (start : State) (old new : Flusher D J disk) → Kept start (state_of (store_of old)) (told_of old) (committed_of old)
       → Goes (IsWithOrWithout (state_of (store_of old)) (commands_of (waiting_of old))) (store_of old) (store_of new)
-      → told_of new ≡ told_of old → given_to new ≡ given_to old → Writes start old new
-  writes_same start old new kept goes tells same =
+      → told_of new ≡ told_of old → given_to new ≡ given_to old
+      → WasAt start (told_count old) (told_of new ++ committed_of new) (given_to new) (store_of old) (store_of new) → Writes start old new
+  writes_same start old new kept goes tells same was =
       let mapped : Goes (IsBeginning (told_count old) start (given_to new)) (store_of old) (store_of new) =
       goes_map (λ content found. subst (λ (b : List (List Taken)). IsBeginning (told_count old) start b content) (sym same)
       (held_found start (state_of (store_of old)) (told_of old) (committed_of old) (waiting_of old) content kept found)) goes in
@@ -138,6 +189,7 @@ module _ {D J : Type 0} {disk : Ghosts D} where
         told = ([], tells ∙ sym (append-nil (told_of old)));
         more = ([], same ∙ sym (append-nil (given_to old)));
         goes = mapped;
+        held = was;
         lasts = λ works is_open content left.
             fewer (told_count old) (told_count new) start (given_to new) content (omega (arith, count)) ((mapped.any_moment works is_open).last content left);
         each = λ first further begins. absurd (none_longer (told_of old) (told_of new) first tells further begins);
@@ -151,7 +203,10 @@ module _ {D J : Type 0} {disk : Ghosts D} where
       let same : given_to new ≡ given_to old =
       ap (λ (t : List (List Taken)). t ++ (committed_of new ++ waiting_of new)) tells ∙ ap (λ (l : List (List Taken)). told_of old ++ (l ++ waiting_of new)) commits
       ∙ ap (λ (l : List (List Taken)). told_of old ++ (committed_of old ++ l)) waits in
-      writes_same start old new kept (goes_map (λ content found. inl found) goes) tells same
+      let written : Goes (IsWithOrWithout (state_of (store_of old)) (commands_of (waiting_of old))) (store_of old) (store_of new) = goes_map (λ content found. inl found) goes in
+      let holds : told_of new ++ committed_of new ≡ told_of old ++ committed_of old =
+      ap (λ (t : List (List Taken)). t ++ committed_of new) tells ∙ ap (λ (l : List (List Taken)). told_of old ++ l) commits in
+      writes_same start old new kept written tells same (was_before start old new kept written holds same)
 
   -- what was held is written and published, as one batch
   pub writes_published : (start : State) (old new : Flusher D J disk) (batch : List Taken) → committed_of old ++ waiting_of old ≡ batch ∷ [] → Kept start (state_of (store_of old)) (told_of old) (committed_of old)
@@ -169,6 +224,9 @@ module _ {D J : Type 0} {disk : Ghosts D} where
         told = (committed_of old ++ waiting_of old, tells);
         more = ([], same ∙ sym (append-nil (given_to old)));
         goes = mapped;
+        held =
+            subst (λ (l : List (List Taken)). WasAt start (told_count old) l (given_to new) (store_of old) (store_of new))
+            (sym (ap (λ (l : List (List Taken)). told_of new ++ l) none ∙ append-nil (told_of new))) (now_published (told_of new) mapped refl);
         each = λ first further begins. now_published first mapped
             (prefix_whole first (told_of new) begins
             (omega (arith, further.1, ap (λ (l : List (List Taken)). length l) tells, length-append (told_of old) (committed_of old ++ waiting_of old), ap (λ (l : List (List Taken)). length l) one)));
@@ -211,6 +269,19 @@ module _ {D J : Type 0} {disk : Ghosts D} where
         told = ([], tells ∙ sym (append-nil (told_of old)));
         more = (batch ∷ [], more);
         goes = still;
+        held =
+            let holds : told_of new ++ committed_of new ≡ told_of old ++ committed_of old =
+            ap (λ (t : List (List Taken)). t ++ committed_of new) tells ∙ ap (λ (l : List (List Taken)). told_of old ++ l) commits in
+            subst (λ (l : List (List Taken)). WasAt start (told_count old) l (given_to new) (store_of old) (store_of new)) (sym holds)
+            (record {
+              between = store_of old;
+              state = kept;
+              works = λ works. works;
+              before = goes_none (store_of old) (λ is_open. found _ (found_as _ _ (found_open (store_of old) is_open)));
+              behind = subst (λ (s : Store D disk). Goes (IsBeginning (length (commands_of (told_of old ++ committed_of old))) start (given_to new)) (store_of old) s) (sym store)
+                  (goes_none (store_of old) (λ is_open. longer (length (commands_of (told_of old ++ committed_of old))) start (given_to old) (given_to new) (batch ∷ []) _ more
+                  (held_all start (state_of (store_of old)) (told_of old) (committed_of old) (waiting_of old) _ kept (inl (found_as _ _ (found_open (store_of old) is_open))))));
+            });
         lasts = λ works is_open content left.
             fewer (told_count old) (told_count new) start (given_to new) content (omega (arith, count)) ((still.any_moment works is_open).last content left);
         each = λ first further begins. absurd (none_longer (told_of old) (told_of new) first tells further begins);
@@ -266,6 +337,10 @@ memory_not_fault refusal is fault = cc
 pub stranger_not_fault : (refusal : Refusal) → refusal ≡ Stranger → refusal ≢ Fault
 stranger_not_fault refusal is fault = cc
 
+pub held_not_fault : (refusal : Refusal) → (refusal ≡ NoMemory) ⊎ (refusal ≡ Stranger) → refusal ≢ Fault
+held_not_fault refusal (inl memory) = memory_not_fault refusal memory
+held_not_fault refusal (inr strange) = stranger_not_fault refusal strange
+
 -- a batch that is held is one
 pub some_held : (committed waiting : List (List Taken)) (batch : List Taken) → waiting ≡ batch ∷ [] → committed ++ waiting ≢ []
 some_held [] waiting batch is none = cc
@@ -304,10 +379,32 @@ module _ {D J : Type 0} {disk : Ghosts D} where
   -- a write that was refused
   pub writes_refused : (start : State) (old new : Flusher D J disk) → Kept start (state_of (store_of old)) (told_of old) (committed_of old)
       → Goes (IsWithOrWithout (state_of (store_of old)) (commands_of (waiting_of old))) (store_of old) (store_of new)
-      → told_of new ≡ told_of old → committed_of new ++ waiting_of new ≡ committed_of old ++ waiting_of old → Writes start old new
-  writes_refused start old new kept goes tells held =
-      writes_same start old new kept goes tells
-      (ap (λ (t : List (List Taken)). t ++ (committed_of new ++ waiting_of new)) tells ∙ ap (λ (l : List (List Taken)). told_of old ++ l) held)
+      → told_of new ≡ told_of old → committed_of new ++ waiting_of new ≡ committed_of old ++ waiting_of old
+      → Kept start (state_of (store_of new)) (told_of new) (committed_of new)
+      → (has_failed (store_of old) ≡ false → has_failed (store_of new) ≡ false) ⊎ IsUncommitted old new → Writes start old new
+  writes_refused start old new kept goes tells held after why =
+      writes_same start old new kept goes tells same (by_reason why)
+    where
+      same : given_to new ≡ given_to old
+      same = ap (λ (t : List (List Taken)). t ++ (committed_of new ++ waiting_of new)) tells ∙ ap (λ (l : List (List Taken)). told_of old ++ l) held
+
+      by_reason : (has_failed (store_of old) ≡ false → has_failed (store_of new) ≡ false) ⊎ IsUncommitted old new
+          → WasAt start (told_count old) (told_of new ++ committed_of new) (given_to new) (store_of old) (store_of new)
+      by_reason (inl works) = was_after start old new kept after goes works same
+      by_reason (inr uncommitted) =
+          was_before start old new kept goes
+          (ap (λ (t : List (List Taken)). t ++ committed_of new) tells ∙ ap (λ (l : List (List Taken)). told_of old ++ l) uncommitted.committed) same
+
+  -- a write that was refused left the store working, or its batch isn't committed
+  pub why_refused : {A : Type 0} (old new : Flusher D J disk) (refusal : Refusal) → (refusal ≢ NoMemory → IsUncommitted old new)
+      → (has_failed (store_of old) ≡ false → (has_failed (store_of new) ≡ true ↔ IsErrOf {T = A} (Err refusal) Fault))
+      → ((refusal ≡ JournalFull) ⊎ (refusal ≡ StillNeeded)) ⊎ ((refusal ≡ NoMemory) ⊎ (refusal ≡ Fault))
+      → (has_failed (store_of old) ≡ false → has_failed (store_of new) ≡ false) ⊎ IsUncommitted old new
+  why_refused old new refusal uncommitted fails (inl (inl full)) = inr (uncommitted (λ memory. absurd (cc (full, memory))))
+  why_refused old new refusal uncommitted fails (inl (inr needed)) = inr (uncommitted (λ memory. absurd (cc (needed, memory))))
+  why_refused old new refusal uncommitted fails (inr (inl memory)) =
+      inl (works_refused refusal (has_failed (store_of old)) (has_failed (store_of new)) fails (memory_not_fault refusal memory))
+  why_refused old new refusal uncommitted fails (inr (inr fault)) = inr (uncommitted (λ memory. absurd (cc (fault, memory))))
 
   -- a write that published what was held, as one batch
   pub writes_written : (start : State) (old new : Flusher D J disk) (receipt : List Taken) (token : List (List Taken)) → Kept start (state_of (store_of old)) (told_of old) (committed_of old)
@@ -327,51 +424,55 @@ module _ {D J : Type 0} {disk : Ghosts D} where
       → (refusal ≡ JournalFull → (batch : List Taken) × (waiting_of old ≡ batch ∷ []) × (has_room (store_of old) batch ≡ false) × (has_room (store_of new) batch ≡ false))
       → (refusal ≡ StillNeeded → (batch : List Taken) × (waiting_of old ≡ batch ∷ []) × (has_room (store_of old) batch ≡ false))
       → ((refusal ≡ JournalFull) ⊎ (refusal ≡ StillNeeded) → IsUsedUp (store_of old))
-      → (refusal ≡ Stranger → all_grow (state_of (store_of old)) (commands_of (waiting_of old)) ≡ false)
-      → (refusal ≡ StoreFailed → IsLost old new)
-      → (refusal ≢ NoMemory → refusal ≢ StoreFailed → IsUncommitted old new)
-      → (((refusal ≡ JournalFull) ⊎ ((refusal ≡ StillNeeded) ⊎ (refusal ≡ Stranger))) ⊎ ((refusal ≡ NoMemory) ⊎ (refusal ≡ Fault))) ⊎ (refusal ≡ StoreFailed)
+      → (refusal ≢ NoMemory → IsUncommitted old new)
+      → ((refusal ≡ JournalFull) ⊎ (refusal ≡ StillNeeded)) ⊎ ((refusal ≡ NoMemory) ⊎ (refusal ≡ Fault))
       → refusal ≢ NoMemory → refusal ≢ Fault → IsTurnFailed old refusal new
-  turn_failed old new refusal full needed used stranger lost uncommitted only no_memory no_fault = by_case only
+  turn_failed old new refusal full needed used uncommitted only no_memory no_fault = by_case only
     where
       full_for : (batch : List Taken) → has_room (store_of old) batch ≡ false → (refusal ≡ JournalFull) ⊎ (refusal ≡ StillNeeded) → IsFullFor batch (store_of old)
       full_for batch none told = record { between = store_of old; kept_up = kept_up_none (store_of old); works = λ works. works; no_room = none; last = used told }
 
-      by_case : (((refusal ≡ JournalFull) ⊎ ((refusal ≡ StillNeeded) ⊎ (refusal ≡ Stranger))) ⊎ ((refusal ≡ NoMemory) ⊎ (refusal ≡ Fault))) ⊎ (refusal ≡ StoreFailed)
-          → IsTurnFailed old refusal new
-      by_case (inl (inl (inl is_full))) =
+      by_case : ((refusal ≡ JournalFull) ⊎ (refusal ≡ StillNeeded)) ⊎ ((refusal ≡ NoMemory) ⊎ (refusal ≡ Fault)) → IsTurnFailed old refusal new
+      by_case (inl (inl is_full)) =
           let p = full is_full in
-          let same = uncommitted no_memory (λ failed. let no : ⊥ = cc in no) in
+          let same = uncommitted no_memory in
           inl (inl is_full, (p.0, same.waiting ∙ p.1, full_for p.0 p.2 (inl is_full)))
-      by_case (inl (inl (inr (inl is_needed)))) =
+      by_case (inl (inr is_needed)) =
           let p = needed is_needed in
-          let same = uncommitted no_memory (λ failed. let no : ⊥ = cc in no) in
+          let same = uncommitted no_memory in
           inl (inr is_needed, (p.0, same.waiting ∙ p.1, full_for p.0 p.2 (inr is_needed)))
-      by_case (inl (inl (inr (inr is_stranger)))) =
-          let same = uncommitted no_memory (λ failed. let no : ⊥ = cc in no) in
-          inr (inl (
-            is_stranger,
-            inl (ap (λ (s : State). all_grow s (commands_of (waiting_of new))) same.state ∙ ap (λ (l : List (List Taken)). all_grow (state_of (store_of old)) (commands_of l)) same.waiting ∙ stranger is_stranger),
-          ))
-      by_case (inl (inr (inl memory))) = absurd (no_memory memory)
-      by_case (inl (inr (inr fault))) = absurd (no_fault fault)
-      by_case (inr is_lost) = let l = lost is_lost in inr (inr (is_lost, (l.waiting, l.committed, l.barred)))
+      by_case (inr (inl memory)) = absurd (no_memory memory)
+      by_case (inr (inr fault)) = absurd (no_fault fault)
+
+  -- why a turn fails that took no run off, or one that doesn't follow what is published
+  pub turn_apart : (old new : Flusher D J disk) (refusal : Refusal) → IsUntouched old new → (refusal ≡ NoMemory) ⊎ (refusal ≡ Stranger) → refusal ≢ NoMemory
+      → IsTurnFailed old refusal new
+  turn_apart old new refusal untouched (inl memory) no_memory = absurd (no_memory memory)
+  turn_apart old new refusal untouched (inr strange) no_memory = inr (strange, inl untouched)
 
   -- what was published and isn't settled
   pub turn_unsettled : (old new : Flusher D J disk) (refusal : Refusal) → refusal ≡ Stranger → IsOneMore old new → IsTurnFailed old refusal new
-  turn_unsettled old new refusal is one = inr (inl (is, inr one))
+  turn_unsettled old new refusal is one = inr (is, inr one)
 
   -- one batch more than before it was kept up and held
   pub one_before : (old mid new : Flusher D J disk) → told_of mid ≡ told_of old → IsOneMore mid new → IsOneMore old new
   one_before old mid new same one = record { batch = one.batch; told = one.told ∙ ap (λ (t : List (List Taken)). t ++ one.batch ∷ []) same }
 
+  -- nothing was written after it was kept up
+  untouched_before : (old mid new : Flusher D J disk) → IsKeptUp (store_of old) (store_of mid) → told_of mid ≡ told_of old → IsUntouched mid new → IsUntouched old new
+  untouched_before old mid new first same untouched = record {
+    told = untouched.told ∙ same;
+    committed = untouched.committed;
+    waiting = untouched.waiting;
+    kept_up = kept_up_on (store_of old) (store_of mid) (store_of new) first untouched.kept_up;
+  }
+
   -- why a turn failed that kept its store up before the write
   pub failed_before : (old mid new : Flusher D J disk) (refusal : Refusal) → IsKeptUp (store_of old) (store_of mid)
       → (has_failed (store_of old) ≡ false → has_failed (store_of mid) ≡ false) → told_of mid ≡ told_of old → IsTurnFailed mid refusal new → IsTurnFailed old refusal new
   failed_before old mid new refusal first works same (inl (is, (batch, held, full))) = inl (is, (batch, held, full_before batch (store_of old) (store_of mid) first works full))
-  failed_before old mid new refusal first works same (inr (inl (is, inl grows))) = inr (inl (is, inl grows))
-  failed_before old mid new refusal first works same (inr (inl (is, inr one))) = inr (inl (is, inr (one_before old mid new same one)))
-  failed_before old mid new refusal first works same (inr (inr lost)) = inr (inr lost)
+  failed_before old mid new refusal first works same (inr (is, inl untouched)) = inr (is, inl (untouched_before old mid new first same untouched))
+  failed_before old mid new refusal first works same (inr (is, inr one)) = inr (is, inr (one_before old mid new same one))
 
   turned_before : (answer : Turned D J) (old mid new : Flusher D J disk) → told_of mid ≡ told_of old → HasTurned mid answer new → HasTurned old answer new
   turned_before (Settled token) old mid new same one = (one_before old mid new same one.0, one.1)

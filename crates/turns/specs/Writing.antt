@@ -4,10 +4,10 @@ use mathlib.Core.List.{IsPrefix}
 use Rattle.disk.specs.declared.device.Disk.{Ghosts}
 use Rattle.disk.specs.Crash.{MayLeaveNow}
 use Rattle.refusal.specs.declared.Refusal.{Refusal}
-use Rattle.refusal.specs.declared.Refusal.TheVariants.{JournalFull, Stranger, StillNeeded, StoreFailed}
+use Rattle.refusal.specs.declared.Refusal.TheVariants.{JournalFull, Stranger, StillNeeded}
 use Rattle.revision.specs.Command.{Taken}
 use Rattle.published.specs.Batches.{IsShorter}
-use Rattle.revision.specs.State.{State, fold, all_grow}
+use Rattle.revision.specs.State.{State, fold}
 use Rattle.recovery.specs.declared.store.Store.{Store}
 use Rattle.recovery.specs.Found.{commands_of, FoundAs}
 use Rattle.recovery.specs.Open.{IsOpen, device_of, state_of, has_failed, has_room}
@@ -15,7 +15,7 @@ use Rattle.recovery.specs.Goes.{Goes}
 use Rattle.flusher.specs.declared.flusher.Flusher.{Flusher}
 use Rattle.flusher.specs.Batches.{IsBeginning}
 use Rattle.flusher.specs.Flushers.{IsUsedUp}
-use Rattle.flusher.specs.Holding.{CannotPublish, store_of, told_of, committed_of, waiting_of}
+use Rattle.flusher.specs.Holding.{store_of, told_of, committed_of, waiting_of}
 
 module _ {D : Type 0} {disk : Ghosts D} where
   -- Milestones were put and segments retired, and nothing else: the state is as it was, and a crash at any moment leaves it.
@@ -51,13 +51,15 @@ module _ {D J : Type 0} {disk : Ghosts D} where
 
   -- Nothing that was published is taken back, and no batch that was given is dropped. A crash at any moment between leaves some first
   -- batches of those that were given by the end, and no fewer commands than were published at the beginning; a crash at any moment from
-  -- a batch's publishing on no fewer than were published with it; and a crash at the end no fewer than are published then.
+  -- a batch's publishing on no fewer than were published with it; and a crash at the end no fewer than are published then. And there was a
+  -- moment from which on it leaves no fewer than are published and committed at the end.
   pub record Writes (start : State) (old new : Flusher D J disk) : Type 0 where
     pub told : (l : List (List Taken)) × (told_of new ≡ told_of old ++ l)
     pub more : (l : List (List Taken)) × (given_to new ≡ given_to old ++ l)
     pub goes : Goes (IsBeginning (told_count old) start (given_to new)) (store_of old) (store_of new)
     pub each : (first : List (List Taken)) → IsShorter (told_of old) first → IsPrefix first (told_of new)
         → WasAt start (told_count old) first (given_to new) (store_of old) (store_of new)
+    pub held : WasAt start (told_count old) (told_of new ++ committed_of new) (given_to new) (store_of old) (store_of new)
     pub lasts : has_failed (store_of old) ≡ false → IsOpen (store_of old)
         → (content : List ℕ) → MayLeaveNow disk (device_of (store_of new)) content → IsBeginning (told_count new) start (given_to new) content
 
@@ -66,13 +68,19 @@ module _ {D J : Type 0} {disk : Ghosts D} where
     pub batch : List Taken
     pub told : told_of new ≡ told_of old ++ batch ∷ []
 
-  -- Why a turn fails the board, where the device didn't: its batch finds no room; or doesn't continue the state; or is committed, and can't
-  -- be put into the log of what is published, as the flusher has noted; or is committed and published, and isn't what the board has to settle next.
+  -- No batch is under way, and nothing of one was written.
+  pub record IsUntouched (old new : Flusher D J disk) : Type 0 where
+    pub told : told_of new ≡ told_of old
+    pub committed : committed_of new ≡ []
+    pub waiting : waiting_of new ≡ []
+    pub kept_up : IsKeptUp (store_of old) (store_of new)
+
+  -- Why a turn fails the board, where the device didn't: its batch finds no room; or what the board took off doesn't follow what is published,
+  -- and nothing of it was written; or it is committed and published, and isn't what the board has to settle next.
   abbrev pub IsTurnFailed : Flusher D J disk → Refusal → Flusher D J disk → Type 0
   IsTurnFailed old refusal new =
       (((refusal ≡ JournalFull) ⊎ (refusal ≡ StillNeeded)) × ((batch : List Taken) × (waiting_of new ≡ batch ∷ []) × IsFullFor batch (store_of old)))
-      ⊎ (((refusal ≡ Stranger) × ((all_grow (state_of (store_of new)) (commands_of (waiting_of new)) ≡ false) ⊎ IsOneMore old new))
-      ⊎ ((refusal ≡ StoreFailed) × ((waiting_of new ≡ []) × (¬ (committed_of new ≡ [])) × CannotPublish new)))
+      ⊎ ((refusal ≡ Stranger) × (IsUntouched old new ⊎ IsOneMore old new))
 
   -- Some turns were made, and then one that failed the board for this reason.
   pub record IsEndedBy (start : State) (old : Flusher D J disk) (refusal : Refusal) (new : Flusher D J disk) : Type 0 where

@@ -6,7 +6,8 @@
 //! specs/Writing.antt, that no batch that it was given is dropped, none that was published is taken back, and what a crash leaves of them; and
 //! by `IsTurnFailed` why it fails the board. The rest stands in the types of what it passes: a run is one that a board took off, a
 //! receipt is of a batch that the store has committed, and a board settles only by one. A `Run` and a `Written` aren't `Drop`: so each run
-//! that is taken is given to the flusher, and each batch that is written is settled, or the hub is told of a failure. What a turn answers
+//! that is taken is given to the flusher, and each batch that is written is settled, or the hub is told of a failure; a run that doesn't
+//! follow what is published ends with such a failure too. What a turn answers
 //! with, and what `flush_all` does, are tokens that the hub alone makes: that it settled, that it was told of a failure, that it was ended
 //! and nothing is left to take. A refusal without such a token is want of memory, after which the next turn goes on.
 //!

@@ -1,6 +1,7 @@
 //! One turn, and all of them.
-ghost use Rattle.std.specs.Prelude.{◌≡◌, ◌≢◌, ◌↔◌, ◌≤◌, [], ◌++◌, true, false, length, OnOk, IfOk, IfErr, IfSome, IfNone, IsErrOf};
+ghost use Rattle.std.specs.Prelude.{◌≡◌, ◌≢◌, ◌⊎◌, ◌↔◌, ◌≤◌, [], ◌++◌, true, false, length, OnOk, OnErr, IfOk, IfErr, IfSome, IfNone, IsErrOf};
 ghost use Rattle.journal.specs.BatchSpelling.{batch_width};
+ghost use Rattle.recovery.specs.Found.{commands_of};
 ghost use Rattle.recovery.specs.Open.{state_of, has_failed};
 ghost use Rattle.flusher.specs.Flushers.{cap_of};
 ghost use Rattle.flusher.specs.Holding.{store_of, told_of, committed_of, waiting_of};
@@ -13,7 +14,7 @@ use crate::upkeep::Upkeep;
 use disk::Disk;
 use flusher::{Flusher, Gate};
 use hub::{Failed, Hub, Idle, Nothing, Run, Writer};
-use published::Site;
+use published::{Site, Told};
 use refusal::Refusal;
 use std::alloc::Global;
 use std::sync::Wait;
@@ -25,7 +26,8 @@ use std::thread;
 ///
 /// Refused with `NoMemory` where memory was wanted for a batch, and then the next turn goes on with the same batch, or with its
 /// publishing; where it was wanted for a milestone, the next turn looks for it again. Each other refusal fails the board, and has the
-/// hub's token of that: the device failed, the journal is full and can't be freed, or the batch isn't what the board has to settle next.
+/// hub's token of that: the device failed, the journal is full and can't be freed, or what the board took off doesn't follow what is published,
+/// which is seen before anything of it is written, or isn't what the board has to settle next.
 pub fn flush_turn<D: Disk, J: Site, R: Wait, G: Gate>(
     rt: &R,
     alloc: Global,
@@ -87,7 +89,7 @@ fn turn_made<D: Disk, J: Site, R: Wait, G: Gate>(
 }
 
 // Takes the next batch and holds it, where none is held. It answers with the token that there was none to take, unless one is held then.
-// Refused for want of memory alone.
+// Refused with `NoMemory`, and with `Stranger` where what the board took off doesn't follow what is published; nothing is held then.
 #[tactic(auto, using(crate::proofs::Fitting::fits_slot))]
 fn hold_next<D: Disk, J: Site, R: Wait>(
     rt: &R,
@@ -104,13 +106,14 @@ fn hold_next<D: Disk, J: Site, R: Wait>(
         ≡ cap_of (state_of (store_of flusher.new)))) }
     ensures store { store_of flusher.new ≡ store_of flusher.old }
     ensures told { told_of flusher.new ≡ told_of flusher.old }
-    ensures only { IfErr result (λ e. e ≡ Refusal.NoMemory) }
+    ensures apart { OnErr result ((committed_of flusher.new ≡ []) × (waiting_of flusher.new ≡ [])) }
+    ensures only { IfErr result (λ e. (e ≡ Refusal.NoMemory) ⊎ (e ≡ Refusal.Stranger)) }
 {
     flusher.kept();
     if flusher.holds() {
         return Ok(None);
     }
-    let taken = match take_some(rt, alloc, flusher.cap(), hub, writer) {
+    let taken = match take_some(rt, alloc, flusher.cap(), flusher.told(), hub, writer) {
         Ok(taken) => taken,
         Err(refusal) => return Err(refusal),
     };
@@ -123,19 +126,22 @@ fn hold_next<D: Disk, J: Site, R: Wait>(
     }
 }
 
-// The next run whose batch has at most so many bytes, or the token that there is none.
+// The next run whose batch has at most so many bytes, or the token that there is none. It has to follow what a token names: refused with
+// `Stranger` where it doesn't, and with `NoMemory`.
 fn take_some<D: Disk, J: Site, R: Wait>(
     rt: &R,
     alloc: Global,
     cap: u32,
+    told: &Told<D, J>,
     hub: &Hub<D, J>,
     writer: &mut Writer<J>,
 ) -> Result<Result<Run<D, J>, Nothing<J>>, Refusal>
     ensures fits { IfOk result (λ taken. IfOk taken (λ run. (1 ≤ length run.commands)
         × (batch_width run.commands ≤ cap))) }
     ensures cap { IfOk result (λ taken. IfOk taken (λ run. run.cap ≡ cap)) }
+    ensures next { IfOk result (λ taken. IfOk taken (λ run. run.place ≡ length (commands_of told.now))) }
     ensures none { IfOk result (λ taken. IfErr taken (λ nothing. nothing ≡ cap)) }
-    ensures only { IfErr result (λ e. e ≡ Refusal.NoMemory) }
+    ensures only { IfErr result (λ e. (e ≡ Refusal.NoMemory) ⊎ (e ≡ Refusal.Stranger)) }
 {
     let run = match hub.take(rt, alloc, writer, cap) {
         Ok(run) => run,
@@ -143,6 +149,10 @@ fn take_some<D: Disk, J: Site, R: Wait>(
     };
     if run.len() == 0 {
         return Ok(Err(run.nothing()));
+    }
+    if run.place() as u64 != told.len() {
+        run.apart(told);
+        return Err(Refusal::Stranger);
     }
     Ok(Ok(run))
 }
@@ -170,7 +180,10 @@ fn write_held<D: Disk, J: Site, R: Wait, G: Gate>(
     flusher.kept();
     let written = match flusher.write(rt, alloc, gate) {
         Ok(written) => written,
-        Err(refusal) => return Err(refusal),
+        Err(refusal) => {
+            flusher.kept();
+            return Err(refusal);
+        }
     };
     match written {
         None => unreachable!(),
@@ -213,7 +226,7 @@ pub fn flush_all<D: Disk, J: Site, R: Wait, G: Gate>(
     let mut upkeep = Upkeep::new(every);
     for _ in rt.forever() {
         if !flusher.holds() {
-            if let Some(idle) = hub.wait_work(rt, writer) {
+            if let Err(idle) = hub.wait_work(rt, writer) {
                 return Ok(idle);
             }
         }

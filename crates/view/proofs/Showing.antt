@@ -2,7 +2,7 @@
 use Rattle.std.proofs.Common.{◌≡◌, List, [], ◌∷◌, ◌++◌, fold, refl, ap, ap₂, sym, subst, ◌∙◌, ◌&&◌, Bool, true, append_assoc}
 use Rattle.std.proofs.lemmas.Bool.{and_parts}
 use Rattle.std.proofs.lemmas.List.{append-nil}
-use Rattle.logbook.specs.Pages.{Book}
+use Rattle.published.specs.Books.{Books}
 use Rattle.revision.specs.Command.{Taken}
 use Rattle.revision.specs.State as state
 use Rattle.recovery.specs.Found.{commands_of}
@@ -19,7 +19,7 @@ fold_join s [] ys = refl
 fold_join s (x ∷ xs) ys = fold_join (state.grown s x) xs ys
 
 -- the commands of batches with one more
-commands_more : (told : List (List Taken)) (batch : List Taken) → commands_of (told ++ batch ∷ []) ≡ commands_of told ++ batch
+pub commands_more : (told : List (List Taken)) (batch : List Taken) → commands_of (told ++ batch ∷ []) ≡ commands_of told ++ batch
 commands_more [] batch = append-nil batch
 commands_more (first ∷ told) batch = ap (λ l. first ++ l) (commands_more told batch) ∙ sym (append_assoc first (commands_of told) batch)
 
@@ -31,11 +31,11 @@ grow_join s (x ∷ xs) ys first later =
     ap₂ (λ a b. a && b) parts.0 (grow_join (state.grown s x) xs ys parts.1 later)
 
 -- what shows these batches and takes in one more shows them all
-pub shows_more : (book : Book) (start : state.State) (told next : List (List Taken)) (batch : List Taken) (old new : Shown) (waiting : List News)
-    → AreShown book start told old → waiting ≡ news_of book batch next ∷ [] → next ≡ told ++ batch ∷ []
+pub shows_more : (book : Books) (start : state.State) (told next : List (List Taken)) (batch : List Taken) (old new : Shown) (waiting : List News)
+    → AreShown book start told old → waiting ≡ news_of book start batch next ∷ [] → next ≡ told ++ batch ∷ []
     → basis_of new ≡ fold after (basis_of old) waiting → IsShown book start new
 shows_more book start told next batch old new waiting shows waits more goes =
-    let is : basis_of new ≡ after (basis_of old) (news_of book batch next) = goes ∙ ap (fold after (basis_of old)) waits in
+    let is : basis_of new ≡ after (basis_of old) (news_of book start batch next) = goes ∙ ap (fold after (basis_of old)) waits in
     let batches : new.mark.batches ≡ told ++ batch ∷ [] = ap (λ b. b.mark.batches) is ∙ more in
     let commands : commands_of new.mark.batches ≡ commands_of told ++ batch = ap commands_of batches ∙ commands_more told batch in
     let before : old.state ≡ state.fold start (commands_of told) = shows.0.made ∙ ap (λ l. state.fold start (commands_of l)) shows.1 in
@@ -47,6 +47,7 @@ shows_more book start told next batch old new waiting shows waits more goes =
     subst (λ (s : state.State). state.all_grow s batch ≡ true) before (sym (ap (λ b. b.grew) is)) in
     record {
       log = ap (λ b. b.mark.book) is;
+      begun = ap (λ b. b.mark.start) is;
       made = goes_on ∙ sym all;
       grew = ap (state.all_grow start) commands ∙ grow_join start (commands_of told) batch first later;
     }

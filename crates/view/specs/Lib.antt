@@ -2,4 +2,3 @@ pub mod News
 pub mod Shown
 pub mod Published
 pub mod Stages
-pub mod Unpublished

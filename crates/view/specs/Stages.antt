@@ -1,8 +1,11 @@
 -- How far the publishing of a batch has come.
-use Rattle.std.specs.Prelude.{◌≡◌, List, [], ◌∷◌, ◌++◌}
-use Rattle.logbook.specs.Pages.{Book}
+use Rattle.std.specs.Prelude.{◌≡◌, ◌≤◌, ◌<◌, ◌+◌, ◌^◌, List, [], ◌∷◌, ◌++◌, length}
+use mathlib.Core.List.{IsPrefix}
+use Rattle.published.specs.Books.{Books}
 use Rattle.revision.specs.Command.{Taken}
 use Rattle.revision.specs.State.{State}
+use Rattle.recovery.specs.Found.{commands_of}
+use Rattle.world.specs.World.{takens}
 use Rattle.view.specs.News.{News}
 use Rattle.view.specs.Shown.{IsShown}
 use Rattle.view.specs.declared.shown.Shown.{Shown}
@@ -10,31 +13,37 @@ use Rattle.view.specs.declared.publisher.Stage.{Stage}
 use Rattle.view.specs.declared.publisher.Stage.TheVariants.{Idle, Held, Logged, Queued}
 
 -- a batch, as it is to be shown with the batches that are then published
-abbrev pub news_of : Book → List Taken → List (List Taken) → News
-news_of book batch next = record { batch = batch; mark = record { book = book; batches = next } }
+abbrev pub news_of : Books → State → List Taken → List (List Taken) → News
+news_of book start batch next = record { batch = batch; mark = record { book = book; start = start ∷ []; batches = next } }
 
 -- what is shown is what just these batches make of the start
-abbrev pub AreShown : Book → State → List (List Taken) → Shown → Type 0
+abbrev pub AreShown : Books → State → List (List Taken) → Shown → Type 0
 AreShown book start told shown = IsShown book start shown × (shown.mark.batches ≡ told)
+
+-- A batch has a command, and is the next part of the order behind what is published, which then has fewer than 2^64 commands.
+pub record IsNext (told batch order : List Taken) : Type 0 where
+  pub some : 1 ≤ length batch
+  pub few : length told + length batch < 2 ^ 64
+  pub next : IsPrefix (told ++ batch) order
 
 module _ {D J : Type 0} where
   -- the batch that is to be published
   abbrev pub held_in : Stage D J → List (List Taken)
   held_in Idle = []
-  held_in (Held receipt) = receipt ∷ []
+  held_in (Held receipt ordered) = receipt ∷ []
   held_in (Logged receipt next) = receipt ∷ []
   held_in (Queued receipt next) = receipt ∷ []
 
   -- what the writer has still to show
-  abbrev pub waiting : Book → Stage D J → List News
-  waiting book Idle = []
-  waiting book (Held receipt) = []
-  waiting book (Logged receipt next) = []
-  waiting book (Queued receipt next) = news_of book receipt next ∷ []
+  abbrev pub waiting : Books → State → Stage D J → List News
+  waiting book start Idle = []
+  waiting book start (Held receipt ordered) = []
+  waiting book start (Logged receipt next) = []
+  waiting book start (Queued receipt next) = news_of book start receipt next ∷ []
 
-  -- what the log has beyond what is shown is the batch
-  abbrev pub IsLogged : List (List Taken) → Stage D J → Type 0
-  IsLogged told Idle = Unit {0}
-  IsLogged told (Held receipt) = Unit {0}
-  IsLogged told (Logged receipt next) = next ≡ told ++ receipt ∷ []
-  IsLogged told (Queued receipt next) = next ≡ told ++ receipt ∷ []
+  -- what the log has beyond what is shown is the batch, and one that isn't in the log yet is the next part of the order
+  abbrev pub IsLogged : List (List Taken) → List (List Taken) → Stage D J → Type 0
+  IsLogged log told Idle = log ≡ told
+  IsLogged log told (Held receipt ordered) = (log ≡ told) × IsNext (commands_of told) receipt (takens ordered)
+  IsLogged log told (Logged receipt next) = (log ≡ next) × (next ≡ told ++ receipt ∷ [])
+  IsLogged log told (Queued receipt next) = (log ≡ next) × (next ≡ told ++ receipt ∷ [])

@@ -7,8 +7,8 @@
 //! wait, for readers that are inside. The crate stands on `published` and `revision`, and on `recovery` for the receipt of a batch.
 //!
 //! That a call succeeds is no clause: tests show that `viewer` gives one, that `read` goes on until the publisher's end, and that a
-//! viewer shows what was published. `left_right` makes two kinds of step on the view, publish and enter; the token adds a third beside
-//! it, on a word that the publisher alone writes.
+//! viewer shows what was published. `left_right` makes two kinds of step on the view, publish and enter; the run's log stands in the proofs
+//! alone.
 //!
 //! A caller, with its contract, which `view_tests` proves as it stands:
 //!
@@ -37,5 +37,5 @@ mod publisher;
 mod shown;
 mod viewer;
 
-pub use publisher::{Publisher, Unpublished};
+pub use publisher::Publisher;
 pub use viewer::Viewer;

@@ -1,14 +1,16 @@
 //! The writer of the view.
 ghost use Rattle.std.specs.Prelude.{◌≡◌, ◌∷◌, ◌++◌, [], drop, length, nat_lt, IfOk, IfErr, IfSome, IfNone, OnErr, IsOkUnless};
+ghost use mathlib.Core.List.{IsPrefix};
+ghost use Rattle.recovery.specs.Found.{commands_of};
+ghost use Rattle.world.specs.World.{takens};
 ghost use Rattle.view.specs.Published.{Published};
-ghost use Rattle.view.specs.Stages.{AreShown, news_of as to_show};
-ghost use Rattle.view.specs.Unpublished.{IsUnpublished};
+ghost use Rattle.view.specs.Stages.{AreShown, IsNext, news_of as to_show};
 
 use crate::shown::{InLog, News, Sees, Shown};
 use crate::viewer::Viewer;
 use core::mem::replace_with;
 use left_right::writer::Writer;
-use published::{Log, NotAdded, Opened, Site, Told};
+use published::{Log, Opened, Order, Ordered, Site, Told};
 use recovery::Receipt;
 use refusal::Refusal;
 use revision::{State, Taken};
@@ -17,7 +19,7 @@ use std::marker::Model;
 use std::sync::Wait;
 
 /// So many viewers there may be at once.
-const VIEWERS: usize = 128;
+const VIEWERS: usize = 64;
 
 /// How far the publishing of a batch has come. Each step but the last may find no memory, and the next call goes on there: so the batch
 /// is put into the log once.
@@ -25,21 +27,12 @@ const VIEWERS: usize = 128;
 pub enum Stage<D, J: Site> {
     /// There is none.
     Idle,
-    /// It was given.
-    Held(Receipt<D>),
+    /// It was given, with the order that has it next.
+    Held(Receipt<D>, Ordered<J>),
     /// It is in the log.
     Logged(Receipt<D>, Told<D, J>),
     /// The writer of the view has it, and doesn't show it yet.
     Queued(Receipt<D>, Told<D, J>),
-}
-
-/// Why a batch isn't published.
-#[derive(Drop)]
-pub enum Unpublished<J: Site> {
-    /// Memory was wanted. The next call goes on with the same batch.
-    NoMemory,
-    /// The batch can't be put into the run's log.
-    NotAdded(NotAdded<J>),
 }
 
 /// What publishes committed batches to viewers: it alone puts them into the run's log. Contracts see it as the batches that are
@@ -62,7 +55,7 @@ impl<D, J: Site> Model for Publisher<D, J> {
     ghost view = { λ p. record { told = p.told; unpublished = spec.held_in p.stage } };
 
     ghost invariant = { λ p. spec.AreShown J.book J.start p.told p.writer.desk.shown.value
-        × (drop p.writer.behind p.writer.log.items ≡ spec.waiting J.book p.stage) × spec.IsLogged p.told p.stage };
+        × (drop p.writer.behind p.writer.log.items ≡ spec.waiting J.book J.start p.stage) × spec.IsLogged p.log p.told p.stage };
 }
 
 impl<D, J: Site> Publisher<D, J> {
@@ -72,14 +65,15 @@ impl<D, J: Site> Publisher<D, J> {
         alloc: Global,
         opened: Opened,
         state: &State,
-    ) -> Result<(Publisher<D, J>, Told<D, J>), Refusal>
+    ) -> Result<(Publisher<D, J>, Told<D, J>, Order<J>), Refusal>
         requires book { opened ≡ J.book }
         requires start { state.now ≡ J.start }
         ensures publisher { IfOk result (λ made. made.0 ≡ record { told = []; unpublished = [] }) }
         ensures told { IfOk result (λ made. made.1 ≡ []) }
+        ensures order { IfOk result (λ made. made.2 ≡ []) }
         ensures only { IsOkUnless result Refusal.NoMemory }
     {
-        let (log, told) = opened.named::<D, J>();
+        let (log, told, order) = opened.named::<D, J>(state);
         let first = Shown {
             alloc,
             state: state.copy(alloc)?,
@@ -100,15 +94,17 @@ impl<D, J: Site> Publisher<D, J> {
                 stage: Stage::Idle,
             },
             start,
+            order,
         ))
     }
 
-    /// Takes a batch that was committed, to be published next. It takes no memory.
-    pub fn accept(&mut self, receipt: Receipt<D>)
-        requires { self.old.unpublished ≡ [] }
+    /// Takes a batch that was committed, to be published next: the next part of the order, of which it has a token. It takes no memory.
+    pub fn accept(&mut self, receipt: Receipt<D>, ordered: Ordered<J>)
+        requires none { self.old.unpublished ≡ [] }
+        requires next { IsNext (commands_of self.old.told) receipt (takens ordered) }
         ensures { self.new ≡ record self.old { unpublished = receipt ∷ [] } }
     {
-        self.stage = Stage::Held(receipt);
+        self.stage = Stage::Held(receipt, ordered);
     }
 
     /// Whether a batch was given that isn't published yet.
@@ -117,7 +113,7 @@ impl<D, J: Site> Publisher<D, J> {
     {
         match &self.stage {
             Stage::Idle => false,
-            Stage::Held(_) => true,
+            Stage::Held(_, _) => true,
             Stage::Logged(_, _) => true,
             Stage::Queued(_, _) => true,
         }
@@ -130,7 +126,27 @@ impl<D, J: Site> Publisher<D, J> {
         &self.told
     }
 
-    /// A viewer, which is told of what is published so far. `None` where 128 of them are there, or come and go while one is looked for.
+    /// The order, with what is published first, and then what was given to be published. It takes no memory.
+    pub fn ordered(&self) -> Ordered<J>
+        ensures { IsPrefix (commands_of (self.now.told ++ self.now.unpublished)) (takens result) }
+    {
+        match &self.stage {
+            Stage::Idle => self.told.ordered(),
+            Stage::Held(_, ordered) => ordered.copy(),
+            Stage::Logged(_, next) => next.ordered(),
+            Stage::Queued(_, next) => next.ordered(),
+        }
+    }
+
+    /// Each token names a prefix of what is published, or of that with the batch that was given. It takes no memory.
+    pub fn covers(&mut self, told: &Told<D, J>)
+        ensures begins { IsPrefix told.now (self.old.told ++ self.old.unpublished) }
+        ensures same { self.new ≡ self.old }
+    {
+        self.log.covers(told);
+    }
+
+    /// A viewer, which is told of what is published so far. `None` where 64 of them are there, or come and go while one is looked for.
     pub fn viewer(&self) -> Option<Viewer<D, J>>
         ensures { IfSome result (λ viewer. viewer ≡ self.now.told) }
     {
@@ -142,14 +158,13 @@ impl<D, J: Site> Publisher<D, J> {
 
     /// Publishes the batch that was given, and gives its receipt with the token that ends with it; `None` where none was given.
     ///
-    /// Refused for want of memory, and the next call goes on then, with the same batch, which comes into the log once. Refused besides
-    /// where the log was made longer by somebody else, which the answer shows, or counts 2^62 batches or commands; never where no
-    /// batch was given. Refused, nothing is published, and the batch stays given.
+    /// Refused with `NoMemory` alone. Then nothing is published, the batch stays given, and the next call continues with it; it is put into
+    /// the log once.
     pub fn publish<R: Wait>(
         &mut self,
         rt: &R,
         alloc: Global,
-    ) -> Result<Option<(Receipt<D>, Told<D, J>)>, Unpublished<J>>
+    ) -> Result<Option<(Receipt<D>, Told<D, J>)>, Refusal>
         ensures batch { IfOk result (λ published. IfSome published (λ p. self.old.unpublished ≡ p.0 ∷ [])) }
         ensures told { IfOk result (λ published. IfSome published (λ p. p.1 ≡ self.old.told ++ p.0 ∷ [])) }
         ensures shown { IfOk result (λ published. IfSome published
@@ -157,7 +172,7 @@ impl<D, J: Site> Publisher<D, J> {
         ensures none { IfOk result (λ published. IfNone published
             ((self.old.unpublished ≡ []) × (self.new ≡ self.old))) }
         ensures unchanged { OnErr result (self.new ≡ self.old) }
-        ensures refused { IfErr result (λ why. IsUnpublished self.old why) }
+        ensures only { IsOkUnless result Refusal.NoMemory }
     {
         replace_with(self, (rt, alloc), published::<D, J, R>)
     }
@@ -180,7 +195,7 @@ fn published<D, J: Site, R: Wait>(
     with: (&R, Global),
 ) -> (
     Publisher<D, J>,
-    Result<Option<(Receipt<D>, Told<D, J>)>, Unpublished<J>>,
+    Result<Option<(Receipt<D>, Told<D, J>)>, Refusal>,
 )
     ensures batch { IfOk result.1 (λ published. IfSome published (λ p. publisher.unpublished ≡ p.0 ∷ [])) }
     ensures told { IfOk result.1 (λ published. IfSome published (λ p. p.1 ≡ publisher.told ++ p.0 ∷ [])) }
@@ -189,12 +204,12 @@ fn published<D, J: Site, R: Wait>(
     ensures none { IfOk result.1 (λ published. IfNone published
         ((publisher.unpublished ≡ []) × (result.0 ≡ publisher))) }
     ensures unchanged { OnErr result.1 (result.0 ≡ publisher) }
-    ensures refused { IfErr result.1 (λ why. IsUnpublished publisher why) }
+    ensures only { IsOkUnless result.1 Refusal.NoMemory }
 {
     let (rt, alloc) = with;
     let Publisher {
         writer,
-        log,
+        mut log,
         told,
         stage,
     } = publisher;
@@ -208,18 +223,10 @@ fn published<D, J: Site, R: Wait>(
             };
             (idle, Ok(None))
         }
-        Stage::Held(receipt) => match told.add(&log, &receipt) {
-            Ok(next) => queued(rt, alloc, writer, log, told, receipt, next),
-            Err(why) => {
-                let held = Publisher {
-                    writer,
-                    log,
-                    told,
-                    stage: Stage::Held(receipt),
-                };
-                (held, Err(Unpublished::NotAdded(why)))
-            }
-        },
+        Stage::Held(receipt, ordered) => {
+            let next = told.add(&mut log, &receipt, &ordered);
+            queued(rt, alloc, writer, log, told, receipt, next)
+        }
         Stage::Logged(receipt, next) => queued(rt, alloc, writer, log, told, receipt, next),
         Stage::Queued(receipt, next) => shown(rt, writer, log, told, receipt, next),
     }
@@ -236,16 +243,17 @@ fn queued<D, J: Site, R: Wait>(
     next: Told<D, J>,
 ) -> (
     Publisher<D, J>,
-    Result<Option<(Receipt<D>, Told<D, J>)>, Unpublished<J>>,
+    Result<Option<(Receipt<D>, Told<D, J>)>, Refusal>,
 )
     requires shown { AreShown J.book J.start told writer.desk.shown.value }
     requires waiting { drop writer.behind writer.log.items ≡ [] }
     requires next { next ≡ told ++ receipt ∷ [] }
+    requires log { log ≡ next }
     ensures done { IfOk result.1 (λ published. IfSome published (λ p. (p.0 ≡ receipt) × (p.1 ≡ next)
         × (result.0 ≡ record { told = next; unpublished = [] }))) }
     ensures some { IfOk result.1 (λ published. IfNone published ⊥) }
     ensures unchanged { OnErr result.1 (result.0 ≡ record { told = told; unpublished = receipt ∷ [] }) }
-    ensures only { IfErr result.1 (λ why. why ≡ Unpublished.NoMemory) }
+    ensures only { IsOkUnless result.1 Refusal.NoMemory }
 {
     let appended = match news_of(alloc, &receipt, &next) {
         Ok(news) => writer.append(news).is_ok(),
@@ -258,7 +266,7 @@ fn queued<D, J: Site, R: Wait>(
             told,
             stage: Stage::Logged(receipt, next),
         };
-        return (logged, Err(Unpublished::NoMemory));
+        return (logged, Err(Refusal::NoMemory));
     }
     shown(rt, writer, log, told, receipt, next)
 }
@@ -273,16 +281,17 @@ fn shown<D, J: Site, R: Wait>(
     next: Told<D, J>,
 ) -> (
     Publisher<D, J>,
-    Result<Option<(Receipt<D>, Told<D, J>)>, Unpublished<J>>,
+    Result<Option<(Receipt<D>, Told<D, J>)>, Refusal>,
 )
     requires shown { AreShown J.book J.start told writer.desk.shown.value }
-    requires waiting { drop writer.behind writer.log.items ≡ to_show J.book receipt next ∷ [] }
+    requires waiting { drop writer.behind writer.log.items ≡ to_show J.book J.start receipt next ∷ [] }
     requires next { next ≡ told ++ receipt ∷ [] }
+    requires log { log ≡ next }
     ensures done { IfOk result.1 (λ published. IfSome published (λ p. (p.0 ≡ receipt) × (p.1 ≡ next)
         × (result.0 ≡ record { told = next; unpublished = [] }))) }
     ensures some { IfOk result.1 (λ published. IfNone published ⊥) }
     ensures unchanged { OnErr result.1 (result.0 ≡ record { told = told; unpublished = receipt ∷ [] }) }
-    ensures only { IfErr result.1 (λ why. why ≡ Unpublished.NoMemory) }
+    ensures only { IsOkUnless result.1 Refusal.NoMemory }
 {
     let (writer, published) = writer.publish_as::<Sees<J>, R>(rt);
     match published {
@@ -303,7 +312,7 @@ fn shown<D, J: Site, R: Wait>(
                 told,
                 stage: Stage::Queued(receipt, next),
             };
-            (queued, Err(Unpublished::NoMemory))
+            (queued, Err(Refusal::NoMemory))
         }
     }
 }
@@ -314,7 +323,7 @@ fn news_of<D, J: Site>(
     receipt: &Receipt<D>,
     next: &Told<D, J>,
 ) -> Result<News, Refusal>
-    ensures news { IfOk result (λ news. news ≡ to_show J.book receipt.now next.now) }
+    ensures news { IfOk result (λ news. news ≡ to_show J.book J.start receipt.now next.now) }
     ensures only { IsOkUnless result Refusal.NoMemory }
 {
     Ok(News {

@@ -1,22 +1,27 @@
 //! The callers that the crates' first pages show.
-ghost use Rattle.std.specs.Prelude.{◌≡◌, [], ◌∷◌, IfOk};
+ghost use Rattle.std.specs.Prelude.{◌≡◌, ◌≤◌, ◌<◌, ◌^◌, [], ◌∷◌, length};
 ghost use mathlib.Core.List.{IsPrefix};
+ghost use Rattle.world.specs.World.{takens};
 
-use published::{NotAdded, Opened, Site, Told};
+use published::{Log, Ordered, Site, Told};
 use recovery::Receipt;
 use refusal::Refusal;
 use view::Viewer;
 
-/// Publishes the first batch of a run.
+/// Publishes the first batch of a run, by the token of its start.
 pub fn publish_first<D, J: Site>(
-    opened: Opened,
+    log: &mut Log<D, J>,
+    start: &Told<D, J>,
     receipt: &Receipt<D>,
-) -> Result<Told<D, J>, NotAdded<J>>
-    requires { opened ≡ J.book }
-    ensures { IfOk result (λ told. told ≡ receipt.now ∷ []) }
+    ordered: &Ordered<J>,
+) -> Told<D, J>
+    requires begins { (log.old ≡ []) × (start.now ≡ []) }
+    requires some { 1 ≤ length receipt.now }
+    requires few { length receipt.now < 2 ^ 64 }
+    requires next { IsPrefix receipt.now (takens ordered.now) }
+    ensures { result ≡ receipt.now ∷ [] }
 {
-    let (log, told) = opened.named::<D, J>();
-    told.add(&log, receipt)
+    start.add(log, receipt, ordered)
 }
 
 /// How many documents there are, as far as a token goes at least.

@@ -7,6 +7,8 @@ pub mod callers;
 mod shows;
 #[cfg(test)]
 mod threads;
+#[cfg(test)]
+mod writing;
 
 /// Slots of 4,096 bytes, and small cells.
 #[cfg(test)]
@@ -18,3 +20,7 @@ const SHAPE: recovery::Shape = recovery::Shape {
     sources: 4,
     keep: 64,
 };
+
+/// Bytes of a batch at most.
+#[cfg(test)]
+const CAP: u32 = 4_081;

@@ -1,17 +1,20 @@
 //! A viewer shows what was published, and nothing else; what it was told of, it shows.
 ghost use Rattle.std.specs.Prelude.{◌≡◌, []};
+ghost use Rattle.recovery.specs.Open.{state_of};
 
 use crate::SHAPE;
+use crate::writing::{Writing, begun};
 use disk::MemDisk;
-use fixtures::{new_store, newest, write};
-use published::{Log, NotAdded, Opened, Site, Told};
-use recovery::{Receipt, Store};
+use fixtures::{new_store, newest};
+use published::{Opened, Site, Told};
+use recovery::Store;
 use refusal::Refusal;
-use revision::{Name, State};
+use revision::Name;
 use std::alloc::Global;
 use std::marker::Brand;
 use std::process::Abort;
 use std::sync::Wait;
+use std::sync::ledger::Blank;
 use view::{Publisher, Viewer};
 
 fn shows<J: Site, R: Abort>(rt: &R, viewer: &mut Viewer<MemDisk, J>, revision: u64) {
@@ -96,14 +99,14 @@ fn reads<J: Site>(
 // The first batch is shown once it is published.
 fn first_batch<J: Site, R: Abort + AllocGlobal + Wait>(
     rt: &R,
-    store: &mut Store<MemDisk>,
+    writing: &mut Writing<J>,
     publisher: &mut Publisher<MemDisk, J>,
     viewer: &mut Viewer<MemDisk, J>,
 ) -> Told<MemDisk, J>
     requires { publisher.old.unpublished ≡ [] }
     ensures { publisher.new.unpublished ≡ [] }
 {
-    publisher.accept(write(rt.alloc(), store, 1, 3).expect(rt, "room"));
+    writing.give(rt, publisher, 1, 3);
     assert!(rt; publisher.holds());
     shows(rt, viewer, 0);
     let first = published(rt, publisher, 1);
@@ -114,13 +117,13 @@ fn first_batch<J: Site, R: Abort + AllocGlobal + Wait>(
 // The second batch is given, and then a viewer comes.
 fn late_viewer<J: Site, R: Abort + AllocGlobal>(
     rt: &R,
-    store: &mut Store<MemDisk>,
+    writing: &mut Writing<J>,
     publisher: &mut Publisher<MemDisk, J>,
     viewer: &mut Viewer<MemDisk, J>,
 ) -> Viewer<MemDisk, J>
     requires { publisher.old.unpublished ≡ [] }
 {
-    publisher.accept(write(rt.alloc(), store, 2, 2).expect(rt, "room"));
+    writing.give(rt, publisher, 2, 2);
     shows(rt, viewer, 1);
     publisher.viewer().expect(rt, "a place")
 }
@@ -142,23 +145,6 @@ fn catches_up<J: Site, R: Abort + AllocGlobal>(
     assert_eq!(rt; late.told().len(), 2);
 }
 
-// A publisher of nothing yet, and a viewer.
-fn begun<J: Site, R: Abort + AllocGlobal>(
-    rt: &R,
-    opened: Opened,
-    state: State,
-) -> (Publisher<MemDisk, J>, Viewer<MemDisk, J>)
-    requires book { opened ≡ J.book }
-    requires start { state ≡ J.start }
-    ensures { result.0.unpublished ≡ [] }
-{
-    let made = Publisher::<MemDisk, J>::new(rt.alloc(), opened, &state);
-    let (publisher, start) = made.expect(rt, "memory");
-    assert_eq!(rt; start.len(), 0);
-    let viewer = publisher.viewer().expect(rt, "a place");
-    (publisher, viewer)
-}
-
 // Where nothing was given, nothing is published.
 fn nothing_is_published<J: Site, R: Abort + AllocGlobal + Wait>(
     rt: &R,
@@ -172,76 +158,8 @@ fn nothing_is_published<J: Site, R: Abort + AllocGlobal + Wait>(
     }
 }
 
-// The second batch is published, and the late viewer is told of both.
-fn second_batch<J: Site, R: Abort + AllocGlobal + Wait>(
-    rt: &R,
-    publisher: &mut Publisher<MemDisk, J>,
-    late: &mut Viewer<MemDisk, J>,
-    first: &Told<MemDisk, J>,
-) {
-    let second = published(rt, publisher, 2);
-    assert!(rt; !publisher.holds());
-    catches_up(rt, late, first, &second);
-}
-
-// Both are shown.
-fn both_batches<J: Site, R: Abort + AllocGlobal + Wait>(
-    rt: &R,
-    publisher: &mut Publisher<MemDisk, J>,
-    viewer: &mut Viewer<MemDisk, J>,
-)
-    requires { publisher.old.unpublished ≡ [] }
-{
-    let mut store = new_store(rt.alloc(), SHAPE).expect(rt, "a store");
-    let first = first_batch(rt, &mut store, publisher, viewer);
-    let mut late = late_viewer(rt, &mut store, publisher, viewer);
-    second_batch(rt, publisher, &mut late, &first);
-}
-
-// Two batches, with a viewer from the start, one that comes later, and one that is told.
-fn two_batches<J: Site, R: Abort + AllocGlobal + Wait>(rt: &R, opened: Opened, state: State)
-    requires book { opened ≡ J.book }
-    requires start { state ≡ J.start }
-{
-    let (mut publisher, mut viewer) = begun::<J, R>(rt, opened, state);
-    shows(rt, &mut viewer, 0);
-    nothing_is_published(rt, &mut publisher);
-    both_batches(rt, &mut publisher, &mut viewer);
-    publisher.end(rt);
-    is_over(rt, &mut viewer);
-}
-
-#[test]
-fn a_viewer_shows_what_is_published(rt: HostRuntime) {
-    let state = State::new(rt.alloc(), SHAPE.limits());
-    two_batches::<Brand, _>(&rt, Opened::new(), state);
-}
-
-// puts a batch behind those of the newest token
-fn added<J: Site, R: Abort>(
-    rt: &R,
-    told: &Told<MemDisk, J>,
-    log: &Log<MemDisk, J>,
-    receipt: &Receipt<MemDisk>,
-) -> Told<MemDisk, J> {
-    match told.add(log, receipt) {
-        Ok(more) => more,
-        Err(_) => panic!(rt; "it isn't the newest"),
-    }
-}
-
-// a batch isn't put behind an older token
-fn is_behind<J: Site, R: Abort>(
-    rt: &R,
-    told: &Told<MemDisk, J>,
-    log: &Log<MemDisk, J>,
-    receipt: &Receipt<MemDisk>,
-) {
-    assert!(rt; matches!(told.add(log, receipt), Err(NotAdded::Behind(_))));
-}
-
 // Of two tokens the longer is kept.
-fn are_beginnings<J: Site, R: Abort>(
+fn are_prefixes<J: Site, R: Abort>(
     rt: &R,
     start: &Told<MemDisk, J>,
     one: &Told<MemDisk, J>,
@@ -251,31 +169,61 @@ fn are_beginnings<J: Site, R: Abort>(
     assert!(rt; two.longer(one).len() == 2 && one.longer(two).len() == 2);
 }
 
-// Only the end of the log is added to.
-fn added_at_the_end<J: Site, R: Abort>(
+// The second batch is published, and the late viewer is told of both.
+fn second_batch<J: Site, R: Abort + AllocGlobal + Wait>(
     rt: &R,
-    log: &Log<MemDisk, J>,
+    publisher: &mut Publisher<MemDisk, J>,
+    late: &mut Viewer<MemDisk, J>,
     start: &Told<MemDisk, J>,
-    one: &Told<MemDisk, J>,
-    next: &Receipt<MemDisk>,
+    first: &Told<MemDisk, J>,
 ) {
-    is_behind(rt, start, log, next);
-    let two = added(rt, one, log, next);
-    are_beginnings(rt, start, one, &two);
+    let second = published(rt, publisher, 2);
+    assert!(rt; !publisher.holds());
+    catches_up(rt, late, first, &second);
+    are_prefixes(rt, start, first, &second);
 }
 
-fn tokens<J: Site, R: Abort + AllocGlobal>(rt: &R, opened: Opened)
-    requires { opened ≡ J.book }
+// Both are shown.
+fn both_batches<J: Site, R: Abort + AllocGlobal + Wait>(
+    rt: &R,
+    publisher: &mut Publisher<MemDisk, J>,
+    viewer: &mut Viewer<MemDisk, J>,
+    writing: &mut Writing<J>,
+    start: &Told<MemDisk, J>,
+)
+    requires { publisher.old.unpublished ≡ [] }
 {
-    let (log, start) = opened.named::<MemDisk, J>();
-    let mut store = new_store(rt.alloc(), SHAPE).expect(rt, "a store");
-    let first = write(rt.alloc(), &mut store, 1, 3).expect(rt, "room");
-    let one = added(rt, &start, &log, &first);
-    let next = write(rt.alloc(), &mut store, 2, 2).expect(rt, "room");
-    added_at_the_end(rt, &log, &start, &one, &next);
+    let first = first_batch(rt, writing, publisher, viewer);
+    let mut late = late_viewer(rt, writing, publisher, viewer);
+    second_batch(rt, publisher, &mut late, start, &first);
+}
+
+// Two batches, with a viewer from the start, one that comes later, and one that is told.
+fn two_batches<J: Site, R: Abort + AllocGlobal + Wait>(
+    rt: &R,
+    store: Store<MemDisk>,
+    opened: Opened,
+    blank: Blank,
+)
+    requires book { opened ≡ J.book }
+    requires name { blank.name ≡ J.name }
+    requires parts { blank.parts ≡ J.parts }
+    requires seats { blank.parts ≡ 2 }
+    requires start { state_of store ≡ J.start }
+{
+    let (mut publisher, mut writing, start) = begun::<J, R>(rt, store, opened, blank);
+    assert_eq!(rt; start.len(), 0);
+    let mut viewer = publisher.viewer().expect(rt, "a place");
+    shows(rt, &mut viewer, 0);
+    nothing_is_published(rt, &mut publisher);
+    both_batches(rt, &mut publisher, &mut viewer, &mut writing, &start);
+    publisher.end(rt);
+    is_over(rt, &mut viewer);
 }
 
 #[test]
-fn tokens_are_beginnings_of_one_log(rt: HostRuntime) {
-    tokens::<Brand, _>(&rt, Opened::new());
+fn a_viewer_shows_what_is_published(rt: HostRuntime) {
+    let store = new_store(rt.alloc(), SHAPE).expect(&rt, "a store");
+    let opened = Opened::new().expect(&rt, "logs");
+    two_batches::<Brand, _>(&rt, store, opened, Blank::new(2));
 }

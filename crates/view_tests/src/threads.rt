@@ -1,15 +1,17 @@
 //! Publishing beside a thread that reads.
 ghost use Rattle.std.specs.Prelude.{◌≡◌, []};
+ghost use Rattle.recovery.specs.Open.{state_of};
 
 use crate::SHAPE;
+use crate::writing::{Writing, begun};
 use disk::MemDisk;
-use fixtures::{new_store, newest, write};
+use fixtures::{new_store, newest};
 use published::{Opened, Site};
 use recovery::Store;
-use revision::State;
 use std::marker::Brand;
 use std::process::Abort;
 use std::sync::Wait;
+use std::sync::ledger::Blank;
 use std::thread::{Threads, join, yield_now};
 use view::{Publisher, Viewer};
 
@@ -19,14 +21,14 @@ const COUNT: u64 = 40;
 // publishes a batch of one command
 fn publish_one<J: Site, R: Abort + AllocGlobal + Wait>(
     rt: &R,
-    store: &mut Store<MemDisk>,
+    writing: &mut Writing<J>,
     publisher: &mut Publisher<MemDisk, J>,
     number: u64,
 )
     requires { publisher.old.unpublished ≡ [] }
     ensures { publisher.new.unpublished ≡ [] }
 {
-    publisher.accept(write(rt.alloc(), store, number, 1).expect(rt, "room"));
+    writing.give(rt, publisher, number, 1);
     match publisher.publish(rt, rt.alloc()) {
         Ok(Some((_receipt, told))) => assert_eq!(rt; told.len(), number),
         Ok(None) => panic!(rt; "nothing was given"),
@@ -37,13 +39,13 @@ fn publish_one<J: Site, R: Abort + AllocGlobal + Wait>(
 // publishes so many batches
 fn publish_all<J: Site, R: Abort + AllocGlobal + Wait>(
     rt: &R,
-    store: &mut Store<MemDisk>,
+    writing: &mut Writing<J>,
     publisher: &mut Publisher<MemDisk, J>,
 )
     requires { publisher.old.unpublished ≡ [] }
 {
     for number in 1..COUNT + 1 {
-        publish_one(rt, store, publisher, number);
+        publish_one(rt, writing, publisher, number);
     }
 }
 
@@ -64,23 +66,24 @@ fn read_on<J: Site, R: Abort>(rt: &R, viewer: &mut Viewer<MemDisk, J>) -> u64 {
 
 fn beside<J: Site + Send + Sync, R: Threads + Wait + Abort + AllocGlobal + Sync>(
     rt: &R,
+    store: Store<MemDisk>,
     opened: Opened,
-    state: State,
+    blank: Blank,
 )
     requires book { opened ≡ J.book }
-    requires start { state ≡ J.start }
+    requires name { blank.name ≡ J.name }
+    requires parts { blank.parts ≡ J.parts }
+    requires seats { blank.parts ≡ 2 }
+    requires start { state_of store ≡ J.start }
 {
-    let mut store = new_store(rt.alloc(), SHAPE).expect(rt, "a store");
-    let (mut publisher, _start) = Publisher::<MemDisk, J>::new(rt.alloc(), opened, &state).expect(
-        rt, "memory",
-    );
+    let (mut publisher, mut writing, _start) = begun::<J, R>(rt, store, opened, blank);
     let mut viewer = publisher.viewer().expect(rt, "a place");
     let mut other = publisher.viewer().expect(rt, "a place");
     // the reader goes to another thread, and not what publishes
     let (last, _) = join(
         rt,
         || read_on(rt, &mut viewer),
-        || publish_all(rt, &mut store, &mut publisher),
+        || publish_all(rt, &mut writing, &mut publisher),
     );
     assert_eq!(rt; last, COUNT);
     other.learn(publisher.told());
@@ -90,6 +93,7 @@ fn beside<J: Site + Send + Sync, R: Threads + Wait + Abort + AllocGlobal + Sync>
 
 #[test]
 fn a_reader_goes_on_beside_the_publisher(rt: HostRuntime) {
-    let state = State::new(rt.alloc(), SHAPE.limits());
-    beside::<Brand, _>(&rt, Opened::new(), state);
+    let store = new_store(rt.alloc(), SHAPE).expect(&rt, "a store");
+    let opened = Opened::new().expect(&rt, "logs");
+    beside::<Brand, _>(&rt, store, opened, Blank::new(2));
 }

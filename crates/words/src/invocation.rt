@@ -2,9 +2,12 @@
 use crate::deltas::task_in;
 use crate::store::{self, ShapeOptions};
 use algebra::Task;
+use clap::error::ErrorKind;
 use clap::{Command, Error};
 use std::alloc::{AllocError, Global};
 use std::convert::AsStr;
+use std::env::{self, Env};
+use std::io;
 
 /// The version of the program, which `richd --version` prints behind its name.
 const VERSION: &str = "0.1.0";
@@ -69,6 +72,21 @@ impl<'a> Invocation<'a> {
             },
         })
     }
+}
+
+/// The words that the system gives the program, of which the first is its path. An `Err` has the text for a user whose words can't be
+/// had, since one of them isn't UTF-8, or is out of memory.
+pub fn given<R: Env + AllocGlobal>(rt: &R) -> Result<Vec<String>, Error> {
+    match env::args(rt) {
+        Ok(words) => Ok(words.collect(rt.alloc())?),
+        Err(error) if error.kind() == io::ErrorKind::OutOfMemory => Err(Error::from(AllocError)),
+        Err(_) => Err(not_texts(rt.alloc())?),
+    }
+}
+
+fn not_texts(alloc: Global) -> Result<Error, AllocError> {
+    let mut richd = richd(alloc)?;
+    richd.error(ErrorKind::InvalidValue, "an argument isn't UTF-8")
 }
 
 fn richd<'a>(alloc: Global) -> Result<Command<'a>, AllocError> {

@@ -1,8 +1,9 @@
 //! The command line of richd: what the words that the program is called with ask for.
 //!
 //! `Invocation::parse` reads them, and answers what they ask for or the text for a user whose words can't be used, who
-//! asked for help, or who asked for the version. Which words mean what is tested, and not proved. It stands on `clap`,
-//! and on `algebra` for the tasks on deltas.
+//! asked for help, or who asked for the version. `given` takes the words from the system, or answers the text for a user one
+//! of whose words isn't UTF-8. Which words mean what is tested, and not proved. It stands on `clap`, and on `algebra` for the
+//! tasks on deltas.
 //!
 //! A caller, which is proved to be safe as it stands. It has no other contract:
 //!
@@ -26,5 +27,5 @@ mod deltas;
 mod invocation;
 mod store;
 
-pub use invocation::Invocation;
+pub use invocation::{Invocation, given};
 pub use store::{DEFAULT_EVERY, ShapeOptions};

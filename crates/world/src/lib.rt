@@ -61,5 +61,6 @@ mod ticket;
 pub use board::Board;
 pub use entry::Entry;
 pub use follower::{Follower, Happening, Place, Waiting};
+pub use laws::every_schedule;
 pub use stepping::{Event, Outcome, World};
 pub use ticket::{Ack, Ticket};

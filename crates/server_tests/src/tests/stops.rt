@@ -3,11 +3,12 @@ use super::going_on::{edits, letter};
 use disk::{Call, Disk, FaultDisk, FaultPlan, Left, MemDisk};
 use recovery::{OpenFault, Pick, Shape, Store, format_device};
 use refusal::Refusal;
-use serving::desk::StoreDesk;
-use serving::dump::dump;
-use serving::serve::serve;
+use server::dump;
+use server_threads::serve_streams;
 use session::Stream;
 use std::process::Abort;
+use std::sync::Wait;
+use std::thread::Threads;
 
 /// The device has 1,600 bytes, and the first record's gate is byte 1,097.
 const SMALL: Shape = Shape {
@@ -52,21 +53,20 @@ fn opened<D: Disk + Drop>(rt: &impl AllocGlobal, disk: D) -> Result<Store<D>, Re
 }
 
 /// Serves these lines over a store, with milestones two revisions apart, and gives the device then and what was written.
-fn ended(
-    rt: &(impl Abort + AllocGlobal),
+fn ended<R: Threads + Wait + Abort + AllocGlobal + Sync>(
+    rt: &R,
     store: Store<FaultDisk>,
     lines: &str,
 ) -> (FaultDisk, String) {
-    let mut desk = StoreDesk::new(store, 2);
-    let mut output = Stream::new(Vec::new(rt.alloc()));
-    let _ = serve(rt.alloc(), &mut desk, &mut lines.as_bytes(), &mut output);
-    let written = String::from_utf8(output.into_writer()).expect(rt, "a text");
-    (desk.into_store().close(), written)
+    let output = Stream::new(Vec::new(rt.alloc()));
+    let streamed = serve_streams(rt, rt.alloc(), store, lines.as_bytes(), output, 2);
+    let written = String::from_utf8(streamed.output.into_writer()).expect(rt, "a text");
+    (streamed.store.close(), written)
 }
 
 /// Serves hello and the creation of `d`. This is what is written.
-fn served(
-    rt: &(impl Abort + AllocGlobal),
+fn served<R: Threads + Wait + Abort + AllocGlobal + Sync>(
+    rt: &R,
     disk: MemDisk,
     plan: FaultPlan,
     wanted: &str,
@@ -90,7 +90,7 @@ fn is_gate(call: &Call) -> bool {
 }
 
 /// The number of the call that opens the first record's gate, where nothing goes wrong.
-fn gate_call(rt: &(impl Abort + AllocGlobal)) -> u64 {
+fn gate_call<R: Threads + Wait + Abort + AllocGlobal + Sync>(rt: &R) -> u64 {
     let taken = STOPS[0].2;
     let disk = served(rt, formatted(rt), never(), taken);
     let gate = disk.disk().calls().iter().position(is_gate);
@@ -105,8 +105,8 @@ fn dumped<D: Disk>(rt: &(impl Abort + AllocGlobal), store: &Store<D>) -> String 
 }
 
 /// A stop while the gate opens leaves this of it; then these are the documents, and this is the reply to the same create.
-fn is_lost_or_kept(
-    rt: &(impl Abort + AllocGlobal),
+fn is_lost_or_kept<R: Threads + Wait + Abort + AllocGlobal + Sync>(
+    rt: &R,
     plan: FaultPlan,
     documents: &str,
     replies: &str,
@@ -185,7 +185,7 @@ fn holds_taken(rt: &(impl Abort + AllocGlobal), disk: MemDisk, taken: u64) {
 }
 
 /// The device stops at a call. What was taken before is there after a crash.
-fn outlives(rt: &(impl Abort + AllocGlobal), lines: &str, plan: FaultPlan) {
+fn outlives<R: Threads + Wait + Abort + AllocGlobal + Sync>(rt: &R, lines: &str, plan: FaultPlan) {
     if let Ok(store) = opened(rt, FaultDisk::new(formatted(rt), plan)) {
         let (stopped, written) = ended(rt, store, lines);
         holds_taken(rt, after_crash(rt, &stopped), taken_in(written.as_str()));
@@ -193,7 +193,7 @@ fn outlives(rt: &(impl Abort + AllocGlobal), lines: &str, plan: FaultPlan) {
 }
 
 /// How many calls are made where nothing goes wrong, and each line is answered as taken.
-fn calls_of(rt: &(impl Abort + AllocGlobal), lines: &str) -> u64 {
+fn calls_of<R: Threads + Wait + Abort + AllocGlobal + Sync>(rt: &R, lines: &str) -> u64 {
     let store = opened(rt, FaultDisk::new(formatted(rt), never())).expect(rt, "a store");
     let (whole, written) = ended(rt, store, lines);
     assert_eq!(rt; taken_in(written.as_str()), LAST);

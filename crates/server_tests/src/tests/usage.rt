@@ -1,5 +1,9 @@
 use super::{call_without_input, runs};
+use clap::error::ErrorKind;
+use std::alloc::Global;
+use std::env::{Env, FillError};
 use std::io;
+use words::given;
 
 /// Words that can't be used, and what the errors name.
 const FAULTS: [(&str, &str); 13] = [
@@ -62,4 +66,53 @@ fn the_version_is_printed(rt: HostRuntime) {
         &mut io::empty(),
         (0, "richd 0.1.0\n", ""),
     );
+}
+
+/// A system that gives two words, of which the second one isn't UTF-8.
+#[derive(Drop)]
+struct Latin(Global);
+
+impl Env for Latin {
+    fn arg(&self, i: usize, buf: &mut [u8]) -> Result<usize, FillError> {
+        let byte = match i {
+            0 => b'r',
+            1 => 0xe9,
+            _ => return Err(FillError::NotPresent),
+        };
+        match buf.first_mut() {
+            Some(place) => {
+                *place = byte;
+                Ok(1)
+            }
+            None => Err(FillError::TooLong),
+        }
+    }
+
+    fn var(&self, _name: &str, _buf: &mut [u8]) -> Result<usize, FillError> {
+        Err(FillError::NotPresent)
+    }
+
+    fn var_at(&self, _i: usize, _buf: &mut [u8]) -> Result<usize, FillError> {
+        Err(FillError::NotPresent)
+    }
+}
+
+impl Alloc for Latin {
+    type A = Global;
+
+    fn alloc(&self) -> Global {
+        self.0
+    }
+}
+
+#[test]
+fn words_that_are_no_texts_are_a_usage_fault(rt: HostRuntime) {
+    match given(&Latin(rt.alloc())) {
+        Ok(_) => panic!(&rt; "they are no texts"),
+        Err(fault) => {
+            assert_eq!(&rt; fault.kind(), ErrorKind::InvalidValue);
+            let shown = format!(in rt.alloc(); "{fault}").expect(&rt, "memory");
+            assert!(&rt; shown.as_str().contains("--help"), "{shown}");
+        }
+    }
 }

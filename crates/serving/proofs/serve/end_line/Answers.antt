@@ -1,7 +1,6 @@
 use Rattle.std.proofs.Common.{inr, refl, [], ◌∷◌}
 use Rattle.session.proofs.CallerLemmas.{fits_later}
-use Rattle.serving.proofs.Fronts.{on_err}
-use Rattle.serving.proofs.Streams.{line-ended, stops-replying, stops-telling, stops-served}
+use Rattle.serving.proofs.Streams.{on_err, line-ended, stops-replying, stops-telling, stops-served}
 use Rattle.serving.proofs.serve.end_line.Goals as goal
 
 pub returns-clause-served : goal.returns-clause-served

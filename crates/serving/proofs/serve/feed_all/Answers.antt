@@ -2,8 +2,7 @@ use Rattle.std.proofs.Common.{◌≡◌, ◌++◌, ◌<◌, List, ℕ, [], ◌�
 use Rattle.std.proofs.lemmas.Bool.{eqb-true}
 use Rattle.std.proofs.lemmas.List.{nil_from_length}
 use Rattle.serving.specs.Serving.{ServesBytes}
-use Rattle.serving.proofs.Fronts.{on_err}
-use Rattle.serving.proofs.Streams.{bytes-nothing, bytes-joined, stops-within, some-left, piece-on, piece-ended}
+use Rattle.serving.proofs.Streams.{on_err, bytes-nothing, bytes-joined, stops-within, some-left, piece-on, piece-ended}
 use Rattle.serving.proofs.serve.feed_all.Goals as goal
 
 pub loop-rest-init : goal.loop-rest-init

@@ -1,6 +1,5 @@
 use Rattle.std.proofs.Common.{inr, take}
-use Rattle.serving.proofs.Fronts.{on_err}
-use Rattle.serving.proofs.Streams.{serves-kept, stops-served-pieces, bytes-kept}
+use Rattle.serving.proofs.Streams.{on_err, serves-kept, stops-served-pieces, bytes-kept}
 use Rattle.serving.proofs.serve.serve_piece.Goals as goal
 
 -- nothing was read

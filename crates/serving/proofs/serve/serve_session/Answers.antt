@@ -1,6 +1,5 @@
 use Rattle.std.proofs.Common.{inl, inr, ⊎_elim}
-use Rattle.serving.proofs.Fronts.{on_err}
-use Rattle.serving.proofs.Streams.{serves-nothing, serves-joined, stops-behind-pieces, stops-served-pieces}
+use Rattle.serving.proofs.Streams.{on_err, serves-nothing, serves-joined, stops-behind-pieces, stops-served-pieces}
 use Rattle.serving.proofs.serve.serve_session.Goals as goal
 
 pub pieces-init : goal.pieces-init

@@ -20,22 +20,22 @@ returns-in-Some-into_failed-clause-fails g c works =
     let old = has_failed (store_of c.loop.flusher) in
     let new = has_failed (store_of c.flush_turn.new.flusher) in
     let e = c.in-Some-into_failed.ensures.some in
-    fails_same c.in-Some-into_failed.failed c.in-Err.stop old new e.0 c.in-Err.ensures.fails (c.loop.invariant.works works)
+    fails_same c.in-Some-into_failed.failed c.in-Err-flush_turn.stop old new e.0 c.in-Err-flush_turn.ensures.fails (c.loop.invariant.works works)
 
 pub returns-in-Some-into_failed-clause-causes : goal.returns-in-Some-into_failed-clause-causes
 returns-in-Some-into_failed-clause-causes g c no_fault =
     let e = c.in-Some-into_failed.ensures.some in
-    let failed = subst (λ r. r ≢ NoMemory → r ≢ Fault → IsTurnFailed c.loop.flusher r c.flush_turn.new.flusher) (sym e.0) c.in-Err.ensures.causes e.1 no_fault in
+    let failed = subst (λ r. r ≢ NoMemory → r ≢ Fault → IsTurnFailed c.loop.flusher r c.flush_turn.new.flusher) (sym e.0) c.in-Err-flush_turn.ensures.causes e.1 no_fault in
     record { last = c.loop.flusher; before = c.loop.invariant.writes; failed = failed }
 
 -- memory was wanted, and the next turn goes on
-pub loop-preserved-in-Err : goal.loop-preserved-in-Err
-loop-preserved-in-Err g c =
+pub loop-preserved-in-Err-flush_turn : goal.loop-preserved-in-Err-flush_turn
+loop-preserved-in-Err-flush_turn g c =
     let i = c.loop.invariant in
-    let memory : c.in-Err.stop ≡ NoMemory = c.in_default-into_failed.ensures.none in
+    let memory : c.in-Err-flush_turn.stop ≡ NoMemory = c.in_default-into_failed.ensures.none in
     record {
-      works = λ works. works_refused c.in-Err.stop (has_failed (store_of c.loop.flusher)) (has_failed (store_of c.flush_turn.new.flusher)) c.in-Err.ensures.fails
-          (memory_not_fault c.in-Err.stop memory) (i.works works);
+      works = λ works. works_refused c.in-Err-flush_turn.stop (has_failed (store_of c.loop.flusher)) (has_failed (store_of c.flush_turn.new.flusher)) c.in-Err-flush_turn.ensures.fails
+          (memory_not_fault c.in-Err-flush_turn.stop memory) (i.works works);
       writes = writes_on g.J.Site.start c.args.flusher.now c.loop.flusher c.flush_turn.new.flusher i.writes i.works c.flush_turn.ensures.writes;
     }
 

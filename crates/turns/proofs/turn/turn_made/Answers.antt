@@ -1,7 +1,7 @@
 use Rattle.std.proofs.Common.{◌∙◌, ap}
 use Rattle.recovery.specs.Open.{has_failed}
 use Rattle.flusher.specs.Holding.{store_of}
-use Rattle.turns.proofs.Writing.{kept_up_same, writes_kept_up, writes_on, works_after, fails_ok, fails_err, fails_not, memory_not_fault, turned_after, causes_after}
+use Rattle.turns.proofs.Writing.{kept_up_same, writes_kept_up, writes_on, works_after, fails_ok, fails_err, fails_not, held_not_fault, turn_apart, turned_after, causes_after}
 use Rattle.turns.specs.declared.turned.Turned.TheVariants.{Nothing}
 use Rattle.turns.proofs.turn.turn_made.Goals as goal
 
@@ -17,7 +17,7 @@ returns-in-Err-clause-fails g c = fails_err c.in-Err.refusal (has_failed (store_
 pub returns-in-Err-clause-causes : goal.returns-in-Err-clause-causes
 returns-in-Err-clause-causes g c = λ no_memory no_fault. absurd (no_fault c.in-Err.ensures.only)
 
--- memory is wanted for a run
+-- memory is wanted for a run, or it doesn't follow what is published
 pub returns-in-Err-hold_next-clause-writes : goal.returns-in-Err-hold_next-clause-writes
 returns-in-Err-hold_next-clause-writes g c =
     let e = c.put_due.ensures in
@@ -30,10 +30,19 @@ returns-in-Err-hold_next-clause-fails g c =
     let old = has_failed (store_of c.args.flusher.now) in
     let works = works_after c.in_default.field-0 old (has_failed (store_of c.put_due.new.flusher)) c.in_default.ensures.fails in
     let refusal = c.in-Err-hold_next.refusal in
-    fails_not refusal old (has_failed (store_of c.hold_next.new.flusher)) (λ worked. ap has_failed c.hold_next.ensures.store ∙ works worked) (memory_not_fault refusal c.in-Err-hold_next.ensures.only)
+    fails_not refusal old (has_failed (store_of c.hold_next.new.flusher)) (λ worked. ap has_failed c.hold_next.ensures.store ∙ works worked) (held_not_fault refusal c.in-Err-hold_next.ensures.only)
 
 pub returns-in-Err-hold_next-clause-causes : goal.returns-in-Err-hold_next-clause-causes
-returns-in-Err-hold_next-clause-causes g c = λ no_memory no_fault. absurd (no_memory c.in-Err-hold_next.ensures.only)
+returns-in-Err-hold_next-clause-causes g c = λ no_memory no_fault.
+    let held = c.in-Err-hold_next.ensures in
+    turn_apart c.args.flusher.now c.hold_next.new.flusher c.in-Err-hold_next.refusal
+    (record {
+      told = c.hold_next.ensures.told ∙ c.put_due.ensures.told;
+      committed = held.apart.0;
+      waiting = held.apart.1;
+      kept_up = kept_up_same (store_of c.args.flusher.now) (store_of c.put_due.new.flusher) (store_of c.hold_next.new.flusher) c.put_due.ensures.kept_up c.hold_next.ensures.store;
+    })
+    held.only no_memory
 
 -- there is no run
 pub returns-in-Some-clause-writes : goal.returns-in-Some-clause-writes

@@ -3,7 +3,7 @@ use Rattle.refusal.specs.declared.Refusal.{Refusal}
 use Rattle.std.specs.Prelude.{Err}
 use Rattle.recovery.specs.Open.{has_failed}
 use Rattle.flusher.specs.Holding.{store_of}
-use Rattle.turns.proofs.Writing.{writes_refused, writes_written, one_written, turn_failed, turn_unsettled, works_after, fails_ok, fails_err, fails_not, stranger_not_fault}
+use Rattle.turns.proofs.Writing.{writes_refused, why_refused, writes_written, one_written, turn_failed, turn_unsettled, works_after, fails_ok, fails_err, fails_not, stranger_not_fault}
 use Rattle.turns.specs.declared.turned.Turned.TheVariants.{Settled}
 use Rattle.turns.proofs.turn.write_held.Goals as goal
 
@@ -11,7 +11,8 @@ use Rattle.turns.proofs.turn.write_held.Goals as goal
 pub returns-in-Err-clause-writes : goal.returns-in-Err-clause-writes
 returns-in-Err-clause-writes g c =
     let e = c.in-Err.ensures in
-    writes_refused g.J.Site.start c.args.flusher.now c.write.new.self c.kept.ensures c.write.ensures.goes e.told e.held
+    writes_refused g.J.Site.start c.args.flusher.now c.write.new.self c.kept.ensures c.write.ensures.goes e.told e.held c.kept-in-Err.ensures
+    (why_refused c.args.flusher.now c.write.new.self c.in-Err.refusal e.uncommitted e.fails e.only)
 
 pub returns-in-Err-clause-fails : goal.returns-in-Err-clause-fails
 returns-in-Err-clause-fails g c = fails_err c.in-Err.refusal (has_failed (store_of c.args.flusher.now)) (has_failed (store_of c.write.new.self)) c.in-Err.ensures.fails
@@ -21,7 +22,7 @@ returns-in-Err-clause-causes g c =
     let e = c.in-Err.ensures in
     turn_failed c.args.flusher.now c.write.new.self c.in-Err.refusal (λ is. e.full (ap (λ (r : Refusal). Err r) is)) (λ is. e.needed (ap (λ (r : Refusal). Err r) is))
     (λ told. e.never_full (⊎_elim (λ full. inl (ap (λ (r : Refusal). Err r) full)) (λ needed. inr (ap (λ (r : Refusal). Err r) needed)) told))
-    (λ is. e.stranger (ap (λ (r : Refusal). Err r) is)) (λ is. e.lost (ap (λ (r : Refusal). Err r) is)) e.uncommitted e.only
+    e.uncommitted e.only
 
 -- a batch is held, so the write doesn't answer that none was
 pub unreachable-requires : goal.unreachable-requires

@@ -1,9 +1,11 @@
+use denote.Param.{param}
 use denote.Param.Send.{sendable}
-use Rattle.std.proofs.Crossing.{crosses}
+use Rattle.disk.specs.contracts.memory.MemDisk as disk
 use Rattle.view.proofs.CallerLemmas.{viewer_send}
 use Rattle.view_tests.proofs.threads.beside.Goals as goal
 
 pub join-last-requires-send-F : goal.join-last-requires-send-F
 join-last-requires-send-F g c κs within =
-    let s = c.type_bounds.send-J in let y = c.type_bounds.sync-J in let r = c.type_bounds.sync-R in
-    search (viewer_send, sendable, crosses) depth 20 fits 20000
+    let viewer = viewer_send disk.the_row (param 0 g.row.J) g.J.Site g.J.Ledger c.type_bounds.send-J c.type_bounds.sync-J in
+    let runtime = c.type_bounds.sync-R in
+    search sendable depth 20 fits 20000

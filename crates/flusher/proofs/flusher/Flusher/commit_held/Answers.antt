@@ -1,11 +1,13 @@
-use Rattle.std.proofs.Common.{◌≡◌, ⊎_elim, inl, inr, [], ◌∷◌, ◌++◌, List, length, Some, None, refl, sym, ◌∙◌, ap, append-nil, arith}
+use Rattle.std.proofs.Common.{◌≡◌, ⊎_elim, inl, inr, [], ◌∷◌, ◌++◌, List, length, Some, None, Err, refl, sym, ◌∙◌, ap, append-nil, arith}
 use Rattle.revision.specs.Command.{Taken}
-use Rattle.revision.specs.State.{fold, all_grow, first_grows}
+use Rattle.revision.specs.State.{fold}
+use Rattle.world.specs.World.{takens}
 use Rattle.recovery.specs.Found.{commands_of}
 use Rattle.recovery.specs.Open.{has_room}
-use Rattle.refusal.specs.declared.Refusal.TheVariants.{JournalFull, StillNeeded, Stranger, NoMemory, Fault}
+use Rattle.refusal.specs.declared.Refusal.{Refusal}
+use Rattle.refusal.specs.declared.Refusal.TheVariants.{JournalFull, StillNeeded, NoMemory, Fault}
 use Rattle.view.specs.Published.{Published}
-use Rattle.flusher.proofs.Holdings.{held_in, goes_not, goes_batch, committed_none, committed_one, given_up_one, kept_more, grown_more, no_batch, same_batch, same_refusal}
+use Rattle.flusher.proofs.Holdings.{held_in, goes_not, goes_batch, committed_none, committed_one, given_up_one, kept_more, next_by, no_batch, no_stranger, same_batch, same_refusal}
 use Rattle.flusher.proofs.flusher.Flusher.commit_held.Goals as goal
 
 pub returns-in-None-clause-goes : goal.returns-in-None-clause-goes
@@ -61,10 +63,30 @@ returns-in-Err-clause-given_up g c told =
     let held : c.args.self.now.waiting ≡ Some c.in-Some.batch = cc in
     let same : c.commands.result.now ≡ c.in-Some.batch.commands = cc in
     given_up_one _ _ c.commands.result.now _ (ap held_in held ∙ ap (λ (b : List Taken). b ∷ []) (sym same))
-    (λ room. ⊎_elim (λ stranger. c.in-Err.ensures.untouched room (same_refusal c.in-Err.refusal Stranger stranger))
-    (λ memory. c.in-Err.ensures.given_up room (same_refusal c.in-Err.refusal NoMemory memory)) told)
-    (λ full is_open. ⊎_elim (λ stranger. inr (c.in-Err.ensures.stranger_behind (same_refusal c.in-Err.refusal Stranger stranger) full is_open))
-    (λ memory. c.in-Err.ensures.memory_behind (same_refusal c.in-Err.refusal NoMemory memory) full is_open) told)
+    (λ room. c.in-Err.ensures.given_up room (same_refusal c.in-Err.refusal NoMemory told))
+    (λ full is_open. c.in-Err.ensures.memory_behind (same_refusal c.in-Err.refusal NoMemory told) full is_open)
+
+pub goes_on-ordered-requires : goal.goes_on-ordered-requires
+goes_on-ordered-requires g c =
+    let held : c.args.self.now.waiting ≡ Some c.in-Some.batch = cc in
+    c.args.self.now.placed c.in-Some.batch held ∙ ap (λ (l : List (List Taken)). length (commands_of l)) (sym c.told.ensures)
+
+-- it never is a stranger's
+pub returns-in-Err-clause-only : goal.returns-in-Err-clause-only
+returns-in-Err-clause-only g c =
+    let held : c.args.self.now.waiting ≡ Some c.in-Some.batch = cc in
+    let same : c.commands.result.now ≡ c.in-Some.batch.commands = cc in
+    no_stranger g.J.Site.start c.args.self.now.begun c.args.self.now.store.state c.args.self.now.publisher.told c.told.result.now c.args.self.now.publisher.unpublished
+    c.in-Some.batch.commands c.commands.result.now c.goes_on-ordered.result c.in-Err.refusal c.is_start.ensures c.told.ensures same c.legal.ensures c.goes_on-ordered.ensures.next
+    c.args.self.now.kept (c.args.self.now.fits c.in-Some.batch held).alone
+    (λ is. c.in-Err.ensures.stranger (ap (λ (r : Refusal). Err r) is)) c.in-Err.ensures.only
+
+pub accept-requires-clause-next : goal.accept-requires-clause-next
+accept-requires-clause-next g c =
+    let held : c.args.self.now.waiting ≡ Some c.in-Some.batch = cc in
+    let same : c.commands.result.now ≡ c.in-Some.batch.commands = cc in
+    next_by c.args.self.now.publisher.told c.told.result.now c.in-Some.batch.commands c.in-Ok.receipt (takens c.goes_on-ordered.result) c.told.ensures
+    (c.in-Ok.ensures.receipt ∙ same) (c.args.self.now.fits c.in-Some.batch held).some c.goes_on-ordered.ensures.few c.goes_on-ordered.ensures.next
 
 pub returns-in-None-clause-few : goal.returns-in-None-clause-few
 returns-in-None-clause-few g c batch held works full few =
@@ -125,40 +147,15 @@ returns-in-Err-clause-never_full g c told =
     c.in-Err.ensures.never_full
     (⊎_elim (λ full. inl (same_refusal c.in-Err.refusal JournalFull full)) (λ needed. inr (same_refusal c.in-Err.refusal StillNeeded needed)) told)
 
-pub returns-in-Err-clause-stranger : goal.returns-in-Err-clause-stranger
-returns-in-Err-clause-stranger g c is =
-    let held : c.args.self.now.waiting ≡ Some c.in-Some.batch = cc in
-    let same : c.commands.result.now ≡ c.in-Some.batch.commands = cc in
-    ap (all_grow c.args.self.now.store.state) (ap commands_of (ap held_in held) ∙ append-nil _ ∙ sym same) ∙ c.in-Err.ensures.stranger (same_refusal c.in-Err.refusal Stranger is)
-
 pub invariant_of-self-in-Ok : goal.invariant_of-self-in-Ok
 invariant_of-self-in-Ok g c =
     let held : c.args.self.now.waiting ≡ Some c.in-Some.batch = cc in
     record {
       kept = kept_more _ _ _ _ _ _ c.commands.result.now c.args.self.now.kept (c.args.self.now.fits c.in-Some.batch held).alone c.accept.ensures c.in-Ok.ensures.receipt c.in-Ok.ensures.state;
-      grown = grown_more _ _ _ _ _ c.commands.result.now c.args.self.now.kept (c.args.self.now.fits c.in-Some.batch held).alone c.args.self.now.grown c.accept.ensures c.in-Ok.ensures.receipt c.in-Ok.ensures.grow;
       few = omega (arith, ap (λ (p : Published). length p.unpublished) c.accept.ensures);
       fits = λ x is. absurd (let none : ⊥ = cc in none);
+      placed = λ x is. absurd (let none : ⊥ = cc in none);
     }
-
-pub returns-in-None-clause-grow : goal.returns-in-None-clause-grow
-returns-in-None-clause-grow g c =
-    let none : c.args.self.now.waiting ≡ None = cc in
-    ap (λ (l : List (List Taken)). all_grow c.args.self.now.store.state (commands_of l)) (ap held_in none)
-
-pub returns-in-Ok-clause-grow : goal.returns-in-Ok-clause-grow
-returns-in-Ok-clause-grow g c =
-    let held : c.args.self.now.waiting ≡ Some c.in-Some.batch = cc in
-    let same : c.commands.result.now ≡ c.in-Some.batch.commands = cc in
-    ap (all_grow c.args.self.now.store.state) (ap commands_of (ap held_in held) ∙ append-nil _ ∙ sym same) ∙ c.in-Ok.ensures.grow
-
-pub returns-in-Err-clause-memory : goal.returns-in-Err-clause-memory
-returns-in-Err-clause-memory g c told batch waits room =
-    let held : c.args.self.now.waiting ≡ Some c.in-Some.batch = cc in
-    let same : c.commands.result.now ≡ c.in-Some.batch.commands = cc in
-    let one : c.commands.result.now ≡ batch = same_batch (held_in c.args.self.now.waiting) c.commands.result.now batch (ap held_in held ∙ ap (λ (b : List Taken). b ∷ []) (sym same)) waits in
-    ap (first_grows c.args.self.now.store.state) (sym one)
-    ∙ c.in-Err.ensures.memory (same_refusal c.in-Err.refusal NoMemory told) (ap (has_room c.args.self.now.store) one ∙ room)
 
 -- a store that had failed
 pub returns-in-None-clause-failed_before : goal.returns-in-None-clause-failed_before

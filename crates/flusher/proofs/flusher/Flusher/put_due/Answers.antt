@@ -7,7 +7,7 @@ invariant_of-self g c =
     let same = c.put_due.ensures.state in
     record {
       kept = same ∙ c.args.self.now.kept;
-      grown = c.args.self.now.grown;
       few = c.args.self.now.few;
       fits = λ run is. subst (λ s. MayCommit s run.commands c.args.self.now.publisher.unpublished) (sym same) (c.args.self.now.fits run is);
+      placed = c.args.self.now.placed;
     }

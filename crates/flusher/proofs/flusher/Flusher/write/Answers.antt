@@ -1,6 +1,6 @@
 use Rattle.std.proofs.Common.{◌≡◌, None}
-use Rattle.refusal.specs.declared.Refusal.TheVariants.{JournalFull, NoMemory}
-use Rattle.flusher.proofs.Holdings.{held_in, same_refusal, first_of_held, none_of_held, published_or_not, kept_moved, grown_moved, few_moved}
+use Rattle.refusal.specs.declared.Refusal.TheVariants.{JournalFull}
+use Rattle.flusher.proofs.Holdings.{same_refusal, none_of_held, published_or_not, kept_moved, few_moved}
 use Rattle.flusher.proofs.flusher.Flusher.write.Goals as goal
 
 -- what was given is published, or it stays given
@@ -12,20 +12,13 @@ invariant_of-self g c =
     let none : before.waiting ≡ None = none_of_held before.waiting c.in_default.ensures.ok.1 in
     record {
       kept = kept_moved _ _ before.publisher c.publish.new.self moved before.kept;
-      grown = grown_moved _ before.publisher c.publish.new.self moved before.grown;
       few = few_moved before.publisher c.publish.new.self moved before.few;
       fits = λ run is. absurd (let no : ⊥ = cc in no);
+      placed = λ run is. absurd (let no : ⊥ = cc in no);
     }
 
 pub returns-in-Err-clause-full_still : goal.returns-in-Err-clause-full_still
 returns-in-Err-clause-full_still g c told = c.in-Err.ensures.full_still (same_refusal c.in-Err.refusal JournalFull told)
-
-pub returns-in-Err-clause-first_grows : goal.returns-in-Err-clause-first_grows
-returns-in-Err-clause-first_grows g c told = c.in-Err.ensures.memory (same_refusal c.in-Err.refusal NoMemory told)
-
-pub returns-in-Err-NoMemory-clause-first_grows : goal.returns-in-Err-NoMemory-clause-first_grows
-returns-in-Err-NoMemory-clause-first_grows g c told batch waits room =
-    first_of_held c.args.self.now.store.state batch (held_in c.args.self.now.waiting) waits c.in_default.ensures.grow
 
 -- a commit that was Ok had no batch in a store that had failed, and none that finds no room
 pub returns-in-Ok-clause-failed_before : goal.returns-in-Ok-clause-failed_before

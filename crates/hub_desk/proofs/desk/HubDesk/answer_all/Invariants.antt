@@ -9,6 +9,6 @@ use Rattle.hub_desk.proofs.desk.HubDesk.answer_all.Given as goal
 abbrev pub invariant-loop-i : goal.invariant-loop-i
 invariant-loop-i g l = record {
   commands : commands_of l.sent.items ≡ commands_of l.fn.sent.items;
-  others : l.self ≡ record l.fn.self { told = l.self.told };
+  others : l.self ≡ record l.fn.self { told = l.self.told; stopped = l.self.stopped };
   asks : (count : ℕ) → Asks (PassesAtHub g.J.Site.start) (with_count l.fn.self count) (exchanges_of (take l.i l.sent.items)) (with_count l.self (counted_all count (take l.i l.tickets)));
 }

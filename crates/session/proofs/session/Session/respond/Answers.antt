@@ -1,6 +1,6 @@
 use Rattle.std.specs.String.{string_bytes}
 use Rattle.session.proofs.Later.{fits_later}
-use Rattle.session.proofs.Replying.{due_of, greeted, asked, was_read, followed, left, refused_any}
+use Rattle.session.proofs.Replying.{due_of, greeted, not_taken, was_read, followed, left, refused_any}
 use Rattle.session.proofs.session.Session.respond.Goals as goal
 
 pub returns-in-Ok-Greet-clause-replied : goal.returns-in-Ok-Greet-clause-replied
@@ -13,14 +13,13 @@ returns-in-Ok-Greet-clause-replied g c =
 pub returns-in-Ok-Ask-clause-replied : goal.returns-in-Ok-Ask-clause-replied
 returns-in-Ok-Ask-clause-replied g c =
     let session = c.args.self.now in
-    asked g.D.Desk.does session.line session c.in-Ok-Ask.command _ c.args.desk.now c.ask.new.desk
-    c.in-Ok-Ask.field-0 c.in-Ok-Ask.field-0-is (due_of session.line session.peer.source _ _ c.in-Ok-Ask.is c.requires.due) c.ask.ensures.told
+    not_taken g.D.Desk.does (λ t. string_bytes t) session.line session c.refusal_reply.result c.args.desk.now c.refusal_reply.ensures
 
 pub returns-in-Err-clause-replied : goal.returns-in-Err-clause-replied
 returns-in-Err-clause-replied g c =
     let session = c.args.self.now in
-    refused_any g.D.Desk.does (λ t. string_bytes t) session.line session c.in-Err.refusal c.refusal_reply.result c.args.desk.now
-    (due_of session.line session.peer.source _ _ c.in-Err.is c.requires.due) c.refusal_reply.ensures
+    refused_any g.D.Desk.does (λ t. string_bytes t) session.line session c.in-Err.refusal c.refusal_reply-in-Err.result c.args.desk.now
+    (due_of session.line session.peer.source _ _ c.in-Err.is c.requires.due) c.refusal_reply-in-Err.ensures
 
 pub returns-in-Ok-Read-clause-replied : goal.returns-in-Ok-Read-clause-replied
 returns-in-Ok-Read-clause-replied g c =
@@ -41,10 +40,6 @@ returns-in-Ok-Unsubscribe-clause-replied g c =
     let done = c.unsubscribe.ensures in
     left g.D.Desk.does (λ t. string_bytes t) session.line session c.unsubscribe.new.self c.in-Ok-Unsubscribe.name c.unsubscribe.result c.args.desk.now
     c.in-Ok-Unsubscribe.field-0 c.in-Ok-Unsubscribe.field-0-is (due_of session.line session.peer.source _ _ c.in-Ok-Unsubscribe.is c.requires.due) done.told done.left done.unchanged
-
-pub returns-in-Ok-Ask-clause-fits : goal.returns-in-Ok-Ask-clause-fits
-returns-in-Ok-Ask-clause-fits g c =
-    fits_later (g.D.Desk.reached c.args.desk.now) (g.D.Desk.reached c.ask.new.desk) c.args.shelf.now c.ask.ensures.later c.requires.fits
 
 pub returns-in-Ok-Subscribe-clause-fits : goal.returns-in-Ok-Subscribe-clause-fits
 returns-in-Ok-Subscribe-clause-fits g c =

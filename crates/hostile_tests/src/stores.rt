@@ -1,0 +1,57 @@
+//! Steps that a store alone takes.
+use crate::scripts::{Step, command};
+use disk::FaultDisk;
+use fixtures::commit;
+use milestone::compose_job;
+use recovery::Store;
+use refusal::Refusal;
+use revision::{Command, Plan, Reply};
+use std::alloc::Global;
+
+/// A command is planned, and committed where it is taken.
+pub fn write(
+    alloc: Global,
+    store: &mut Store<FaultDisk>,
+    command: &Command,
+) -> Result<Reply, Refusal> {
+    match store.state().plan(alloc, command)? {
+        Plan::Taken(taken) => {
+            let rev = taken.revision();
+            commit(alloc, store, &[taken])?;
+            Ok(Reply::Taken { rev })
+        }
+        Plan::Again { rev } => Ok(Reply::Again { rev }),
+    }
+}
+
+// A milestone is put, from its job on.
+fn put(alloc: Global, store: &mut Store<FaultDisk>, revision: u64) -> Result<(), Refusal> {
+    let job = store.milestone_job(alloc, 0, revision)?;
+    match compose_job(alloc, job) {
+        Ok(composed) => store.put_milestone(alloc, &composed),
+        Err(back) => Err(back.refusal),
+    }
+}
+
+/// A store takes a step. Where it is a command, the reply; it has this number.
+pub fn take(
+    alloc: Global,
+    store: &mut Store<FaultDisk>,
+    number: u64,
+    step: &Step,
+) -> Result<Option<Reply>, Refusal> {
+    match *step {
+        Step::Write(operations) => {
+            let command = command(alloc, number, number.saturating_sub(1), operations)?;
+            Ok(Some(write(alloc, store, &command)?))
+        }
+        Step::Put(revision) => {
+            put(alloc, store, revision)?;
+            Ok(None)
+        }
+        Step::Retire => {
+            store.retire()?;
+            Ok(None)
+        }
+    }
+}

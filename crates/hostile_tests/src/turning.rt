@@ -1,0 +1,200 @@
+//! Commands that are submitted to a hub, and written by turns of its flusher.
+ghost use Rattle.std.specs.Prelude.{◌≡◌};
+ghost use Rattle.recovery.specs.Open.{state_of};
+
+use crate::runs::{Begin, Ended, commands_in, stop_of};
+use crate::scripts::{Script, Step, command};
+use disk::FaultDisk;
+use flusher::{Flusher, OpenGate, start};
+use hub::{Hub, Seat, Ticket, Writer};
+use published::{Opened, Site};
+use recovery::Store;
+use refusal::Refusal;
+use revision::Reply;
+use std::marker::Brand;
+use std::process::Abort;
+use std::sync::Wait;
+use std::sync::ledger::Blank;
+use turns::{Upkeep, flush_turn};
+
+// A turn, whose failure is told as its refusal.
+fn turn<J: Site, R: Wait + AllocGlobal>(
+    rt: &R,
+    flusher: &mut Flusher<FaultDisk, J>,
+    hub: &Hub<FaultDisk, J>,
+    writer: &mut Writer<J>,
+    upkeep: &mut Upkeep<FaultDisk>,
+) -> Result<(), Refusal> {
+    let alloc = rt.alloc();
+    if let Err(stop) = flush_turn(rt, alloc, flusher, hub, writer, upkeep, &mut OpenGate) {
+        return match stop.into_failed() {
+            Some(failed) => Err(failed.refusal()),
+            None => Err(Refusal::NoMemory),
+        };
+    }
+    Ok(())
+}
+
+// The command of a step is submitted.
+fn ordered<J: Site, R: Wait + AllocGlobal>(
+    rt: &R,
+    hub: &Hub<FaultDisk, J>,
+    seat: &mut Seat<J>,
+    number: u64,
+    step: &Step,
+) -> Result<Ticket<J>, Refusal> {
+    let Step::Write(operations) = *step else {
+        return Err(Refusal::BadMessage);
+    };
+    let command = command(rt.alloc(), number, number.saturating_sub(1), operations)?;
+    match hub.submit(rt, rt.alloc(), seat, &command) {
+        Ok(ticket) => Ok(ticket),
+        Err(not_submitted) => Err(not_submitted.refusal()),
+    }
+}
+
+// The reply to a command that is settled.
+fn acknowledged<J: Site, R: Wait>(
+    rt: &R,
+    hub: &Hub<FaultDisk, J>,
+    ticket: &Ticket<J>,
+) -> Result<Option<Reply>, Refusal> {
+    match hub.ack(rt, ticket) {
+        Ok(Some(_)) => Ok(Some(ticket.reply())),
+        Ok(None) => Err(Refusal::BadMessage),
+        Err(stopped) => Err(stopped.refusal()),
+    }
+}
+
+// A command is submitted, written in a turn and acknowledged.
+fn send<J: Site, R: Wait + AllocGlobal>(
+    rt: &R,
+    flusher: &mut Flusher<FaultDisk, J>,
+    hub: &Hub<FaultDisk, J>,
+    writer: &mut Writer<J>,
+    seat: &mut Seat<J>,
+    upkeep: &mut Upkeep<FaultDisk>,
+    number: u64,
+    step: &Step,
+) -> Result<Option<Reply>, Refusal> {
+    let ticket = ordered(rt, hub, seat, number, step)?;
+    turn(rt, flusher, hub, writer, upkeep)?;
+    acknowledged(rt, hub, &ticket)
+}
+
+// The answer to a step. It is asked once more where memory was wanted; where the device failed, it is then answered as failed.
+fn asked<J: Site, R: Wait + AllocGlobal>(
+    rt: &R,
+    flusher: &mut Flusher<FaultDisk, J>,
+    hub: &Hub<FaultDisk, J>,
+    writer: &mut Writer<J>,
+    seat: &mut Seat<J>,
+    upkeep: &mut Upkeep<FaultDisk>,
+    number: u64,
+    step: &Step,
+    is_again: bool,
+) -> Option<&'static str> {
+    let found = send(rt, flusher, hub, writer, seat, upkeep, number, step);
+    if !matches!(found, Err(Refusal::NoMemory | Refusal::Fault)) {
+        return stop_of(found, number, is_again);
+    }
+    let second = send(rt, flusher, hub, writer, seat, upkeep, number, step);
+    match (found, second) {
+        (Err(Refusal::Fault), Err(Refusal::StoreFailed)) => Some("Fault"),
+        (Err(Refusal::Fault), _) => Some("another answer after a fault"),
+        _ => stop_of(second, number, true),
+    }
+}
+
+// The steps of a script, up to one that stops it.
+fn send_steps<J: Site, R: Wait + AllocGlobal>(
+    rt: &R,
+    flusher: &mut Flusher<FaultDisk, J>,
+    hub: &Hub<FaultDisk, J>,
+    writer: &mut Writer<J>,
+    seat: &mut Seat<J>,
+    every: u32,
+    script: &Script,
+    begin: Begin,
+) -> (usize, Option<&'static str>) {
+    let mut upkeep = Upkeep::new(every);
+    let mut number = 0_u64;
+    for (at, step) in script.steps.iter().enumerate() {
+        number = number.saturating_add(commands_in(step));
+        if at >= begin.from {
+            let is_again = begin.may_be_done(at, step);
+            let stopped = asked(
+                rt,
+                flusher,
+                hub,
+                writer,
+                seat,
+                &mut upkeep,
+                number,
+                step,
+                is_again,
+            );
+            if stopped.is_some() {
+                return (at, stopped);
+            }
+        }
+    }
+    (script.steps.len(), None)
+}
+
+// The life of a hub over a store.
+fn lived<J: Site, R: Wait + Abort + AllocGlobal>(
+    rt: &R,
+    store: Store<FaultDisk>,
+    opened: Opened,
+    blank: Blank,
+    every: u32,
+    script: &Script,
+    begin: Begin,
+) -> Ended
+    requires book { opened ≡ J.book }
+    requires name { blank.name ≡ J.name }
+    requires parts { blank.parts ≡ J.parts }
+    requires seats { blank.parts ≡ 2 }
+    requires begin { state_of store ≡ J.start }
+{
+    let (mut flusher, mut board) = match start::<_, J>(rt.alloc(), store, opened, blank, 1) {
+        Ok(both) => both,
+        Err(fault) => {
+            return Ended {
+                done: begin.from,
+                stopped: Some(fault.refusal.name()),
+                disk: fault.store.close(),
+            };
+        }
+    };
+    let mut seat = board.seat().expect(rt, "a seat");
+    let (hub, mut writer, _closer) = Hub::new(board);
+    let (done, stopped) = send_steps(
+        rt,
+        &mut flusher,
+        &hub,
+        &mut writer,
+        &mut seat,
+        every,
+        script,
+        begin,
+    );
+    Ended {
+        done,
+        stopped,
+        disk: flusher.end(rt).close(),
+    }
+}
+
+/// Runs a script by the turns of a hub.
+pub fn serve<R: Wait + Abort + AllocGlobal>(
+    rt: &R,
+    store: Store<FaultDisk>,
+    script: &Script,
+    every: u32,
+    begin: Begin,
+) -> Ended {
+    let opened = Opened::new().expect(rt, "logs");
+    lived::<Brand, R>(rt, store, opened, Blank::new(2), every, script, begin)
+}

@@ -1,0 +1,318 @@
+-- A command that the rule of acceptance takes stands from then on as its revision, and one that it answers as a retry stands already.
+use Rattle.std.proofs.Common.{◌≡◌, ◌≤◌, ℕ, zero, suc, ◌+◌, Bool, true, false, cond, ◌&&◌, List, [], ◌∷◌, ◌++◌, length, Option, Some, None, Ok, refl, sym, ap, ◌∙◌, subst, arith}
+use Rattle.std.specs.Prelude.{◌==◌, nat_lt, nat_le, bytes_eq, slice_get}
+use Rattle.std.proofs.lemmas.Bool.{and_parts, eqb-true}
+use Rattle.std.proofs.lemmas.Bool.Decides.{nat_tests}
+use Rattle.std.proofs.lemmas.List.{map-append}
+use Rattle.std.proofs.lemmas.Option.{some_pair_parts}
+use Rattle.std.proofs.lemmas.Slice.Eq.{bytes_eq-Decides}
+use mathlib.Core.List.{IsPrefix}
+use Rattle.attributes.specs.Map.{empty}
+use Rattle.delta.specs.Element.{Element}
+use Rattle.delta.specs.Operation.{Operation}
+use Rattle.refusal.specs.declared.Refusal.{Refusal}
+use Rattle.refusal.specs.declared.Refusal.TheVariants.{PastEnd, CutsPair, TooHeavy, TooWide, RevisionsSpent, TooManySources, Future, TooOld, NothingToUndo, OldNumber, Gap, TooManyDocuments}
+use Rattle.revision.specs.Command.{Action, Create, Edit, Undo, Command, Taken, width_of}
+use Rattle.revision.specs.declared.sources.LastTaken.{LastTaken}
+use Rattle.revision.specs.Late.{late}
+use Rattle.revision.specs.Parting.{parts_pair}
+use Rattle.revision.specs.Past.{Past, empty_past, newest, sources_at, with_change, undo_of, deltas_of, deltas_above}
+use Rattle.revision.specs.Sources.{Sources, last_of}
+use Rattle.revision.specs.State.{Limits, DocumentRecord, State, revision_of, units_of, sources_of, find, last_of_all, has_place, reaches_past, weight_after, change_of, record_by_name, set_document, grown, all_grow, fold}
+use Rattle.revision.specs.Acceptance.{Answer, Takes, Repeats, Refuses, Reply, TakenAt, AgainAt, Refused, take_on, creation, create_new, next_revision, change, edit, undo, by_number, answer, answer_to}
+use Rattle.world.specs.World.{Entry, entry_of, takens}
+use Rattle.hub.specs.Placed.{PlacedBy}
+use Rattle.session.specs.declared.reply.Reply.{Reply as Told}
+use Rattle.session.specs.declared.reply.Reply.TheVariants.{Taken as TookAt, Again as WasAt}
+use Rattle.session.specs.Alone.{answered}
+use Rattle.session.specs.Reply.{rev_of}
+use Rattle.hub_desk.specs.Laws.{PlacedStands}
+use Rattle.hub_desk.specs.Standing.{Reaches, StandsIn}
+use Rattle.hub_desk.proofs.Batches.{grow_behind}
+use Rattle.hub_desk.proofs.Finding.{noted, last-changed}
+use Rattle.hub_desk.proofs.StandsOn.{StandsWhere, stands_later}
+
+-- what takes, or repeats, isn't refused first
+past-takes : (b : Bool) (refusal : Refusal) (next : Answer) (taken : Taken) → cond b (Refuses refusal) next ≡ Takes taken → (b ≡ false) × (next ≡ Takes taken)
+past-takes true refusal next taken is = absurd (cc (is))
+past-takes false refusal next taken is = (refl, is)
+
+past-repeats : (b : Bool) (refusal : Refusal) (next : Answer) (revision : ℕ) → cond b (Refuses refusal) next ≡ Repeats revision → next ≡ Repeats revision
+past-repeats true refusal next revision is = absurd (cc (is))
+past-repeats false refusal next revision is = is
+
+-- what takes isn't a retry
+anew-takes : (b : Bool) (revision : ℕ) (next : Answer) (taken : Taken) → cond b (Repeats revision) next ≡ Takes taken → next ≡ Takes taken
+anew-takes true revision next taken is = absurd (cc (is))
+anew-takes false revision next taken is = is
+
+-- a retry has the revision of the source's last command
+again-repeats : (b : Bool) (last : ℕ) (next : Answer) (revision : ℕ) → (next ≡ Repeats revision → ⊥) → cond b (Repeats last) next ≡ Repeats revision
+    → (b ≡ true) × (last ≡ revision)
+again-repeats true last next revision never is = (refl, cc (is))
+again-repeats false last next revision never is = absurd (never is)
+
+module _ (limits : Limits) (units : List Element) (sources : Sources) (new : Taken) where
+  on-takes : (taken : Taken) → take_on limits units sources new ≡ Takes taken → taken ≡ new
+  on-takes taken is =
+      let first = past-takes (reaches_past new.delta units) PastEnd _ taken is in
+      let second = past-takes (parts_pair new.delta units) CutsPair _ taken first.1 in
+      let third = past-takes (nat_lt limits.weight (weight_after units sources new)) TooHeavy _ taken second.1 in
+      let fourth = past-takes (nat_lt limits.width (width_of new)) TooWide _ taken third.1 in
+      let same : Takes new ≡ Takes taken = fourth.1 in
+      cc (same)
+
+  on-repeats : (revision : ℕ) → take_on limits units sources new ≡ Repeats revision → ⊥
+  on-repeats revision is =
+      let first = past-repeats (reaches_past new.delta units) PastEnd _ revision is in
+      let second = past-repeats (parts_pair new.delta units) CutsPair _ revision first in
+      let third = past-repeats (nat_lt limits.weight (weight_after units sources new)) TooHeavy _ revision second in
+      let fourth : Takes new ≡ Repeats revision = past-repeats (nat_lt limits.width (width_of new)) TooWide _ revision third in
+      cc (fourth)
+
+module _ (state : State) (number : ℕ) (found : DocumentRecord) (command : Command) where
+  change-takes : (delta : List Operation) (taken : Taken) → change state number found command delta ≡ Takes taken → taken ≡ next_revision number found command delta
+  change-takes delta taken is =
+      let next = past-takes (revision_of found == last_of_all) RevisionsSpent _ taken is in
+      on-takes state.limits (units_of found) (sources_of found) (next_revision number found command delta) taken next.1
+
+  change-repeats : (delta : List Operation) (revision : ℕ) → change state number found command delta ≡ Repeats revision → ⊥
+  change-repeats delta revision is =
+      on-repeats state.limits (units_of found) (sources_of found) (next_revision number found command delta) revision
+      (past-repeats (revision_of found == last_of_all) RevisionsSpent _ revision is)
+
+  edit-takes : (base : ℕ) (delta : List Operation) (taken : Taken) → edit state number found command base delta ≡ Takes taken
+      → (late-delta : List Operation) × (taken ≡ next_revision number found command late-delta)
+  edit-takes base delta taken is =
+      let first = past-takes _ TooManySources _ taken is in
+      let second = past-takes (nat_lt (revision_of found) base) Future _ taken first.1 in
+      let third = past-takes (nat_lt base found.past.floor) TooOld _ taken second.1 in
+      (late delta (deltas_above found.past base), change-takes (late delta (deltas_above found.past base)) taken third.1)
+
+  edit-repeats : (base : ℕ) (delta : List Operation) (revision : ℕ) → edit state number found command base delta ≡ Repeats revision → ⊥
+  edit-repeats base delta revision is =
+      let first = past-repeats _ TooManySources _ revision is in
+      let second = past-repeats (nat_lt (revision_of found) base) Future _ revision first in
+      let third = past-repeats (nat_lt base found.past.floor) TooOld _ revision second in
+      change-repeats (late delta (deltas_above found.past base)) revision third
+
+  undo-takes : (taken : Taken) → undo state number found command ≡ Takes taken → (delta : List Operation) × (taken ≡ next_revision number found command delta)
+  undo-takes taken is =
+      let last = last_of command.source (sources_of found) in
+      let first = past-takes (last.number == 0) NothingToUndo _ taken is in
+      let second = past-takes (nat_le last.revision found.past.floor) TooOld _ taken first.1 in
+      let delta = undo_of found.past.floor found.past.content.units (deltas_of found.past) last.revision in
+      (delta, change-takes delta taken second.1)
+
+  undo-repeats : (revision : ℕ) → undo state number found command ≡ Repeats revision → ⊥
+  undo-repeats revision is =
+      let last = last_of command.source (sources_of found) in
+      let first = past-repeats (last.number == 0) NothingToUndo _ revision is in
+      let second = past-repeats (nat_le last.revision found.past.floor) TooOld _ revision first in
+      change-repeats (undo_of found.past.floor found.past.content.units (deltas_of found.past) last.revision) revision second
+
+number-takes : (last : LastTaken) (number : ℕ) (next : Answer) (taken : Taken) → by_number last number next ≡ Takes taken → next ≡ Takes taken
+number-takes last number next taken is =
+    let first = anew-takes (nat_lt 0 last.number && (number == last.number)) last.revision _ taken is in
+    let second = past-takes (nat_lt number last.number) OldNumber _ taken first in
+    (past-takes (nat_lt (last.number + 1) number) Gap next taken second.1).1
+
+is_last : (last number : ℕ) → (nat_lt 0 last && (number == last)) ≡ true → number ≡ last
+is_last last number is = eqb-true number last (and_parts (nat_lt 0 last) (number == last) is).1
+
+number-repeats : (last : LastTaken) (number : ℕ) (next : Answer) (revision : ℕ) → (next ≡ Repeats revision → ⊥) → by_number last number next ≡ Repeats revision
+    → Reaches number revision last
+number-repeats last number next revision never is =
+    let both = again-repeats (nat_lt 0 last.number && (number == last.number)) last.revision _ revision
+    (λ later. never (past-repeats (nat_lt (last.number + 1) number) Gap next revision (past-repeats (nat_lt number last.number) OldNumber _ revision later))) is in
+    let same = is_last last.number number both.0 in
+    record { least = omega (arith, same); made = λ there. both.1 }
+
+bytes_same : (a : List ℕ) → bytes_eq a a ≡ true
+bytes_same a = (bytes_eq-Decides a a).1 refl
+
+-- a document that is found by its name, with its place
+found-place : (name : List ℕ) (from : ℕ) (documents : List DocumentRecord) (at : ℕ) (found : DocumentRecord) → find name from documents ≡ Some (at, found)
+    → (number : ℕ) × (at ≡ from + number) × (slice_get documents number ≡ Some found)
+    × ((next : DocumentRecord) → next.name ≡ found.name → find name from (set_document number (Some next) documents) ≡ Some (at, next))
+found-place name from [] at found is = absurd (cc (is))
+found-place name from (first ∷ others) at found is =
+    by_test (λ further. found-place name (from + 1) others at found further) (bytes_eq first.name name) refl is
+  where
+    by_test : (find name (from + 1) others ≡ Some (at, found)
+        → (number : ℕ) × (at ≡ from + 1 + number) × (slice_get others number ≡ Some found)
+        × ((next : DocumentRecord) → next.name ≡ found.name → find name (from + 1) (set_document number (Some next) others) ≡ Some (at, next)))
+        → (b : Bool) → bytes_eq first.name name ≡ b → cond b (Some (from, first)) (find name (from + 1) others) ≡ Some (at, found)
+        → (number : ℕ) × (at ≡ from + number) × (slice_get (first ∷ others) number ≡ Some found)
+        × ((next : DocumentRecord) → next.name ≡ found.name → find name from (set_document number (Some next) (first ∷ others)) ≡ Some (at, next))
+    by_test more true e here =
+        let parts = some_pair_parts from at first found here in
+        let start : from ≡ at = parts.0 in
+        let this : first ≡ found = parts.1 in (
+          0,
+          omega (arith, start),
+          ap Some this,
+          λ next same. ap (λ b. cond b (Some (from, next)) (find name (from + 1) others))
+              (ap (λ (n : List ℕ). bytes_eq n name) (same ∙ ap (λ (d : DocumentRecord). d.name) (sym this)) ∙ e)
+              ∙ ap (λ n. Some (n, next)) start,
+        )
+    by_test more false e further =
+        let rest = more further in (
+          suc rest.0,
+          omega (arith, rest.1),
+          rest.2,
+          λ next same. ap (λ b. cond b (Some (from, first)) (find name (from + 1) (set_document rest.0 (Some next) others))) e ∙ rest.3 next same,
+        )
+
+found-at : (name : List ℕ) (documents : List DocumentRecord) (at : ℕ) (found : DocumentRecord) → find name 0 documents ≡ Some (at, found)
+    → (slice_get documents at ≡ Some found)
+    × ((next : DocumentRecord) → next.name ≡ found.name → find name 0 (set_document at (Some next) documents) ≡ Some (at, next))
+found-at name documents at found is =
+    let place = found-place name 0 documents at found is in
+    let same : place.0 ≡ at = omega (arith, place.1) in
+    subst (λ (n : ℕ). (slice_get documents n ≡ Some found)
+    × ((next : DocumentRecord) → next.name ≡ found.name → find name 0 (set_document n (Some next) documents) ≡ Some (at, next))) same (place.2, place.3)
+
+-- a document that is put behind all is found by its name, where none was
+created-at : (name : List ℕ) (from : ℕ) (documents : List DocumentRecord) (new : DocumentRecord) → find name from documents ≡ None → new.name ≡ name
+    → find name from (set_document (length documents) (Some new) documents) ≡ Some (from + length documents, new)
+created-at name from [] new none same =
+    let start : from ≡ from + 0 = omega arith in
+    ap (λ b. cond b (Some (from, new)) None) (ap (λ (n : List ℕ). bytes_eq n name) same ∙ bytes_same name) ∙ ap (λ n. Some (n, new)) start
+created-at name from (first ∷ others) new none same = by_test (λ there. created-at name (from + 1) others new there same) (bytes_eq first.name name) none
+  where
+    by_test : (find name (from + 1) others ≡ None
+        → find name (from + 1) (set_document (length others) (Some new) others) ≡ Some (from + 1 + length others, new))
+        → (b : Bool) → cond b (Some (from, first)) (find name (from + 1) others) ≡ None
+        → cond b (Some (from, first)) (find name (from + 1) (set_document (length others) (Some new) others)) ≡ Some (from + suc (length others), new)
+    by_test more true there = absurd (cc (there))
+    by_test more false there =
+        let count : from + 1 + length others ≡ from + suc (length others) = omega arith in
+        more there ∙ ap (λ n. Some (n, new)) count
+
+none-behind : (documents : List DocumentRecord) → slice_get documents (length documents) ≡ None
+none-behind [] = refl
+none-behind (first ∷ others) = none-behind others
+
+module _ (state : State) (command : Command) where
+  -- where the command's source has it last in the document of its name
+  stands-last : (taken : Taken) (at : ℕ) (after : DocumentRecord) → find command.name 0 (grown state taken).documents ≡ Some (at, after)
+      → last_of command.source (sources_of after) ≡ noted taken → command.number ≤ taken.number → StandsIn (grown state taken) command taken.revision
+  stands-last taken at after is last le =
+      subst (StandsWhere command taken.revision) (sym is)
+      (subst (Reaches command.number taken.revision) (sym last) (record { least = le; made = λ same. refl }))
+
+  last-is : (past : Past) (taken : Taken) → taken.source ≡ command.source → taken.revision ≡ newest past + 1
+      → last_of command.source (sources_at (with_change state.limits.keep past (change_of taken)) (newest (with_change state.limits.keep past (change_of taken)))) ≡ noted taken
+  last-is past taken source next =
+      last-changed state.limits.keep past taken command.source next
+      ∙ ap (λ b. cond b (noted taken) (last_of command.source (sources_at past (newest past))))
+      (ap (λ (s : List ℕ). bytes_eq s command.source) source ∙ bytes_same command.source)
+
+  -- a change of a document that is there
+  stands-changed : (number : ℕ) (found : DocumentRecord) (delta : List Operation) → find command.name 0 state.documents ≡ Some (number, found)
+      → StandsIn (grown state (next_revision number found command delta)) command (revision_of found + 1)
+  stands-changed number found delta is =
+      let taken = next_revision number found command delta in
+      let there = found-at command.name state.documents number found is in
+      let after = record found { past = with_change state.limits.keep found.past (change_of taken) } in
+      stands-last taken number after
+      (ap (λ (d : Option DocumentRecord). find command.name 0 (set_document number (record_by_name state.limits.keep d taken None) state.documents)) there.0 ∙ there.1 after refl)
+      (last-is found.past taken refl refl) (omega arith)
+
+  -- a creation
+  stands-created : (delta : List Operation) → find command.name 0 state.documents ≡ None → command.number ≤ 1 → StandsIn (grown state (creation state command delta)) command 1
+  stands-created delta none le =
+      let taken = creation state command delta in
+      let after : DocumentRecord = record { name = command.name; past = with_change state.limits.keep empty_past (change_of taken) } in
+      stands-last taken (0 + length state.documents) after
+      (ap (λ (d : Option DocumentRecord). find command.name 0 (set_document (length state.documents) (record_by_name state.limits.keep d taken (Some command.name)) state.documents))
+      (none-behind state.documents) ∙ created-at command.name 0 state.documents after none refl)
+      (last-is empty_past taken refl refl) le
+
+  created-takes : (delta : List Operation) (taken : Taken) → create_new state command delta ≡ Takes taken → (command.number ≤ 1) × (taken ≡ creation state command delta)
+  created-takes delta taken is =
+      let first = past-takes (nat_lt 1 command.number) Gap _ taken is in
+      let second = past-takes (nat_le state.limits.docs (length state.documents)) TooManyDocuments _ taken first.1 in
+      let low = first.0 in (
+        grind (low, arith, nat_tests),
+        on-takes state.limits [] empty (creation state command delta) taken second.1,
+      )
+
+  created-repeats : (delta : List Operation) (revision : ℕ) → create_new state command delta ≡ Repeats revision → ⊥
+  created-repeats delta revision is =
+      on-repeats state.limits [] empty (creation state command delta) revision
+      (past-repeats (nat_le state.limits.docs (length state.documents)) TooManyDocuments _ revision (past-repeats (nat_lt 1 command.number) Gap _ revision is))
+
+  changed-by : (found : ℕ × DocumentRecord) (taken : Taken) → find command.name 0 state.documents ≡ Some found
+      → (delta : List Operation) × (taken ≡ next_revision found.0 found.1 command delta) → StandsIn (grown state taken) command taken.revision
+  changed-by found taken is (delta, same) =
+      subst (λ (t : Taken). StandsIn (grown state t) command t.revision) (sym same) (stands-changed found.0 found.1 delta is)
+
+  taken-to : (action : Action) (there : Option (ℕ × DocumentRecord)) (taken : Taken) → find command.name 0 state.documents ≡ there
+      → answer_to state command action there ≡ Takes taken → StandsIn (grown state taken) command taken.revision
+  taken-to (Create delta) None taken none is =
+      let made = created-takes delta taken is in
+      subst (λ (t : Taken). StandsIn (grown state t) command t.revision) (sym made.1) (stands-created delta none made.0)
+  taken-to (Create delta) (Some found) taken some is =
+      let last = last_of command.source (sources_of found.1) in
+      absurd (cc (anew-takes (nat_lt 0 last.number && (command.number == last.number)) last.revision _ taken is))
+  taken-to (Edit base delta) None taken none is = absurd (cc (is))
+  taken-to (Edit base delta) (Some found) taken some is =
+      changed-by found taken some
+      (edit-takes state found.0 found.1 command base delta taken (number-takes (last_of command.source (sources_of found.1)) command.number _ taken is))
+  taken-to Undo None taken none is = absurd (cc (is))
+  taken-to Undo (Some found) taken some is =
+      changed-by found taken some
+      (undo-takes state found.0 found.1 command taken (number-takes (last_of command.source (sources_of found.1)) command.number _ taken is))
+
+  stands_taken : (taken : Taken) → answer state command ≡ Takes taken → StandsIn (grown state taken) command taken.revision
+  stands_taken taken is = taken-to command.action (find command.name 0 state.documents) taken refl is
+
+  again-to : (action : Action) (there : Option (ℕ × DocumentRecord)) (revision : ℕ) → answer_to state command action there ≡ Repeats revision
+      → StandsWhere command revision there
+  again-to (Create delta) None revision is = absurd (created-repeats delta revision is)
+  again-to (Create delta) (Some found) revision is =
+      let last = last_of command.source (sources_of found.1) in
+      let both = again-repeats (nat_lt 0 last.number && (command.number == last.number)) last.revision _ revision (λ never. cc (never)) is in
+      let same = is_last last.number command.number both.0 in
+      record { least = omega (arith, same); made = λ there. both.1 }
+  again-to (Edit base delta) None revision is = absurd (cc (is))
+  again-to (Edit base delta) (Some found) revision is =
+      number-repeats (last_of command.source (sources_of found.1)) command.number _ revision (edit-repeats state found.0 found.1 command base delta revision) is
+  again-to Undo None revision is = absurd (cc (is))
+  again-to Undo (Some found) revision is =
+      number-repeats (last_of command.source (sources_of found.1)) command.number _ revision (undo-repeats state found.0 found.1 command revision) is
+
+  stands_again : (revision : ℕ) → answer state command ≡ Repeats revision → StandsIn state command revision
+  stands_again revision is = again-to command.action (find command.name 0 state.documents) revision is
+
+fold_more : (state : State) (commands : List Taken) (taken : Taken) → fold state (commands ++ taken ∷ []) ≡ grown (fold state commands) taken
+fold_more state [] taken = refl
+fold_more state (first ∷ others) taken = fold_more (grown state first) others taken
+
+-- what the order of a ticket makes has its command
+placed-there : (start : State) (order : List Entry) (command : Command) (due : Reply) (reply : Told) → PlacedBy start order command due → answered due ≡ Ok reply
+    → StandsIn (fold start (takens order)) command (rev_of reply)
+placed-there start order command (TakenAt revision) reply (before, taken, whole, takes, made) answers =
+    let told : TookAt revision ≡ reply = cc (answers) in
+    let same : taken.revision ≡ rev_of reply = made ∙ ap (λ (r : Told). rev_of r) told in
+    let state : fold start (takens order) ≡ grown (fold start (takens before)) taken =
+    ap (λ (o : List Entry). fold start (takens o)) whole ∙ (ap (fold start) (map-append (λ (e : Entry). e.taken) before (entry_of command taken ∷ []))
+    ∙ fold_more start (takens before) taken) in
+    subst (λ (s : State). StandsIn s command (rev_of reply)) (sym state)
+    (subst (λ (r : ℕ). StandsIn (grown (fold start (takens before)) taken) command r) same (stands_taken (fold start (takens before)) command taken takes))
+placed-there start order command (AgainAt revision) reply repeats answers =
+    let told : WasAt revision ≡ reply = cc (answers) in
+    let same : revision ≡ rev_of reply = ap (λ (r : Told). rev_of r) told in
+    subst (λ (r : ℕ). StandsIn (fold start (takens order)) command r) same (stands_again (fold start (takens order)) command revision repeats)
+placed-there start order command (Refused refusal) reply placed answers = absurd placed
+
+pub placed_stands : PlacedStands
+placed_stands start ticket commands reply grow stands answer =
+    let order = stands.order in
+    let there = placed-there start order ticket.command ticket.reply reply stands.placed.reply answer in
+    let behind = grow_behind (takens order) stands.first.0 start (subst (λ (l : List Taken). all_grow start l ≡ true) (sym stands.first.1) grow) in
+    let whole : fold start commands ≡ fold (fold start (takens order)) stands.first.0 = ap (fold start) (sym stands.first.1) ∙ behind.1 in
+    subst (λ (s : State). StandsIn s ticket.command (rev_of reply)) (sym whole)
+    (stands_later (fold start (takens order)) stands.first.0 ticket.command (rev_of reply) behind.0 there)

@@ -1,7 +1,0 @@
-use Rattle.hub_tests.proofs.seats.seats_are_given_again.Given as goal
-
-abbrev pub ghosts-two_seats-J-Site : goal.ghosts-two_seats-J-Site
-ghosts-two_seats-J-Site g a = record { book = a.opened; start = a.state }
-
-abbrev pub ghosts-two_seats-J-Ledger : goal.ghosts-two_seats-J-Ledger
-ghosts-two_seats-J-Ledger g a = record { name = a.blank.name; parts = a.blank.parts }

@@ -1,4 +1,0 @@
-pub mod Crossing
-pub mod FlusherCrossing
-mod Served
-mod Answered

@@ -1,0 +1,11 @@
+pub mod Beginnings
+pub mod Evens
+pub mod Running
+pub mod Steps
+pub mod Fitting
+pub mod Answering
+pub mod Resting
+pub mod Scheduling
+pub mod Living
+pub mod Refusing
+pub mod Counting

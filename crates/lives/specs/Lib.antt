@@ -1,0 +1,5 @@
+pub mod Run
+pub mod Driving
+pub mod Schedule
+pub mod Lives
+mod ScheduleExamples

@@ -1,0 +1,23 @@
+//! A first look, which `./look` runs without a proof: makes a store in a temporary file, serves the lines of its standard input from it,
+//! prints its documents, and removes it, as `richd format`, `richd serve` and `richd dump` do.
+#![tactic(auto)]
+
+use std::process::ExitCode;
+use std::{env, fs, io, process};
+
+fn main(rt: HostRuntime) -> io::Result<ExitCode> {
+    let folder = env::temp_dir(&rt)?;
+    let number = process::id(rt.process());
+    let path = format!(in rt.alloc(); "{}/richd-look-{number}", folder.as_str())?;
+    let (mut input, mut output, mut errors) = (rt.stdin(), rt.stdout(), rt.stderr());
+    let mut status = 0;
+    for command in &["format", "serve", "dump"] {
+        if status == 0 {
+            println!(rt; "$ richd {command} STORE")?;
+            let words = ["richd", *command, path.as_str()];
+            status = server::run(&rt, &words, &mut input, &mut output, &mut errors);
+        }
+    }
+    fs::remove_file(&rt, path.as_str())?;
+    Ok(ExitCode::from(status))
+}

@@ -1,0 +1,115 @@
+//! The order of a run, and tokens of it.
+ghost use Rattle.std.specs.Prelude.{◌≡◌, ◌++◌, ◌∷◌, [], List};
+ghost use mathlib.Core.List.{IsPrefix};
+ghost use Rattle.revision.specs.State.{fold};
+ghost use Rattle.recovery.specs.Found.{commands_of};
+ghost use Rattle.world.specs.World.{takens, Entry as Kept};
+ghost use Rattle.published.specs.Order.{IsLegal, WasTaken};
+
+use crate::site::Site;
+use crate::told::Told;
+use ownlog::{Front, Owner};
+use std::marker::{Model, PhantomData};
+use world::Entry;
+
+/// The order of a run: a legal history from the state that its store was opened with. Only who owns it makes it longer. Contracts see it
+/// as its entries. It takes a word of memory, however long it is.
+#[derive(Drop)]
+pub struct Order<J: Site> {
+    pub(crate) owner: Owner<Entry>,
+    pub(crate) of: PhantomData<J>,
+}
+
+impl<J: Site> Model for Order<J> {
+    ghost use Rattle.std.specs.Prelude.{◌≡◌, List};
+    ghost use Rattle.world.specs.World as spec;
+    ghost use Rattle.published.specs.Order.{IsLegal};
+
+    ghost Value = { List spec.Entry };
+
+    ghost view = { λ o. o.owner.items };
+
+    ghost invariant = { λ o. (o.owner.book ≡ J.book.ordered) × IsLegal J.start o.owner.items };
+}
+
+impl<J: Site> Order<J> {
+    /// Puts a command behind the order that the rule of acceptance takes there. It never fails, and takes no memory.
+    #[tactic(auto, using(crate::proofs::Orders::legal_more))]
+    pub fn put(&mut self, entry: &Entry)
+        requires { WasTaken (fold J.start (takens self.old)) entry.now }
+        ensures { self.new ≡ self.old ++ entry.now ∷ [] }
+    {
+        self.owner.append(entry);
+    }
+
+    /// What is published begins the order, as a token names it. It takes no memory.
+    pub fn covers<D>(&mut self, told: &Told<D, J>)
+        ensures begins { IsPrefix (commands_of told.now) (takens self.old) }
+        ensures same { self.new ≡ self.old }
+    {
+        self.owner.covers(&told.mark.order);
+    }
+
+    /// The entries of a token begin the order. It takes no memory.
+    pub fn holds(&mut self, ordered: &Ordered<J>)
+        ensures begins { IsPrefix ordered.now self.old }
+        ensures same { self.new ≡ self.old }
+    {
+        self.owner.covers(&ordered.front);
+    }
+
+    /// A token of the whole order. It takes no memory.
+    pub fn ordered(&self) -> Ordered<J>
+        ensures { result ≡ self.now }
+    {
+        Ordered {
+            front: self.owner.front(),
+            of: PhantomData,
+        }
+    }
+}
+
+/// A beginning of the run's order that was seen, which is a legal history. Contracts see it as its entries. It takes no memory.
+#[derive(Drop)]
+pub struct Ordered<J: Site> {
+    pub(crate) front: Front<Entry>,
+    pub(crate) of: PhantomData<J>,
+}
+
+impl<J: Site> Model for Ordered<J> {
+    ghost use Rattle.std.specs.Prelude.{◌≡◌, List};
+    ghost use Rattle.world.specs.World as spec;
+    ghost use Rattle.published.specs.Order.{IsLegal};
+
+    ghost Value = { List spec.Entry };
+
+    ghost view = { λ o. o.front.items };
+
+    ghost invariant = { λ o. (o.front.book ≡ J.book.ordered) × IsLegal J.start o.front.items };
+}
+
+impl<J: Site> Ordered<J> {
+    /// Another token of the same entries. It takes no memory.
+    pub fn copy(&self) -> Ordered<J>
+        ensures { result ≡ self.now }
+    {
+        Ordered {
+            front: self.front.copy(),
+            of: PhantomData,
+        }
+    }
+
+    /// It is a legal history from the run's start.
+    pub fn legal(&self)
+        ensures { IsLegal J.start self.now }
+    {
+        let _ = &self.front;
+    }
+
+    /// Two tokens of one run begin one order. It takes no memory.
+    pub fn meets(&self, other: &Ordered<J>)
+        ensures { (all : List Kept) × IsPrefix self.now all × IsPrefix other.now all }
+    {
+        self.front.meets(&other.front);
+    }
+}

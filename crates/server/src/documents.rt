@@ -1,0 +1,58 @@
+//! The documents of a store, as lines.
+ghost use Rattle.std.specs.Prelude.{◌≡◌, ◌⊎◌, true, OnOk, OnErr, IfOk, IfErr, IsErrOf};
+ghost use Rattle.std.specs.String.{string_bytes};
+ghost use Rattle.std.specs.Io.KnownBytes.{Appends};
+ghost use Rattle.revision.specs.Pending.{record_of};
+ghost use Rattle.session.specs.Output.{AppendsFront};
+ghost use Rattle.server.specs.Dump as spec;
+
+use algebra::write_delta;
+use refusal::Refusal;
+use revision::{DocState, State};
+use serving::Failure;
+use session::Output;
+use std::alloc::{AllocError, Global};
+
+/// Writes one line for each document, in order of creation: name, revision, floor and operations. Ends where a write
+/// fails (`Stream`), or with `NoMemory`, and then a beginning of the lines is written.
+pub fn dump<O: Output>(alloc: Global, state: &State, output: &mut O) -> Result<(), Failure>
+    ensures dumped { OnOk result (Appends (O.contents output.old) (O.contents output.new)
+        (spec.dump_of state.now.documents)) }
+    ensures only { IfErr result (λ e. (e ≡ Failure.Stream) ⊎ (e ≡ Failure.Refused Refusal.NoMemory)) }
+    ensures front { OnErr result (AppendsFront (O.contents output.old) (O.contents output.new)
+        (spec.dump_of state.now.documents)) }
+    // It is the output that fails where a write fails, and where memory runs out no write has failed.
+    ensures cause { IsErrOf result Failure.Stream → O.has_failed output.new ≡ true }
+    ensures no_memory { IsErrOf result (Failure.Refused Refusal.NoMemory)
+        → O.has_failed output.new ≡ O.has_failed output.old }
+{
+    for document in state.documents() {
+        let line = line_of(alloc, document)?;
+        output.put(line.as_bytes())?;
+    }
+    output.flush()?;
+    Ok(())
+}
+
+fn line_of(alloc: Global, document: &DocState) -> Result<String, Refusal>
+    ensures ok { IfOk result (λ line. string_bytes line ≡ spec.document_line (record_of document.now)) }
+    ensures only { IfErr result (λ e. e ≡ Refusal.NoMemory) }
+{
+    let delta = document.document().as_delta(alloc)?;
+    let content = write_delta(alloc, &delta)?;
+    let name = document.name().as_str();
+    let line = line_with(alloc, name, document.revision(), document.floor(), &content)?;
+    Ok(line)
+}
+
+fn line_with(
+    alloc: Global,
+    name: &str,
+    revision: u64,
+    floor: u64,
+    content: &str,
+) -> Result<String, AllocError>
+    ensures { IfOk result (λ line. string_bytes line ≡ spec.line_of name.now revision floor content.now) }
+{
+    format!(in alloc; "{name} {revision} {floor} {content}\n")
+}

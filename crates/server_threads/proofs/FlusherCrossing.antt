@@ -1,0 +1,116 @@
+-- What a flusher has may go to another thread. The search for it is too long in one piece.
+use denote.RattleType.{RattleType}
+use denote.Ref.{NamedLft}
+use denote.Param.Send.{IsSend, IsSync, AllSend, sendable, recorded_send, struct_send}
+use denote.Struct.Declared.{shape}
+use denote.Struct.Struct.{Struct}
+use Rattle.std.proofs.Crossing.{crosses, frees}
+use Rattle.core.specs.declared.ledger.Ledger as ledger
+use Rattle.ownlog.proofs.CallerLemmas.{owner_send}
+use Rattle.left_right.proofs.part.Part.TheSendSync as part
+use Rattle.left_right.proofs.part.Deed.TheSendSync as deed
+use Rattle.atomic_table.proofs.shared.Seat.TheSendSync as place
+use Rattle.atomic_table.proofs.shared.Shared.TheSendSync as table
+use Rattle.atomic_table.proofs.send_lease.SendLease.TheSendSync as lease
+use Rattle.disk.specs.declared.device.Disk as disk
+use Rattle.published.specs.declared.site.Site as site
+use Rattle.published.specs.contracts.batch.Batch as batch
+use Rattle.published.specs.contracts.log.Log as log
+use Rattle.milestone.specs.contracts.cells.Cells as cells
+use Rattle.milestone.specs.contracts.job.Job as job
+use Rattle.recovery.specs.contracts.receipt.Receipt as receipt
+use Rattle.view.specs.contracts.shown.News as news
+use Rattle.view.specs.contracts.publisher.Stage as stage
+use Rattle.view.specs.contracts.publisher.Publisher as publisher
+use Rattle.view.specs.contracts.publisher.Publisher.TheInside as inside
+use Rattle.view.proofs.CallerLemmas.{name_send, delta_send, sources_send, state_send, shown_send, shown_sync}
+use Rattle.hub.proofs.CallerLemmas.{taken_send}
+use Rattle.flusher.specs.contracts.flusher.Flusher as flusher
+use Rattle.server_threads.specs.contracts.writing.Shared as shared
+use Rattle.server_threads.specs.contracts.writing.Writing as writing
+use Rattle.server_threads.specs.contracts.written.Written as written
+use Rattle.server_threads.proofs.Crossing.{batch_send, mark_send, ordered_send, told_send, hub_sync}
+
+pub cells_send : IsSend cells.the_row
+cells_send = search (sendable, crosses) depth 60 fits 20000
+
+pub job_send : IsSend job.the_row
+job_send = search (name_send, delta_send, sources_send, sendable, crosses) depth 60 fits 20000
+
+pub receipt_send : (D : RattleType) → IsSend (receipt.the_row D)
+receipt_send D = search (taken_send, sendable, crosses) depth 60 fits 20000
+
+pub stage_send : (D T : RattleType) (s : site.Ghosts T.Denot) (l : ledger.Ghosts T.Denot) → IsSend D → IsSend T → IsSend (stage.the_row D T s l)
+stage_send D T s l a b =
+    let told = told_send D T s l b in
+    let ordered = ordered_send T s l b in
+    search (receipt_send, sendable, crosses) depth 60 fits 20000
+
+pub news_send : IsSend news.the_row
+news_send = search (taken_send, mark_send, sendable, crosses) depth 60 fits 20000
+
+pub log_send : (D T : RattleType) (s : site.Ghosts T.Denot) (l : ledger.Ghosts T.Denot) → IsSend (log.the_row D T s l)
+log_send D T s l =
+    let owner = owner_send batch.the_row batch_send in
+    search (sendable, crosses) depth 60 fits 20000
+
+pub publisher_send : (D T : RattleType) (s : site.Ghosts T.Denot) (l : ledger.Ghosts T.Denot) → IsSend D → IsSend T → IsSync T → IsSend (publisher.the_row D T s l)
+publisher_send D T s l a b c =
+    let x = shown_sync in
+    let y = shown_send in
+    let news = news_send in
+    let told = told_send D T s l b in
+    let ordered = ordered_send T s l b in
+    let all : AllSend (shape (inside.the_type D T s l)).fields = (
+      search (part.the_send, deed.the_send, place.the_send, table.the_send, table.the_sync, lease.the_send, lease.the_sync, frees, sendable, crosses) depth 40 fits 20000,
+      (log_send D T s l, (told, (search (receipt_send, sendable, crosses) depth 60 fits 20000, tt))),
+    ) in
+    let fields : IsSend (inside.the_row D T s l) =
+    recorded_send (Struct (shape (inside.the_type D T s l))) _ _ (inside.the_type D T s l).to_one (struct_send (shape (inside.the_type D T s l)) all) in
+    search sendable depth 3
+
+flusher_fields : (D T : RattleType) (d : disk.Ghosts D.Denot) (s : site.Ghosts T.Denot) (l : ledger.Ghosts T.Denot) → IsSend D → IsSend T → IsSync T
+    → AllSend (shape (flusher.the_type D T d s l)).fields
+flusher_fields D T d s l a b c =
+    let ordered = ordered_send T s l b in (
+      search (cells_send, job_send, state_send, sendable, crosses) depth 60 fits 20000,
+      (
+        publisher_send D T s l a b c,
+        (search (taken_send, sendable, crosses) depth 60 fits 20000, (search (sendable, crosses) depth 60 fits 20000, tt)),
+      ),
+    )
+
+pub shared_sync : (k : NamedLft) (D T R : RattleType) (s : site.Ghosts T.Denot) (l : ledger.Ghosts T.Denot) → IsSend T → IsSync T → IsSync R
+    → IsSync (shared.the_row k D T R s l)
+shared_sync k D T R s l a b c =
+    let hub = hub_sync D T s l a b in
+    search (sendable, crosses) depth 60 fits 20000
+
+pub writing_fields : (k : NamedLft) (D T R : RattleType) (d : disk.Ghosts D.Denot) (s : site.Ghosts T.Denot) (l : ledger.Ghosts T.Denot) → IsSend D → IsSend T → IsSync T → IsSync R
+    → AllSend (shape (writing.the_type k D T R d s l)).fields
+writing_fields k D T R d s l a b y c =
+    let shared = shared_sync k D T R s l b y c in (
+      search (sendable, crosses) depth 20 fits 20000,
+      (
+        search (sendable, crosses) depth 20 fits 20000,
+        (struct_send (shape (flusher.the_type D T d s l)) (flusher_fields D T d s l a b y), (search (sendable, crosses) depth 20 fits 20000, tt)),
+      ),
+    )
+
+pub writing_send : (k : NamedLft) (D T R : RattleType) (d : disk.Ghosts D.Denot) (s : site.Ghosts T.Denot) (l : ledger.Ghosts T.Denot) → IsSend D → IsSend T → IsSync T → IsSync R
+    → IsSend (writing.the_row k D T R d s l)
+writing_send k D T R d s l a b y c =
+    recorded_send (Struct (shape (writing.the_type k D T R d s l))) _ _ (writing.the_type k D T R d s l).to_one
+    (struct_send (shape (writing.the_type k D T R d s l)) (writing_fields k D T R d s l a b y c))
+
+pub written_send : (k : NamedLft) (D T R : RattleType) (d : disk.Ghosts D.Denot) (s : site.Ghosts T.Denot) (l : ledger.Ghosts T.Denot) → IsSend D → IsSend T → IsSync T → IsSync R
+    → IsSend (written.the_row k D T R d s l)
+written_send k D T R d s l a b y c =
+    let all : AllSend (shape (written.the_type k D T R d s l)).fields = (
+      search (sendable, crosses) depth 20 fits 20000,
+      (
+        struct_send (shape (flusher.the_type D T d s l)) (flusher_fields D T d s l a b y),
+        (search (sendable, crosses) depth 200 fits 20000, (search (sendable, crosses) depth 20 fits 20000, tt)),
+      ),
+    ) in
+    recorded_send (Struct (shape (written.the_type k D T R d s l))) _ _ (written.the_type k D T R d s l).to_one (struct_send (shape (written.the_type k D T R d s l)) all)

@@ -1,0 +1,388 @@
+-- What a flusher's thread writes is what the life of a server leaves.
+use Rattle.std.proofs.Common.{◌≡◌, ◌≤◌, ◌⊎◌, ◌↔◌, inl, inr, ℕ, ◌+◌, true, false, List, [], ◌∷◌, ◌++◌, length, length-append, append_assoc, append-nil, refl, sym, ◌∙◌, ap, subst, arith, Ok}
+use Rattle.std.specs.Prelude.{◌<◌, Bool, Result, Err, OnOk, IsErrOf, is_ok, All, sum_by}
+use Rattle.std.proofs.lemmas.Bool.{false≢true, cases_lt}
+use Rattle.std.proofs.lemmas.List.{map-append}
+use Rattle.std.proofs.lemmas.List.Elements.{All-nil, All-cons, All-weaker}
+use mathlib.Core.List.{IsPrefix}
+use Rattle.disk.specs.declared.device.Disk.{Ghosts}
+use Rattle.refusal.specs.declared.Refusal.{Refusal}
+use Rattle.refusal.specs.declared.Refusal.TheVariants.{Fault}
+use Rattle.revision.specs.Command.{Taken}
+use Rattle.revision.specs.State.{State, fold}
+use Rattle.recovery.specs.declared.store.Store.{Store}
+use Rattle.recovery.specs.Found.{commands_of, FoundAs}
+use Rattle.recovery.specs.Open.{IsOpen, state_of, has_failed}
+use Rattle.recovery.specs.Goes.{Goes}
+use Rattle.recovery.proofs.CallerLemmas.{goes_none, goes_map, found_as, found_open, found_now}
+use Rattle.world.specs.World.{Entry, takens}
+use Rattle.published.specs.Batches.{IsShorter}
+use Rattle.published.specs.Order.{IsLegal}
+use Rattle.published.proofs.CallerLemmas.{prefix_self, prefix_trans, prefix_shorter, prefix_whole}
+use Rattle.flusher.specs.declared.flusher.Flusher.{Flusher}
+use Rattle.flusher.specs.Batches.{IsBeginning}
+use Rattle.flusher.specs.Holding.{store_of, told_of, committed_of, waiting_of}
+use Rattle.turns.specs.Writing.{WasAt, Writes, given_to, told_count}
+use Rattle.hub.specs.Legal.{IsOfRun}
+use Rattle.world.specs.Board.{Board as Inner}
+use Rattle.hub_desk.specs.AtHub.{Desk}
+use Rattle.server_threads.specs.Answers.{first_desk}
+use Rattle.server_threads.specs.Held.{HasHeld, IsCounted}
+use Rattle.server_threads.specs.Served.{IsWritten, IsWhole, KeepsAnswers, WasServed, HasLived, IsStarted}
+use Rattle.server_threads.specs.Written.{HasWritten, HasRun, StartedOverWrites}
+use Rattle.server_threads.proofs.Answered.{found_whole, keeps_answers}
+
+-- what begins a state's batches begins those of a state that is the same, where no less was asked for
+within : (least less : ℕ) (start other : State) (batches : List (List Taken)) (content : List ℕ) → least ≡ less → start ≡ other
+    → IsBeginning least start batches content → IsBeginning less other batches content
+within least less start other batches content count same found =
+    subst (λ (s : State). IsBeginning less s batches content) same (subst (λ (n : ℕ). IsBeginning n start batches content) count found)
+
+-- no batch begins none
+none_begins : (first : List (List Taken)) → IsPrefix first [] → first ≡ []
+none_begins [] begins = refl
+none_begins (batch ∷ others) begins = absurd (cc begins.1)
+
+-- first ones of what is published and committed, of which one at most is committed, are published, or all of it
+all_or_told : (told committed first : List (List Taken)) → length committed ≤ 1 → IsPrefix first (told ++ committed) → IsPrefix first told ⊎ (first ≡ told ++ committed)
+all_or_told told committed first few begins = by_length (cases_lt (length told) (length first))
+  where
+    by_length : (length told < length first) ⊎ (length first ≤ length told) → IsPrefix first told ⊎ (first ≡ told ++ committed)
+    by_length (inl less) = inr (prefix_whole first (told ++ committed) begins (omega (arith, less, few, length-append told committed)))
+    by_length (inr le) = inl (prefix_shorter first told (told ++ committed) begins (committed, refl) le)
+
+module _ {D : Type 0} {disk : Ghosts D} where
+  -- At the beginning the store held what no batches make.
+  was_at_first : (all : List (List Taken)) (old new : Store D disk) → Goes (IsBeginning 0 (state_of old) all) old new → WasAt (state_of old) 0 [] all old new
+  was_at_first all old new goes = record {
+    between = old;
+    state = refl;
+    works = λ works. works;
+    before = goes_none old (λ is_open. record { first = []; more = all; whole = refl; enough = omega arith; found = found_as _ _ (found_open old is_open) });
+    behind = goes;
+  }
+
+module _ {D J : Type 0} {disk : Ghosts D} where
+  -- what its type keeps of a flusher
+  abbrev pub Kept : State → Flusher D J disk → Type 0
+  Kept start flusher = state_of (store_of flusher) ≡ fold start (commands_of (told_of flusher ++ committed_of flusher))
+
+  -- at its beginning the store holds the start
+  held_start : (start : State) (old : Flusher D J disk) → IsStarted old → Kept start old → state_of (store_of old) ≡ start
+  held_start start old started before =
+      before
+      ∙ ap (λ (l : List (List Taken)). fold start (commands_of l)) (ap (λ (t : List (List Taken)). t ++ committed_of old) started.nothing ∙ started.none)
+
+  -- a moment of a flusher's, from a start of which nothing was published, as a moment of its store's
+  was_in_store : (start : State) (old new : Flusher D J disk) (first : List (List Taken)) → IsStarted old → state_of (store_of old) ≡ start
+      → WasAt start (told_count old) first (given_to new) (store_of old) (store_of new)
+      → WasAt (state_of (store_of old)) 0 first ((told_of new ++ committed_of new) ++ waiting_of new) (store_of old) (store_of new)
+  was_in_store start old new first started same was =
+      subst (λ (l : List (List Taken)). WasAt (state_of (store_of old)) 0 first l (store_of old) (store_of new)) (sym (append_assoc (told_of new) (committed_of new) (waiting_of new)))
+      (subst (λ (s : State). WasAt s 0 first (given_to new) (store_of old) (store_of new)) (sym same)
+      (subst (λ (n : ℕ). WasAt start n first (given_to new) (store_of old) (store_of new))
+      (ap (λ (t : List (List Taken)). length (commands_of t)) started.nothing) was))
+
+  -- a flusher that was just started, what its thread wrote, and an order that begins with all that it was given
+  pub written_by : (start : State) (order : List Entry) (old new : Flusher D J disk) → IsStarted old → Kept start old → Kept start new
+      → length (committed_of new) ≤ 1 → length (waiting_of new) ≤ 1 → Writes start old new → IsLegal start order
+      → IsPrefix (commands_of (told_of new ++ (committed_of new ++ waiting_of new))) (takens order)
+      → IsWritten order (told_of new ++ committed_of new) (waiting_of new) (store_of old) (store_of new)
+  written_by start order old new started before kept few_committed few_waiting writes legal begins = record {
+    legal = subst (λ (s : State). IsLegal s order) (sym same) legal;
+    begins = subst (λ (l : List (List Taken)). IsPrefix (commands_of l) (takens order)) (sym (append_assoc (told_of new) (committed_of new) (waiting_of new))) begins;
+    state = kept ∙ ap (λ (s : State). fold s (commands_of (told_of new ++ committed_of new))) (sym same);
+    few = few_waiting;
+    goes = goes;
+    each = each_of;
+  }
+    where
+      same : state_of (store_of old) ≡ start
+      same = held_start start old started before
+
+      goes : Goes (IsBeginning 0 (state_of (store_of old)) ((told_of new ++ committed_of new) ++ waiting_of new)) (store_of old) (store_of new)
+      goes =
+          subst (λ (l : List (List Taken)). Goes (IsBeginning 0 (state_of (store_of old)) l) (store_of old) (store_of new))
+          (sym (append_assoc (told_of new) (committed_of new) (waiting_of new)))
+          (goes_map (λ content found. within (told_count old) 0 start (state_of (store_of old)) (given_to new) content
+          (ap (λ (t : List (List Taken)). length (commands_of t)) started.nothing) (sym same) found) writes.goes)
+
+      in_told : (first : List (List Taken)) → IsPrefix first (told_of new)
+          → WasAt (state_of (store_of old)) 0 first ((told_of new ++ committed_of new) ++ waiting_of new) (store_of old) (store_of new)
+      in_told [] told = was_at_first ((told_of new ++ committed_of new) ++ waiting_of new) (store_of old) (store_of new) goes
+      in_told (batch ∷ others) told =
+          let further : IsShorter [] (batch ∷ others) = ((batch ∷ others, refl), omega arith) in
+          was_in_store start old new (batch ∷ others) started same
+          (writes.each (batch ∷ others) (subst (λ (t : List (List Taken)). IsShorter t (batch ∷ others)) (sym started.nothing) further) told)
+
+      by_case : (first : List (List Taken)) → IsPrefix first (told_of new) ⊎ (first ≡ told_of new ++ committed_of new)
+          → WasAt (state_of (store_of old)) 0 first ((told_of new ++ committed_of new) ++ waiting_of new) (store_of old) (store_of new)
+      by_case first (inl told) = in_told first told
+      by_case first (inr all) =
+          subst (λ (l : List (List Taken)). WasAt (state_of (store_of old)) 0 l ((told_of new ++ committed_of new) ++ waiting_of new) (store_of old) (store_of new)) (sym all)
+          (was_in_store start old new (told_of new ++ committed_of new) started same writes.held)
+
+      each_of : (first : List (List Taken)) → IsPrefix first (told_of new ++ committed_of new)
+          → WasAt (state_of (store_of old)) 0 first ((told_of new ++ committed_of new) ++ waiting_of new) (store_of old) (store_of new)
+      each_of first begins = by_case first (all_or_told (told_of new) (committed_of new) first few_committed begins)
+
+-- what stands for batches of which none is committed and not shown begins all of them, as many commands as were shown
+begins_shown : (start : State) (told committed waiting : List (List Taken)) (content : List ℕ) → committed ≡ [] → FoundAs content (fold start (commands_of (told ++ committed)))
+    → IsBeginning (length (commands_of told)) start (told ++ (committed ++ waiting)) content
+begins_shown start told committed waiting content none found =
+    let all : told ++ committed ≡ told = ap (λ (l : List (List Taken)). told ++ l) none ∙ append-nil told in
+    record {
+      first = told;
+      more = waiting;
+      whole = ap (λ (l : List (List Taken)). told ++ (l ++ waiting)) (sym none);
+      enough = omega arith;
+      found = subst (λ (l : List (List Taken)). FoundAs content (fold start (commands_of l))) all found;
+    }
+
+module _ {D J : Type 0} {disk : Ghosts D} where
+  -- a flusher that was just started, and writes nothing
+  writes_nothing : (start : State) (here : Flusher D J disk) → IsStarted here → Kept start here → Writes start here here
+  writes_nothing start here started kept = record {
+    told = ([], sym (append-nil (told_of here)));
+    held = record {
+      between = store_of here;
+      state = kept;
+      works = λ works. works;
+      before = goes_none (store_of here) (λ is_open. shown _ (found_as _ _ (found_open (store_of here) is_open)));
+      behind = goes_none (store_of here) (λ is_open. all_shown _ (found_as _ _ (found_open (store_of here) is_open)));
+    };
+    more = ([], sym (append-nil (given_to here)));
+    goes = goes_none (store_of here) (λ is_open. shown _ (found_as _ _ (found_open (store_of here) is_open)));
+    each = λ first shorter begins. absurd (omega (arith, shorter.1, ap (λ (l : List (List Taken)). length l) begins.1, length-append first begins.0));
+    lasts = λ works is_open content left. shown content (found_now (store_of here) is_open content left);
+  }
+    where
+      shown : (content : List ℕ) → FoundAs content (state_of (store_of here)) → IsBeginning (told_count here) start (given_to here) content
+      shown content found =
+          begins_shown start (told_of here) (committed_of here) (waiting_of here) content started.none (subst (λ (s : State). FoundAs content s) kept found)
+
+      all_shown : (content : List ℕ) → FoundAs content (state_of (store_of here))
+          → IsBeginning (length (commands_of (told_of here ++ committed_of here))) start (given_to here) content
+      all_shown content found =
+          subst (λ (l : List (List Taken)). IsBeginning (length (commands_of l)) start (given_to here) content)
+          (sym (ap (λ (l : List (List Taken)). told_of here ++ l) started.none ∙ append-nil (told_of here))) (shown content found)
+
+  -- it has run where there was no thread for it, and where there was one
+  pub unbegun_run : (start : State) (here : Flusher D J disk) → IsStarted here → Kept start here → HasRun start here here (Ok tt) false
+  unbegun_run start here started kept = record {
+    wrote =
+        record {
+          writes = writes_nothing start here started kept;
+          nothing = (started.none, started.idle);
+          fails = λ works. (λ failed. absurd (false≢true (sym works ∙ failed)), λ is. absurd cc);
+        };
+    unbegun = λ not_begun. refl;
+  }
+
+  pub ended_run : (start : State) (old new : Flusher D J disk) (answer : Result (Unit {0}) Refusal) → Writes start old new
+      → OnOk answer ((committed_of new ≡ []) × (waiting_of new ≡ []))
+      → (has_failed (store_of old) ≡ false → (has_failed (store_of new) ≡ true ↔ IsErrOf answer Fault)) → HasRun start old new answer true
+  ended_run start old new answer writes nothing fails = record {
+    wrote = record { writes = writes; nothing = nothing; fails = fails };
+    unbegun = λ not_begun. absurd (false≢true (sym not_begun));
+  }
+
+  -- of two flushers that were just started over one store the same is written
+  same_writes : (start : State) (here old new : Flusher D J disk) → IsStarted here → IsStarted old → store_of here ≡ store_of old
+      → Writes start here new → Writes start old new
+  same_writes start here old new begun started store writes =
+      let told : told_of here ≡ told_of old = begun.nothing ∙ sym started.nothing in
+      let given : given_to here ≡ given_to old = none_given here begun ∙ sym (none_given old started) in
+      record {
+        told = subst (λ (t : List (List Taken)). (l : List (List Taken)) × (told_of new ≡ t ++ l)) told writes.told;
+        more = subst (λ (t : List (List Taken)). (l : List (List Taken)) × (given_to new ≡ t ++ l)) given writes.more;
+        goes =
+            subst (λ (s : Store D disk). Goes (IsBeginning (told_count old) start (given_to new)) s (store_of new)) store
+            (subst (λ (t : List (List Taken)). Goes (IsBeginning (length (commands_of t)) start (given_to new)) (store_of here) (store_of new)) told writes.goes);
+        each = λ first shorter begins. moment (told_of here) (told_of old) told store first
+            (writes.each first (subst (λ (t : List (List Taken)). IsShorter t first) (sym told) shorter) begins);
+        held = moment (told_of here) (told_of old) told store (told_of new ++ committed_of new) writes.held;
+        lasts = λ works is_open content left.
+            writes.lasts (subst (λ (s : Store D disk). has_failed s ≡ false) (sym store) works) (subst (λ (s : Store D disk). IsOpen s) (sym store) is_open) content left;
+      }
+    where
+      none_given : (flusher : Flusher D J disk) → IsStarted flusher → given_to flusher ≡ []
+      none_given flusher is =
+          ap (λ (l : List (List Taken)). l ++ (committed_of flusher ++ waiting_of flusher)) is.nothing
+          ∙ ap (λ (l : List (List Taken)). l ++ waiting_of flusher) is.none ∙ is.idle
+
+      moment : (there told : List (List Taken)) → there ≡ told → store_of here ≡ store_of old → (first : List (List Taken))
+          → WasAt start (length (commands_of there)) first (given_to new) (store_of here) (store_of new)
+          → WasAt start (length (commands_of told)) first (given_to new) (store_of old) (store_of new)
+      moment there told same store first was =
+          subst (λ (s : Store D disk). WasAt start (length (commands_of told)) first (given_to new) s (store_of new)) store
+          (subst (λ (t : List (List Taken)). WasAt start (length (commands_of t)) first (given_to new) (store_of here) (store_of new)) same was)
+
+  pub any_started : (start : State) (here new : Flusher D J disk) (store : Store D disk) (answer : Result (Unit {0}) Refusal) → IsStarted here
+      → store ≡ store_of here → HasWritten start here new answer → StartedOverWrites start store new answer
+  any_started start here new store answer begun is wrote old started over =
+      let same : store_of here ≡ store_of old = sym is ∙ sym over in
+      record {
+        writes = same_writes start here old new begun started same wrote.writes;
+        nothing = wrote.nothing;
+        fails = subst (λ (s : Store D disk). has_failed s ≡ false → (has_failed (store_of new) ≡ true ↔ IsErrOf answer Fault)) same wrote.fails;
+      }
+
+-- what was taken of a beginning of the order begins what was taken of all
+takens_first : (first all : List Entry) → IsPrefix first all → IsPrefix (takens first) (takens all)
+takens_first first all (more, whole) = (takens more, sym (map-append (λ (e : Entry). e.taken) first more) ∙ ap takens whole)
+
+takens_long : (entries : List Entry) → length (takens entries) ≡ length entries
+takens_long [] = refl
+takens_long (first ∷ others) = let more = takens_long others in omega (arith, more)
+
+-- an order that ends a run: it is a legal history of which a token has a prefix
+pub order_legal : (start : State) (board : Inner Entry) → IsOfRun start board → IsLegal start board.order
+order_legal start board run = subst (λ (s : State). IsLegal s board.order) run.begun run.history.legal
+
+pub order_begins : (commands : List Taken) (token all : List Entry) → IsPrefix commands (takens token) → IsPrefix token all → IsPrefix commands (takens all)
+order_begins commands token all first begins = prefix_trans commands (takens token) (takens all) first (takens_first token all begins)
+
+-- a life that ended well, by an answer, or not
+well_of : {A : Type 0} (answer : Result (Unit {0}) Refusal) → is_ok answer ≡ true → OnOk answer A → A
+well_of (Ok answer) well held = held
+well_of (Err refusal) well held = absurd (cc well)
+
+module _ {D J : Type 0} {disk : Ghosts D} where
+  -- all of the order is written where the writing ended well and the order has no more than is published
+  whole_by : (order : List Entry) (old new : Flusher D J disk) → IsWritten order (told_of new ++ committed_of new) (waiting_of new) (store_of old) (store_of new)
+      → committed_of new ≡ [] → waiting_of new ≡ [] → length order ≡ length (commands_of (told_of new))
+      → IsWhole order (told_of new ++ committed_of new) (waiting_of new) (store_of old) (store_of new)
+  whole_by order old new is none idle long = record {
+    all = all;
+    none = idle;
+    lasts = λ works is_open content left.
+        let was = is.each (told_of new ++ committed_of new) (prefix_self (told_of new ++ committed_of new)) in
+        let begins : IsBeginning (length (commands_of (told_of new ++ committed_of new))) (state_of (store_of old)) ((told_of new ++ committed_of new) ++ waiting_of new) content =
+        (was.behind.any_moment (was.works works) (was.before.opens (was.works works) is_open)).last content left in
+        subst (FoundAs content) (sym is.state)
+        (found_whole (state_of (store_of old)) (told_of new ++ committed_of new) content
+        (subst (λ (l : List (List Taken)). IsBeginning (length (commands_of (told_of new ++ committed_of new))) (state_of (store_of old)) l content) only begins));
+  }
+    where
+      shown : told_of new ++ committed_of new ≡ told_of new
+      shown = ap (λ (l : List (List Taken)). told_of new ++ l) none ∙ append-nil (told_of new)
+
+      only : (told_of new ++ committed_of new) ++ waiting_of new ≡ told_of new ++ committed_of new
+      only = ap (λ (l : List (List Taken)). (told_of new ++ committed_of new) ++ l) idle ∙ append-nil (told_of new ++ committed_of new)
+
+      all : commands_of (told_of new ++ committed_of new) ≡ takens order
+      all =
+          prefix_whole (commands_of (told_of new ++ committed_of new)) (takens order)
+          (subst (λ (l : List (List Taken)). IsPrefix (commands_of l) (takens order)) only is.begins)
+          (omega (arith, takens_long order, long, ap (λ (l : List (List Taken)). length (commands_of l)) shown))
+
+  -- the whole life
+  pub lived_by : (Sessions : List Desk → Type 0) (start : State) (order : List Entry) (desks : List Desk) (old new : Flusher D J disk) (written answer : Result (Unit {0}) Refusal) (store : Store D disk)
+      → store ≡ store_of new → IsStarted old → Kept start old → Kept start new → length (committed_of new) ≤ 1 → length (waiting_of new) ≤ 1
+      → HasWritten start old new written → IsLegal start order → IsPrefix (commands_of (told_of new ++ (committed_of new ++ waiting_of new))) (takens order)
+      → All (λ (desk : Desk). IsPrefix desk.told (told_of new ++ committed_of new)) desks → length order ≡ sum_by (λ (desk : Desk). desk.counted) desks
+      → OnOk answer ((written ≡ Ok tt) × (length order ≡ length (commands_of (told_of new)))) → (IsErrOf answer Fault ↔ IsErrOf written Fault)
+      → Sessions desks → HasLived Sessions answer (store_of old) store
+  lived_by Sessions start order desks old new written answer store is started before kept few_committed few_waiting wrote legal begins told long all fault sessions =
+      subst (λ (s : Store D disk). HasLived Sessions answer (store_of old) s) (sym is)
+      (record {
+        served = record {
+          order = order;
+          written = told_of new ++ committed_of new;
+          waiting = waiting_of new;
+          desks = desks;
+          is_written = is_written;
+          whole = λ well. whole (well_of answer well all);
+          sessions = sessions;
+          answers = All-weaker (λ (desk : Desk). IsPrefix desk.told (told_of new ++ committed_of new))
+              (KeepsAnswers (told_of new ++ committed_of new) (waiting_of new) (store_of old) (store_of new))
+              (λ desk first. keeps_answers order (told_of new ++ committed_of new) (waiting_of new) (store_of old) (store_of new) desk is_written first) desks told;
+          nothing_else = long;
+        };
+        fails = λ works.
+            let fails = wrote.fails works in
+            (λ failed. fault.1 (fails.0 failed), λ is_fault. fails.1 (fault.0 is_fault));
+      })
+    where
+      is_written : IsWritten order (told_of new ++ committed_of new) (waiting_of new) (store_of old) (store_of new)
+      is_written = written_by start order old new started before kept few_committed few_waiting wrote.writes legal begins
+
+      whole : (written ≡ Ok tt) × (length order ≡ length (commands_of (told_of new)))
+          → IsWhole order (told_of new ++ committed_of new) (waiting_of new) (store_of old) (store_of new)
+      whole (well, same) =
+          let none : (committed_of new ≡ []) × (waiting_of new ≡ []) =
+          subst (λ (r : Result (Unit {0}) Refusal). OnOk r ((committed_of new ≡ []) × (waiting_of new ≡ []))) well wrote.nothing in
+          whole_by order old new is_written none.0 none.1 same
+
+module _ {D J : Type 0} {disk : Ghosts D} where
+  -- the life of a flusher that was just started, of the sessions that were held beside it, and of the board that ended
+  pub lived_from : (Sessions : List Desk → Type 0) (start : State) (old : Flusher D J disk) (ordered : List Entry) (published counted : ℕ)
+      (written answer : Result (Unit {0}) Refusal) (new store : Store D disk) → store ≡ new → IsStarted old
+      → HasHeld Sessions start old ordered published counted written new → IsCounted start ordered published counted written answer
+      → HasLived Sessions answer (store_of old) store
+  lived_from Sessions start old ordered published counted written answer new store is started held counts =
+      lived_by Sessions start counts.board.order held.desks old held.last written answer store (is ∙ held.tallied.store) started held.before.state held.tallied.kept.state
+      held.tallied.few_committed held.tallied.few_waiting held.wrote (order_legal start counts.board counts.run)
+      (order_begins (commands_of (told_of held.last ++ (committed_of held.last ++ waiting_of held.last))) ordered counts.board.order held.tallied.begins counts.begins)
+      held.tallied.told (counts.counts ∙ held.tallied.counts)
+      (subst (λ (n : ℕ). OnOk answer ((written ≡ Ok tt) × (length counts.board.order ≡ n))) held.tallied.so_many counts.all) counts.fault held.sessions
+
+module _ {D : Type 0} {disk : Ghosts D} where
+  -- a store that nothing was written to
+  none_written : (store : Store D disk) → IsWritten [] [] [] store store
+  none_written store =
+      let goes : Goes (IsBeginning 0 (state_of store) []) store store =
+      goes_none store (λ is_open. record { first = []; more = []; whole = refl; enough = omega arith; found = found_as _ _ (found_open store is_open) }) in
+      record {
+        legal = tt;
+        begins = ([], refl);
+        state = refl;
+        few = omega arith;
+        goes = goes;
+        each = λ first begins. subst (λ (l : List (List Taken)). WasAt (state_of store) 0 l [] store store) (sym (none_begins first begins)) (was_at_first [] store store goes);
+      }
+
+  -- nobody was served
+  pub none_served : (Sessions : List Desk → Type 0) (store : Store D disk) → Sessions [] → WasServed Sessions false store store
+  none_served Sessions store sessions = record {
+    order = [];
+    written = [];
+    waiting = [];
+    desks = [];
+    is_written = none_written store;
+    whole = λ well. absurd (false≢true well);
+    sessions = sessions;
+    answers = All-nil (KeepsAnswers [] [] store store);
+    nothing_else = refl;
+  }
+
+  -- a desk was asked for nothing
+  pub one_unserved : (Sessions : List Desk → Type 0) (store : Store D disk) → Sessions (first_desk ∷ []) → WasServed Sessions false store store
+  one_unserved Sessions store sessions = record {
+    order = [];
+    written = [];
+    waiting = [];
+    desks = first_desk ∷ [];
+    is_written = none_written store;
+    whole = λ well. absurd (false≢true well);
+    sessions = sessions;
+    answers = All-cons (KeepsAnswers [] [] store store) first_desk []
+        (keeps_answers [] [] [] store store first_desk (none_written store) ([], refl)) (All-nil (KeepsAnswers [] [] store store));
+    nothing_else = refl;
+  }
+
+  -- it says no less of fewer lives that ended well, nor where its desks are said less of
+  pub served_as : (Sessions Others : List Desk → Type 0) (well less : Bool) (old new : Store D disk) → ((desks : List Desk) → Sessions desks → Others desks)
+      → (less ≡ true → well ≡ true) → WasServed Sessions well old new → WasServed Others less old new
+  served_as Sessions Others well less old new others fewer served = record {
+    order = served.order;
+    written = served.written;
+    waiting = served.waiting;
+    desks = served.desks;
+    is_written = served.is_written;
+    whole = λ is. served.whole (fewer is);
+    sessions = others served.desks served.sessions;
+    answers = served.answers;
+    nothing_else = served.nothing_else;
+  }

@@ -1,0 +1,39 @@
+use mir.Syntax.{named}
+use denote.Param.{param}
+use denote.Param.Send.{param_send, arg_send, recorded_send, struct_send}
+use Rattle.std.proofs.Common.{sym, subst, rules}
+use Rattle.server_threads.specs.Written.{HasWritten, HasRun, StartedOverWrites}
+use Rattle.server_threads.proofs.FlusherCrossing.{writing_send, written_send}
+use Rattle.server_threads.proofs.Served.{any_started}
+use Rattle.server_threads.proofs.beside.hold_in.Goals as goal
+
+-- the thread that writes has the flusher, and shares the hub
+pub spawn_with-requires-send-F : goal.spawn_with-requires-send-F
+spawn_with-requires-send-F g c κs within =
+    let writing = writing_send (record { mir = named 6; lft = κs.1.1.1.1.1.1.0 }) (param 7 g.row.D) (param 5 g.row.J) (param 6 g.row.R) g.D.Disk g.J.Site g.J.Ledger c.type_bounds.send-D c.type_bounds.send-J c.type_bounds.sync-J c.type_bounds.sync-R in
+    search (param_send, arg_send, recorded_send, struct_send) depth 8
+
+-- and gives the flusher back
+pub spawn_with-requires-send-T : goal.spawn_with-requires-send-T
+spawn_with-requires-send-T g c κs within =
+    let written = written_send (record { mir = named 6; lft = κs.1.1.1.1.1.1.0 }) (param 7 g.row.D) (param 5 g.row.J) (param 6 g.row.R) g.D.Disk g.J.Site g.J.Ledger c.type_bounds.send-D c.type_bounds.send-J c.type_bounds.sync-J c.type_bounds.sync-R in
+    search (param_send, arg_send) depth 4
+
+-- what it promises
+pub spawn_with-requires-clause-keeps : goal.spawn_with-requires-clause-keeps
+spawn_with-requires-clause-keeps g c κs within r ran old begun same =
+    let run : HasRun g.J.Site.start c.args.writing.flusher r.flusher r.answer r.is_begun = search rules in
+    any_started g.J.Site.start c.args.writing.flusher r.flusher c.args.written_by.store.value r.answer c.requires.started c.requires.held run.wrote old begun same
+
+pub returns-in-Ok : goal.returns-in-Ok
+returns-in-Ok g c =
+    let wrote : HasWritten g.J.Site.start c.args.writing.flusher c.join.result.flusher c.join.result.answer =
+    subst (λ p. StartedOverWrites g.J.Site.start p.store.value c.join.result.flusher c.join.result.answer) c.in-Ok.ensures.ok c.join.ensures
+    c.args.writing.flusher c.requires.started (sym c.requires.held) in
+    record {
+      written =
+          subst (λ f. HasWritten g.J.Site.start c.args.writing.flusher f c.into_parts-flusher.result.1) (sym c.into_parts-flusher.ensures.flusher)
+          (subst (λ a. HasWritten g.J.Site.start c.args.writing.flusher c.join.result.flusher a) (sym c.into_parts-flusher.ensures.answer) wrote);
+      held = c.hold_all-held.ensures.held;
+      refused = tt;
+    }

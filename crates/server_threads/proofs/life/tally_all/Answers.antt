@@ -1,0 +1,18 @@
+use Rattle.std.proofs.Common.{◌∙◌, length, ap}
+use Rattle.std.specs.Prelude.{sum_by}
+use Rattle.recovery.specs.Found.{commands_of}
+use Rattle.server_threads.proofs.Tallied.{from_nothing}
+use Rattle.server_threads.proofs.life.tally_all.Goals as goal
+
+-- the desks are tallied, of a flusher that goes on unchanged
+pub returns-clause-tallied : goal.returns-clause-tallied
+returns-clause-tallied g c = record {
+  store = c.tally_desks.ensures.store;
+  kept = record { state = c.kept.ensures };
+  few_committed = c.few.ensures.committed;
+  few_waiting = c.few.ensures.waiting;
+  begins = c.ordered-ordered.ensures.begins;
+  so_many = c.len-published.ensures ∙ ap (λ t. length (commands_of t)) c.told.ensures;
+  told = c.tally_desks.ensures.told;
+  counts = from_nothing c.args.tally.counted c.tally_desks.new.tally.counted (sum_by (λ desk. desk.counted) c.args.desks.items) c.requires.none c.tally_desks.ensures.counted;
+}

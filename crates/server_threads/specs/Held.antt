@@ -1,0 +1,54 @@
+-- What is left of sessions that have ended, and of the thread that wrote beside them.
+use Rattle.std.specs.Prelude.{◌≡◌, ◌≤◌, ◌↔◌, ℕ, List, ◌++◌, length, All, sum_by, Result, Ok, OnOk, IsErrOf}
+use mathlib.Core.List.{IsPrefix}
+use Rattle.disk.specs.declared.device.Disk.{Ghosts}
+use Rattle.refusal.specs.declared.Refusal.{Refusal}
+use Rattle.refusal.specs.declared.Refusal.TheVariants.{Fault}
+use Rattle.revision.specs.State.{State, fold}
+use Rattle.recovery.specs.declared.store.Store.{Store}
+use Rattle.recovery.specs.Found.{commands_of}
+use Rattle.recovery.specs.Open.{state_of}
+use Rattle.world.specs.Board as world
+use Rattle.world.specs.World.{Entry, takens}
+use Rattle.flusher.specs.declared.flusher.Flusher.{Flusher}
+use Rattle.flusher.specs.Holding.{store_of, told_of, committed_of, waiting_of}
+use Rattle.hub.specs.Legal.{IsOfRun}
+use Rattle.hub_desk.specs.AtHub.{Desk}
+use Rattle.server_threads.specs.Written.{HasWritten}
+
+module _ {D J : Type 0} {disk : Ghosts D} where
+  -- what its type keeps of a flusher: its store holds what is published and committed
+  pub record IsKept (start : State) (flusher : Flusher D J disk) : Type 0 where
+    pub state : state_of (store_of flusher) ≡ fold start (commands_of (told_of flusher ++ committed_of flusher))
+
+  -- The desks of a flusher that has written are tallied. The order begins with all that it was given, so much of it was published, no desk
+  -- was told of more than it committed, and the seats' count is that of the desks.
+  pub record IsTallied (start : State) (desks : List Desk) (last : Flusher D J disk) (ordered : List Entry) (published counted : ℕ) (new : Store D disk) : Type 0 where
+    pub store : new ≡ store_of last
+    pub kept : IsKept start last
+    pub few_committed : length (committed_of last) ≤ 1
+    pub few_waiting : length (waiting_of last) ≤ 1
+    pub begins : IsPrefix (commands_of (told_of last ++ (committed_of last ++ waiting_of last))) (takens ordered)
+    pub so_many : published ≡ length (commands_of (told_of last))
+    pub told : All (λ (desk : Desk). IsPrefix desk.told (told_of last ++ committed_of last)) desks
+    pub counts : counted ≡ sum_by (λ (desk : Desk). desk.counted) desks
+
+  -- A flusher that was just started has written, the desks that its sessions left are tallied, and this is so of the desks.
+  pub record HasHeld (Sessions : List Desk → Type 0) (start : State) (old : Flusher D J disk) (ordered : List Entry) (published counted : ℕ)
+      (written : Result (Unit {0}) Refusal) (new : Store D disk) : Type 0 where
+    pub last : Flusher D J disk
+    pub desks : List Desk
+    pub before : IsKept start old
+    pub wrote : HasWritten start old last written
+    pub tallied : IsTallied start desks last ordered published counted new
+    pub sessions : Sessions desks
+
+-- There was a board of this run, whose order begins with this and is as long as what the seats have counted; and the writing ended well only
+-- where as many commands are published.
+pub record IsCounted (start : State) (ordered : List Entry) (published counted : ℕ) (written answer : Result (Unit {0}) Refusal) : Type 0 where
+  pub board : world.Board Entry
+  pub run : IsOfRun start board
+  pub begins : IsPrefix ordered board.order
+  pub counts : length board.order ≡ counted
+  pub all : OnOk answer ((written ≡ Ok tt) × (length board.order ≡ published))
+  pub fault : IsErrOf answer Fault ↔ IsErrOf written Fault

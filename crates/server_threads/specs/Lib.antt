@@ -1,0 +1,6 @@
+pub mod Answers
+pub mod Served
+pub mod Streams
+pub mod Connections
+pub mod Written
+pub mod Held

@@ -1,0 +1,194 @@
+//! Writing in a thread of its own, beside the sessions in this thread.
+ghost use Rattle.std.specs.Prelude.{◌≡◌, IfOk, IfErr};
+ghost use Rattle.flusher.specs.Holding.{store_of};
+ghost use Rattle.server_threads.specs.Served.{IsStarted};
+ghost use Rattle.server_threads.specs.Written.{HasWritten};
+
+use crate::writing::{Shared, Writing};
+use crate::written::WrittenBy;
+use disk::Disk;
+use flusher::Flusher;
+use hub::{Closer, Writer};
+use published::Site;
+use recovery::Store;
+use refusal::Refusal;
+use std::marker::PhantomData;
+use std::snapshot::Snapshot;
+use std::sync::Wait;
+use std::sync::atomic::{AtomicBool, Ordering};
+use std::thread::{self, Scope, Threads};
+
+// The sessions, their desks and how they are held at these, with the right to end the hub.
+#[derive(Drop)]
+struct Holding<'s, 'a, S, K, F, D, J: Site, R> {
+    shared: &'s Shared<'a, D, J, R>,
+    closer: Closer<J>,
+    sessions: S,
+    desks: Vec<K>,
+    hold: F,
+}
+
+impl<S: Drop, K: Drop, F: Drop, D: Drop, J: Site, R> Holding<'_, '_, S, K, F, D, J, R> {
+    ghost use Rattle.std.specs.Prelude.{◌≡◌};
+
+    // The sessions, where they aren't held.
+    fn into_sessions(self) -> S
+        ensures { result ≡ self.entry.sessions }
+    {
+        let Holding {
+            shared: _,
+            closer: _closer,
+            sessions,
+            desks: _desks,
+            hold: _hold,
+        } = self;
+        sessions
+    }
+}
+
+/// What came of both: the flusher, how its writing ended, what the sessions answered, and their desks.
+pub(crate) struct Both<A, K, D: Disk, J: Site> {
+    pub(crate) flusher: Flusher<D, J>,
+    pub(crate) written: Result<(), Refusal>,
+    pub(crate) held: (A, Vec<K>),
+}
+
+/// Holds sessions in this thread, as `hold` does, while another thread writes until they have ended. Where the system gives no thread nobody is
+/// held, and the flusher and the sessions are given back unchanged.
+pub(crate) fn hold_beside<
+    A: Drop,
+    S: Drop,
+    K: Drop,
+    F: FnOnce(S, Vec<K>) -> (A, Vec<K>),
+    J: Site + Sync + Send,
+    R: Threads + Wait + Sync,
+    D: Disk + Send + Drop,
+>(
+    shared: &Shared<'_, D, J, R>,
+    held: Snapshot<Store<D>>,
+    flusher: Flusher<D, J>,
+    writer: Writer<J>,
+    closer: Closer<J>,
+    sessions: S,
+    desks: Vec<K>,
+    hold: F,
+) -> Result<Both<A, K, D, J>, (Flusher<D, J>, S)>
+    requires held { held.value ≡ store_of flusher }
+    requires started { IsStarted flusher }
+    requires callable { F.pre hold sessions desks }
+    ensures written { IfOk result (λ both. HasWritten J.start flusher both.flusher both.written) }
+    ensures held { IfOk result (λ both. F.post hold sessions desks both.held) }
+    ensures refused { IfErr result (λ back. (back.0 ≡ flusher) × (back.1 ≡ sessions)) }
+{
+    let written_by = WrittenBy {
+        store: held,
+        of: PhantomData,
+    };
+    let has_thread = AtomicBool::new(true);
+    let lowered = &has_thread;
+    let writing = Writing {
+        shared: &*shared,
+        has_thread: lowered,
+        flusher,
+        writer,
+    };
+    let holding = Holding {
+        shared: &*shared,
+        closer,
+        sessions,
+        desks,
+        hold,
+    };
+    thread::scope(
+        thread::scope_env(),
+        shared.rt,
+        |scope| -> Result<Both<A, K, D, J>, (Flusher<D, J>, S)>
+            requires { (written_by.store.value ≡ store_of writing.flusher) × IsStarted writing.flusher
+                × F.pre holding.hold holding.sessions holding.desks }
+            ensures written { IfOk result (λ both. HasWritten J.start writing.entry.flusher both.flusher both.written) }
+            ensures held { IfOk result (λ both. F.post holding.entry.hold holding.entry.sessions holding.entry.desks both.held) }
+            ensures refused { IfErr result (λ back. (back.0 ≡ writing.entry.flusher) × (back.1 ≡ holding.entry.sessions)) }
+        { hold_in(scope, written_by, writing, holding) },
+    )
+}
+
+// Begins the thread that writes, and holds the sessions.
+fn hold_in<
+    's,
+    E,
+    A: Drop,
+    S: Drop,
+    K: Drop,
+    F: FnOnce(S, Vec<K>) -> (A, Vec<K>),
+    J: Site + Sync + Send,
+    R: Threads + Wait + Sync,
+    D: Disk + Send + Drop,
+>(
+    scope: &Scope<'s, E>,
+    written_by: WrittenBy<D, J>,
+    writing: Writing<'s, D, J, R>,
+    holding: Holding<'_, '_, S, K, F, D, J, R>,
+) -> Result<Both<A, K, D, J>, (Flusher<D, J>, S)>
+    requires held { written_by.store.value ≡ store_of writing.flusher }
+    requires started { IsStarted writing.flusher }
+    requires callable { F.pre holding.hold holding.sessions holding.desks }
+    ensures written { IfOk result (λ both. HasWritten J.start writing.entry.flusher both.flusher both.written) }
+    ensures held { IfOk result (λ both. F.post holding.entry.hold holding.entry.sessions holding.entry.desks both.held) }
+    ensures refused { IfErr result (λ back. (back.0 ≡ writing.entry.flusher) × (back.1 ≡ holding.entry.sessions)) }
+{
+    let rt = writing.shared.rt;
+    let has_thread = writing.has_thread;
+    match scope.spawn_with(written_by, move || writing.run()) {
+        Ok(thread) => {
+            let held = hold_all(holding);
+            let (flusher, written) = thread.join(rt).into_parts();
+            Ok(Both {
+                flusher,
+                written,
+                held,
+            })
+        }
+        Err(refused) => {
+            has_thread.store(false, Ordering::SeqCst);
+            let run = (refused.value)();
+            let is_begun = run.is_begun;
+            let (flusher, written) = run.into_parts();
+            if !is_begun {
+                return Err((flusher, holding.into_sessions()));
+            }
+            // It isn't so, but no clause says what an atomic holds.
+            let held = hold_all(holding);
+            Ok(Both {
+                flusher,
+                written,
+                held,
+            })
+        }
+    }
+}
+
+// Holds the sessions, and ends the hub once each of them has ended.
+fn hold_all<
+    A: Drop,
+    S: Drop,
+    K: Drop,
+    F: FnOnce(S, Vec<K>) -> (A, Vec<K>),
+    J: Site + Sync + Send,
+    R: Threads + Wait + Sync,
+    D: Send + Drop,
+>(holding: Holding<'_, '_, S, K, F, D, J, R>) -> (A, Vec<K>)
+    requires callable { F.pre holding.hold holding.sessions holding.desks }
+    ensures held { F.post holding.entry.hold holding.entry.sessions holding.entry.desks result }
+{
+    let Holding {
+        shared,
+        closer,
+        sessions,
+        desks,
+        hold,
+    } = holding;
+    let mut closer = closer;
+    let held = hold(sessions, desks);
+    let _ended = shared.hub.end(shared.rt, &mut closer);
+    held
+}

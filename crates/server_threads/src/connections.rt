@@ -1,0 +1,228 @@
+//! A store over connections.
+ghost use Rattle.std.specs.Prelude.{◌≡◌, ◌+◌, ◌↔◌, true, false, Ok, All, IfOk, IfErr, OnOk, IsErrOf, IsOkUnless, is_ok, length};
+ghost use Rattle.recovery.specs.Open.{state_of, has_failed};
+ghost use Rattle.flusher.specs.Holding.{store_of};
+ghost use Rattle.server_threads.specs.Answers.{first_desk};
+ghost use Rattle.server_threads.specs.Connections.{EachHasServed};
+ghost use Rattle.server_threads.specs.Held.{HasHeld};
+ghost use Rattle.server_threads.specs.Served.{IsStarted, WasServed};
+
+use crate::beside::{Both, hold_beside};
+use crate::desks::desks_at;
+use crate::life::{Past, Server, begin, end, tally_all};
+use crate::writing::Shared;
+use disk::Disk;
+use flusher::Flusher;
+use hub::Hub;
+use hub_desk::HubDesk;
+use published::{Opened, Site};
+use recovery::Store;
+use refusal::Refusal;
+use sockets::serve_desks;
+use std::alloc::Global;
+use std::marker::Brand;
+use std::net::{OpenListener, TcpStream};
+use std::sync::Wait;
+use std::sync::ledger::Blank;
+use std::thread::Threads;
+
+/// How many sessions run at once.
+const SEATS: u32 = 64;
+
+/// The parts of the ledger that counts what each seat took: one for each seat, and one that is left.
+const PARTS: u64 = 65;
+
+/// Serves a store to those who connect, 64 at once, until the listener fails; where there are fewer places for readers than 64, as many at
+/// once as have one. Then each session ends within its next read, what was ordered is written, and the store is given back, with the refusal
+/// that kept it from serving or that ended the writing: `NoMemory`, also where the system gives no thread to write in, or what failed the
+/// board. A milestone of a document is put where it passes a multiple of `every` revisions; 0 puts none.
+pub fn serve_on<
+    R: Threads + Wait + Sync,
+    N: OpenListener<Stream = TcpStream>,
+    D: Disk + Send + Drop,
+>(
+    rt: &R,
+    alloc: Global,
+    store: Store<D>,
+    listener: &N,
+    every: u32,
+) -> (Store<D>, Result<(), Refusal>)
+    // There is one order, of which the store holds what is written, and all of it after an `Ok`. What the desks answered is kept. No clause
+    // says who asked them.
+    ensures served { WasServed (EachHasServed (state_of store)) (is_ok result.1) store result.0 }
+    // It fails only with the device.
+    ensures fails { has_failed store ≡ false → (has_failed result.0 ≡ true ↔ IsErrOf result.1 Refusal.Fault) }
+{
+    let Some(opened) = Opened::new() else {
+        return (store, Err(Refusal::NoMemory));
+    };
+    let blank = Blank::new(PARTS);
+    serve_run::<Brand, R, N, D>(rt, alloc, store, opened, blank, listener, every)
+}
+
+// Serves the run that its ledger, its logs and its store's state name.
+fn serve_run<
+    J: Site + Sync + Send,
+    R: Threads + Wait + Sync,
+    N: OpenListener<Stream = TcpStream>,
+    D: Disk + Send + Drop,
+>(
+    rt: &R,
+    alloc: Global,
+    store: Store<D>,
+    opened: Opened,
+    blank: Blank,
+    listener: &N,
+    every: u32,
+) -> (Store<D>, Result<(), Refusal>)
+    requires book { opened ≡ J.book }
+    requires name { blank.name ≡ J.name }
+    requires parts { blank.parts ≡ J.parts }
+    requires seats { blank.parts ≡ 65 }
+    requires start { state_of store ≡ J.start }
+    ensures served { WasServed (EachHasServed (state_of store)) (is_ok result.1) store result.0 }
+    ensures fails { has_failed store ≡ false → (has_failed result.0 ≡ true ↔ IsErrOf result.1 Refusal.Fault) }
+{
+    match begin::<J, R, D>(rt, alloc, store, opened, blank, SEATS) {
+        Ok((hub, server)) => serve_from(rt, alloc, hub, server, listener, every),
+        Err((store, refusal)) => (store, Err(refusal)),
+    }
+}
+
+// Serves from a server's beginning to its end.
+fn serve_from<
+    J: Site + Sync + Send,
+    R: Threads + Wait + Sync,
+    N: OpenListener<Stream = TcpStream>,
+    D: Disk + Send + Drop,
+>(
+    rt: &R,
+    alloc: Global,
+    hub: Hub<D, J>,
+    server: Server<D, J>,
+    listener: &N,
+    every: u32,
+) -> (Store<D>, Result<(), Refusal>)
+    requires store { server.held.value ≡ store_of server.flusher }
+    requires started { IsStarted server.flusher }
+    requires new { All (λ seat. seat ≡ 0) server.seats.items }
+    requires parts { length server.seats.items + 1 ≡ J.parts }
+    requires none { server.tally ≡ record { seats = 0; counted = 0 } }
+    ensures served { WasServed (EachHasServed J.start) (is_ok result.1) (store_of server.flusher) result.0 }
+    ensures fails { has_failed (store_of server.flusher) ≡ false → (has_failed result.0 ≡ true ↔ IsErrOf result.1 Refusal.Fault) }
+{
+    match hold_at(rt, alloc, &hub, server, listener, every) {
+        Ok((past, served)) => {
+            let (store, written) = end(rt, hub, past);
+            (store, first_failure(written, served))
+        }
+        Err(flusher) => (flusher.end(rt), Err(Refusal::NoMemory)),
+    }
+}
+
+// Holds sessions over the connections at the desks of a hub, while a thread of its own writes. Refused where there is no memory or no
+// thread; the flusher is unchanged then.
+fn hold_at<
+    J: Site + Sync + Send,
+    R: Threads + Wait + Sync,
+    N: OpenListener<Stream = TcpStream>,
+    D: Disk + Send + Drop,
+>(
+    rt: &R,
+    alloc: Global,
+    hub: &Hub<D, J>,
+    server: Server<D, J>,
+    listener: &N,
+    every: u32,
+) -> Result<(Past<D, J>, Result<(), Refusal>), Flusher<D, J>>
+    requires store { server.held.value ≡ store_of server.flusher }
+    requires started { IsStarted server.flusher }
+    requires new { All (λ seat. seat ≡ 0) server.seats.items }
+    requires none { server.tally ≡ record { seats = 0; counted = 0 } }
+    ensures held { IfOk result (λ both. HasHeld (EachHasServed J.start) J.start server.flusher both.0.ordered both.0.published both.0.tally.counted
+        both.0.written (store_of both.0.flusher)) }
+    ensures seats { IfOk result (λ both. both.0.tally.seats ≡ length server.seats.items) }
+    ensures only { IfOk result (λ both. IsOkUnless both.1 Refusal.NoMemory) }
+    ensures refused { IfErr result (λ flusher. flusher ≡ server.flusher) }
+{
+    let Server {
+        held,
+        flusher,
+        writer,
+        closer,
+        seats,
+        tally,
+    } = server;
+    let mut tally = tally;
+    let Ok(desks) = desks_at(rt, alloc, &flusher, hub, seats, &mut tally) else {
+        return Err(flusher);
+    };
+    let shared = Shared {
+        rt,
+        alloc,
+        hub,
+        every,
+    };
+    flusher.kept();
+    match hold_beside(
+        &shared,
+        held,
+        flusher,
+        writer,
+        closer,
+        listener,
+        desks,
+        |listener, desks| -> (Result<(), Refusal>, Vec<HubDesk<'_, D, J, R>>)
+            requires { All (λ desk. desk ≡ first_desk) desks.items }
+            ensures served { EachHasServed J.start result.1.items }
+            ensures only { IsOkUnless result.0 Refusal.NoMemory }
+            ensures as_many { length result.1.items ≡ length desks.entry.items }
+        { serve_all(rt, alloc, desks, listener) },
+    ) {
+        Ok(
+            Both {
+                flusher,
+                written,
+                held,
+            },
+        ) => {
+            let (served, desks) = held;
+            Ok((tally_all(flusher, written, desks, tally), served))
+        }
+        Err((flusher, _listener)) => Err(flusher),
+    }
+}
+
+// What ended the writing, or else what kept it from serving.
+fn first_failure(written: Result<(), Refusal>, served: Result<(), Refusal>) -> Result<(), Refusal>
+    requires { IsOkUnless served Refusal.NoMemory }
+    ensures ok { OnOk result (written ≡ Ok tt) }
+    ensures fault { IsErrOf result Refusal.Fault ↔ IsErrOf written Refusal.Fault }
+{
+    written?;
+    served
+}
+
+// Takes connections until the listener fails, and gives the desks back once each session has ended.
+fn serve_all<
+    'a,
+    J: Site + Sync + Send,
+    R: Threads + Wait + Sync,
+    N: OpenListener<Stream = TcpStream>,
+    D: Send + Drop,
+>(
+    rt: &R,
+    alloc: Global,
+    desks: Vec<HubDesk<'a, D, J, R>>,
+    listener: &N,
+) -> (Result<(), Refusal>, Vec<HubDesk<'a, D, J, R>>)
+    requires first { All (λ desk. desk ≡ first_desk) desks.items }
+    ensures served { EachHasServed J.start result.1.items }
+    ensures only { IsOkUnless result.0 Refusal.NoMemory }
+    ensures as_many { length result.1.items ≡ length desks.entry.items }
+{
+    match serve_desks(rt, alloc, desks, listener) {
+        Ok(desks) => (Ok(()), desks),
+        Err(failed) => (Err(Refusal::NoMemory), failed.value),
+    }
+}

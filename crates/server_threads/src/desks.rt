@@ -1,0 +1,84 @@
+//! Seats and desks: before sessions are held at them, and after.
+ghost use Rattle.std.specs.Prelude.{◌≡◌, ◌≤◌, ◌+◌, ◌++◌, [], All, length, sum_by, IfOk, IsOkUnless};
+ghost use mathlib.Core.List.{IsPrefix};
+ghost use Rattle.flusher.specs.Holding.{store_of, told_of, committed_of};
+ghost use Rattle.server_threads.specs.Answers.{first_desk};
+
+use disk::Disk;
+use flusher::Flusher;
+use hub::{Board, Hub, Seat, Tally};
+use hub_desk::HubDesk;
+use published::Site;
+use refusal::Refusal;
+use std::alloc::Global;
+use std::sync::Wait;
+
+/// All seats that a board has to give, which are so many.
+pub(crate) fn seats_of<J: Site, D>(
+    alloc: Global,
+    board: &mut Board<D, J>,
+    count: u32,
+) -> Result<Vec<Seat<J>>, Refusal>
+    requires left { board.old.left ≡ count }
+    ensures new { IfOk result (λ seats. All (λ seat. seat ≡ 0) seats.items) }
+    ensures all { IfOk result (λ seats. length seats.items ≡ count) }
+    ensures only { IsOkUnless result Refusal.NoMemory }
+{
+    let mut seats = Vec::new(alloc);
+    for i in 0..count {
+        let Ok(seat) = board.seat() else {
+            unreachable!()
+        };
+        seats.push(seat)?;
+    }
+    Ok(seats)
+}
+
+/// A desk for each seat for which there is a viewer, and the others tallied. Refused where there is no memory, or no viewer at all.
+pub(crate) fn desks_at<'a, J: Site, R: Wait, D: Disk + Drop>(
+    rt: &'a R,
+    alloc: Global,
+    flusher: &Flusher<D, J>,
+    hub: &'a Hub<D, J>,
+    seats: Vec<Seat<J>>,
+    tally: &mut Tally<J>,
+) -> Result<Vec<HubDesk<'a, D, J, R>>, Refusal>
+    requires told { told_of flusher.now ≡ [] }
+    requires new { All (λ seat. seat ≡ 0) seats.items }
+    ensures some { IfOk result (λ desks. 1 ≤ length desks.items) }
+    ensures first { IfOk result (λ desks. All (λ desk. desk ≡ first_desk) desks.items) }
+    ensures all { IfOk result (λ desks. length desks.items + tally.new.seats ≡ length seats.items + tally.old.seats) }
+    ensures none { IfOk result (λ desks. tally.new.counted ≡ tally.old.counted) }
+    ensures only { IsOkUnless result Refusal.NoMemory }
+{
+    let mut desks = Vec::new(alloc);
+    for seat in seats {
+        match flusher.viewer() {
+            Some(viewer) => desks.push(HubDesk::new(rt, hub, seat, viewer))?,
+            None => tally.add(seat),
+        }
+    }
+    if desks.is_empty() {
+        return Err(Refusal::NoMemory);
+    }
+    Ok(desks)
+}
+
+/// Tallies the seats of desks that are used no longer, each of which was told of some first batches of those that are published and
+/// committed. It takes no memory.
+pub(crate) fn tally_desks<J: Site, R, D: Disk>(
+    flusher: &mut Flusher<D, J>,
+    desks: Vec<HubDesk<'_, D, J, R>>,
+    tally: &mut Tally<J>,
+)
+    ensures seats { tally.new.seats ≡ tally.old.seats + length desks.entry.items }
+    ensures counted { tally.new.counted ≡ tally.old.counted + sum_by (λ desk. desk.counted) desks.entry.items }
+    ensures told { All (λ desk. IsPrefix desk.told (told_of flusher.old ++ committed_of flusher.old)) desks.entry.items }
+    ensures store { store_of flusher.new ≡ store_of flusher.old }
+{
+    for desk in desks {
+        let (seat, viewer) = desk.into_parts();
+        flusher.covers(&viewer.told());
+        tally.add(seat);
+    }
+}

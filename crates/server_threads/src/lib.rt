@@ -1,0 +1,81 @@
+//! The threads of a server: one writes, and each session has its own.
+//!
+//! `specs/Served.antt` says what the life of a server leaves, by one record, `WasServed`, whatever its sessions do. There is one order of the
+//! commands that were taken, a legal history from the state that the store was opened with. The store that is given back holds what a
+//! prefix of it makes, which is all of it after an `Ok`, and a crash at any moment leaves what a prefix makes, at the end of a batch. Each command
+//! that a desk answered as taken has its place in the order, with its revision, and what stands there is what the rule of acceptance takes for
+//! just this command; for each point in a desk's exchanges there was a moment from which on no crash takes away what was acknowledged by
+//! then. And nothing else was ordered: the order is as long as what the seats of the desks counted. A seat counts each command that its desk
+//! answered as taken, perhaps some of those that it answered `StoreFailed`, and nothing else.
+//!
+//! A server begins (`begin` in `life.rt`) with a flusher and a board from `start`, a hub of that board, and all seats. It has a desk at the hub
+//! for each seat for which there is a viewer. `hold_beside` holds whatever sessions it is given at these desks, beside the thread that writes,
+//! by `flush_all` of `turns`. When the sessions have ended the hub is ended, and the flusher writes what is left. Then the desks are tallied,
+//! and the hub gives its board back: the board owns the order, and its seats have counted all of it. The thread that writes is asked for
+//! before anybody is served. Where the system gives none, nobody is, and the store comes back unchanged.
+//!
+//! `serve_on` holds sessions over the connections of a listener, by `serve_desks` of `sockets`, and `serve_streams` one over a pair of streams,
+//! by `serve_session` of `serving`. Of streams `specs/Streams.antt` says what was written. Of sockets nothing can be said: so the desks of
+//! `serve_on` are some desks; that they are those of its sessions is in `serve_all` and `hold_at`, and no clause says it, nor which bytes went
+//! through which of them.
+//!
+//! Callers, which `server_threads_tests` proves:
+//!
+//! ```text
+//! ghost use Rattle.std.specs.Prelude.{true, IfOk, is_ok};
+//! ghost use Rattle.recovery.specs.Open.{state_of};
+//! ghost use Rattle.server_threads.specs.Connections.{EachHasServed};
+//! ghost use Rattle.server_threads.specs.Served.{WasServed};
+//! ghost use Rattle.server_threads.specs.Streams.{ByOne, EndsAtHub};
+//!
+//! use disk::Disk;
+//! use recovery::Store;
+//! use refusal::Refusal;
+//! use server_threads::{Streamed, serve_on, serve_streams};
+//! use session::Output;
+//! use std::alloc::Global;
+//! use std::io::Read;
+//! use std::net::{OpenListener, TcpStream};
+//! use std::sync::Wait;
+//! use std::thread::Threads;
+//!
+//! /// Serves a store until the listener fails, with a milestone after about every 256 revisions, and gives it back where all that was
+//! /// ordered is written.
+//! pub fn serve_store<
+//!     R: Threads + Wait + Sync,
+//!     N: OpenListener<Stream = TcpStream> + Sync,
+//!     D: Disk + Send + Drop,
+//! >(rt: &R, alloc: Global, store: Store<D>, listener: &N) -> Result<Store<D>, Refusal>
+//!     ensures { IfOk result (λ after. WasServed (EachHasServed (state_of store)) true store after) }
+//! {
+//!     let (after, served) = serve_on(rt, alloc, store, listener, 256);
+//!     served?;
+//!     Ok(after)
+//! }
+//!
+//! /// Serves one session over a pair of streams: what it wrote comes of its input, and the store holds all that its desk acknowledged.
+//! pub fn serve_session<
+//!     R: Threads + Wait + Sync,
+//!     I: Read + Drop,
+//!     O: Output + Drop,
+//!     D: Disk + Send + Drop,
+//! >(rt: &R, alloc: Global, store: Store<D>, input: I, output: O) -> Streamed<I, O, D>
+//!     ensures { WasServed (ByOne (EndsAtHub result.served (state_of store)
+//!         (I.remaining input) (I.remaining result.input) (O.contents output) (O.contents result.output)
+//!         (O.has_failed result.output))) (is_ok result.served) store result.store }
+//! {
+//!     serve_streams(rt, alloc, store, input, output, 256)
+//! }
+//! ```
+#![tactic(auto)]
+
+mod beside;
+mod connections;
+mod desks;
+mod life;
+mod streams;
+mod writing;
+mod written;
+
+pub use connections::serve_on;
+pub use streams::{Streamed, serve_streams};

@@ -1,0 +1,147 @@
+//! The life of a server: how it begins, and how it ends.
+ghost use Rattle.std.specs.Prelude.{◌≡◌, ◌+◌, ◌↔◌, Ok, All, IfOk, IfErr, OnOk, IsErrOf, length};
+ghost use Rattle.recovery.specs.Open.{state_of};
+ghost use Rattle.flusher.specs.Holding.{store_of};
+ghost use Rattle.server_threads.specs.Held.{IsTallied, IsCounted};
+ghost use Rattle.server_threads.specs.Served.{IsStarted};
+
+use crate::desks::{seats_of, tally_desks};
+use disk::Disk;
+use flusher::{Flusher, StartFault, start};
+use hub::{Closer, Hub, Seat, Tally, Writer};
+use hub_desk::HubDesk;
+use published::{Opened, Ordered, Site};
+use recovery::Store;
+use refusal::Refusal;
+use std::alloc::Global;
+use std::snapshot::Snapshot;
+use std::sync::Wait;
+use std::sync::ledger::Blank;
+
+/// What a server has beside its hub before it serves anybody: its store, the rights to write what the hub orders and to end it, and all seats
+/// that there are to give, with their tally.
+pub(crate) struct Server<D: Disk, J: Site> {
+    pub(crate) held: Snapshot<Store<D>>,
+    pub(crate) flusher: Flusher<D, J>,
+    pub(crate) writer: Writer<J>,
+    pub(crate) closer: Closer<J>,
+    pub(crate) seats: Vec<Seat<J>>,
+    pub(crate) tally: Tally<J>,
+}
+
+/// Begins a server of so many seats over a store. Refused out of memory alone; the store is unchanged then.
+pub(crate) fn begin<J: Site, R: Wait, D: Disk + Drop>(
+    rt: &R,
+    alloc: Global,
+    store: Store<D>,
+    opened: Opened,
+    blank: Blank,
+    count: u32,
+) -> Result<(Hub<D, J>, Server<D, J>), (Store<D>, Refusal)>
+    requires book { opened ≡ J.book }
+    requires name { blank.name ≡ J.name }
+    requires parts { blank.parts ≡ J.parts }
+    requires count { blank.parts ≡ count + 1 }
+    requires start { state_of store ≡ J.start }
+    ensures store { IfOk result (λ begun. (begun.1.held.value ≡ store) × (store_of begun.1.flusher ≡ store)) }
+    ensures started { IfOk result (λ begun. IsStarted begun.1.flusher) }
+    ensures new { IfOk result (λ begun. All (λ seat. seat ≡ 0) begun.1.seats.items) }
+    ensures all { IfOk result (λ begun. length begun.1.seats.items ≡ count) }
+    ensures none { IfOk result (λ begun. begun.1.tally ≡ record { seats = 0; counted = 0 }) }
+    ensures refused { IfErr result (λ back. (back.0 ≡ store) × (back.1 ≡ Refusal.NoMemory)) }
+{
+    let held = Snapshot::of(&store);
+    let (flusher, board) = match start::<D, J>(alloc, store, opened, blank, count) {
+        Ok(started) => started,
+        Err(StartFault { store, refusal }) => return Err((store, refusal)),
+    };
+    let mut board = board;
+    let tally = board.tally();
+    let seats = match seats_of(alloc, &mut board, count) {
+        Ok(seats) => seats,
+        Err(refusal) => return Err((flusher.end(rt), refusal)),
+    };
+    let (hub, writer, closer) = Hub::new(board);
+    let server = Server {
+        held,
+        flusher,
+        writer,
+        closer,
+        seats,
+        tally,
+    };
+    Ok((hub, server))
+}
+
+/// What is left where all sessions have ended: the flusher and how its writing ended, a token of the order, how many commands are published,
+/// and the tally of the seats.
+pub(crate) struct Past<D: Disk, J: Site> {
+    pub(crate) flusher: Flusher<D, J>,
+    pub(crate) written: Result<(), Refusal>,
+    pub(crate) ordered: Ordered<J>,
+    pub(crate) published: u64,
+    pub(crate) tally: Tally<J>,
+}
+
+/// Tallies the seats of desks that are used no longer. It takes no memory.
+pub(crate) fn tally_all<J: Site, R, D: Disk>(
+    flusher: Flusher<D, J>,
+    written: Result<(), Refusal>,
+    desks: Vec<HubDesk<'_, D, J, R>>,
+    tally: Tally<J>,
+) -> Past<D, J>
+    requires none { tally.counted ≡ 0 }
+    ensures tallied { IsTallied J.start desks.entry.items flusher result.ordered result.published result.tally.counted (store_of result.flusher) }
+    ensures written { result.written ≡ written }
+    ensures seats { result.tally.seats ≡ tally.seats + length desks.entry.items }
+{
+    let mut flusher = flusher;
+    let mut tally = tally;
+    flusher.kept();
+    flusher.few();
+    let ordered = flusher.ordered();
+    let published = flusher.told().len();
+    tally_desks(&mut flusher, desks, &mut tally);
+    Past {
+        flusher,
+        written,
+        ordered,
+        published,
+        tally,
+    }
+}
+
+/// Ends a server all of whose seats are tallied, and gives the store back and how the writing ended: well only where all of the order is
+/// published.
+pub(crate) fn end<J: Site, R: Wait, D: Disk + Drop>(
+    rt: &R,
+    hub: Hub<D, J>,
+    past: Past<D, J>,
+) -> (Store<D>, Result<(), Refusal>)
+    requires seats { past.tally.seats + 1 ≡ J.parts }
+    ensures store { result.0 ≡ store_of past.flusher }
+    ensures counted { IsCounted J.start past.ordered past.published past.tally.counted past.written result.1 }
+{
+    let Past {
+        flusher,
+        written,
+        ordered,
+        published,
+        tally,
+    } = past;
+    let count = hub.into_board().end(tally, &ordered);
+    let answer = all_written(written, count, published);
+    (flusher.end(rt), answer)
+}
+
+// How the writing ended, of as many commands as are published: well only where the order has no more.
+fn all_written(written: Result<(), Refusal>, ordered: usize, published: u64) -> Result<(), Refusal>
+    ensures all { OnOk result ((written ≡ Ok tt) × (ordered ≡ published)) }
+    ensures fault { IsErrOf result Refusal.Fault ↔ IsErrOf written Refusal.Fault }
+{
+    written?;
+    if ordered as u64 != published {
+        return Err(Refusal::StoreFailed);
+    }
+    Ok(())
+}

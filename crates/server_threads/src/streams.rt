@@ -1,0 +1,334 @@
+//! A store over a pair of streams.
+ghost use Rattle.std.specs.Prelude.{◌≡◌, false, [], All, IfOk, OnOk, IfErr, IsErrOf, is_ok, length};
+ghost use Rattle.recovery.specs.Open.{state_of, has_failed};
+ghost use Rattle.serving.specs.Serving.{beginning};
+ghost use Rattle.flusher.specs.Holding.{store_of};
+ghost use Rattle.server_threads.specs.Answers.{first_desk};
+ghost use Rattle.server_threads.specs.Held.{HasHeld};
+ghost use Rattle.server_threads.specs.Served.{IsStarted, WasServed};
+ghost use Rattle.server_threads.specs.Streams.{ByOne, EndsAtHub, first_of};
+
+use crate::beside::{Both, hold_beside};
+use crate::desks::desks_at;
+use crate::life::{Past, Server, begin, end, tally_all};
+use crate::writing::Shared;
+use disk::Disk;
+use flusher::Flusher;
+use hub::Hub;
+use hub_desk::HubDesk;
+use published::{Opened, Site};
+use recovery::Store;
+use refusal::Refusal;
+use serving::{Failure, serve_session};
+use session::{Output, Session, Shelf};
+use std::alloc::Global;
+use std::io::Read;
+use std::marker::Brand;
+use std::sync::Wait;
+use std::sync::ledger::Blank;
+use std::thread::Threads;
+
+/// The parts of the ledger that counts what the one seat took: one for it, and one that is left.
+const PARTS: u64 = 2;
+
+/// What serving over a pair of streams gives back: the store, the streams, and how it ended.
+#[derive(Drop)]
+pub struct Streamed<I, O, D: Disk> {
+    pub store: Store<D>,
+    pub input: I,
+    pub output: O,
+    pub served: Result<(), Failure>,
+}
+
+/// Serves one session to the end of the input, with the news after each line, while a thread of its own writes: a reply is out once its
+/// command is on the disk. Then what was ordered is written, the thread has ended, and the store and the streams are given back. A milestone
+/// of a document is put where it passes a multiple of `every` revisions; 0 puts none.
+///
+/// It ends at once where a stream fails (`Stream`), else with `StoreFailed` where the store has failed by then; and with `NoMemory` before
+/// it takes any of the input, also where the system gives no thread to write in.
+pub fn serve_streams<
+    R: Threads + Wait + Sync,
+    I: Read + Drop,
+    O: Output + Drop,
+    D: Disk + Send + Drop,
+>(rt: &R, alloc: Global, store: Store<D>, input: I, output: O, every: u32) -> Streamed<I, O, D>
+    // What is written to the output is the replies to the input, by the answers of one desk, and the news after each line; what that desk
+    // answered is kept, and the order is as long as what its seat counted. After an `Ok` the store holds all of the order.
+    ensures served { WasServed (ByOne (EndsAtHub result.served (state_of store)
+        (I.remaining input) (I.remaining result.input) (O.contents output) (O.contents result.output)
+        (O.has_failed result.output))) (is_ok result.served) store result.store }
+    ensures no_memory { IsErrOf result.served (Failure.Refused Refusal.NoMemory) → (result.store ≡ store)
+        × (result.input ≡ input) × (result.output ≡ output) }
+    // A store that fails is told of.
+    ensures works { OnOk result.served (has_failed store ≡ false → has_failed result.store ≡ false) }
+{
+    let Some(opened) = Opened::new() else {
+        return Streamed {
+            store,
+            input,
+            output,
+            served: Err(Failure::Refused(Refusal::NoMemory)),
+        };
+    };
+    let blank = Blank::new(PARTS);
+    serve_run::<Brand, R, I, O, D>(rt, alloc, store, opened, blank, input, output, every)
+}
+
+// Serves the run that its ledger, its logs and its store's state name.
+fn serve_run<
+    J: Site + Sync + Send,
+    R: Threads + Wait + Sync,
+    I: Read + Drop,
+    O: Output + Drop,
+    D: Disk + Send + Drop,
+>(
+    rt: &R,
+    alloc: Global,
+    store: Store<D>,
+    opened: Opened,
+    blank: Blank,
+    input: I,
+    output: O,
+    every: u32,
+) -> Streamed<I, O, D>
+    requires book { opened ≡ J.book }
+    requires name { blank.name ≡ J.name }
+    requires parts { blank.parts ≡ J.parts }
+    requires seats { blank.parts ≡ 2 }
+    requires start { state_of store ≡ J.start }
+    ensures served { WasServed (ByOne (EndsAtHub result.served (state_of store)
+        (I.remaining input) (I.remaining result.input) (O.contents output) (O.contents result.output)
+        (O.has_failed result.output))) (is_ok result.served) store result.store }
+    ensures no_memory { IsErrOf result.served (Failure.Refused Refusal.NoMemory) → (result.store ≡ store)
+        × (result.input ≡ input) × (result.output ≡ output) }
+    ensures works { OnOk result.served (has_failed store ≡ false → has_failed result.store ≡ false) }
+{
+    let streams = OverStreams { input, output };
+    match begin::<J, R, D>(rt, alloc, store, opened, blank, 1) {
+        Ok((hub, server)) => serve_from(rt, alloc, hub, server, streams, every),
+        Err((store, refusal)) => streams.back(store, Err(Failure::Refused(refusal))),
+    }
+}
+
+// Serves from a server's beginning to its end.
+fn serve_from<
+    J: Site + Sync + Send,
+    R: Threads + Wait + Sync,
+    I: Read + Drop,
+    O: Output + Drop,
+    D: Disk + Send + Drop,
+>(
+    rt: &R,
+    alloc: Global,
+    hub: Hub<D, J>,
+    server: Server<D, J>,
+    streams: OverStreams<I, O>,
+    every: u32,
+) -> Streamed<I, O, D>
+    requires store { server.held.value ≡ store_of server.flusher }
+    requires started { IsStarted server.flusher }
+    requires new { All (λ seat. seat ≡ 0) server.seats.items }
+    requires one { length server.seats.items ≡ 1 }
+    requires parts { J.parts ≡ 2 }
+    requires none { server.tally ≡ record { seats = 0; counted = 0 } }
+    ensures served { WasServed (ByOne (EndsAtHub result.served J.start
+        (I.remaining streams.input) (I.remaining result.input) (O.contents streams.output) (O.contents result.output)
+        (O.has_failed result.output))) (is_ok result.served) (store_of server.flusher) result.store }
+    ensures no_memory { IsErrOf result.served (Failure.Refused Refusal.NoMemory) → (result.store ≡ store_of server.flusher)
+        × (result.input ≡ streams.input) × (result.output ≡ streams.output) }
+    ensures works { OnOk result.served (has_failed (store_of server.flusher) ≡ false → has_failed result.store ≡ false) }
+{
+    match hold_at(rt, alloc, &hub, server, streams, every) {
+        Ok((past, streams, answer)) => {
+            let (store, written) = end(rt, hub, past);
+            streams.back(store, first_failure(answer, written))
+        }
+        Err((flusher, streams)) => {
+            let refused = Err(Failure::Refused(Refusal::NoMemory));
+            streams.back(flusher.end(rt), refused)
+        }
+    }
+}
+
+// Holds the session over the streams at the one desk of a hub, while a thread of its own writes. Refused where there is no memory or no
+// thread; the flusher and the streams are unchanged then.
+fn hold_at<
+    J: Site + Sync + Send,
+    R: Threads + Wait + Sync,
+    I: Read + Drop,
+    O: Output + Drop,
+    D: Disk + Send + Drop,
+>(
+    rt: &R,
+    alloc: Global,
+    hub: &Hub<D, J>,
+    server: Server<D, J>,
+    streams: OverStreams<I, O>,
+    every: u32,
+) -> Result<
+    (Past<D, J>, OverStreams<I, O>, Result<(), Failure>),
+    (Flusher<D, J>, OverStreams<I, O>),
+>
+    requires store { server.held.value ≡ store_of server.flusher }
+    requires started { IsStarted server.flusher }
+    requires new { All (λ seat. seat ≡ 0) server.seats.items }
+    requires one { length server.seats.items ≡ 1 }
+    requires none { server.tally ≡ record { seats = 0; counted = 0 } }
+    ensures held { IfOk result (λ all. HasHeld (ByOne (EndsAtHub all.2 J.start
+        (I.remaining streams.input) (I.remaining all.1.input) (O.contents streams.output) (O.contents all.1.output)
+        (O.has_failed all.1.output))) J.start server.flusher all.0.ordered all.0.published all.0.tally.counted
+        all.0.written (store_of all.0.flusher)) }
+    ensures seats { IfOk result (λ all. all.0.tally.seats ≡ 1) }
+    ensures only { IfOk result (λ all. IfErr all.2 (λ e. e ≡ Failure.Stream)) }
+    ensures refused { IfErr result (λ back. (back.0 ≡ server.flusher) × (back.1 ≡ streams)) }
+{
+    let Server {
+        held,
+        flusher,
+        writer,
+        closer,
+        seats,
+        tally,
+    } = server;
+    let Ok(session) = Session::new(alloc) else {
+        return Err((flusher, streams));
+    };
+    let Ok(shelf) = Shelf::new(alloc) else {
+        return Err((flusher, streams));
+    };
+    let mut tally = tally;
+    let Ok(desks) = desks_at(rt, alloc, &flusher, hub, seats, &mut tally) else {
+        return Err((flusher, streams));
+    };
+    let shared = Shared {
+        rt,
+        alloc,
+        hub,
+        every,
+    };
+    flusher.kept();
+    match hold_beside(
+        &shared,
+        held,
+        flusher,
+        writer,
+        closer,
+        streams,
+        desks,
+        |streams, desks| -> (
+            (OverStreams<I, O>, Result<(), Failure>),
+            Vec<HubDesk<'_, D, J, R>>,
+        )
+            requires { (session ≡ beginning) × (shelf ≡ []) × (length desks.items ≡ 1)
+                × All (λ desk. desk ≡ first_desk) desks.items }
+            ensures ends { ByOne (EndsAtHub result.0.1 J.start
+                (I.remaining streams.input) (I.remaining result.0.0.input) (O.contents streams.output) (O.contents result.0.0.output)
+                (O.has_failed result.0.0.output)) result.1.items }
+            ensures only { IfErr result.0.1 (λ e. e ≡ Failure.Stream) }
+        { serve_one(alloc, session, shelf, streams, desks) },
+    ) {
+        Ok(
+            Both {
+                flusher,
+                written,
+                held,
+            },
+        ) => {
+            let ((streams, answer), desks) = held;
+            Ok((tally_all(flusher, written, desks, tally), streams, answer))
+        }
+        Err(back) => Err(back),
+    }
+}
+
+// What ended the session, or else that the store failed.
+fn first_failure(answer: Result<(), Failure>, written: Result<(), Refusal>) -> Result<(), Failure>
+    ensures { result ≡ first_of answer written }
+{
+    answer?;
+    if written.is_err() {
+        return Err(Failure::Refused(Refusal::StoreFailed));
+    }
+    Ok(())
+}
+
+// The streams of a session.
+#[derive(Drop)]
+struct OverStreams<I, O> {
+    input: I,
+    output: O,
+}
+
+impl<I, O> OverStreams<I, O> {
+    // They are given back, with the store and how serving ended.
+    fn back<D: Disk>(self, store: Store<D>, served: Result<(), Failure>) -> Streamed<I, O, D>
+        ensures { result ≡ record { store = store; input = self.input; output = self.output; served = served } }
+    {
+        let OverStreams { input, output } = self;
+        Streamed {
+            store,
+            input,
+            output,
+            served,
+        }
+    }
+}
+
+// Serves the session at the one desk there is.
+fn serve_one<'a, J: Site, R: Wait, I: Read + Drop, O: Output + Drop, D>(
+    alloc: Global,
+    session: Session,
+    shelf: Shelf,
+    streams: OverStreams<I, O>,
+    desks: Vec<HubDesk<'a, D, J, R>>,
+) -> (
+    (OverStreams<I, O>, Result<(), Failure>),
+    Vec<HubDesk<'a, D, J, R>>,
+)
+    requires session { session ≡ beginning }
+    requires shelf { shelf ≡ [] }
+    requires one { length desks.items ≡ 1 }
+    requires first { All (λ desk. desk ≡ first_desk) desks.items }
+    ensures ends { ByOne (EndsAtHub result.0.1 J.start
+        (I.remaining streams.input) (I.remaining result.0.0.input) (O.contents streams.output) (O.contents result.0.0.output)
+        (O.has_failed result.0.0.output)) result.1.items }
+    ensures only { IfErr result.0.1 (λ e. e ≡ Failure.Stream) }
+{
+    let OverStreams {
+        mut input,
+        mut output,
+    } = streams;
+    let mut session = session;
+    let mut shelf = shelf;
+    let mut desks = desks;
+    let answer = serve_first(
+        alloc,
+        &mut session,
+        &mut desks,
+        &mut shelf,
+        &mut input,
+        &mut output,
+    );
+    ((OverStreams { input, output }, answer), desks)
+}
+
+// Serves the session by the first desk, which is the only one.
+fn serve_first<J: Site, R: Wait, I: Read, O: Output, D>(
+    alloc: Global,
+    session: &mut Session,
+    desks: &mut Vec<HubDesk<'_, D, J, R>>,
+    shelf: &mut Shelf,
+    input: &mut I,
+    output: &mut O,
+) -> Result<(), Failure>
+    requires session { session.old ≡ beginning }
+    requires shelf { shelf.old ≡ [] }
+    requires one { length desks.old.items ≡ 1 }
+    requires first { All (λ desk. desk ≡ first_desk) desks.old.items }
+    ensures ends { ByOne (EndsAtHub result J.start
+        (I.remaining input.old) (I.remaining input.new) (O.contents output.old) (O.contents output.new)
+        (O.has_failed output.new)) desks.new.items }
+    ensures only { IfErr result (λ e. e ≡ Failure.Stream) }
+{
+    serve_session(alloc, session, &mut desks[0], shelf, input, output)
+}

@@ -1,0 +1,61 @@
+//! What comes of the thread that writes.
+use disk::Disk;
+use flusher::Flusher;
+use published::Site;
+use recovery::Store;
+use refusal::Refusal;
+use std::marker::PhantomData;
+use std::snapshot::Snapshot;
+use std::sync::Wait;
+use std::thread::Promise;
+
+/// The flusher that wrote, how it ended, and whether it was begun.
+pub(crate) struct Written<'a, D: Disk + Drop, J: Site, R: Wait> {
+    pub(crate) rt: &'a R,
+    pub(crate) flusher: Flusher<D, J>,
+    pub(crate) answer: Result<(), Refusal>,
+    pub(crate) is_begun: bool,
+}
+
+impl<D: Disk + Drop, J: Site, R: Wait> Drop for Written<'_, D, J, R> {
+    fn drop(self) {
+        let Written {
+            rt,
+            flusher,
+            answer: _,
+            is_begun: _,
+        } = self;
+        drop(flusher.end(rt));
+    }
+}
+
+impl<D: Disk + Drop, J: Site, R: Wait> Written<'_, D, J, R> {
+    ghost use Rattle.std.specs.Prelude.{◌≡◌};
+
+    /// Gives the flusher back, and how it ended.
+    pub(crate) fn into_parts(self) -> (Flusher<D, J>, Result<(), Refusal>)
+        ensures flusher { result.0 ≡ self.entry.flusher }
+        ensures answer { result.1 ≡ self.entry.answer }
+    {
+        let Written {
+            rt: _,
+            flusher,
+            answer,
+            is_begun: _,
+        } = self;
+        (flusher, answer)
+    }
+}
+
+/// Promises what comes of a flusher that was just started over this store.
+#[derive(Drop)]
+pub(crate) struct WrittenBy<D: Disk, J: Site> {
+    pub(crate) store: Snapshot<Store<D>>,
+    pub(crate) of: PhantomData<J>,
+}
+
+impl<'a, D: Disk + Drop, J: Site, R: Wait> Promise<Written<'a, D, J, R>> for WrittenBy<D, J> {
+    ghost use Rattle.server_threads.specs.Written.{StartedOverWrites};
+
+    ghost kept_by = { λ by written. StartedOverWrites J.start by.store.value written.flusher written.answer };
+}

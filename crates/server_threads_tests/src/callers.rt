@@ -1,0 +1,76 @@
+//! The callers that open `lib.rt` of hub_desk, sockets and server_threads.
+ghost use Rattle.std.specs.Prelude.{◌∷◌, [], true, IfErr, IfOk, is_ok};
+ghost use Rattle.recovery.specs.Open.{state_of};
+ghost use Rattle.hub_desk.specs.AtHub.{Acknowledges, Refuses};
+ghost use Rattle.server_threads.specs.Connections.{EachHasServed};
+ghost use Rattle.server_threads.specs.Served.{WasServed};
+ghost use Rattle.server_threads.specs.Streams.{ByOne, EndsAtHub};
+ghost use Rattle.sockets.specs.Desks.{HaveServed};
+
+use disk::Disk;
+use hub_desk::HubDesk;
+use published::Site;
+use recovery::Store;
+use refusal::Refusal;
+use revision::Command;
+use server_threads::{Streamed, serve_on, serve_streams};
+use session::{Desk, Output, Reply};
+use sockets::serve_desks;
+use std::alloc::{AllocError, Global};
+use std::io::Read;
+use std::net::{OpenListener, TcpStream};
+use std::sync::Wait;
+use std::thread::Threads;
+
+/// Answers a command at a hub once it is settled: what the desk shows from then on has it.
+pub fn answer<D, J: Site, R: Wait>(
+    alloc: Global,
+    desk: &mut HubDesk<'_, D, J, R>,
+    command: &Command,
+) -> Result<Reply, Refusal>
+    ensures ok { IfOk result (λ reply. Acknowledges J.start desk.old command.now reply desk.new) }
+    ensures err { IfErr result (λ e. Refuses J.start desk.old command.now e desk.new) }
+{
+    desk.ask(alloc, command)
+}
+
+/// Serves one connection after another by a single desk, until the listener fails. What it exchanged is what conversations ask.
+pub fn serve_in_turn<
+    K: Desk + Send + Drop,
+    R: Threads + Wait + Sync,
+    N: OpenListener<Stream = TcpStream>,
+>(rt: &R, alloc: Global, desk: K, listener: &N) -> Result<Vec<K>, AllocError>
+    ensures { IfOk result (λ after. HaveServed K.does (desk ∷ []) after.items) }
+{
+    let mut desks = Vec::new(alloc);
+    desks.push(desk)?;
+    Ok(serve_desks(rt, alloc, desks, listener)?)
+}
+
+/// Serves a store until the listener fails, with a milestone after about every 256 revisions, and gives it back where all that was
+/// ordered is written.
+pub fn serve_store<
+    R: Threads + Wait + Sync,
+    N: OpenListener<Stream = TcpStream> + Sync,
+    D: Disk + Send + Drop,
+>(rt: &R, alloc: Global, store: Store<D>, listener: &N) -> Result<Store<D>, Refusal>
+    ensures { IfOk result (λ after. WasServed (EachHasServed (state_of store)) true store after) }
+{
+    let (after, served) = serve_on(rt, alloc, store, listener, 256);
+    served?;
+    Ok(after)
+}
+
+/// Serves one session over a pair of streams: what it wrote comes of its input, and the store holds all that its desk acknowledged.
+pub fn serve_session<
+    R: Threads + Wait + Sync,
+    I: Read + Drop,
+    O: Output + Drop,
+    D: Disk + Send + Drop,
+>(rt: &R, alloc: Global, store: Store<D>, input: I, output: O) -> Streamed<I, O, D>
+    ensures { WasServed (ByOne (EndsAtHub result.served (state_of store)
+        (I.remaining input) (I.remaining result.input) (O.contents output) (O.contents result.output)
+        (O.has_failed result.output))) (is_ok result.served) store result.store }
+{
+    serve_streams(rt, alloc, store, input, output, 256)
+}

@@ -1,0 +1,173 @@
+mod edits;
+mod faults;
+mod many;
+mod places;
+mod streams;
+
+use disk::{Disk, MemDisk};
+use recovery::{Pick, Shape, Store, format_device};
+use refusal::Refusal;
+use server_threads::serve_on;
+use std::io::{self, ErrorKind, Read, Write};
+use std::net::{Net, OpenListener, SocketAddr, TcpListener, TcpStream};
+use std::process::Abort;
+use std::sync::Wait;
+use std::sync::atomic::{AtomicBool, Ordering};
+use std::thread::{self, Threads};
+use std::time::{Clock, Duration};
+
+/// How often something is tried, a millisecond apart.
+const TRIES: u32 = 100_000;
+
+/// How long a client waits for bytes, in milliseconds.
+const PATIENCE: u64 = 20_000;
+
+const SHAPE: Shape = Shape {
+    slots: 4,
+    slot: 4_096,
+    docs: 4,
+    cell: 16_384,
+    sources: 80,
+    keep: 1_000,
+};
+
+/// The bytes of a device of this shape.
+const DEVICE: usize = 147_520;
+
+/// How far milestones lie apart where little is written: with 2 some are put while a test runs.
+const EVERY: u32 = 2;
+
+const FETCH: &str = "{\"do\":\"fetch\",\"doc\":\"d\"}";
+
+/// A listener that fails once it is told that the test is over.
+#[derive(Drop)]
+struct Until<'a, R: Clock> {
+    rt: &'a R,
+    listener: &'a TcpListener,
+    over: &'a AtomicBool,
+}
+
+impl<'a, R: Clock> OpenListener for Until<'a, R> {
+    type Stream = TcpStream;
+
+    fn accept(&self) -> io::Result<(TcpStream, SocketAddr)> {
+        for _ in 0..TRIES {
+            match self.listener.accept() {
+                Ok(accepted) => return Ok(accepted),
+                Err(error) if error.kind() == ErrorKind::WouldBlock => {}
+                Err(error) => return Err(error),
+            }
+            if self.over.load(Ordering::SeqCst) {
+                return Err(io::Error::from(ErrorKind::Other));
+            }
+            thread::sleep(self.rt, Duration::from_millis(1));
+        }
+        Err(io::Error::from(ErrorKind::TimedOut))
+    }
+}
+
+/// A device with a store without documents.
+fn formatted(rt: &(impl Abort + AllocGlobal)) -> MemDisk {
+    let mut disk = MemDisk::new(rt.alloc(), DEVICE).expect(rt, "memory");
+    assert_eq!(rt; format_device(rt.alloc(), &mut disk, SHAPE), Ok(()));
+    let bytes = disk.bytes().to_vec(rt.alloc()).expect(rt, "memory");
+    MemDisk::holding(rt.alloc(), bytes)
+}
+
+/// A store over a device that is to open.
+fn opened<D: Disk + Drop>(rt: &(impl Abort + AllocGlobal), disk: D) -> Store<D> {
+    match Store::open(rt.alloc(), disk, Pick::Newer) {
+        Ok(store) => store,
+        Err(fault) => panic!(rt; "{}", fault.refusal),
+    }
+}
+
+/// Serves a store while `clients` runs with the address, and gives the store back with what ended the serving. Milestones lie `every`
+/// revisions apart.
+fn served<
+    R: Threads
+        + Wait
+        + Abort
+        + Clock
+        + AllocGlobal
+        + Net<Listener = TcpListener, Stream = TcpStream>
+        + Sync,
+    D: Disk + Send + Drop,
+    F: FnOnce(SocketAddr) + Send,
+>(rt: &R, store: Store<D>, every: u32, clients: F) -> (Store<D>, Result<(), Refusal>)
+    requires { F.IsAlwaysCallable clients }
+{
+    let listener = TcpListener::bind(rt, "127.0.0.1:0").expect(rt, "a listener");
+    listener
+        .set_nonblocking(true)
+        .expect(rt, "a listener that doesn't wait");
+    let address = listener.local_addr().expect(rt, "an address");
+    let over = AtomicBool::new(false);
+    let until = Until {
+        rt,
+        listener: &listener,
+        over: &over,
+    };
+    let (_, ended) = thread::join(
+        rt,
+        || {
+            clients(address);
+            over.store(true, Ordering::SeqCst);
+        },
+        || serve_on(rt, rt.alloc(), store, &until, every),
+    );
+    ended
+}
+
+/// A connection to the address.
+fn connect<R: Net<Stream = TcpStream>>(rt: &R, address: SocketAddr) -> io::Result<TcpStream> {
+    let stream = TcpStream::connect(rt, address)?;
+    stream.set_read_timeout(Some(Duration::from_millis(PATIENCE)))?;
+    Ok(stream)
+}
+
+/// A connection whose source is greeted.
+fn greeted<R: Abort + AllocGlobal + Net<Stream = TcpStream>>(
+    rt: &R,
+    address: SocketAddr,
+    source: &str,
+) -> TcpStream {
+    let stream = connect(rt, address).expect(rt, "a connection");
+    let hello = format!(in rt.alloc(); "{{\"do\":\"hello\",\"source\":\"{source}\"}}");
+    is_told(
+        rt,
+        &stream,
+        hello.expect(rt, "memory").as_str(),
+        "{\"ok\":\"hello\"}",
+    );
+    stream
+}
+
+/// The next line that comes, without its end. It is to come before the stream ends.
+fn line_from(rt: &(impl Abort + AllocGlobal), stream: &TcpStream) -> String {
+    let mut bytes = Vec::new(rt.alloc());
+    let mut input = stream;
+    let mut byte = [0];
+    for _ in 0..100_000 {
+        let count = input.read(&mut byte).expect(rt, "a read");
+        assert_eq!(rt; count, 1);
+        if byte[0] == b'\n' {
+            break;
+        }
+        bytes.push(byte[0]).expect(rt, "memory");
+    }
+    String::from_utf8(bytes).expect(rt, "a text")
+}
+
+/// Sends a line.
+fn send(rt: &impl Abort, stream: &TcpStream, line: &str) {
+    let mut output = stream;
+    output.write_all(line.as_bytes()).expect(rt, "a write");
+    output.write_all(b"\n").expect(rt, "a write");
+}
+
+/// Sends a line, and this one comes.
+fn is_told(rt: &(impl Abort + AllocGlobal), stream: &TcpStream, line: &str, reply: &str) {
+    send(rt, stream, line);
+    assert_eq!(rt; line_from(rt, stream).as_str(), reply);
+}

@@ -1,0 +1,125 @@
+-- Turns of a conversation, one behind another.
+use Rattle.std.proofs.Common.{◌++◌, ℕ, List, [], ◌∷◌, Option, Some, None, Result, Ok, Err, OnErr, refl, sym, ap, subst, ◌∙◌, append_assoc, append-nil}
+use Rattle.std.specs.Io.KnownBytes.{Appends, Consumes, Keeps}
+use Rattle.session.specs.Session.{Session}
+use Rattle.session.specs.Exchange.{Exchange}
+use Rattle.session.specs.Replies.{Feeds}
+use Rattle.session.specs.Calls.{Call, Fed, OfPiece, TellsNews}
+use Rattle.session.proofs.CallerLemmas.{asks-joined, appends-both, calls-joined, calls-one}
+use Rattle.sockets.specs.Conversation.{AreAnsweredBy, no_turn, turn, Answers, Converses, StopsIn, StopsConversing}
+
+-- what holds anyhow holds of a call that fails
+pub on_err : {T E : Type 0} {P : Type 0} (r : Result T E) → P → OnErr r P
+on_err (Ok x) h = tt
+on_err (Err e) h = h
+
+pub keeps_consumes : (a b : Option (List ℕ)) → Keeps a b → Consumes a b []
+keeps_consumes None b kept = tt
+keeps_consumes (Some x) None kept = absurd kept
+keeps_consumes (Some x) (Some y) kept = sym kept
+
+consumes_nothing : (a : Option (List ℕ)) → Consumes a a []
+consumes_nothing None = tt
+consumes_nothing (Some x) = refl
+
+consumes_both : (a b c : Option (List ℕ)) (front back : List ℕ) → Consumes a b front → Consumes b c back → Consumes a c (front ++ back)
+consumes_both None b c front back first second = tt
+consumes_both (Some x) None c front back first second = absurd first
+consumes_both (Some x) (Some y) None front back first second = absurd second
+consumes_both (Some x) (Some y) (Some z) front back first second = first ∙ ap (λ l. front ++ l) second ∙ sym (append_assoc front back z)
+
+appends_nothing : (a : Option (List ℕ)) → Appends a a []
+appends_nothing None = tt
+appends_nothing (Some x) = sym (append-nil x)
+
+-- what is written is kept by a flush
+appends_kept : (a b c : Option (List ℕ)) (text : List ℕ) → Appends a b text → Keeps b c → Appends a c text
+appends_kept None b c text written kept = tt
+appends_kept (Some x) None c text written kept = absurd written
+appends_kept (Some x) (Some y) None text written kept = absurd kept
+appends_kept (Some x) (Some y) (Some z) text written kept = kept ∙ written
+
+-- turns, and then others
+turns_joined : (front back : List ℕ) (a b : List Call) → AreAnsweredBy front a → AreAnsweredBy back b → AreAnsweredBy (front ++ back) (a ++ b)
+turns_joined front back a b no_turn second = second
+turns_joined front back a b (turn piece bytes news calls for_news rest) second =
+    subst (λ (l : List ℕ). AreAnsweredBy l (Fed piece ∷ (news ∷ (calls ++ b)))) (sym (append_assoc piece bytes back))
+    (turn piece (bytes ++ back) news (calls ++ b) for_news (turns_joined bytes back calls b rest second))
+
+module _ {D : Type 0} (does : D → Exchange → D → Type 0) where
+  -- what comes of no byte
+  pub fed_nothing : (s : Session) (d : D) (o : Option (List ℕ)) → Feeds does s [] s d d o o
+  fed_nothing s d o = record { asked = []; text = []; replies = (refl, refl, refl); asks = refl; written = appends_nothing o }
+
+  answers_nothing : (s : Session) (d : D) (o : Option (List ℕ)) → Answers does s [] s d d o o
+  answers_nothing s d o = record { calls = []; turns = no_turn; asked = []; text = []; comes = (refl, refl, refl); asks = refl; written = appends_nothing o }
+
+  answers_joined : (front back : List ℕ) (old mid new : Session) (d e f : D) (o p q : Option (List ℕ))
+      → Answers does old front mid d e o p → Answers does mid back new e f p q → Answers does old (front ++ back) new d f o q
+  answers_joined front back old mid new d e f o p q first second = record {
+    calls = first.calls ++ second.calls;
+    turns = turns_joined front back first.calls second.calls first.turns second.turns;
+    asked = first.asked ++ second.asked;
+    text = first.text ++ second.text;
+    comes = calls-joined first.calls second.calls old mid new first.asked second.asked first.text second.text first.comes second.comes;
+    asks = asks-joined does first.asked second.asked d e f first.asks second.asks;
+    written = appends-both o p q first.text second.text first.written second.written;
+  }
+
+  -- One turn: a piece was fed, the news were told, and all of it was sent on or not.
+  pub answers_turn : (piece : List ℕ) (old mid new : Session) (d e f : D) (o p q r : Option (List ℕ)) → Feeds does old piece mid d e o p
+      → TellsNews does mid new e f p q → Keeps q r → Answers does old piece new d f o r
+  answers_turn piece old mid new d e f o p q r fed (call, for_news, told) kept = record {
+    calls = Fed piece ∷ call ∷ [];
+    turns = subst (λ (l : List ℕ). AreAnsweredBy l (Fed piece ∷ call ∷ [])) (append-nil piece) (turn piece [] call [] for_news no_turn);
+    asked = fed.asked ++ told.asked;
+    text = fed.text ++ told.text;
+    comes = calls-joined (Fed piece ∷ []) (call ∷ []) old mid new fed.asked told.asked fed.text told.text
+        (calls-one old mid (Fed piece) fed.asked fed.text (OfPiece piece fed.asked mid fed.text fed.replies))
+        (calls-one mid new call told.asked told.text told.comes);
+    asks = asks-joined does fed.asked told.asked d e f fed.asks told.asks;
+    written = appends_kept o q r (fed.text ++ told.text) (appends-both o p q fed.text told.text fed.written told.written) kept;
+  }
+
+  -- nothing was read, or nothing yet
+  pub converses_nothing : (s : Session) (d : D) (i j o : Option (List ℕ)) → Consumes i j [] → Converses does s s d d i j o o
+  converses_nothing s d i j o consumed = record { bytes = []; consumed = consumed; answers = answers_nothing s d o }
+
+  pub converses_yet : (s : Session) (d : D) (i o : Option (List ℕ)) → Converses does s s d d i i o o
+  converses_yet s d i o = converses_nothing s d i i o (consumes_nothing i)
+
+  pub converses_joined : (old mid new : Session) (d e f : D) (i j k o p q : Option (List ℕ))
+      → Converses does old mid d e i j o p → Converses does mid new e f j k p q → Converses does old new d f i k o q
+  converses_joined old mid new d e f i j k o p q first second = record {
+    bytes = first.bytes ++ second.bytes;
+    consumed = consumes_both i j k first.bytes second.bytes first.consumed second.consumed;
+    answers = answers_joined first.bytes second.bytes old mid new d e f o p q first.answers second.answers;
+  }
+
+  -- a write failed in the first turn, and in one behind others
+  pub stops_first : (piece : List ℕ) (old : Session) (d e : D) (i j o p : Option (List ℕ)) → Consumes i j piece → StopsIn does old d o piece e p
+      → StopsConversing does old d e i j o p
+  stops_first piece old d e i j o p consumed stops = record {
+    front = [];
+    piece = piece;
+    consumed = consumed;
+    mid = old;
+    desk_mid = d;
+    output_mid = o;
+    answers = answers_nothing old d o;
+    stops = stops;
+  }
+
+  pub stops_behind : (old mid : Session) (d e f : D) (i j k o p q : Option (List ℕ)) → Converses does old mid d e i j o p
+      → StopsConversing does mid e f j k p q → StopsConversing does old d f i k o q
+  stops_behind old mid d e f i j k o p q first second = record {
+    front = first.bytes ++ second.front;
+    piece = second.piece;
+    consumed = subst (λ (l : List ℕ). Consumes i k l) (sym (append_assoc first.bytes second.front second.piece))
+        (consumes_both i j k first.bytes (second.front ++ second.piece) first.consumed second.consumed);
+    mid = second.mid;
+    desk_mid = second.desk_mid;
+    output_mid = second.output_mid;
+    answers = answers_joined first.bytes second.front old mid second.mid d e second.desk_mid o p second.output_mid first.answers second.answers;
+    stops = second.stops;
+  }

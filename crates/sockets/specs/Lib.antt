@@ -1,0 +1,4 @@
+pub mod Conversation
+pub mod Desks
+pub mod Room
+pub mod Begun

@@ -1,0 +1,76 @@
+//! What writes in these tests, in the flusher's place.
+ghost use Rattle.std.specs.Prelude.{◌≡◌, []};
+ghost use Rattle.recovery.specs.Open.{state_of};
+
+use crate::CAP;
+use disk::MemDisk;
+use fixtures::{command, commit};
+use hub::{Board, Seat};
+use published::{Opened, Site, Told};
+use recovery::Store;
+use std::process::Abort;
+use std::sync::ledger::Blank;
+use view::Publisher;
+
+/// A store, and the board of its order with the one seat that it gives.
+#[derive(Drop)]
+pub struct Writing<J: Site> {
+    store: Store<MemDisk>,
+    board: Board<MemDisk, J>,
+    seat: Seat<J>,
+}
+
+/// A publisher of nothing yet for the run of a store, what writes there, and the token of the start.
+pub fn begun<J: Site, R: Abort + AllocGlobal>(
+    rt: &R,
+    store: Store<MemDisk>,
+    opened: Opened,
+    blank: Blank,
+) -> (Publisher<MemDisk, J>, Writing<J>, Told<MemDisk, J>)
+    requires book { opened ≡ J.book }
+    requires name { blank.name ≡ J.name }
+    requires parts { blank.parts ≡ J.parts }
+    requires seats { blank.parts ≡ 2 }
+    requires start { state_of store ≡ J.start }
+    ensures { result.0.unpublished ≡ [] }
+{
+    let alloc = rt.alloc();
+    let state = store.state().copy(alloc).expect(rt, "memory");
+    let made = Publisher::<MemDisk, J>::new(alloc, opened, store.state());
+    let (publisher, start, order) = made.expect(rt, "memory");
+    let mut board = Board::new(alloc, &store, state, start.copy(), order, blank, 1);
+    let seat = board.seat().expect(rt, "a seat");
+    let writing = Writing { store, board, seat };
+    (publisher, writing, start)
+}
+
+impl<J: Site> Writing<J> {
+    /// The command of this number, with so many letters, is ordered, committed, and given to be published.
+    pub fn give<R: Abort + AllocGlobal>(
+        &mut self,
+        rt: &R,
+        publisher: &mut Publisher<MemDisk, J>,
+        number: u64,
+        count: u32,
+    )
+        requires { publisher.old.unpublished ≡ [] }
+    {
+        let alloc = rt.alloc();
+        let command = command(alloc, number, count).expect(rt, "a command");
+        if let Err(refusal) = self.board.submit(alloc, &mut self.seat, &command) {
+            panic!(rt; "{refusal}");
+        }
+        let run = self.board.take(alloc, CAP).expect(rt, "memory");
+        if run.len() == 0 || run.place() as u64 != publisher.told().len() {
+            panic!(rt; "it isn't the next part of the order");
+        }
+        let ordered = run.goes_on(publisher.told());
+        match commit(alloc, &mut self.store, run.commands()) {
+            Ok(receipt) => {
+                run.committed(&receipt);
+                publisher.accept(receipt, ordered);
+            }
+            Err(refusal) => panic!(rt; "{refusal}"),
+        }
+    }
+}
