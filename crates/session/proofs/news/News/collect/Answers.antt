@@ -4,7 +4,7 @@ use Rattle.session.proofs.Kept.{read_at}
 use Rattle.std.proofs.lemmas.List.{take_all, length-map}
 use Rattle.session.specs.News.{lines_in, last_in, news, going_on}
 use Rattle.session.proofs.Newsworthy.{news-next, last-next, goes_on}
-use Rattle.session.proofs.news.News.of.Goals as goal
+use Rattle.session.proofs.news.News.collect.Goals as goal
 
 pub loop-entry-preserved : goal.loop-entry-preserved
 loop-entry-preserved c =
