@@ -170,13 +170,14 @@ impl Session {
         if self.ended {
             return Err(SessionEnded);
         }
-        let Ok(news) = show_news(alloc, desk, &self.subscriptions) else {
-            return Ok(false);
-        };
-        if let Some(news) = news {
-            self.tell(out, &news)?;
+        match show_news(alloc, desk, &self.subscriptions) {
+            Ok(Some(news)) => {
+                self.tell(out, &news)?;
+                Ok(true)
+            }
+            Ok(None) => Ok(true),
+            Err(_) => Ok(false),
         }
-        Ok(true)
     }
 
     // Writes what is told, and notes it.
