@@ -20,7 +20,7 @@ use Rattle.flusher.specs.Batches.{IsBeginning}
 use Rattle.flusher.specs.Flushers.{IsUsedUp, IsWritten}
 use Rattle.flusher.specs.Holding.{IsUncommitted, store_of, told_of, committed_of, waiting_of}
 use Rattle.flusher.proofs.CallerLemmas.{commands-append, fewer, longer, within_write}
-use Rattle.turns.specs.Writing.{WasAt, IsKeptUp, IsFullFor, IsOneMore, IsTurnFailed, IsUntouched, given_to, told_count, Writes}
+use Rattle.turns.specs.Writing.{WasAt, IsKeptUp, KeepsUp, IsFullFor, IsOneMore, IsTurnFailed, IsUntouched, given_to, told_count, Writes}
 use Rattle.turns.specs.Turning.{HasTurned}
 use Rattle.turns.specs.declared.turned.Turned.{Turned}
 use Rattle.turns.specs.declared.turned.Turned.TheVariants.{Settled, Nothing}
@@ -371,6 +371,18 @@ module _ {D : Type 0} {disk : Ghosts D} where
   }
 
 module _ {D J : Type 0} {disk : Ghosts D} where
+  -- a flusher that is kept up, by no call, and by one call and then others
+  pub keeps_none : (flusher : Flusher D J disk) → KeepsUp flusher flusher
+  keeps_none flusher = record { kept_up = kept_up_none (store_of flusher); told = refl; committed = refl; waiting = refl }
+
+  pub keeps_on : (old mid new : Flusher D J disk) → KeepsUp old mid → KeepsUp mid new → KeepsUp old new
+  keeps_on old mid new first second = record {
+    kept_up = kept_up_on (store_of old) (store_of mid) (store_of new) first.kept_up second.kept_up;
+    told = second.told ∙ first.told;
+    committed = second.committed ∙ first.committed;
+    waiting = second.waiting ∙ first.waiting;
+  }
+
   -- a store that was kept up, and nothing else
   pub writes_kept_up : (start : State) (old new : Flusher D J disk) → Kept start (state_of (store_of old)) (told_of old) (committed_of old) → IsKeptUp (store_of old) (store_of new)
       → told_of new ≡ told_of old → committed_of new ≡ committed_of old → waiting_of new ≡ waiting_of old → Writes start old new

@@ -63,6 +63,13 @@ module _ {D J : Type 0} {disk : Ghosts D} where
     pub lasts : has_failed (store_of old) ≡ false → IsOpen (store_of old)
         → (content : List ℕ) → MayLeaveNow disk (device_of (store_of new)) content → IsBeginning (told_count new) start (given_to new) content
 
+  -- A flusher's store was kept up, and nothing else: what is published, committed and held stays.
+  pub record KeepsUp (old new : Flusher D J disk) : Type 0 where
+    pub kept_up : IsKeptUp (store_of old) (store_of new)
+    pub told : told_of new ≡ told_of old
+    pub committed : committed_of new ≡ committed_of old
+    pub waiting : waiting_of new ≡ waiting_of old
+
   -- Just one batch was published.
   pub record IsOneMore (old new : Flusher D J disk) : Type 0 where
     pub batch : List Taken
