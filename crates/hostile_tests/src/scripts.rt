@@ -30,7 +30,7 @@ pub enum Step {
 #[derive(Clone, Copy)]
 pub struct Script {
     pub name: &'static str,
-    /// None for a store alone. Else a hub's turns write, which put a milestone where so many revisions are passed.
+    /// None for a store alone. Else a hub's turns write, and before each of them a milestone is put where one is due at a multiple of this.
     pub every: Option<u32>,
     pub steps: &'static [Step],
     /// The document before the first command and after each: its name, revision and operations, and the last number of its source with

@@ -3,6 +3,7 @@ ghost use Rattle.std.specs.Prelude.{◌≡◌, ◌↔◌, [], true, false, OnOk,
 ghost use Rattle.recovery.specs.Open.{has_failed};
 ghost use Rattle.flusher.specs.Holding.{store_of, committed_of, waiting_of};
 ghost use Rattle.turns.specs.Writing.{Writes};
+ghost use Rattle.server_threads.specs.Written.{HasWritten};
 
 use crate::written::Written;
 use disk::Disk;
@@ -13,7 +14,8 @@ use refusal::Refusal;
 use std::alloc::Global;
 use std::sync::Wait;
 use std::sync::atomic::{AtomicBool, Ordering};
-use turns::flush_all;
+use std::thread::{Threads, join};
+use turns::{Composers, OpenHalves, channels, compose_workers, flush_all};
 
 /// What the thread that writes and those of the sessions share.
 #[derive(Drop)]
@@ -45,11 +47,11 @@ impl<D: Disk + Drop, J: Site, R: Wait> Drop for Writing<'_, D, J, R> {
     }
 }
 
-impl<'a, D: Disk + Drop, J: Site, R: Wait> Writing<'a, D, J, R> {
+impl<'a, D: Disk + Drop, J: Site, R: Threads + Wait + Sync> Writing<'a, D, J, R> {
     ghost use Rattle.server_threads.specs.Served.{IsStarted};
     ghost use Rattle.server_threads.specs.Written.{HasRun};
 
-    /// Makes turns until the hub is ended. Where there is no thread for it, it writes nothing.
+    /// Makes turns until the hub is ended, beside composers. Where there is no thread for it, it writes nothing.
     #[tactic(auto, using(crate::proofs::Served::unbegun_run, crate::proofs::Served::ended_run))]
     pub(crate) fn run(self) -> Written<'a, D, J, R>
         requires { IsStarted self.flusher }
@@ -70,15 +72,57 @@ impl<'a, D: Disk + Drop, J: Site, R: Wait> Writing<'a, D, J, R> {
                 is_begun: false,
             };
         }
-        let mut flusher = flusher;
-        let mut writer = writer;
-        let answer = write_all(shared, &mut flusher, &mut writer);
-        Written {
-            rt: shared.rt,
-            flusher,
-            answer,
-            is_begun: true,
+        write_beside(shared, flusher, writer)
+    }
+}
+
+// Makes turns until the hub is ended, beside composers in a thread of their own. Where there is no memory for the channels to them, or no
+// such thread, it makes the turns without them.
+fn write_beside<'a, D: Disk + Drop, J: Site, R: Threads + Wait + Sync>(
+    shared: &'a Shared<'a, D, J, R>,
+    flusher: Flusher<D, J>,
+    writer: Writer<J>,
+) -> Written<'a, D, J, R>
+    ensures written { HasWritten J.start flusher result.flusher result.answer }
+    ensures begun { result.is_begun ≡ true }
+{
+    let rt = shared.rt;
+    let alloc = shared.alloc;
+    match channels(alloc) {
+        Ok((composers, first, second)) => {
+            let (_ended, written) = join(
+                rt,
+                move || compose_workers(rt, alloc, first, second, &OpenHalves),
+                move || -> Written<'a, D, J, R>
+                    ensures written { HasWritten J.start flusher result.flusher result.answer }
+                    ensures begun { result.is_begun ≡ true }
+                { write_with(shared, flusher, writer, Some(composers)) },
+            );
+            written
         }
+        Err(_) => write_with(shared, flusher, writer, None),
+    }
+}
+
+// Makes turns until the hub is ended, and gives the flusher back.
+#[tactic(auto, using(crate::proofs::Served::has_written))]
+fn write_with<'a, D: Disk + Drop, J: Site, R: Wait>(
+    shared: &'a Shared<'a, D, J, R>,
+    flusher: Flusher<D, J>,
+    writer: Writer<J>,
+    composers: Option<Composers>,
+) -> Written<'a, D, J, R>
+    ensures written { HasWritten J.start flusher result.flusher result.answer }
+    ensures begun { result.is_begun ≡ true }
+{
+    let mut flusher = flusher;
+    let mut writer = writer;
+    let answer = write_all(shared, &mut flusher, &mut writer, composers);
+    Written {
+        rt: shared.rt,
+        flusher,
+        answer,
+        is_begun: true,
     }
 }
 
@@ -87,6 +131,7 @@ fn write_all<J: Site, R: Wait, D: Disk>(
     shared: &Shared<'_, D, J, R>,
     flusher: &mut Flusher<D, J>,
     writer: &mut Writer<J>,
+    composers: Option<Composers>,
 ) -> Result<(), Refusal>
     ensures writes { Writes J.start flusher.old flusher.new }
     ensures nothing { OnOk result ((committed_of flusher.new ≡ []) × (waiting_of flusher.new ≡ [])) }
@@ -100,6 +145,7 @@ fn write_all<J: Site, R: Wait, D: Disk>(
         shared.hub,
         writer,
         shared.every,
+        composers,
         &mut OpenGate,
     ) {
         Ok(_idle) => Ok(()),
