@@ -1,5 +1,5 @@
 //! The thread that writes.
-ghost use Rattle.std.specs.Prelude.{◌≡◌, ◌↔◌, [], true, false, OnOk, IsErrOf};
+ghost use Rattle.std.specs.Prelude.{◌≡◌, ◌↔◌, [], true, false, Ok, OnOk, IsErrOf};
 ghost use Rattle.recovery.specs.Open.{has_failed};
 ghost use Rattle.flusher.specs.Holding.{store_of, committed_of, waiting_of};
 ghost use Rattle.turns.specs.Writing.{Writes};
@@ -57,72 +57,80 @@ impl<'a, D: Disk + Drop, J: Site, R: Threads + Wait + Sync> Writing<'a, D, J, R>
         requires { IsStarted self.flusher }
         ensures { HasRun J.start self.entry.flusher result.flusher result.answer result.is_begun }
     {
+        self.flusher.kept();
+        if !self.has_thread.load(Ordering::SeqCst) {
+            return self.unbegun();
+        }
+        write_beside(self)
+    }
+
+    // What comes of it where it writes nothing.
+    fn unbegun(self) -> Written<'a, D, J, R>
+        ensures flusher { result.flusher ≡ self.entry.flusher }
+        ensures answer { result.answer ≡ Ok tt }
+        ensures begun { result.is_begun ≡ false }
+    {
         let Writing {
             shared,
-            has_thread,
+            has_thread: _,
+            flusher,
+            writer: _,
+        } = self;
+        Written {
+            rt: shared.rt,
+            flusher,
+            answer: Ok(()),
+            is_begun: false,
+        }
+    }
+
+    // Makes turns until the hub is ended.
+    #[tactic(auto, using(crate::proofs::Served::has_written))]
+    fn write(self, composers: Option<Composers>) -> Written<'a, D, J, R>
+        ensures written { HasWritten J.start self.entry.flusher result.flusher result.answer }
+        ensures begun { result.is_begun ≡ true }
+    {
+        let Writing {
+            shared,
+            has_thread: _,
             flusher,
             writer,
         } = self;
-        flusher.kept();
-        if !has_thread.load(Ordering::SeqCst) {
-            return Written {
-                rt: shared.rt,
-                flusher,
-                answer: Ok(()),
-                is_begun: false,
-            };
+        let mut flusher = flusher;
+        let mut writer = writer;
+        let answer = write_all(shared, &mut flusher, &mut writer, composers);
+        Written {
+            rt: shared.rt,
+            flusher,
+            answer,
+            is_begun: true,
         }
-        write_beside(shared, flusher, writer)
     }
 }
 
 // Makes turns until the hub is ended, beside composers in a thread of their own. Where there is no memory for the channels to them, or no
 // such thread, it makes the turns without them.
 fn write_beside<'a, D: Disk + Drop, J: Site, R: Threads + Wait + Sync>(
-    shared: &'a Shared<'a, D, J, R>,
-    flusher: Flusher<D, J>,
-    writer: Writer<J>,
+    writing: Writing<'a, D, J, R>,
 ) -> Written<'a, D, J, R>
-    ensures written { HasWritten J.start flusher result.flusher result.answer }
+    ensures written { HasWritten J.start writing.entry.flusher result.flusher result.answer }
     ensures begun { result.is_begun ≡ true }
 {
-    let rt = shared.rt;
-    let alloc = shared.alloc;
+    let rt = writing.shared.rt;
+    let alloc = writing.shared.alloc;
     match channels(alloc) {
         Ok((composers, first, second)) => {
             let (_ended, written) = join(
                 rt,
                 move || compose_workers(rt, alloc, first, second, &OpenHalves),
-                move || -> Written<'a, D, J, R>
-                    ensures written { HasWritten J.start flusher result.flusher result.answer }
+                move || -> Written<'_, D, J, R>
+                    ensures written { HasWritten J.start writing.entry.flusher result.flusher result.answer }
                     ensures begun { result.is_begun ≡ true }
-                { write_with(shared, flusher, writer, Some(composers)) },
+                { writing.write(Some(composers)) },
             );
             written
         }
-        Err(_) => write_with(shared, flusher, writer, None),
-    }
-}
-
-// Makes turns until the hub is ended, and gives the flusher back.
-#[tactic(auto, using(crate::proofs::Served::has_written))]
-fn write_with<'a, D: Disk + Drop, J: Site, R: Wait>(
-    shared: &'a Shared<'a, D, J, R>,
-    flusher: Flusher<D, J>,
-    writer: Writer<J>,
-    composers: Option<Composers>,
-) -> Written<'a, D, J, R>
-    ensures written { HasWritten J.start flusher result.flusher result.answer }
-    ensures begun { result.is_begun ≡ true }
-{
-    let mut flusher = flusher;
-    let mut writer = writer;
-    let answer = write_all(shared, &mut flusher, &mut writer, composers);
-    Written {
-        rt: shared.rt,
-        flusher,
-        answer,
-        is_begun: true,
+        Err(_) => writing.write(None),
     }
 }
 
