@@ -1,7 +1,7 @@
 //! The halves of a job, and milestones that are made of them.
 use crate::jobs::job;
 use crate::stores::{EditRow, change, create, formatted_device, is_answer, open_store};
-use disk::MemDisk;
+use disk::{Disk, MemDisk};
 use milestone::{Composed, Job, Part, PartDone, compose_job, compose_part, join_parts};
 use recovery::{Shape, Store};
 use refusal::Refusal;
@@ -132,6 +132,28 @@ fn halves_of_a_replaced_job_are_strangers(rt: HostRuntime) {
         Err(Refusal::Stranger),
     );
     assert!(rt; !store.has_failed());
+}
+
+// The bytes of a device and how many calls it had: of a store that was given what came of a job which was replaced, or that wasn't.
+fn after_late(rt: &(impl Abort + AllocGlobal), is_given: bool) -> (Vec<u8>, usize) {
+    let mut store = edited(rt);
+    let early = by_halves(rt, job(rt, &mut store, 4));
+    let _later = job(rt, &mut store, 7);
+    if is_given {
+        let late = store.put_milestone(rt.alloc(), &early);
+        is_answer(rt, late, Err(Refusal::Stranger));
+    }
+    let disk = store.close();
+    let bytes = disk.bytes().to_vec(rt.alloc()).expect(rt, "memory");
+    (bytes, disk.calls().len())
+}
+
+#[test]
+fn what_comes_late_changes_no_byte(rt: HostRuntime) {
+    let (given, calls) = after_late(&rt, true);
+    let (wanted, others) = after_late(&rt, false);
+    assert!(rt; given == wanted);
+    assert_eq!(rt; calls, others);
 }
 
 // A job is due where a multiple is passed, to that multiple. While it is out none is due, and once it is put the next one is.
