@@ -5,7 +5,7 @@ ghost use Rattle.recovery.specs.Open.{state_of};
 use crate::rows::SHAPE;
 use crate::seats::submitted;
 use disk::{Disk, MemDisk};
-use fixtures::{command, new_store, wide_command, write};
+use fixtures::{command, new_device, new_store, wide_command, write};
 use flusher::{Flusher, OpenGate, start};
 use hub::{Board, Hub, Writer};
 use published::{Opened, Site};
@@ -155,29 +155,93 @@ fn retired_before<J: Site, R: Wait + Abort + AllocGlobal>(
     flusher.end(rt).close()
 }
 
+/// A cell with the document "z" at revision 2, the text "x", and the source "a" whose second command made it.
+const CELL: [u8; 57] = [
+    0xa5, 52, 0, 0, 0, // its gate and length
+    0, 0, 0, 0, 1, 0, b'z', 2, 0, 0, 0, 0, 0, 0, 0, // document 0, its name, revision 2
+    1, 0, 0, 0, 1, 1, 0, 0, 0, b'x', 0, 0, 0, 0, // one insert, without attributes
+    1, 0, 0, 0, 1, 0, b'a', 2, 0, 0, 0, 0, 0, 0, 0, 2, 0, 0, 0, 0, 0, 0, 0, // one source
+];
+
+/// Segment 1, with the batch in which "a" creates "z" with "x".
+const CREATED: [u8; 60] = [
+    0xa5, 1, 0, 0, 0, 0, 0, 0, 0, // the slot's gate and number
+    0xa5, 45, 0, 0, 0, 1, 0, 0, 0, // the record's gate and length, one entry
+    1, 0, 0, 0, 0, 1, 0, 0, 0, 0, 0, 0, 0, // a creation, document 0, revision 1
+    1, 0, b'a', 1, 0, 0, 0, 0, 0, 0, 0, 1, 0, b'z', // source a, its number 1, name z
+    1, 0, 0, 0, 1, 1, 0, 0, 0, b'x', 0, 0, 0, 0, // one insert, without attributes
+    0, // the next record's gate
+];
+
+// A segment of this number with a batch in which the command of this number takes three attributes off the letter. It ends with the next
+// record's gate.
+fn wide_slot(rt: &(impl Abort + AllocGlobal), segment: u8, number: u8) -> Vec<u8> {
+    let head = [
+        0xa5, segment, 0, 0, 0, 0, 0, 0, 0, // the slot's gate and number
+        0xa5, 240, 0, 0, 0, 1, 0, 0, 0, // the record's gate and length, one entry
+        2, 0, 0, 0, 0, number, 0, 0, 0, 0, 0, 0, 0, // an edit, document 0, its revision
+        1, 0, b'a', number, 0, 0, 0, 0, 0, 0, 0, // source a, its number
+        1, 0, 0, 0, 3, 1, 0, 0, 0, 0, 0, 0, 0, 3, 0, 0, 0, // a retain of 1, three names
+    ];
+    let mut bytes = head.to_vec(rt.alloc()).expect(rt, "memory");
+    for letter in [b'a', b'b', b'c'] {
+        bytes.extend_from_slice(&[62, 0]).expect(rt, "memory");
+        bytes.extend_from_slice(&[letter; 62]).expect(rt, "memory");
+        bytes.push(0).expect(rt, "memory");
+    }
+    bytes.push(0).expect(rt, "memory");
+    bytes
+}
+
+// Puts bytes over those from a place on.
+fn put_at(rt: &impl Abort, bytes: &mut [u8], place: usize, others: &[u8]) {
+    for (at, byte) in others.iter().enumerate() {
+        match bytes.get_mut(place.saturating_add(at)) {
+            Some(old) => *old = *byte,
+            None => panic!(rt; "a short device"),
+        }
+    }
+}
+
+// A device of which both cells of the document hold it at revision 2, with these slots.
+fn device_with(rt: &(impl Abort + AllocGlobal), first: &[u8], second: &[u8]) -> Vec<u8> {
+    let device = new_device(rt.alloc(), SHAPE).expect(rt, "a device");
+    let mut bytes = device.bytes().to_vec(rt.alloc()).expect(rt, "memory");
+    put_at(rt, &mut bytes, 64, &CELL);
+    put_at(rt, &mut bytes, 320, &CELL);
+    put_at(rt, &mut bytes, 1_088, first);
+    put_at(rt, &mut bytes, 1_344, second);
+    bytes
+}
+
+// A turn for each of the first commands leaves these slots. It gives how many calls of the device were made.
+fn fills(rt: &(impl Wait + Abort + AllocGlobal), count: u64, first: &[u8], second: &[u8]) -> usize {
+    let alloc = rt.alloc();
+    let store = new_store(alloc, SHAPE).expect(rt, "a store");
+    let opened = Opened::new().expect(rt, "logs");
+    let mut turns = Vec::new(alloc);
+    turns
+        .push(command(alloc, 1, 1).expect(rt, "a command"))
+        .expect(rt, "memory");
+    for number in 2..=count {
+        turns
+            .push(wide_command(alloc, number).expect(rt, "a command"))
+            .expect(rt, "memory");
+    }
+    let disk = retired_before::<Brand, _>(rt, store, opened, Blank::new(2), &turns);
+    assert!(rt; disk.bytes() == device_with(rt, first, second).as_slice());
+    disk.calls().len()
+}
+
 // The create stands in the first slot and an edit that fills the second; both cells stand at revision 2. The next turn retires the first
-// slot before it commits (two calls), opens it again (four) and appends (four). With a full journal it would put two milestones besides.
+// slot before it commits (two calls), opens it again (four) and appends (four); the one after it does so with the second slot. With a full
+// journal each would put two milestones besides.
 #[test]
 fn a_turn_retires_before_it_commits(rt: HostRuntime) {
-    let alloc = rt.alloc();
-    let turns = [
-        command(alloc, 1, 1).expect(&rt, "a command"),
-        wide_command(alloc, 2).expect(&rt, "a command"),
-        wide_command(alloc, 3).expect(&rt, "a command"),
-    ];
-    let store = new_store(alloc, SHAPE).expect(&rt, "a store");
-    let opened = Opened::new().expect(&rt, "logs");
-    let before = retired_before::<Brand, _>(&rt, store, opened, Blank::new(2), &turns[..2]);
-    let store = new_store(alloc, SHAPE).expect(&rt, "a store");
-    let opened = Opened::new().expect(&rt, "logs");
-    let after = retired_before::<Brand, _>(&rt, store, opened, Blank::new(2), &turns);
-    assert_eq!(rt;
-        after.calls().len(),
-        before.calls().len().saturating_add(10)
-    );
-    for at in &[64, 320, 1_088, 1_344] {
-        assert!(rt; after.bytes().get(*at).copied() == Some(0xa5));
-    }
-    assert!(rt; after.bytes().get(1_089).copied() == Some(3));
-    assert!(rt; after.bytes().get(1_345).copied() == Some(2));
+    let second = wide_slot(&rt, 2, 2);
+    let third = wide_slot(&rt, 3, 3);
+    let fourth = wide_slot(&rt, 4, 4);
+    let calls = fills(&rt, 2, &CREATED, &second);
+    assert_eq!(rt; fills(&rt, 3, &third, &second), calls.saturating_add(10));
+    assert_eq!(rt; fills(&rt, 4, &third, &fourth), calls.saturating_add(20));
 }

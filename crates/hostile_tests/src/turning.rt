@@ -123,7 +123,26 @@ fn asked<J: Site, R: Wait + AllocGlobal>(
     }
 }
 
-// The steps of a script, up to one that stops it.
+// A last turn, in which nothing is to be written: the oldest segment is retired while nothing needs it. It is made once more where memory was
+// wanted.
+fn rest<J: Site, R: Wait + AllocGlobal>(
+    rt: &R,
+    flusher: &mut Flusher<FaultDisk, J>,
+    hub: &Hub<FaultDisk, J>,
+    writer: &mut Writer<J>,
+    upkeep: &mut Upkeep,
+) -> Option<&'static str> {
+    let mut ended = turn(rt, flusher, hub, writer, upkeep);
+    if matches!(ended, Err(Refusal::NoMemory)) {
+        ended = turn(rt, flusher, hub, writer, upkeep);
+    }
+    match ended {
+        Ok(()) => None,
+        Err(refusal) => Some(refusal.name()),
+    }
+}
+
+// The steps of a script, up to one that stops it, and a last turn.
 fn send_steps<J: Site, R: Wait + AllocGlobal>(
     rt: &R,
     flusher: &mut Flusher<FaultDisk, J>,
@@ -159,7 +178,8 @@ fn send_steps<J: Site, R: Wait + AllocGlobal>(
             }
         }
     }
-    (script.steps.len(), None)
+    let stopped = rest(rt, flusher, hub, writer, &mut upkeep);
+    (script.steps.len(), stopped)
 }
 
 // The life of a hub over a store.
