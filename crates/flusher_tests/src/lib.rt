@@ -6,6 +6,8 @@
 #[cfg(test)]
 pub mod callers;
 #[cfg(test)]
+mod committing;
+#[cfg(test)]
 mod composing;
 #[cfg(test)]
 mod freeing;
