@@ -1,8 +1,6 @@
 //! The composers, as the thread that writes has them.
-ghost use Rattle.std.specs.Prelude.{◌≡◌, ◌≤◌, ◌↔◌, true, false, IfErr, IsErrOf};
-ghost use Rattle.recovery.specs.Open.{has_failed};
-ghost use Rattle.flusher.specs.Holding.{store_of};
-ghost use Rattle.turns.specs.Writing.{KeepsUp};
+ghost use Rattle.std.specs.Prelude.{◌≤◌, Ok};
+ghost use Rattle.turns.specs.Writing.{IsUpkeep};
 
 use crate::queue::Queue;
 use composers::{Composers, Done};
@@ -73,10 +71,7 @@ impl Exchange {
         alloc: Global,
         flusher: &mut Flusher<D, J>,
     ) -> Result<(), Refusal>
-        ensures keeps { KeepsUp flusher.old flusher.new }
-        ensures fails { has_failed (store_of flusher.old) ≡ false
-            → (has_failed (store_of flusher.new) ≡ true ↔ IsErrOf result Refusal.Fault) }
-        ensures only { IfErr result (λ e. e ≡ Refusal.Fault) }
+        ensures { IsUpkeep result flusher.old flusher.new }
     {
         if let Err(refusal) = self.put_done(rt, alloc, flusher) {
             return Err(refusal);
@@ -92,16 +87,15 @@ impl Exchange {
         alloc: Global,
         flusher: &mut Flusher<D, J>,
     ) -> Result<(), Refusal>
-        ensures keeps { KeepsUp flusher.old flusher.new }
-        ensures fails { has_failed (store_of flusher.old) ≡ false
-            → (has_failed (store_of flusher.new) ≡ true ↔ IsErrOf result Refusal.Fault) }
-        ensures only { IfErr result (λ e. e ≡ Refusal.Fault) }
+        ensures { IsUpkeep result flusher.old flusher.new }
     {
         for _ in 0..MOST_PUT {
-            match self.put_next(rt, alloc, flusher) {
-                Ok(true) => {}
-                Ok(false) => return Ok(()),
+            let more = match self.put_next(rt, alloc, flusher) {
+                Ok(more) => more,
                 Err(refusal) => return Err(refusal),
+            };
+            if !more {
+                return Ok(());
             }
         }
         Ok(())
@@ -115,15 +109,14 @@ impl Exchange {
         alloc: Global,
         flusher: &mut Flusher<D, J>,
     ) -> Result<bool, Refusal>
-        ensures keeps { KeepsUp flusher.old flusher.new }
-        ensures fails { has_failed (store_of flusher.old) ≡ false
-            → (has_failed (store_of flusher.new) ≡ true ↔ IsErrOf result Refusal.Fault) }
-        ensures only { IfErr result (λ e. e ≡ Refusal.Fault) }
+        ensures { IsUpkeep result flusher.old flusher.new }
     {
-        match self.next_done(rt) {
-            None => Ok(false),
-            Some(Ok(composed)) => self.put(alloc, flusher, composed),
-            Some(Err(back)) => {
+        let Some(done) = self.next_done(rt) else {
+            return Ok(false);
+        };
+        match done {
+            Ok(composed) => self.put(alloc, flusher, composed),
+            Err(back) => {
                 let document = back.job.document_number();
                 flusher.give_up_job(document);
                 self.queue.add(document);
@@ -148,22 +141,22 @@ impl Exchange {
         flusher: &mut Flusher<D, J>,
         composed: Composed,
     ) -> Result<bool, Refusal>
-        ensures keeps { KeepsUp flusher.old flusher.new }
-        ensures fails { has_failed (store_of flusher.old) ≡ false
-            → (has_failed (store_of flusher.new) ≡ true ↔ IsErrOf result Refusal.Fault) }
-        ensures only { IfErr result (λ e. e ≡ Refusal.Fault) }
+        ensures { IsUpkeep result flusher.old flusher.new }
     {
         self.queue.add(composed.job().document_number());
-        if let Err(refusal) = flusher.put_milestone(alloc, &composed) {
-            if refusal == Refusal::Fault {
-                return Err(refusal);
-            }
-            if refusal == Refusal::NoMemory {
-                self.unput = Some(composed);
-                return Ok(false);
+        match flusher.put_milestone(alloc, &composed) {
+            Ok(()) => Ok(true),
+            Err(refusal) => {
+                if refusal == Refusal::Fault {
+                    return Err(refusal);
+                }
+                if refusal == Refusal::NoMemory {
+                    self.unput = Some(composed);
+                    return Ok(false);
+                }
+                Ok(true)
             }
         }
-        Ok(true)
     }
 
     // Hands out the jobs that are due of the documents that are to be looked at, as far as there are places and memory.
@@ -173,8 +166,7 @@ impl Exchange {
         alloc: Global,
         flusher: &mut Flusher<D, J>,
     )
-        ensures keeps { KeepsUp flusher.old flusher.new }
-        ensures failed { has_failed (store_of flusher.new) ≡ has_failed (store_of flusher.old) }
+        ensures { IsUpkeep (Ok tt) flusher.old flusher.new }
     {
         if !self.send_again(rt) {
             return;
@@ -194,8 +186,7 @@ impl Exchange {
         alloc: Global,
         flusher: &mut Flusher<D, J>,
     ) -> bool
-        ensures keeps { KeepsUp flusher.old flusher.new }
-        ensures failed { has_failed (store_of flusher.new) ≡ has_failed (store_of flusher.old) }
+        ensures { IsUpkeep (Ok tt) flusher.old flusher.new }
     {
         let Some(document) = self.queue.next() else {
             return false;
@@ -238,8 +229,7 @@ fn job_of<D: Disk, J: Site>(
     every: u32,
 ) -> Result<Option<Job>, Refusal>
     requires { 1 ≤ every }
-    ensures keeps { KeepsUp flusher.old flusher.new }
-    ensures failed { has_failed (store_of flusher.new) ≡ has_failed (store_of flusher.old) }
+    ensures { IsUpkeep (Ok tt) flusher.old flusher.new }
 {
     match flusher.job_due(document, u64::from(every)) {
         None => Ok(None),

@@ -1,8 +1,5 @@
 //! Milestones between turns.
-ghost use Rattle.std.specs.Prelude.{◌≡◌, ◌↔◌, true, false, IfErr, IsErrOf};
-ghost use Rattle.recovery.specs.Open.{has_failed};
-ghost use Rattle.flusher.specs.Holding.{store_of};
-ghost use Rattle.turns.specs.Writing.{KeepsUp};
+ghost use Rattle.turns.specs.Writing.{IsUpkeep};
 
 use crate::exchange::{Exchange, exchange_with};
 use composers::Composers;
@@ -48,10 +45,7 @@ impl Upkeep {
         alloc: Global,
         flusher: &mut Flusher<D, J>,
     ) -> Result<(), Refusal>
-        ensures keeps { KeepsUp flusher.old flusher.new }
-        ensures fails { has_failed (store_of flusher.old) ≡ false
-            → (has_failed (store_of flusher.new) ≡ true ↔ IsErrOf result Refusal.Fault) }
-        ensures only { IfErr result (λ e. e ≡ Refusal.Fault) }
+        ensures { IsUpkeep result flusher.old flusher.new }
     {
         if let Err(refusal) = self.compose_on(rt, alloc, flusher) {
             return Err(refusal);
@@ -66,10 +60,7 @@ impl Upkeep {
         alloc: Global,
         flusher: &mut Flusher<D, J>,
     ) -> Result<(), Refusal>
-        ensures keeps { KeepsUp flusher.old flusher.new }
-        ensures fails { has_failed (store_of flusher.old) ≡ false
-            → (has_failed (store_of flusher.new) ≡ true ↔ IsErrOf result Refusal.Fault) }
-        ensures only { IfErr result (λ e. e ≡ Refusal.Fault) }
+        ensures { IsUpkeep result flusher.old flusher.new }
     {
         match &mut self.exchange {
             None => Ok(()),
@@ -80,16 +71,15 @@ impl Upkeep {
 
 // Retires the oldest segment while nothing needs it. Refused with `Fault` alone.
 fn retire_all<D: Disk, J: Site>(flusher: &mut Flusher<D, J>) -> Result<(), Refusal>
-    ensures keeps { KeepsUp flusher.old flusher.new }
-    ensures fails { has_failed (store_of flusher.old) ≡ false
-        → (has_failed (store_of flusher.new) ≡ true ↔ IsErrOf result Refusal.Fault) }
-    ensures only { IfErr result (λ e. e ≡ Refusal.Fault) }
+    ensures { IsUpkeep result flusher.old flusher.new }
 {
     for _ in 0..MOST_SLOTS {
-        match retire_one(flusher) {
-            Ok(true) => {}
-            Ok(false) => return Ok(()),
+        let more = match retire_one(flusher) {
+            Ok(more) => more,
             Err(refusal) => return Err(refusal),
+        };
+        if !more {
+            return Ok(());
         }
     }
     Ok(())
@@ -97,10 +87,7 @@ fn retire_all<D: Disk, J: Site>(flusher: &mut Flusher<D, J>) -> Result<(), Refus
 
 // Retires the oldest segment where nothing needs it, and tells whether it did. Refused with `Fault` alone.
 fn retire_one<D: Disk, J: Site>(flusher: &mut Flusher<D, J>) -> Result<bool, Refusal>
-    ensures keeps { KeepsUp flusher.old flusher.new }
-    ensures fails { has_failed (store_of flusher.old) ≡ false
-        → (has_failed (store_of flusher.new) ≡ true ↔ IsErrOf result Refusal.Fault) }
-    ensures only { IfErr result (λ e. e ≡ Refusal.Fault) }
+    ensures { IsUpkeep result flusher.old flusher.new }
 {
     match flusher.retire() {
         Ok(()) => Ok(true),
