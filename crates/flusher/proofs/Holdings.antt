@@ -87,6 +87,10 @@ module _ {D : Type 0} {disk : Ghosts D} where
   pub committed_none : (store : Store D disk) (batches : List (List Taken)) → batches ≡ [] → IsHeldCommitted batches store store
   committed_none store batches none = subst (λ (l : List (List Taken)). IsHeldCommitted l store store) (sym none) refl
 
+-- an Ok is no refusal
+pub no_error : {A : Type 0} (answer : A) (refusal : Refusal) → IsErrOf (Ok answer) refusal → ⊥
+no_error answer refusal is = cc
+
 module _ {D : Type 0} {disk : Ghosts D} (old new : Store D disk) where
   -- what a retirement leaves, whatever it answers
   retire_done : (result : Result (Unit {0}) Refusal) → OnOk result ((is_open : IsOpen old) → IsRetiredNow is_open.cells is_open.table new) → OnOk result (IsOpen old → IsOpen new)
