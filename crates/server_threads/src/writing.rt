@@ -1,5 +1,5 @@
 //! The thread that writes.
-ghost use Rattle.std.specs.Prelude.{◌≡◌, ◌↔◌, [], true, false, Ok, OnOk, IsErrOf};
+ghost use Rattle.std.specs.Prelude.{◌≡◌, ◌↔◌, [], true, false, OnOk, IsErrOf};
 ghost use Rattle.recovery.specs.Open.{has_failed};
 ghost use Rattle.flusher.specs.Holding.{store_of, committed_of, waiting_of};
 ghost use Rattle.turns.specs.Writing.{Writes};
@@ -59,29 +59,20 @@ impl<'a, D: Disk + Drop, J: Site, R: Threads + Wait + Sync> Writing<'a, D, J, R>
     {
         self.flusher.kept();
         if !self.has_thread.load(Ordering::SeqCst) {
-            return self.unbegun();
+            let Writing {
+                shared,
+                has_thread: _,
+                flusher,
+                writer: _,
+            } = self;
+            return Written {
+                rt: shared.rt,
+                flusher,
+                answer: Ok(()),
+                is_begun: false,
+            };
         }
         write_beside(self)
-    }
-
-    // What comes of it where it writes nothing.
-    fn unbegun(self) -> Written<'a, D, J, R>
-        ensures flusher { result.flusher ≡ self.entry.flusher }
-        ensures answer { result.answer ≡ Ok tt }
-        ensures begun { result.is_begun ≡ false }
-    {
-        let Writing {
-            shared,
-            has_thread: _,
-            flusher,
-            writer: _,
-        } = self;
-        Written {
-            rt: shared.rt,
-            flusher,
-            answer: Ok(()),
-            is_begun: false,
-        }
     }
 
     // Makes turns until the hub is ended.
