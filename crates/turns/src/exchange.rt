@@ -135,6 +135,7 @@ impl Exchange {
 
     // Puts the milestone that came of a job, and tells whether there was memory for it. It puts none where the job isn't the one that is
     // kept of its document any more. The document is looked at again. Refused with `Fault` alone.
+    #[tactic(auto, using(crate::proofs::Writing::keeps_call, crate::proofs::Writing::upkeep_fault, crate::proofs::Writing::upkeep_but))]
     fn put<D: Disk, J: Site>(
         &mut self,
         alloc: Global,

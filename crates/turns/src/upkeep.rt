@@ -86,6 +86,7 @@ fn retire_all<D: Disk, J: Site>(flusher: &mut Flusher<D, J>) -> Result<(), Refus
 }
 
 // Retires the oldest segment where nothing needs it, and tells whether it did. Refused with `Fault` alone.
+#[tactic(auto, using(crate::proofs::Writing::keeps_call, crate::proofs::Writing::upkeep_fault, crate::proofs::Writing::upkeep_but))]
 fn retire_one<D: Disk, J: Site>(flusher: &mut Flusher<D, J>) -> Result<bool, Refusal>
     ensures { IsUpkeep result flusher.old flusher.new }
 {
