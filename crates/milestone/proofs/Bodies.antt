@@ -6,9 +6,9 @@ use Rattle.std.proofs.lemmas.Bool.{and_parts, and_from}
 use Rattle.std.proofs.lemmas.List.Elements.{All-from_recursion, recursion_from_All}
 use Rattle.delta.specs.Element.{Element}
 use Rattle.revision.specs.Name.{is_document_name, is_source_name}
-use Rattle.revision.specs.declared.sources.LastTaken.{LastTaken}
+use Rattle.revision.specs.Window.{Window}
 use Rattle.revision.specs.Sources.{Sources, are_named}
-use Rattle.revision.specs.State.{last_of_all, is_last_taken, are_sources}
+use Rattle.revision.specs.State.{last_of_all, is_window, are_sources}
 use Rattle.journal.specs.Spelling.{number, text16}
 use Rattle.journal.proofs.CallerLemmas.{one_number32_spelling, one_number64_spelling}
 use Rattle.history.specs.Cell.{Cell}
@@ -18,20 +18,20 @@ use Rattle.milestone.proofs.Fields.{one_name, one_content, one_sources}
 
 -- ---- sources, one by one and all
 
-sources_each : (revision : ℕ) (all : List (List ℕ × LastTaken)) → are_named all ≡ true → are_sources revision all ≡ true → AllByRecursion (IsSource revision) all
+sources_each : (revision : ℕ) (all : List (List ℕ × Window)) → are_named all ≡ true → are_sources revision all ≡ true → AllByRecursion (IsSource revision) all
 sources_each revision [] named are = tt
 sources_each revision (first ∷ others) named are =
     let names = and_parts (is_source_name first.0) (are_named others) named in
-    let lasts = and_parts (is_last_taken revision first.1) (are_sources revision others) are in
-    (record { named = names.0; last = lasts.0 }, sources_each revision others names.1 lasts.1)
+    let windows = and_parts (is_window revision first.1) (are_sources revision others) are in
+    (record { named = names.0; window = windows.0 }, sources_each revision others names.1 windows.1)
 
-each_named : (revision : ℕ) (all : List (List ℕ × LastTaken)) → AllByRecursion (IsSource revision) all → are_named all ≡ true
+each_named : (revision : ℕ) (all : List (List ℕ × Window)) → AllByRecursion (IsSource revision) all → are_named all ≡ true
 each_named revision [] each = refl
 each_named revision (first ∷ others) each = and_from _ _ each.0.named (each_named revision others each.1)
 
-each_last : (revision : ℕ) (all : List (List ℕ × LastTaken)) → AllByRecursion (IsSource revision) all → are_sources revision all ≡ true
+each_last : (revision : ℕ) (all : List (List ℕ × Window)) → AllByRecursion (IsSource revision) all → are_sources revision all ≡ true
 each_last revision [] each = refl
-each_last revision (first ∷ others) each = and_from _ _ each.0.last (each_last revision others each.1)
+each_last revision (first ∷ others) each = and_from _ _ each.0.window (each_last revision others each.1)
 
 pub all_last : (revision : ℕ) (all : Sources) → AreSources revision all → are_sources revision all.entries ≡ true
 all_last revision all are = each_last revision all.entries (recursion_from_All (IsSource revision) all.entries are.each)

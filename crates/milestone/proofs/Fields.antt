@@ -18,7 +18,7 @@ use Rattle.delta.specs.Gaps.{Gaps, End, Gap, counted, apply, units_below}
 use Rattle.delta.specs.Normal.{nf, IsNormal}
 use Rattle.delta.proofs.CallerLemmas.{nf-same, apply-nf, base_of-nf, units_below-counted}
 use Rattle.revision.specs.Name.{is_name_byte, is_name, is_source_name}
-use Rattle.revision.specs.declared.sources.LastTaken.{LastTaken}
+use Rattle.revision.specs.Window.{Window, last_revision}
 use Rattle.revision.specs.Sources.{Sources, count_of}
 use Rattle.revision.specs.Spellable.{IsSpellable}
 use Rattle.revision.specs.State.{last_of_all}
@@ -27,6 +27,7 @@ use Rattle.journal.specs.DeltaSpelling.{delta}
 use Rattle.journal.proofs.CallerLemmas.{delta-append_same, one_text_spelling, one_number32_spelling, one_number64_spelling}
 use Rattle.milestone.specs.CellSpelling.{inserts_of, source, sources}
 use Rattle.milestone.specs.steps.Reading.{BeginsNone, IsWithin, IsContent, content_bytes, IsSource, AreSources, sources_bytes}
+use Rattle.milestone.proofs.Windows.{one, last-of_one, of_one, one_is}
 use Rattle.milestone.proofs.Order.{above, IsLast, sorted_above, from_T}
 
 -- ---- names
@@ -126,47 +127,50 @@ read_content operations units bytes rest is there none made =
 -- ---- sources
 
 -- the parts of a source's bytes, one by one
-pub source_parts : (s : List ℕ × LastTaken) (x : List ℕ) → source s ++ x ≡ text16 s.0 ++ (number w64 s.1.number ++ (number w64 s.1.revision ++ x))
+pub source_parts : (s : List ℕ × Window) (x : List ℕ) → source s ++ x ≡ text16 s.0 ++ (number w64 s.1.number ++ (number w64 (last_revision s.1) ++ x))
 unfolding source
 source_parts s x = simp append_assoc
 
-pub source_within : (revision : ℕ) (s : List ℕ × LastTaken) → IsSource revision s → IsWithin last_of_all s.1.number × IsWithin revision s.1.revision
+pub source_within : (revision : ℕ) (s : List ℕ × Window) → IsSource revision s → IsWithin last_of_all s.1.number × IsWithin revision (last_revision s.1)
 source_within revision s is =
-    let three = and_parts (nat_le 1 s.1.number && nat_le s.1.number last_of_all && nat_le 1 s.1.revision) (nat_le s.1.revision revision) is.last in
-    let two = and_parts (nat_le 1 s.1.number && nat_le s.1.number last_of_all) (nat_le 1 s.1.revision) three.0 in
-    let one = and_parts (nat_le 1 s.1.number) (nat_le s.1.number last_of_all) two.0 in
-    ((leb-true _ _ one.0, leb-true _ _ one.1), (leb-true _ _ two.1, leb-true _ _ three.1))
+    let parts = of_one revision s.1 is.window in
+    (parts.numbered, parts.revised)
 
-pub source_is : (revision : ℕ) (s : List ℕ × LastTaken) → is_source_name s.0 ≡ true → IsWithin last_of_all s.1.number → IsWithin revision s.1.revision → IsSource revision s
-source_is revision s named numbered revised = record {
-  named = named;
-  last = and_from _ _ (and_from _ _ (and_from _ _ (le-leb _ _ numbered.0) (le-leb _ _ numbered.1)) (le-leb _ _ revised.0)) (le-leb _ _ revised.1);
-}
+pub source_is : (revision : ℕ) (name : List ℕ) (given made : ℕ) → is_source_name name ≡ true → IsWithin last_of_all given → IsWithin revision made → IsSource revision (name, one given made)
+source_is revision name given made named numbered revised = record { named = named; window = one_is revision given made numbered revised }
+
+-- the bytes of one that was read
+pub source_bytes : (name : List ℕ) (given made : ℕ) (bytes named numbered rest : List ℕ) → bytes ≡ text16 name ++ named → named ≡ number w64 given ++ numbered
+    → numbered ≡ number w64 made ++ rest → bytes ≡ source (name, one given made) ++ rest
+source_bytes name given made bytes named numbered rest a b c =
+    a ∙ ap (λ (l : List ℕ). text16 name ++ l) (b ∙ ap (λ (l : List ℕ). number w64 given ++ l) (c ∙ ap (λ n. number w64 n ++ rest) (sym (last-of_one given made))))
+    ∙ sym (source_parts (name, one given made) rest)
 
 module _ (revision : ℕ) (low : revision < 2 ^ 64) where
   -- the name, the number and the revision of a source that begins bytes whose name, and whose number, are known
-  pub behind_name : (bytes name rest : List ℕ) (s : List ℕ × LastTaken) (x : List ℕ) → is_source_name name ≡ true → bytes ≡ text16 name ++ rest → IsSource revision s → bytes ≡ source s ++ x
-      → (name ≡ s.0) × (rest ≡ number w64 s.1.number ++ (number w64 s.1.revision ++ x))
+  pub behind_name : (bytes name rest : List ℕ) (s : List ℕ × Window) (x : List ℕ) → is_source_name name ≡ true → bytes ≡ text16 name ++ rest → IsSource revision s → bytes ≡ source s ++ x
+      → (name ≡ s.0) × (rest ≡ number w64 s.1.number ++ (number w64 (last_revision s.1) ++ x))
   behind_name bytes name rest s x named there is spelled =
       one_name 32 name s.0 rest _ (omega arith) named is.named (sym there ∙ spelled ∙ source_parts s x)
 
-  pub behind_number : (bytes rest : List ℕ) (n : ℕ) (s : List ℕ × LastTaken) (x : List ℕ) → n < 2 ^ 64 → bytes ≡ number w64 n ++ rest → IsSource revision s
-      → bytes ≡ number w64 s.1.number ++ (number w64 s.1.revision ++ x) → (n ≡ s.1.number) × (rest ≡ number w64 s.1.revision ++ x)
+  pub behind_number : (bytes rest : List ℕ) (n : ℕ) (s : List ℕ × Window) (x : List ℕ) → n < 2 ^ 64 → bytes ≡ number w64 n ++ rest → IsSource revision s
+      → bytes ≡ number w64 s.1.number ++ (number w64 (last_revision s.1) ++ x) → (n ≡ s.1.number) × (rest ≡ number w64 (last_revision s.1) ++ x)
   behind_number bytes rest n s x fits there is spelled =
       one_number64_spelling n s.1.number rest _ fits (omega (arith, (source_within revision s is).0.1)) (sym there ∙ spelled)
 
-  one_source : (a b : List ℕ × LastTaken) (x y : List ℕ) → IsSource revision a → IsSource revision b → source a ++ x ≡ source b ++ y → (a ≡ b) × (x ≡ y)
+  one_source : (a b : List ℕ × Window) (x y : List ℕ) → IsSource revision a → IsSource revision b → source a ++ x ≡ source b ++ y → (a ≡ b) × (x ≡ y)
   one_source a b x y is_a is_b same =
       let in_a = source_within revision a is_a in
       let in_b = source_within revision b is_b in
       let names = behind_name (source a ++ x) a.0 _ b y is_a.named (source_parts a x) is_b same in
       let numbers = behind_number _ _ a.1.number b y (omega (arith, in_a.0.1)) refl is_b names.1 in
-      let revisions = one_number64_spelling a.1.revision b.1.revision x y (omega (arith, low, in_a.1.1)) (omega (arith, low, in_b.1.1)) numbers.1 in
-      (λ i. (names.0 i, record { number = numbers.0 i; revision = revisions.0 i }), revisions.1)
+      let revisions = one_number64_spelling (last_revision a.1) (last_revision b.1) x y (omega (arith, low, in_a.1.1)) (omega (arith, low, in_b.1.1)) numbers.1 in
+      let windows : a.1 ≡ b.1 = (of_one revision a.1 is_a.window).same ∙ (λ i. one (numbers.0 i) (revisions.0 i)) ∙ sym (of_one revision b.1 is_b.window).same in
+      (λ i. (names.0 i, windows i), revisions.1)
 
   -- a list of sources whose bytes begin those of another one begins the other one
-  prefix : (ps qs : List (List ℕ × LastTaken)) (x y : List ℕ) → AllByRecursion (IsSource revision) ps → AllByRecursion (IsSource revision) qs
-      → flat_map source ps ++ x ≡ flat_map source qs ++ y → length ps ≤ length qs → (more : List (List ℕ × LastTaken)) × (qs ≡ ps ++ more) × (x ≡ flat_map source more ++ y)
+  prefix : (ps qs : List (List ℕ × Window)) (x y : List ℕ) → AllByRecursion (IsSource revision) ps → AllByRecursion (IsSource revision) qs
+      → flat_map source ps ++ x ≡ flat_map source qs ++ y → length ps ≤ length qs → (more : List (List ℕ × Window)) × (qs ≡ ps ++ more) × (x ≡ flat_map source more ++ y)
   prefix [] qs x y all_a all_b same few = (qs, refl, same)
   prefix (a ∷ ps) [] x y all_a all_b same few = absurd (omega arith)
   prefix (a ∷ ps) (b ∷ qs) x y all_a all_b same few =
@@ -181,9 +185,9 @@ module _ (revision : ℕ) (low : revision < 2 ^ 64) where
       let counts = one_number32_spelling (count_of a) (count_of b) _ _ is_a.count is_b.count
       (sym (append_assoc (number w32 (count_of a)) (flat_map source a.entries) x) ∙ same ∙ append_assoc (number w32 (count_of b)) (flat_map source b.entries) y) in
       let others = prefix a.entries b.entries x y (recursion_from_All (IsSource revision) a.entries is_a.each) (recursion_from_All (IsSource revision) b.entries is_b.each) counts.1 (omega (arith, counts.0)) in
-      let nothing : others.0 ≡ [] = nil_from_length others.0 (omega (arith, counts.0, ap (length {A = List ℕ × LastTaken}) others.1, length-append a.entries others.0)) in
-      let entries : a.entries ≡ b.entries = sym (append-nil a.entries) ∙ ap (λ (l : List (List ℕ × LastTaken)). a.entries ++ l) (sym nothing) ∙ sym others.1 in
-      (same_entries_map a b entries, others.2 ∙ ap (λ (l : List (List ℕ × LastTaken)). flat_map source l ++ y) nothing)
+      let nothing : others.0 ≡ [] = nil_from_length others.0 (omega (arith, counts.0, ap (length {A = List ℕ × Window}) others.1, length-append a.entries others.0)) in
+      let entries : a.entries ≡ b.entries = sym (append-nil a.entries) ∙ ap (λ (l : List (List ℕ × Window)). a.entries ++ l) (sym nothing) ∙ sym others.1 in
+      (same_entries_map a b entries, others.2 ∙ ap (λ (l : List (List ℕ × Window)). flat_map source l ++ y) nothing)
 
   pub sources_short : (bytes : List ℕ) → length bytes < 4 → BeginsNone sources_bytes (AreSources revision) bytes
   unfolding sources
@@ -191,9 +195,9 @@ module _ (revision : ℕ) (low : revision < 2 ^ 64) where
       number32_none (count_of others) bytes short (flat_map source others.entries ++ rest) (spelled ∙ append_assoc (number w32 (count_of others)) (flat_map source others.entries) rest)
 
   -- so many sources are read, and no further one that is above them begins the bytes
-  pub none_more : (entries : List (List ℕ × LastTaken)) (last : List ℕ) (count : ℕ) (bytes rest : List ℕ) → bytes ≡ number w32 count ++ (flat_map source entries ++ rest) → count < 2 ^ 32
+  pub none_more : (entries : List (List ℕ × Window)) (last : List ℕ) (count : ℕ) (bytes rest : List ℕ) → bytes ≡ number w32 count ++ (flat_map source entries ++ rest) → count < 2 ^ 32
       → length entries < count → AllByRecursion (IsSource revision) entries → IsLast entries last
-      → ((x : List ℕ × LastTaken) (behind : List ℕ) → IsSource revision x → is_lt (by_bytes last x.0) ≡ true → rest ≡ source x ++ behind → ⊥)
+      → ((x : List ℕ × Window) (behind : List ℕ) → IsSource revision x → is_lt (by_bytes last x.0) ≡ true → rest ≡ source x ++ behind → ⊥)
       → BeginsNone sources_bytes (AreSources revision) bytes
   unfolding sources
   none_more entries last count bytes rest there low few all is none others behind are spelled =
@@ -201,26 +205,26 @@ module _ (revision : ℕ) (low : revision < 2 ^ 64) where
       (sym there ∙ spelled ∙ append_assoc (number w32 (count_of others)) (flat_map source others.entries) behind) in
       let each = recursion_from_All (IsSource revision) others.entries are.each in
       let more = prefix entries others.entries rest behind all each counts.1 (omega (arith, few, counts.0)) in
-      further more.0 more.1 more.2 (subst (AllByRecursion (IsSource revision)) more.1 each) (omega (arith, few, counts.0, ap (length {A = List ℕ × LastTaken}) more.1, length-append entries more.0))
+      further more.0 more.1 more.2 (subst (AllByRecursion (IsSource revision)) more.1 each) (omega (arith, few, counts.0, ap (length {A = List ℕ × Window}) more.1, length-append entries more.0))
     where
-      behind_all : (front more : List (List ℕ × LastTaken)) → AllByRecursion (IsSource revision) (front ++ more) → AllByRecursion (IsSource revision) more
+      behind_all : (front more : List (List ℕ × Window)) → AllByRecursion (IsSource revision) (front ++ more) → AllByRecursion (IsSource revision) more
       behind_all [] more each = each
       behind_all (f ∷ front) more each = behind_all front more each.1
 
-      further : (more : List (List ℕ × LastTaken)) → others.entries ≡ entries ++ more → rest ≡ flat_map source more ++ behind → AllByRecursion (IsSource revision) (entries ++ more) → 0 < length more → ⊥
+      further : (more : List (List ℕ × Window)) → others.entries ≡ entries ++ more → rest ≡ flat_map source more ++ behind → AllByRecursion (IsSource revision) (entries ++ more) → 0 < length more → ⊥
       further [] same then each some = absurd (omega arith)
       further (x ∷ more) same then each some =
           let here = behind_all entries (x ∷ more) each in
           let order : above entries x.0 ≡ true = sorted_above entries x more (ap (is_sorted by_bytes) (sym same) ∙ from_T _ others.ascending) in
           none x (flat_map source more ++ behind) here.0 (is.back x.0 (name_some 32 x.0 here.0.named) order) (then ∙ append_assoc (source x) (flat_map source more) behind)
 
-pub each_more : (revision : ℕ) (entries : List (List ℕ × LastTaken)) (x : List ℕ × LastTaken) → AllByRecursion (IsSource revision) entries → IsSource revision x
+pub each_more : (revision : ℕ) (entries : List (List ℕ × Window)) (x : List ℕ × Window) → AllByRecursion (IsSource revision) entries → IsSource revision x
     → AllByRecursion (IsSource revision) (entries ++ x ∷ [])
 each_more revision [] x all is = (is, tt)
 each_more revision (e ∷ entries) x all is = (all.0, each_more revision entries x all.1 is)
 
 -- a source more is read
-pub split_more : (count : ℕ) (entries : List (List ℕ × LastTaken)) (x : List ℕ × LastTaken) (bytes rest after : List ℕ) → bytes ≡ number w32 count ++ (flat_map source entries ++ rest)
+pub split_more : (count : ℕ) (entries : List (List ℕ × Window)) (x : List ℕ × Window) (bytes rest after : List ℕ) → bytes ≡ number w32 count ++ (flat_map source entries ++ rest)
     → rest ≡ source x ++ after → bytes ≡ number w32 count ++ (flat_map source (entries ++ x ∷ []) ++ after)
 split_more count entries x bytes rest after there next =
     let more : flat_map source (entries ++ x ∷ []) ≡ flat_map source entries ++ source x =

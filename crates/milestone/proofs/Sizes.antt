@@ -1,11 +1,12 @@
 -- A cell that keeps the limits has its place in as many bytes as a document may weigh, and 128 more.
-use Rattle.std.proofs.Common.{◌≡◌, ℕ, ◌+◌, ◌*◌, ◌≤◌, ◌<◌, true, List, [], ◌∷◌, ◌++◌, length, sum_by, refl, sym, ap, subst, ◌∙◌, ⊎_elim, arith}
+use Rattle.std.proofs.Common.{◌≡◌, ℕ, suc, ◌+◌, ◌-◌, ◌*◌, ◌≤◌, ◌<◌, true, List, [], ◌∷◌, ◌++◌, length, sum_by, refl, sym, ap, subst, ◌∙◌, ⊎_elim, arith}
 use Rattle.std.specs.Int.{w32, w64}
 use Rattle.std.specs.List.{flat_map, AllByRecursion}
 use Rattle.std.specs.Char.{encode_utf8, len_utf8}
 use Rattle.std.specs.Char.Escape.{encode_utf16}
 use Rattle.std.specs.Str.{IsUtf8, chars, encode_utf8_all}
 use Rattle.std.proofs.lemmas.Bool.{cond_both, and_parts, cases_lt, leb-true}
+use Rattle.std.proofs.lemmas.Nat.{mul-le}
 use Rattle.std.proofs.lemmas.List.{length-append}
 use Rattle.std.proofs.lemmas.List.Sums.{sum_by-cons}
 use Rattle.std.proofs.lemmas.List.Elements.{recursion_from_All}
@@ -20,9 +21,9 @@ use Rattle.delta.specs.Operation.{Operation, insert_text, insert_embed, retain, 
 use Rattle.delta.specs.Normal.{spell_unit, spell_item, spell_inserts}
 use Rattle.document.specs.Weight.{named_weight, entries_weight, unit_weight, weight_of}
 use Rattle.revision.specs.Name.{is_name, is_source_name}
-use Rattle.revision.specs.Sources.{are_named}
-use Rattle.revision.specs.declared.sources.LastTaken.{LastTaken}
-use Rattle.revision.specs.State.{Limits}
+use Rattle.revision.specs.Sources.{are_named, total_of}
+use Rattle.revision.specs.Window.{Window, last_revision}
+use Rattle.revision.specs.State.{Limits, window_weight, is_window, are_sources}
 use Rattle.revision.specs.Spellable.{IsOperation}
 use Rattle.revision.specs.Width.{value_width, pair_width, operation_width, delta_width}
 use Rattle.journal.specs.Spelling.{number, text16}
@@ -148,20 +149,34 @@ name_short : (longest : ℕ) (name : List ℕ) → is_name longest name ≡ true
 name_short longest name is = leb-true _ _ (and_parts _ _ (and_parts _ _ is).0).1
 
 -- a source takes at most 50 bytes
-source_short : (s : List ℕ × LastTaken) → is_source_name s.0 ≡ true → length (source s) ≤ 50
+source_short : (s : List ℕ × Window) → is_source_name s.0 ≡ true → length (source s) ≤ 50
 unfolding source
 source_short s is =
-    omega (arith, length-append (text16 s.0 ++ number w64 s.1.number) (number w64 s.1.revision), length-append (text16 s.0) (number w64 s.1.number), text s.0, number64 s.1.number, number64 s.1.revision, name_short 32 s.0 is)
+    omega (arith, length-append (text16 s.0 ++ number w64 s.1.number) (number w64 (last_revision s.1)), length-append (text16 s.0) (number w64 s.1.number), text s.0, number64 s.1.number, number64 (last_revision s.1), name_short 32 s.0 is)
 
-each_short : (all : List (List ℕ × LastTaken)) → are_named all ≡ true → length (flat_map source all) ≤ 50 * length all
+each_short : (all : List (List ℕ × Window)) → are_named all ≡ true → length (flat_map source all) ≤ 50 * length all
 each_short [] named = omega arith
 each_short (s ∷ all) named =
     let both = and_parts (is_source_name s.0) (are_named all) named in
     omega (arith, length-append (source s) (flat_map source all), source_short s both.0, each_short all both.1)
 
-sources_short : (all : List (List ℕ × LastTaken)) → are_named all ≡ true → length (sources all) ≤ 4 + 50 * length all
+sources_short : (all : List (List ℕ × Window)) → are_named all ≡ true → length (sources all) ≤ 4 + 50 * length all
 unfolding sources
 sources_short all named = omega (arith, length-append (number w32 (length all)) (flat_map source all), number32 (length all), each_short all named)
+
+-- a source weighs 64 at least
+window_heavy : (retry count : ℕ) → 1 ≤ count → 64 ≤ 64 - retry + retry * count
+window_heavy retry count some = omega (arith, some, mul-le retry 1 retry count (omega arith) some)
+
+sources_heavy : (revision : ℕ) (limits : Limits) (all : List (List ℕ × Window)) → are_sources revision all ≡ true → 64 * length all ≤ total_of (window_weight limits) all
+sources_heavy revision limits [] are = omega arith
+sources_heavy revision limits (s ∷ all) are =
+    let both = and_parts (is_window revision s.1) (are_sources revision all) are in
+    let some = leb-true _ _ (and_parts _ _ (and_parts _ _ (and_parts _ _ (and_parts _ _ both.0).0).0).0).0 in
+    more (length all) (window_weight limits s.1) (total_of (window_weight limits) all) (window_heavy limits.retry (length s.1.revisions) some) (sources_heavy revision limits all both.1)
+  where
+    more : (n one others : ℕ) → 64 ≤ one → 64 * n ≤ others → 64 * suc n ≤ one + others
+    more n one others heavy rest = omega (arith, heavy, rest)
 
 -- the body, behind its gate and its length
 body_fits : (n : ℕ) (limits : Limits) (cell : Cell) → IsMilestone cell → CellKeeps limits cell → AllByRecursion IsNarrow (inserts_of cell.content.units)
@@ -182,6 +197,7 @@ body_fits n limits cell is keeps narrow =
       length-delta (inserts_of cell.content.units),
       content_width cell.content.units narrow,
       sources_short cell.sources.entries is.named,
+      sources_heavy cell.revision limits cell.sources.entries is.sources,
       name_short 64 cell.name is.name,
       keeps.weight,
     )

@@ -4,14 +4,14 @@ use Rattle.std.specs.Char.{encode_utf8}
 use Rattle.std.specs.Char.Utf16.{utf16_chars}
 use Rattle.attributes.specs.Map.{empty, insert}
 use Rattle.delta.specs.Element.{letters}
-use Rattle.revision.specs.Sources.{with_last}
+use Rattle.revision.specs.Sources.{with_taken}
 use Rattle.journal.specs.Spelling.{number, text16, text32}
 use Rattle.journal.specs.DeltaSpelling.{value, pairs, operation, delta}
 use Rattle.history.specs.Cell.{Cell}
 use Rattle.milestone.specs.CellSpelling.{source, sources, cell_body}
 
 abbrev created : Cell
-created = record { name = 100 ∷ []; revision = 1; content = record { units = letters (122 ∷ []) empty }; sources = with_last (97 ∷ []) 1 1 empty }
+created = record { name = 100 ∷ []; revision = 1; content = record { units = letters (122 ∷ []) empty }; sources = with_taken (97 ∷ []) 1 1 empty }
 
 -- the document's number and name, the revision; the delta; the sources
 pub body-of_created : cell_body 0 created ≡

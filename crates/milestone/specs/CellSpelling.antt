@@ -7,7 +7,7 @@ use Rattle.delta.specs.Operation.{Operation}
 use Rattle.delta.specs.Gaps.{End}
 use Rattle.delta.specs.Normal.{nf}
 use Rattle.revision.specs.Sources.{count_of}
-use Rattle.revision.specs.declared.sources.LastTaken.{LastTaken}
+use Rattle.revision.specs.Window.{Window, last_revision}
 use Rattle.revision.specs.Spellable.{IsSpellable}
 use Rattle.history.specs.Cell.{Cell}
 use Rattle.milestone.specs.Milestone.{IsMilestone}
@@ -18,12 +18,12 @@ use Rattle.journal.specs.DeltaSpelling as deltas
 abbrev pub inserts_of : List Element → List Operation
 inserts_of units = nf (End units)
 
--- a source: its name, the number of its last command that was taken, and the revision that came of it
-unfoldable pub source : List ℕ × LastTaken → List ℕ
-source s = journal.text16 s.0 ++ journal.number w64 s.1.number ++ journal.number w64 s.1.revision
+-- a source: its name, and its last number with the revision that this made. It has no other number.
+unfoldable pub source : List ℕ × Window → List ℕ
+source s = journal.text16 s.0 ++ journal.number w64 s.1.number ++ journal.number w64 (last_revision s.1)
 
 -- the sources in order, behind their count
-unfoldable pub sources : List (List ℕ × LastTaken) → List ℕ
+unfoldable pub sources : List (List ℕ × Window) → List ℕ
 sources all = journal.number w32 (length all) ++ flat_map source all
 
 -- the body of a cell of the document of this number, counted from 0 in order of creation

@@ -2,12 +2,11 @@
 ghost use Rattle.std.specs.Prelude.{◌≡◌, ◌+◌, ◌≤◌, ◌<◌, ◌^◌, ◌++◌, List, ℕ, true, length, OnOk, IfOk, IfErr, IfSome, IfNone};
 ghost use Rattle.std.specs.Int.{w32, w64};
 ghost use Rattle.std.specs.Ordering.{is_lt};
-ghost use Rattle.attributes.specs.Map.{by_bytes};
+ghost use Rattle.attributes.specs.Map.{by_bytes, insert};
 ghost use Rattle.history.specs.Cell.{Cell};
 ghost use Rattle.journal.specs.Spelling as fields;
 ghost use Rattle.revision.specs.Name.{is_document_name, is_source_name};
-ghost use Rattle.revision.specs.Sources as specs;
-ghost use Rattle.revision.specs.declared.sources.LastTaken.{LastTaken};
+ghost use Rattle.revision.specs.Window.{Window};
 ghost use Rattle.revision.specs.State.{last_of_all};
 ghost use Rattle.milestone.specs.CellSpelling as spelling;
 ghost use Rattle.milestone.specs.CellSpelling.{IsCell, cell_body};
@@ -17,7 +16,7 @@ use crate::milestone::Milestone;
 use document::Document;
 use journal::{read_delta, read_number32, read_number64, read_text16};
 use refusal::Refusal;
-use revision::{LastTaken, Name, Sources};
+use revision::{Name, Sources, Window};
 use std::alloc::{AllocError, Global};
 use std::cmp::Ordering;
 
@@ -181,8 +180,8 @@ fn sources(alloc: Global, revision: u64, bytes: &[u8]) -> Result<(Sources, &[u8]
     let mut last = "";
     let mut rest = rest;
     for _ in 0..count {
-        let (text, name, taken, after) = source_above(alloc, last, revision, rest)?;
-        set(&mut sources, name, taken)?;
+        let (text, name, window, after) = source_above(alloc, last, revision, rest)?;
+        put(&mut sources, name, window)?;
         last = text;
         rest = after;
     }
@@ -196,12 +195,12 @@ fn source_above<'a>(
     last: &str,
     revision: u64,
     bytes: &'a [u8],
-) -> Result<(&'a str, Name, LastTaken, &'a [u8]), Unread>
+) -> Result<(&'a str, Name, Window, &'a [u8]), Unread>
     ensures found { IfOk result (λ x. IsSource revision (x.1, x.2)
         × (bytes.now ≡ spelling.source (x.1, x.2) ++ x.3.now)) }
     ensures same { IfOk result (λ x. x.1 ≡ x.0.now) }
     ensures above { IfOk result (λ x. is_lt (by_bytes last.now x.1) ≡ true) }
-    ensures none { IfErr result (λ e. e ≡ Unread.Malformed → (x : List ℕ × LastTaken) (rest : List ℕ)
+    ensures none { IfErr result (λ e. e ≡ Unread.Malformed → (x : List ℕ × Window) (rest : List ℕ)
         → IsSource revision x
         → is_lt (by_bytes last.now x.0) ≡ true → bytes.now ≡ spelling.source x ++ rest → ⊥) }
 {
@@ -209,17 +208,17 @@ fn source_above<'a>(
     let (number, rest) = number_within(LAST_OF_ALL, rest)?;
     let (revision, rest) = number_within(revision, rest)?;
     match last.cmp(text) {
-        Ordering::Less => Ok((text, name, LastTaken { number, revision }, rest)),
+        Ordering::Less => Ok((text, name, Window::of_one(number, revision), rest)),
         _ => Err(Unread::Malformed),
     }
 }
 
-fn set(sources: &mut Sources, name: Name, taken: LastTaken) -> Result<(), Unread>
+fn put(sources: &mut Sources, name: Name, window: Window) -> Result<(), Unread>
     requires { is_source_name name ≡ true }
-    ensures ok { OnOk result (sources.new ≡ specs.with_last name taken.number taken.revision sources.old) }
+    ensures ok { OnOk result (sources.new ≡ insert sources.old name window) }
     ensures only { IfErr result (λ e. e ≡ Unread.NoMemory) }
 {
-    match sources.set(name, taken.number, taken.revision) {
+    match sources.put(name, window) {
         Ok(()) => Ok(()),
         Err(_) => Err(Unread::NoMemory),
     }

@@ -9,7 +9,7 @@ ghost use Rattle.milestone.specs.CellSpelling.{IsCell, cell_body};
 use crate::milestone::Milestone;
 use journal::{write_delta, write_number32, write_number64, write_text16};
 use refusal::Refusal;
-use revision::{LastTaken, Name, Sources};
+use revision::{Name, Sources, Window};
 use std::alloc::{AllocError, Global};
 
 /// What stands behind the gate of a cell of the document of this number: the body's length in four bytes, and the body.
@@ -66,11 +66,11 @@ fn write_sources(out: &mut Vec<u8>, sources: &Sources) -> Result<(), AllocError>
 }
 
 #[tactic(auto, unfolding(crate::specs::CellSpelling::source))]
-fn write_source(out: &mut Vec<u8>, entry: &(Name, LastTaken)) -> Result<(), AllocError>
+fn write_source(out: &mut Vec<u8>, entry: &(Name, Window)) -> Result<(), AllocError>
     ensures { OnOk result (out.new.items ≡ out.old.items ++ spelling.source entry.now) }
 {
     write_name(out, &entry.0)?;
-    write_number64(out, entry.1.number)?;
-    write_number64(out, entry.1.revision)?;
+    write_number64(out, entry.1.number())?;
+    write_number64(out, entry.1.last_revision())?;
     Ok(())
 }

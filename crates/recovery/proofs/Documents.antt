@@ -226,6 +226,7 @@ limits_in_range shape is =
       width = omega (arith, ranges.slot);
       some_revision = ranges.keep_low;
       keep = ranges.keep;
+      retry = omega arith;
     }
 
 -- Nothing is read yet.

@@ -13,6 +13,7 @@ use Rattle.journal.specs.Area.{open_gate}
 use Rattle.journal.specs.BatchSpelling.{IsBatch}
 use Rattle.revision.specs.Invariants.{IsLimits}
 use Rattle.history.specs.Cell.{Pair, no_cells, cells_at}
+use Rattle.history.specs.Shown.{no_order}
 use Rattle.history.proofs.CallerLemmas.{begins as begins_empty}
 use Rattle.milestone.specs.OneCell.{HoldsPair}
 use Rattle.segments.specs.Slot.{Segment, HoldsSlot, number_of}
@@ -149,6 +150,7 @@ are_limits shape in_range =
       width = omega (arith, ranges.slot);
       some_revision = ranges.keep_low;
       keep = ranges.keep;
+      retry = omega arith;
     }
 
 -- with an open gate in front, what is prepared is an empty store
@@ -168,7 +170,7 @@ empty_store shape content in_range is gate = record { laid_out = laid_out; found
       cells = replicate shape.docs no_cells;
       table = empty_table shape;
       batches = [];
-      order = [];
+      order = no_order;
       holds = record { laid_out = laid_out; spell = record { spelled = no_bodies shape; each = All-nil IsBatch } };
       limits = refl;
       runs = begins_empty (limits_of shape) (are_limits shape in_range);

@@ -11,7 +11,7 @@ use Rattle.attributes.specs.Map.{empty, insert}
 use Rattle.delta.specs.Element.{letters}
 use Rattle.delta.specs.Operation.{insert_text, retain}
 use Rattle.revision.specs.Command.{Taken, IsTaken}
-use Rattle.revision.specs.Sources.{with_last}
+use Rattle.revision.specs.Sources.{with_taken}
 use Rattle.revision.specs.Spellable.{IsSpellable, IsOperation, IsPair, IsValue, IsNewValue}
 use Rattle.revision.specs.State.{State, DocumentRecord, all_continue}
 use Rattle.journal.specs.Area.{open_record}
@@ -36,7 +36,7 @@ ann = 97 ∷ []
 
 -- the document at a revision, which ann's command of that number made, with this text
 abbrev cell_at : ℕ → List ℕ → Cell
-cell_at revision text = record { name = 100 ∷ []; revision = revision; content = record { units = letters text empty }; sources = with_last ann revision revision empty }
+cell_at revision text = record { name = 100 ∷ []; revision = revision; content = record { units = letters text empty }; sources = with_taken ann revision revision empty }
 
 abbrev first : Cell
 first = cell_at 1 (122 ∷ [])

@@ -8,6 +8,7 @@ use Rattle.journal.specs.BatchSpelling.{IsBatch, batch}
 use Rattle.history.specs.declared.pick.Pick.{Pick}
 use Rattle.history.specs.Cell.{Pair}
 use Rattle.history.specs.Found.{StandFor}
+use Rattle.history.specs.Shown.{Order}
 use Rattle.history.specs.Running.{Runs}
 use Rattle.segments.specs.Slot.{Segment}
 use Rattle.segments.specs.Order.{bodies_of}
@@ -16,7 +17,14 @@ use Rattle.recovery.specs.Layout.{IsLaidOut}
 
 -- how much a store of this shape may hold
 abbrev pub limits_of : Shape → Limits
-limits_of shape = record { docs = shape.docs; sources = shape.sources; weight = shape.cell - 128; width = shape.slot - 19; keep = shape.keep }
+limits_of shape = record {
+  docs = shape.docs;
+  sources = shape.sources;
+  weight = shape.cell - 128;
+  width = shape.slot - 19;
+  keep = shape.keep;
+  retry = 8;
+}
 
 -- a store of this shape without documents
 abbrev pub empty_state : Shape → State
@@ -53,14 +61,14 @@ pub record FoundBy (pick : Pick) (content : List ℕ) (state : State) : Type 0 w
   pub found : Found content pick there
   pub agrees : Agree there state
 
--- The content is that of a store which runs with this state: its cells and its entries are of one order of commands, which began
--- without any document, and which the state shows.
+-- The content is that of a store which runs with this state: its cells and its entries are of one history, of what the store began with
+-- and the commands since, which the state shows.
 pub record RunsWith (content : List ℕ) (state : State) : Type 0 where
   pub shape : Shape
   pub cells : List Pair
   pub table : List (Option Segment)
   pub batches : List (List Taken)
-  pub order : List Taken
+  pub order : Order
   pub holds : HoldsParts content shape cells table batches
   pub limits : state.limits ≡ limits_of shape
   pub runs : Runs order cells (commands_of batches) state

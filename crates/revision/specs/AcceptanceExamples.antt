@@ -8,7 +8,8 @@ use Rattle.attributes.specs.Attributes.{Changes, changed_by, reverted_by}
 use Rattle.attributes.specs.Scalar.{flag_scalar}
 use Rattle.delta.specs.Element.{Element, letters}
 use Rattle.delta.specs.Operation.{Operation, insert_text, retain, delete}
-use Rattle.revision.specs.Sources.{Sources, with_last}
+use Rattle.revision.specs.Window.{Window}
+use Rattle.revision.specs.Sources.{Sources}
 use Rattle.revision.specs.Past.{Content}
 use Rattle.revision.specs.Command.{Action, Create, Edit, Undo, Command}
 use Rattle.revision.specs.State.{DocumentRecord, State, adopts, adopted}
@@ -26,11 +27,11 @@ text us = letters us empty
 
 -- an empty store whose slots and cells have 256 bytes
 abbrev small : State
-small = record { limits = record { docs = 2; sources = 4; weight = 128; width = 237; keep = 2 }; documents = [] }
+small = record { limits = record { docs = 2; sources = 4; weight = 128; width = 237; keep = 2; retry = 8 }; documents = [] }
 
 -- one of which the documents may be heavier
 abbrev roomy : State
-roomy = record { limits = record { docs = 2; sources = 4; weight = 1000; width = 237; keep = 2 }; documents = [] }
+roomy = record { limits = record { docs = 2; sources = 4; weight = 1000; width = 237; keep = 2; retry = 8 }; documents = [] }
 
 -- a source's command to the document "d", by the letter of its name
 abbrev ask : ℕ → ℕ → Action → Command
@@ -216,9 +217,12 @@ revision_to_come : document_at (after_all small four) (100 ∷ []) 5 ≡ Err Fut
 unfolding insert
 revision_to_come = refl
 
+abbrev window_of_one : ℕ → ℕ → Window
+window_of_one number revision = record { number = number; revisions = revision ∷ [] }
+
 -- a document with two sources is added at revision 7, without its past
 abbrev sevens : Sources
-sevens = with_last (ann ∷ []) 3 7 (with_last (bob ∷ []) 1 2 empty)
+sevens = insert (insert empty (bob ∷ []) (window_of_one 1 2)) (ann ∷ []) (window_of_one 3 7)
 
 abbrev no_units : Content
 no_units = record { units = [] }

@@ -2,10 +2,10 @@
 use Rattle.std.specs.Prelude.{ℕ, ◌≡◌, ◌≤◌, ◌<◌, ◌^◌, true, List, ◌++◌, All}
 use Rattle.delta.specs.Element.{Element}
 use Rattle.revision.specs.Name.{is_source_name}
-use Rattle.revision.specs.declared.sources.LastTaken.{LastTaken}
+use Rattle.revision.specs.Window.{Window}
 use Rattle.revision.specs.Sources.{Sources, count_of}
 use Rattle.revision.specs.Spellable.{IsSpellable}
-use Rattle.revision.specs.State.{is_last_taken}
+use Rattle.revision.specs.State.{is_window}
 use Rattle.journal.specs.DeltaSpelling.{delta}
 use Rattle.milestone.specs.CellSpelling.{inserts_of, sources}
 
@@ -25,9 +25,9 @@ unfoldable pub content_bytes : List Element → List ℕ
 content_bytes units = delta (inserts_of units)
 
 -- a source of a milestone at this revision
-pub record IsSource (revision : ℕ) (source : List ℕ × LastTaken) : Type 0 where
+pub record IsSource (revision : ℕ) (source : List ℕ × Window) : Type 0 where
   pub named : is_source_name source.0 ≡ true
-  pub last : is_last_taken revision source.1 ≡ true
+  pub window : is_window revision source.1 ≡ true
 
 -- sources of such a milestone that have a spelling, and their bytes
 pub record AreSources (revision : ℕ) (all : Sources) : Type 0 where
