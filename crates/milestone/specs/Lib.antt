@@ -4,6 +4,7 @@ pub mod Job
 pub mod JobView
 pub mod CellSpelling
 pub mod OneCell
+pub mod LeftOutside
 pub mod Revisions
 pub mod Cells
 pub mod ReadCells

@@ -27,6 +27,7 @@ use Rattle.recovery.specs.steps.Freeing.{reached_in, IsPutOf, IsHalfPut}
 use Rattle.recovery.specs.Unwritten.{MayKeepJob}
 use Rattle.recovery.proofs.FoundOnce.{cells_same, slots_same}
 use Rattle.recovery.proofs.Named.{named_same}
+use Rattle.milestone.specs.CellSpelling.{Two}
 use Rattle.recovery.proofs.Faults.{works_still}
 use Rattle.recovery.proofs.HandedOut.{same_some}
 use Rattle.recovery.proofs.OtherJobs.{none_own, own_with}
@@ -82,9 +83,9 @@ module _ {D : Type 0} {disk : Ghosts D} where
       let content : List ℕ = disk.seen (device_of old) in
       let seen : disk.seen (device_of new) ≡ content = ap (λ (d : D). disk.seen d) device in
       let here = subst (λ (l : List ℕ). HoldsParts l new.shape now.cells now.table now.batches) seen now.holds in
-      let shapes : new.shape ≡ old.shape = named_same content new.shape old.shape here.laid_out.names is_open.holds.laid_out.names in
+      let shapes : new.shape ≡ old.shape = named_same Two content new.shape old.shape here.laid_out.names is_open.holds.laid_out.names in
       let parts = subst (λ (s : Shape). HoldsParts content s now.cells now.table now.batches) shapes here in (
-        cells_same content old.shape now.cells is_open.cells parts.laid_out.in_cells is_open.holds.laid_out.in_cells,
+        cells_same Two content old.shape now.cells is_open.cells parts.laid_out.in_cells is_open.holds.laid_out.in_cells,
         slots_same content old.shape now.table is_open.table parts.laid_out.in_slots is_open.holds.laid_out.in_slots,
       )
 

@@ -68,4 +68,4 @@ pub use state::{PreparedState, State, Unprepared};
 pub use taken::Taken;
 pub use taker::Taker;
 pub use widths::delta_width;
-pub use window::Window;
+pub use window::{LONGEST, Window};

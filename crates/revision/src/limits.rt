@@ -49,6 +49,23 @@ impl Limits {
         }
     }
 
+    /// The same where a source weighs 64 with any number of numbers in its window.
+    pub fn without_retries(docs: u32, sources: u32, weight: u32, width: u32, keep: u32) -> Limits
+        requires { IsLimits
+            (record { docs = docs; sources = sources; weight = weight; width = width; keep = keep; retry = 0 }) }
+        ensures { result
+            ≡ record { docs = docs; sources = sources; weight = weight; width = width; keep = keep; retry = 0 } }
+    {
+        Limits {
+            docs,
+            sources,
+            weight,
+            width,
+            keep,
+            retry: 0,
+        }
+    }
+
     /// Documents, 1 to 65,536.
     pub fn docs(&self) -> u32
         ensures docs { result ≡ self.now.docs }

@@ -1,5 +1,5 @@
 //! A source's window.
-ghost use Rattle.std.specs.Prelude.{◌≡◌, ◌≤◌, [], ◌∷◌, length, nat_lt};
+ghost use Rattle.std.specs.Prelude.{◌≡◌, ◌≤◌, ◌<◌, [], ◌∷◌, ◌++◌, length, nat_lt};
 ghost use Rattle.revision.specs.State.{window_weight};
 ghost use Rattle.revision.specs.Window.{longest, nothing_taken, taken_as, revision_in, last_revision};
 
@@ -8,7 +8,7 @@ use arrayvec::ArrayVec;
 use std::marker::Model;
 
 /// How many numbers a window has at most.
-const LONGEST: usize = 1;
+pub const LONGEST: usize = 1;
 
 /// What a source has in a document: the number of its last command that was taken, and the revisions that came of its last numbers,
 /// that of the very last one at the end. It lies in itself, so that it is copied and shifted without memory.
@@ -46,6 +46,24 @@ impl Window {
         let mut revisions = ArrayVec::new();
         revisions.push(revision);
         Window { number, revisions }
+    }
+
+    /// That of a source with this last number, before the revisions of its numbers are added.
+    pub fn begun(number: u64) -> Window
+        ensures { result ≡ record { number = number; revisions = [] } }
+    {
+        Window {
+            number,
+            revisions: ArrayVec::new(),
+        }
+    }
+
+    /// Adds a revision behind those that it has, and leaves the last number.
+    pub fn add(&mut self, revision: u64)
+        requires { length self.old.revisions < longest }
+        ensures { self.new ≡ record { number = self.old.number; revisions = self.old.revisions ++ revision ∷ [] } }
+    {
+        self.revisions.push(revision);
     }
 
     /// The last number, 0 where nothing was taken.

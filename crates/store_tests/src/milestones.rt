@@ -17,7 +17,7 @@ use crate::stores::{
 };
 use crate::upkeep::DELETION;
 use disk::{Disk, FaultDisk, FaultPlan, Left, MemDisk};
-use milestone::{Cells, Composed, Job, Milestone, ReadCells, compose_job};
+use milestone::{Cells, Composed, Format, Job, Milestone, ReadCells, compose_job};
 use recovery::{Pick, Store};
 use refusal::Refusal;
 use std::process::Abort;
@@ -171,7 +171,7 @@ fn cells_of(rt: &(impl Abort + AllocGlobal), disk: &mut MemDisk) -> ReadCells
     ensures known { IsReadAs 64 256 0 result }
     ensures same { bytes_of disk.new ≡ bytes_of disk.old }
 {
-    match Cells::read_both(rt.alloc(), disk, 64, 256, 0) {
+    match Cells::read_both(rt.alloc(), disk, Format::Two, 64, 256, 0) {
         Ok(read) => read,
         Err(refusal) => panic!(rt; "{refusal}"),
     }
