@@ -4,7 +4,7 @@ import struct
 NOT_FORMATTED, DAMAGED, OLD_FORMAT = 30, 32, 38
 NAMES = {NOT_FORMATTED: "NotFormatted", DAMAGED: "Damaged", OLD_FORMAT: "OldFormat"}
 OLD_LETTERS, LETTERS = b"QDSTORE1", b"QDSTORE2"
-WINDOW = 1  # how many numbers a window has at most
+WINDOW = 16  # how many numbers a window has at most
 RANGES = [(2, 1_024), (256, 16_777_216), (1, 65_536), (256, 16_777_216), (1, 4_096), (1, 65_536)]  # slots, slot, docs, cell, sources, keep
 OPEN = 0xA5
 MOST = (1 << 53) - 1

@@ -112,13 +112,35 @@ second_again : reply_after small edited (ask ann 2 (Edit 1 [])) ≡ AgainAt 2
 unfolding insert
 second_again = refl
 
-first_is_old : reply_after small edited (ask ann 1 (Edit 1 [])) ≡ Refused OldNumber
+first_again : reply_after small edited (ask ann 1 (Edit 1 [])) ≡ AgainAt 1
 unfolding insert
-first_is_old = refl
+first_again = refl
 
 fourth_leaves_a_gap : reply_after small edited (ask ann 4 (Edit 1 [])) ≡ Refused Gap
 unfolding insert
 fourth_leaves_a_gap = refl
+
+-- one source's numbers 1 to so many and one more: each is an edit of the revision before it
+abbrev numbered : ℕ → List Command
+numbered zero = created
+numbered (suc n) = numbered n ++ ask ann (n + 2) (Edit (n + 1) []) ∷ []
+
+-- after 17 numbers the second one is the lowest of the window; after 18 it is too old
+second_of_17 : reply_after roomy (numbered 16) (ask ann 2 (Edit 1 [])) ≡ AgainAt 2
+unfolding insert
+second_of_17 = refl
+
+first_of_17 : reply_after roomy (numbered 16) (ask ann 1 (Edit 1 [])) ≡ Refused OldNumber
+unfolding insert
+first_of_17 = refl
+
+creation_after_17 : reply_after roomy (numbered 16) (ask ann 1 (Create [])) ≡ Refused Exists
+unfolding insert
+creation_after_17 = refl
+
+second_of_18 : reply_after roomy (numbered 17) (ask ann 2 (Edit 1 [])) ≡ Refused OldNumber
+unfolding insert
+second_of_18 = refl
 
 -- keep 2, revision 4, floor 2: base 5 is yet to come, base 1 is too old, base 2 is taken as 5 and the floor becomes 3
 abbrev four : List Command
@@ -139,11 +161,11 @@ base_too_old : reply_after small four (ask bob 1 (Edit 1 [])) ≡ Refused TooOld
 unfolding insert
 base_too_old = refl
 
-base_is_held : reply_after small four (ask bob 1 (Edit 2 [])) ≡ TakenAt 5
+base_is_held : reply_after roomy four (ask bob 1 (Edit 2 [])) ≡ TakenAt 5
 unfolding insert
 base_is_held = refl
 
-floor_of_five : floors (after_all small (four ++ ask bob 1 (Edit 2 []) ∷ [])) ≡ 3 ∷ []
+floor_of_five : floors (after_all roomy (four ++ ask bob 1 (Edit 2 []) ∷ [])) ≡ 3 ∷ []
 unfolding insert
 floor_of_five = refl
 
@@ -155,6 +177,11 @@ five_letters = refl
 six_letters : reply_after small [] (ask ann 1 (Create (ins (codes "abcdef") ∷ []))) ≡ Refused TooHeavy
 unfolding utf16_chars encode_utf8 insert
 six_letters = refl
+
+-- a second number weighs 8 more, so an edit that does nothing is too heavy behind the five letters
+five_letters_and_no_more : reply_after small (ask ann 1 (Create (ins (codes "abcde") ∷ [])) ∷ []) (ask ann 2 (Edit 1 [])) ≡ Refused TooHeavy
+unfolding utf16_chars encode_utf8 insert
+five_letters_and_no_more = refl
 
 -- ann creates "ab" (1), and edits [ret 1, del 1] (2); bob edits [ins "q"] of base 2 (3); ann's undo 3 gives "qab" (4), her
 -- undo 4 gives "qa" (5); carl has nothing to undo
@@ -228,7 +255,7 @@ abbrev no_units : Content
 no_units = record { units = [] }
 
 abbrev after_adoption : State
-after_adoption = adopted small (100 ∷ []) no_units 7 sevens
+after_adoption = adopted roomy (100 ∷ []) no_units 7 sevens
 
 is_adopted : adopts small (100 ∷ []) no_units 7 sevens ≡ true
 unfolding insert

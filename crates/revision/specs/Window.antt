@@ -8,7 +8,7 @@ use Rattle.std.proofs.lemmas.Slice.Eq.{bytes_eq-Decides}
 
 -- how many numbers a window has at most
 abbrev pub longest : ℕ
-longest = 1
+longest = 16
 
 -- the last number, and the revisions of the last numbers, that of the very last one at the end
 pub record Window : Type 0 where

@@ -8,7 +8,7 @@ use arrayvec::ArrayVec;
 use std::marker::Model;
 
 /// How many numbers a window has at most.
-pub const LONGEST: usize = 1;
+pub const LONGEST: usize = 16;
 
 /// What a source has in a document: the number of its last command that was taken, and the revisions that came of its last numbers,
 /// that of the very last one at the end. It lies in itself, so that it is copied and shifted without memory.

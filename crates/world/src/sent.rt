@@ -10,7 +10,7 @@ use std::marker::Model;
 use std::snapshot::Snapshot;
 
 /// How many numbers a source's window has at most.
-pub(crate) const LONGEST: u64 = 1;
+pub(crate) const LONGEST: u64 = 16;
 
 /// A command that was sent: whose it is, and its number. What it asks for is there for contracts alone, and takes no memory.
 #[derive(Drop)]
