@@ -13,13 +13,13 @@ pub const FIRST: [u8; 59] = [
     1, 0, 0, 0, 0, 0, 0, 0, 1, 1, 0, 0, 0, 0, 0, 0, 0, // its number, and its window: one revision
 ];
 
-// It then appended "x".
-pub const SECOND: [u8; 60] = [
-    0xa5, 55, 0, 0, 0, //
+// It then appended "x". Its window has both numbers.
+pub const SECOND: [u8; 68] = [
+    0xa5, 63, 0, 0, 0, //
     0, 0, 0, 0, 1, 0, b'd', 2, 0, 0, 0, 0, 0, 0, 0, 1, //
     1, 0, 0, 0, 1, 2, 0, 0, 0, b'z', b'x', 0, 0, 0, 0, //
     1, 0, 0, 0, 1, 0, b'a', //
-    2, 0, 0, 0, 0, 0, 0, 0, 1, 2, 0, 0, 0, 0, 0, 0, 0,
+    2, 0, 0, 0, 0, 0, 0, 0, 2, 1, 0, 0, 0, 0, 0, 0, 0, 2, 0, 0, 0, 0, 0, 0, 0,
 ];
 
 // The gate and the number of slot 0, and the gate and the length of the record, whose body is the edit.
