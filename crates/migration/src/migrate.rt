@@ -1,5 +1,5 @@
 //! Reading a store of the first format, and putting it on a new device.
-ghost use Rattle.std.specs.Prelude.{◌≡◌, ◌⊎◌, ◌<◌, ◌≤◌, ◌^◌, List, [], true, length, Err, OnOk, OnErr, IfOk, IfErr, slice_index};
+ghost use Rattle.std.specs.Prelude.{◌≡◌, ◌⊎◌, ◌<◌, ◌≤◌, ◌^◌, List, [], true, length, Err, OnOk, OnErr, IfOk, IfErr};
 ghost use Rattle.disk.specs.Calls.{CountsFaultsAs};
 ghost use Rattle.disk.specs.Crash.{history_of};
 ghost use Rattle.history.specs.Cell.{Cell, Newer};
@@ -30,7 +30,7 @@ pub struct Old {
 
 /// Brings the store of the first format on `old` over to `new`, whose superblock's gate has to be closed. The old device is synced and
 /// read, and never written. In this order and before any write come `NotFormatted`, `NotOld` and `Damaged` of the old device, and
-/// `BadShape` and `AlreadyFormatted` of the new one; `NoMemory` may come until the superblock's gate is opened, and leaves that gate.
+/// `BadShape` and `AlreadyFormatted` of the new one; `NoMemory` may come until the superblock's gate is opened, and leaves that gate closed.
 pub fn migrate<A: Disk, B: Disk>(alloc: Global, old: &mut A, new: &mut B) -> Result<(), Refusal>
     // The old device is read alone.
     ensures old { IsOnlySynced (history_of ⟦<A as Disk>⟧ old.old) (history_of ⟦<A as Disk>⟧ old.new) }
@@ -53,8 +53,7 @@ pub fn migrate<A: Disk, B: Disk>(alloc: Global, old: &mut A, new: &mut B) -> Res
     ensures already_formatted { result ≡ Err Refusal.AlreadyFormatted → B.honest new.new → IsFormatted (B.seen new.old) }
     ensures kept { B.honest new.new → IsFormatted (B.seen new.old)
         → IsOnlySynced (history_of ⟦<B as Disk>⟧ new.old) (history_of ⟦<B as Disk>⟧ new.new) }
-    ensures memory { result ≡ Err Refusal.NoMemory
-        → slice_index (B.seen new.new) 0 ≡ slice_index (B.seen new.old) 0 }
+    ensures memory { result ≡ Err Refusal.NoMemory → IsUnformatted (B.seen new.old) → IsUnformatted (B.seen new.new) }
     ensures length { length (B.seen new.new) ≡ length (B.seen new.old) }
     ensures only { IfErr result (λ e. (e ≡ Refusal.NotFormatted) ⊎ ((e ≡ Refusal.NotOld) ⊎ ((e ≡ Refusal.Damaged)
         ⊎ ((e ≡ Refusal.BadShape) ⊎ ((e ≡ Refusal.AlreadyFormatted) ⊎ ((e ≡ Refusal.NoMemory)
@@ -109,8 +108,7 @@ impl Old {
         ensures already_formatted { result ≡ Err Refusal.AlreadyFormatted → B.honest disk.new
             → IsFormatted (B.seen disk.old) }
         ensures bad_shape { result ≡ Err Refusal.BadShape → ¬ Fits (shape_of self.now) (length (B.seen disk.old)) }
-        ensures memory { result ≡ Err Refusal.NoMemory
-            → slice_index (B.seen disk.new) 0 ≡ slice_index (B.seen disk.old) 0 }
+        ensures memory { result ≡ Err Refusal.NoMemory → IsUnformatted (B.seen disk.old) → IsUnformatted (B.seen disk.new) }
         ensures only { IfErr result (λ e. (e ≡ Refusal.BadShape) ⊎ ((e ≡ Refusal.AlreadyFormatted)
             ⊎ ((e ≡ Refusal.NoMemory) ⊎ (e ≡ Refusal.Fault)))) }
         ensures length { length (B.seen disk.new) ≡ length (B.seen disk.old) }

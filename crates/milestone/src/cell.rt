@@ -1,13 +1,13 @@
 //! One cell on a device: its gate, and what it holds.
-ghost use Rattle.std.specs.Prelude.{◌≡◌, ◌⊎◌, ◌+◌, ◌≤◌, ◌<◌, ◌^◌, ℕ, Option, [], ◌∷◌, length, take, drop, Some, OnOk, IfOk, IfErr, IsErrOf};
+ghost use Rattle.std.specs.Prelude.{◌≡◌, ◌⊎◌, ◌+◌, ◌*◌, ◌≤◌, ◌<◌, ◌^◌, ℕ, Option, [], ◌∷◌, length, take, drop, Some, OnOk, IfOk, IfErr, IsErrOf};
 ghost use Rattle.std.specs.Int.{w32, to_le_bytes};
 ghost use Rattle.disk.specs.Calls.{HasOnlyRead, HasOnlyWritten, CountsFaults, CountsFaultsAs};
 ghost use Rattle.disk.specs.Crash.{LeavesOnly, history_of};
 ghost use Rattle.disk.specs.Device.{overwritten, SameOutside};
-ghost use Rattle.history.specs.Cell.{Cell};
+ghost use Rattle.history.specs.Cell.{Cell, Pair};
 ghost use Rattle.journal.specs.Area.{open_gate};
 ghost use Rattle.milestone.specs.CellSpelling.{cell_body, IsCell};
-ghost use Rattle.milestone.specs.OneCell.{HoldsCellIn, HoldsCell};
+ghost use Rattle.milestone.specs.OneCell.{HoldsCellIn, HoldsPair};
 ghost use Rattle.milestone.specs.LeftOutside.{IsLeftOutside};
 
 use crate::format::Format;
@@ -109,9 +109,9 @@ fn read_range<D: Disk>(alloc: Global, disk: &mut D, at: u64, len: u64) -> Result
     Ok(bytes)
 }
 
-/// Writes a cell with its gate open, on a device of which nothing counts yet: the body behind the gate, then the gate, and no sync.
-/// `NoMemory` comes before any call of the device. A crash leaves anything in the cell's range, and outside it what one could have left
-/// before.
+/// Writes the first of the two cells of a document with its gate open, on a device of which nothing counts yet: the body behind the
+/// gate, then the gate, and no sync. `NoMemory` comes before any call of the device. A crash leaves anything in the cell's range, and
+/// outside it what one could have left before.
 pub fn write_open<D: Disk>(
     alloc: Global,
     disk: &mut D,
@@ -120,15 +120,16 @@ pub fn write_open<D: Disk>(
     number: u32,
     milestone: &Milestone,
 ) -> Result<(), Refusal>
-    requires within { place + size ≤ length (D.seen disk.old) }
-    requires bound { place + size < 2 ^ 62 }
+    requires within { place + 2 * size ≤ length (D.seen disk.old) }
+    requires bound { place + 2 * size < 2 ^ 62 }
     requires high { size ≤ 16777216 }
     requires is { IsCell number milestone.now }
     requires fits { 5 + length (cell_body number milestone.now) ≤ size }
 
     ensures any_moment { LeavesOnly ⟦<D as Disk>⟧
         (IsLeftOutside place size (history_of ⟦<D as Disk>⟧ disk.old).now) disk.old disk.new }
-    ensures held { OnOk result (HoldsCell place size number (D.seen disk.new) (Some milestone.now)) }
+    ensures held { OnOk result ((pair : Pair) → HoldsPair place size number (D.seen disk.old) pair
+        → HoldsPair place size number (D.seen disk.new) (Some milestone.now, pair.1)) }
     ensures outside { OnOk result (SameOutside place size (D.seen disk.old) (D.seen disk.new)) }
     ensures untouched { IsErrOf result Refusal.NoMemory → disk.new ≡ disk.old }
     ensures only { IfErr result (λ e. (e ≡ Refusal.NoMemory) ⊎ (e ≡ Refusal.Fault)) }

@@ -99,7 +99,7 @@ pub no_bodies : (shape : Shape) → bodies_of (empty_table shape) ≡ []
 no_bodies shape = ap (λ (l : List Segment). flat_map (λ (segment : Segment). segment.bodies) l) (no_segments shape.slots)
 
 -- the slots hold that table where their gates are closed
-slots_empty : (shape : Shape) (content : List ℕ) → is_in_range shape ≡ true → ((s : ℕ) → s < shape.slots → IsClosed content (slot_place (slots_place shape) shape.slot s)) → HoldsSlots content shape (empty_table shape)
+pub slots_empty : (shape : Shape) (content : List ℕ) → is_in_range shape ≡ true → ((s : ℕ) → s < shape.slots → IsClosed content (slot_place (slots_place shape) shape.slot s)) → HoldsSlots content shape (empty_table shape)
 slots_empty shape content in_range closed = record {
   count = length-replicate shape.slots None;
   holds = record {
@@ -113,13 +113,13 @@ slots_empty shape content in_range closed = record {
 }
 
 -- no document has a cell
-no_pair : (count number : ℕ) → cells_at (replicate count no_cells) number ≡ no_cells
+pub no_pair : (count number : ℕ) → cells_at (replicate count no_cells) number ≡ no_cells
 no_pair zero number = refl
 no_pair (suc count) zero = refl
 no_pair (suc count) (suc number) = no_pair count number
 
 -- the two cells of each document are closed where all their gates are
-cells_empty : (shape : Shape) (content : List ℕ) → is_in_range shape ≡ true → ((k : ℕ) → k < 2 * shape.docs → IsClosed content (cell_place shape k))
+pub cells_empty : (shape : Shape) (content : List ℕ) → is_in_range shape ≡ true → ((k : ℕ) → k < 2 * shape.docs → IsClosed content (cell_place shape k))
     → HoldsCells content shape (replicate shape.docs no_cells)
 cells_empty shape content in_range closed = record {
   count = length-replicate shape.docs no_cells;

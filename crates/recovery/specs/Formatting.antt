@@ -1,12 +1,12 @@
 -- What formatting leaves of a device.
-use Rattle.std.specs.Prelude.{◌≡◌, ◌⊎◌, ℕ, ◌+◌, ◌*◌, ◌<◌, ◌≤◌, true, Option, Some, None, List, [], length, replicate, take, drop, slice_get, All}
+use Rattle.std.specs.Prelude.{◌≡◌, ◌⊎◌, ℕ, ◌*◌, ◌<◌, ◌≤◌, true, Option, Some, None, List, [], length, replicate, take, drop, slice_get, All}
 use Rattle.disk.specs.Device.{History, IsSync, IsAtMostOneStep}
 use Rattle.disk.specs.Crash.{Leaves}
 use Rattle.revision.specs.Invariants.{IsState}
 use Rattle.history.specs.Cell.{Cell, no_cells, CellKeeps}
 use Rattle.history.specs.Law.{first_cells, begun_with}
 use Rattle.milestone.specs.CellSpelling.{IsCell}
-use Rattle.milestone.specs.OneCell.{HoldsCell}
+use Rattle.milestone.specs.OneCell.{HoldsPair}
 use Rattle.segments.specs.Slot.{Segment}
 use Rattle.segments.specs.Table.{slot_place}
 use Rattle.recovery.specs.declared.shape.Shape.{Shape}
@@ -51,13 +51,11 @@ pub record IsBegunStore (shape : Shape) (start : List Cell) (content : List ℕ)
 abbrev pub IsUnformattedOrBegun : Shape → List Cell → List ℕ → Type 0
 IsUnformattedOrBegun shape start content = IsUnformatted content ⊎ IsBegunStore shape start content
 
--- Such a store but for the superblock's gate, which may have any value, and for the documents behind these many: the first cells of those
--- hold them, and each other cell and each slot is closed.
+-- such a store but for the superblock's gate, which may have any value
 pub record IsPreparedWith (shape : Shape) (start : List Cell) (content : List ℕ) : Type 0 where
   pub named : take 32 (drop 1 content) ≡ superblock shape
   pub long : layout_length shape ≤ length content
-  pub firsts : (number : ℕ) → number < shape.docs → HoldsCell (cells_place shape number) shape.cell number content (slice_get start number)
-  pub seconds : (number : ℕ) → number < shape.docs → IsClosed content (cells_place shape number + shape.cell)
+  pub cells : (number : ℕ) → number < shape.docs → HoldsPair (cells_place shape number) shape.cell number content (slice_get start number, None)
   pub slots : (s : ℕ) → s < shape.slots → IsClosed content (slot_place (slots_place shape) shape.slot s)
 
 -- an empty store but for the superblock's gate, which may have any value

@@ -75,7 +75,7 @@ pub fn format_device<D: Disk>(alloc: Global, disk: &mut D, shape: Shape) -> Resu
 
 /// Makes a device a store of this shape that begins with these documents, the first one with number 0 and so on, each a milestone in its
 /// first cell. The refusals are those of `format_device`, in their order, but that `NoMemory` may come between the writes, and leaves the
-/// superblock's gate as it was. After a `Fault` a device that was not formatted still is not, or is the store with these documents.
+/// superblock's gate closed. After a `Fault` a device that was not formatted still is not, or is the store with these documents.
 pub fn format_with<D: Disk>(
     alloc: Global,
     disk: &mut D,
@@ -105,13 +105,12 @@ pub fn format_with<D: Disk>(
     ensures unfit { ¬ Fits shape (length (D.seen disk.old))
         → (result ≡ Err Refusal.BadShape) ⊎ ((result ≡ Err Refusal.AlreadyFormatted) ⊎ (result ≡ Err Refusal.Fault)) }
 
-    // No other refusal comes, and all but `Fault` and `NoMemory` come before the first write. `NoMemory` leaves the superblock's gate.
+    // No other refusal comes, and all but `Fault` and `NoMemory` come before the first write. `NoMemory` leaves the superblock's gate closed.
     ensures refusals { IfErr result (λ e. (e ≡ Refusal.BadShape) ⊎ ((e ≡ Refusal.AlreadyFormatted)
         ⊎ ((e ≡ Refusal.NoMemory) ⊎ (e ≡ Refusal.Fault)))) }
     ensures refused { IfErr result (λ e. (e ≡ Refusal.Fault) ⊎ ((e ≡ Refusal.NoMemory)
         ⊎ IsOnlySynced (history_of ⟦<D as Disk>⟧ disk.old) (history_of ⟦<D as Disk>⟧ disk.new))) }
-    ensures memory { result ≡ Err Refusal.NoMemory
-        → slice_index (D.seen disk.new) 0 ≡ slice_index (D.seen disk.old) 0 }
+    ensures memory { result ≡ Err Refusal.NoMemory → IsUnformatted (D.seen disk.old) → IsUnformatted (D.seen disk.new) }
 
     ensures length { length (D.seen disk.new) ≡ length (D.seen disk.old) }
     ensures honest { D.honest disk.new → D.honest disk.old }
@@ -148,7 +147,6 @@ fn put_first<D: Disk>(
     ensures any_moment { LeavesIn IsUnformatted (history_of ⟦<D as Disk>⟧ disk.old).now
         → LeavesOnly ⟦<D as Disk>⟧ IsUnformatted disk.old disk.new }
     ensures prepared { OnOk result (IsPreparedWith shape.now milestones.now (D.seen disk.new)) }
-    ensures gate { slice_index (D.seen disk.new) 0 ≡ slice_index (D.seen disk.old) 0 }
     ensures only { IfErr result (λ e. (e ≡ Refusal.NoMemory) ⊎ (e ≡ Refusal.Fault)) }
     ensures only_written { HasOnlyWritten ⟦<D as Disk>⟧ disk.old disk.new }
     ensures faults { CountsFaultsAs ⟦<D as Disk>⟧ Refusal.Fault result disk.old disk.new }
