@@ -141,7 +141,7 @@ pub behind_count : (revision count : ℕ) (bytes rest x : List ℕ) (w : Window)
     → AreRevisions count revision w.revisions × (rest ≡ revisions_bytes w.revisions ++ x)
 behind_count revision count bytes rest x w is there spelled =
     let same = sym there ∙ spelled in (
-      record { count = sym (same_first count (length w.revisions) rest (revisions_bytes w.revisions ++ x) same); ascend = (sound revision w is.is).up },
+      record { counted = sym (same_first count (length w.revisions) rest (revisions_bytes w.revisions ++ x) same); up = (sound revision w is.is).up },
       same_others count (length w.revisions) rest (revisions_bytes w.revisions ++ x) same,
     )
 
@@ -162,17 +162,17 @@ pub read_more : (revision given count : ℕ) (w : Window) (bytes named counted r
 read_more revision given count w bytes named counted rest numbered is_count same are a b c = (
   record {
     is = is_sound revision w (record {
-      some = omega (arith, are.count, is_count.0);
-      short = omega (arith, are.count, is_count.1);
-      within = omega (arith, are.count, is_count.2, same);
+      some = omega (arith, are.counted, is_count.0);
+      short = omega (arith, are.counted, is_count.1);
+      within = omega (arith, are.counted, is_count.2, same);
       last = omega (arith, same, numbered.1);
-      up = are.ascend;
+      up = are.up;
     });
     spelled = refl;
   },
   a
       ∙ ap (λ (l : List ℕ). number w64 given ++ l) (b ∙ ap (λ (l : List ℕ). count ∷ l) c)
-      ∙ (λ i. number w64 (sym same i) ++ (sym are.count i ∷ (revisions_bytes w.revisions ++ rest)))
+      ∙ (λ i. number w64 (sym same i) ++ (sym are.counted i ∷ (revisions_bytes w.revisions ++ rest)))
       ∙ sym (more_parts w rest),
 )
 
@@ -189,7 +189,7 @@ pub none_read : (count high : ℕ) (bytes : List ℕ) → AreRead count high 0 b
 none_read count high bytes = record {
   split = refl;
   follow = λ more up. up;
-  left = λ all behind are spelled. (all, omega (arith, are.count), are.ascend, spelled);
+  left = λ all behind are spelled. (all, omega (arith, are.counted), are.up, spelled);
 }
 
 module _ (count high last : ℕ) (bytes rest : List ℕ) (revisions : List ℕ) (low : high < 2 ^ 64) (read : AreRead count high last bytes rest revisions) where
@@ -242,7 +242,7 @@ module _ (count high last : ℕ) (bytes rest : List ℕ) (revisions : List ℕ) 
   -- all were read
   pub all_follow : length revisions ≡ count → AreRevisions count high revisions × (bytes ≡ revisions_bytes revisions ++ rest)
   all_follow same = (
-    record { count = same; ascend = ap (ascend 0 high) (sym (append-nil revisions)) ∙ read.follow [] refl },
+    record { counted = same; up = ap (ascend 0 high) (sym (append-nil revisions)) ∙ read.follow [] refl },
     read.split,
   )
 

@@ -37,8 +37,8 @@ IsCount number count = (1 ≤ count) × (count ≤ longest) × (count ≤ number
 
 -- so many revisions, each above the one before it and the last one up to this one, and their bytes
 pub record AreRevisions (count high : ℕ) (revisions : List ℕ) : Type 0 where
-  pub count : length revisions ≡ count
-  pub ascend : ascend 0 high revisions ≡ true
+  pub counted : length revisions ≡ count
+  pub up : ascend 0 high revisions ≡ true
 
 abbrev pub revisions_bytes : List ℕ → List ℕ
 revisions_bytes revisions = flat_map (number w64) revisions

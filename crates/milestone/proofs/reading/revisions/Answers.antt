@@ -6,9 +6,9 @@ use Rattle.milestone.proofs.reading.revisions.Goals as goal
 
 pub loop-init : goal.loop-init
 loop-init c = record {
-  number = ap (λ (w : Window). w.number) c.begun.ensures;
-  counted = ap (λ (w : Window). length w.revisions) c.begun.ensures;
-  read = subst (λ (w : Window). AreRead c.args.count c.args.high 0 c.args.bytes.now c.args.bytes.now w.revisions) (sym c.begun.ensures) (none_read c.args.count c.args.high c.args.bytes.now);
+  number = ap (λ (w : Window). w.number) c.begun-window.ensures;
+  counted = ap (λ (w : Window). length w.revisions) c.begun-window.ensures;
+  read = subst (λ (w : Window). AreRead c.args.count c.args.high 0 c.args.bytes.now c.args.bytes.now w.revisions) (sym c.begun-window.ensures) (none_read c.args.count c.args.high c.args.bytes.now);
 }
 
 pub returns-in_err-revision-clause-none : goal.returns-in_err-revision-clause-none

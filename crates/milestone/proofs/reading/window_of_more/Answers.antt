@@ -6,7 +6,7 @@ use Rattle.milestone.proofs.reading.window_of_more.Goals as goal
 
 pub returns-in_err-number-clause-none : goal.returns-in_err-number-clause-none
 returns-in_err-number-clause-none c =
-    let why = err_from_is_err_and c.from_residual-in_err-number.result c.from_residual-in_err-number.ensures.1 in
+    let why = err_from_is_err_and c.from_residual.result c.from_residual.ensures.1 in
     rw why.1 (λ is. no_number Two c.args.revision c.args.bytes.now (c.in_err-number.ensures.none (sym why.2 ∙ is)))
 
 pub returns-in_err-count-clause-none : goal.returns-in_err-count-clause-none
