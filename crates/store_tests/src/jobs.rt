@@ -112,7 +112,7 @@ fn a_job_has_the_sources_of_its_revision(rt: HostRuntime) {
     }
     has_documents(&rt, store.state(), "d 3 qxz\n");
     has_jobs(&rt, &mut store, &JOBS);
-    change(&rt, &mut store, &(4, 3, "w", "taken 4"));
+    change(&rt, &mut store, &(4, 3, "", "taken 4"));
     has_jobs(&rt, &mut store, &JOBS_BEHIND);
 }
 

@@ -219,7 +219,7 @@ fn a_milestone_is_put_where_a_cell_is_closed(rt: HostRuntime) {
 const EDITS_BEHIND: [EditRow; 3] = [
     (4, 1, "w", "error 13 TooOld"),
     (4, 4, "w", "error 12 Future"),
-    (4, 2, "w", "taken 4"),
+    (4, 2, "", "taken 4"),
 ];
 
 #[test]
@@ -235,7 +235,7 @@ fn edits_behind_a_milestone(rt: HostRuntime) {
     for row in &EDITS_BEHIND {
         change(&rt, &mut store, row);
     }
-    has_documents(&rt, store.state(), "d 4 qwxz\n");
+    has_documents(&rt, store.state(), "d 4 qxz\n");
 }
 
 // Both cells are open, and the put goes wrong at a call of it, counted from 0.
