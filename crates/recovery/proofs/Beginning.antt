@@ -1,5 +1,5 @@
 -- From an empty store that isn't open yet to one that begins with documents, cell by cell.
-use Rattle.std.proofs.Common.{◌≡◌, inl, inr, ℕ, zero, suc, ◌+◌, ◌-◌, ◌*◌, ◌≤◌, ◌<◌, true, Option, Some, None, List, [], ◌∷◌, ◌++◌, length, map, replicate, take, drop, get_or, refl, sym, ◌∙◌, ap, subst, arith, length-append, take-suc}
+use Rattle.std.proofs.Common.{◌≡◌, inl, inr, ℕ, zero, suc, ◌+◌, ◌-◌, ◌*◌, ◌≤◌, ◌<◌, true, Option, Some, None, List, [], ◌∷◌, ◌++◌, length, map, replicate, take, drop, get_or, refl, sym, ◌∙◌, ap, subst, arith, length-append}
 use Rattle.std.specs.Prelude.{slice_get}
 use Rattle.std.proofs.lemmas.Bool.{cases_eq, cases_lt}
 use Rattle.std.proofs.lemmas.List.{length-map, length-replicate, drop-drop, take_all}
@@ -32,15 +32,17 @@ cells_first [] others number = no_pair others number
 cells_first (first ∷ start) others zero = refl
 cells_first (first ∷ start) others (suc number) = cells_first start others number
 
+-- a document's cell, in the first place
+abbrev in_first : Cell → Pair
+in_first cell = (Some cell, None)
+
 cells_count : (start : List Cell) (docs : ℕ) → length start ≤ docs → length (first_cells start docs) ≡ docs
 cells_count start docs few =
-    omega (
-      arith,
-      length-append (map (λ (cell : Cell). (Some cell, None)) start) (replicate (docs - length start) no_cells),
-      length-map start (λ (cell : Cell). (Some cell, None)),
-      length-replicate (docs - length start) no_cells,
-      few,
-    )
+    let firsts : length (map in_first start) ≡ length start = length-map start in_first in
+    let others : length (replicate (docs - length start) no_cells) ≡ docs - length start = length-replicate (docs - length start) no_cells in
+    let both : length (first_cells start docs) ≡ length (map in_first start) + length (replicate (docs - length start) no_cells) =
+    length-append (map in_first start) (replicate (docs - length start) no_cells) in
+    omega (arith, firsts, others, both, few)
 
 pub few_enough : (shape : Shape) (start : List Cell) → MayBegin shape start → length start ≤ shape.docs
 few_enough shape start begins = omega (arith, begins.state.count, length-map start Rattle.history.specs.Cell.record_of_cell)
@@ -135,18 +137,15 @@ none_put shape content in_range is = record {
 }
 
 -- the first ones, and the one behind them
-get_take-other : (start : List Cell) (count number : ℕ) → (number ≡ count → ⊥) → slice_get (take (count + 1) start) number ≡ slice_get (take count start) number
-get_take-other [] count number differ = refl-of count
-  where
-    refl-of : (count : ℕ) → slice_get (take (count + 1) []) number ≡ slice_get (take count []) number
-    refl-of zero = refl
-    refl-of (suc count) = refl
+get_take-other : (start : List Cell) (count number : ℕ) → (number ≡ count → ⊥) → slice_get (take (suc count) start) number ≡ slice_get (take count start) number
+get_take-other [] zero number differ = refl
+get_take-other [] (suc count) number differ = refl
 get_take-other (first ∷ start) zero zero differ = absurd (differ refl)
 get_take-other (first ∷ start) zero (suc number) differ = refl
 get_take-other (first ∷ start) (suc count) zero differ = refl
 get_take-other (first ∷ start) (suc count) (suc number) differ = get_take-other start count number (λ same. differ (ap (λ n. suc n) same))
 
-get_take-own : (start : List Cell) (count : ℕ) (cell : Cell) → slice_get start count ≡ Some cell → slice_get (take (count + 1) start) count ≡ Some cell
+get_take-own : (start : List Cell) (count : ℕ) (cell : Cell) → slice_get start count ≡ Some cell → slice_get (take (suc count) start) count ≡ Some cell
 get_take-own [] zero cell is = absurd cc
 get_take-own [] (suc count) cell is = absurd cc
 get_take-own (first ∷ start) zero cell is = is
@@ -157,7 +156,7 @@ pub one_put : (shape : Shape) (start : List Cell) (number : ℕ) (cell : Cell) (
     → IsPreparedWith shape (take number start) old → SameOutside (cells_place shape number) shape.cell old new
     → ((pair : Pair) → HoldsPair (cells_place shape number) shape.cell number old pair → HoldsPair (cells_place shape number) shape.cell number new (Some cell, pair.1))
     → IsPreparedWith shape (take (number + 1) start) new
-one_put shape start number cell old new in_range inside there is same held = record {
+one_put shape start number cell old new in_range inside there is same held = subst (λ n. IsPreparedWith shape (take n start) new) next (record {
   named = part_same 1 32 (cells_place shape number) old new (omega arith) same.before ∙ is.named;
   long = omega (arith, is.long, same.same_length);
   cells = λ other below. elim (cases_eq other number) [
@@ -167,11 +166,14 @@ one_put shape start number cell old new in_range inside there is same held = rec
         (agree_within (cells_place shape other) shape.cell other old new (slice_get (take number start) other, None) (apart other differ) (is.cells other below))
   ];
   slots = λ s below is_open. is.slots s below (sym (same_at (cells_place shape number) shape.cell old new same (slot_place (slots_place shape) shape.slot s) (λ within. absurd (behind_cells s within.1))) ∙ is_open);
-}
+})
   where
-    own : (other : ℕ) → other ≡ number → HoldsPair (cells_place shape other) shape.cell other new (slice_get (take (number + 1) start) other, None)
+    next : suc number ≡ number + 1
+    next = omega arith
+
+    own : (other : ℕ) → other ≡ number → HoldsPair (cells_place shape other) shape.cell other new (slice_get (take (suc number) start) other, None)
     own other here =
-        subst (λ n. HoldsPair (cells_place shape n) shape.cell n new (slice_get (take (number + 1) start) n, None)) (sym here)
+        subst (λ n. HoldsPair (cells_place shape n) shape.cell n new (slice_get (take (suc number) start) n, None)) (sym here)
         (subst (λ o. HoldsPair (cells_place shape number) shape.cell number new (o, None)) (sym (get_take-own start number cell there))
         (held (slice_get (take number start) number, None) (is.cells number inside)))
 
