@@ -1,5 +1,5 @@
 //! Formatting a device.
-ghost use Rattle.std.specs.Prelude.{◌≡◌, ◌⊎◌, ◌↔◌, ◌+◌, ◌*◌, ◌<◌, ◌≤◌, ◌^◌, ℕ, [], length, true, IsTrue, Err, OnOk, OnErr, IfOk, IfErr, slice_index};
+ghost use Rattle.std.specs.Prelude.{◌≡◌, ◌⊎◌, ◌↔◌, ◌+◌, ◌*◌, ◌<◌, ◌≤◌, ◌^◌, ℕ, [], length, true, IsTrue, Err, OnOk, OnErr, IfOk, IfErr, IsErrOf, slice_index};
 ghost use Rattle.disk.specs.Device.{Rose};
 ghost use Rattle.disk.specs.Crash.{LeavesIn, LeavesOnly, history_of};
 ghost use Rattle.disk.specs.Calls.{HasOnlyWritten, CountsFaults, CountsFaultsAs};
@@ -127,9 +127,34 @@ pub fn format_with<D: Disk>(
         return Err(Refusal::BadShape);
     }
     let body = write_superblock(alloc, &shape)?;
-    prepare(disk, &shape, &body)?;
-    put_first(alloc, disk, &shape, milestones)?;
-    open_superblock(disk, &shape, milestones)?;
+    write_with(alloc, disk, &shape, &body, milestones)
+}
+
+// Prepares all but the superblock's gate, with each document in its first cell, and opens that gate last, when the rest is synced.
+fn write_with<D: Disk>(
+    alloc: Global,
+    disk: &mut D,
+    shape: &Shape,
+    body: &[u8],
+    milestones: &[Milestone],
+) -> Result<(), Refusal>
+    requires fits { Fits shape.now (length (D.seen disk.old)) }
+    requires body { body.now ≡ superblock shape.now }
+    requires begins { MayBegin shape.now milestones.now }
+
+    ensures any_moment { D.unsynced disk.old ≡ [] → IsUnformatted (D.seen disk.old)
+        → LeavesOnly ⟦<D as Disk>⟧ (IsUnformattedOrBegun shape.now milestones.now) disk.old disk.new }
+    ensures done { OnOk result (IsBegunStore shape.now milestones.now (D.seen disk.new)) }
+    ensures synced { OnOk result (D.unsynced disk.new ≡ []) }
+    ensures memory { IsErrOf result Refusal.NoMemory → D.unsynced disk.old ≡ [] → IsUnformatted (D.seen disk.old)
+        → IsUnformatted (D.seen disk.new) }
+    ensures only { IfErr result (λ e. (e ≡ Refusal.NoMemory) ⊎ (e ≡ Refusal.Fault)) }
+    ensures only_written { HasOnlyWritten ⟦<D as Disk>⟧ disk.old disk.new }
+    ensures faults { CountsFaultsAs ⟦<D as Disk>⟧ Refusal.Fault result disk.old disk.new }
+{
+    prepare(disk, shape, body)?;
+    put_first(alloc, disk, shape, milestones)?;
+    open_superblock(disk, shape, milestones)?;
     Ok(())
 }
 
