@@ -135,11 +135,11 @@ fn write_with<D: Disk>(
     alloc: Global,
     disk: &mut D,
     shape: &Shape,
-    body: &[u8],
+    behind_gate: &[u8],
     milestones: &[Milestone],
 ) -> Result<(), Refusal>
     requires fits { Fits shape.now (length (D.seen disk.old)) }
-    requires body { body.now ≡ superblock shape.now }
+    requires body { behind_gate.now ≡ superblock shape.now }
     requires begins { MayBegin shape.now milestones.now }
 
     ensures any_moment { D.unsynced disk.old ≡ [] → IsUnformatted (D.seen disk.old)
@@ -152,7 +152,7 @@ fn write_with<D: Disk>(
     ensures only_written { HasOnlyWritten ⟦<D as Disk>⟧ disk.old disk.new }
     ensures faults { CountsFaultsAs ⟦<D as Disk>⟧ Refusal.Fault result disk.old disk.new }
 {
-    prepare(disk, shape, body)?;
+    prepare(disk, shape, behind_gate)?;
     put_first(alloc, disk, shape, milestones)?;
     open_superblock(disk, shape, milestones)?;
     Ok(())
