@@ -267,6 +267,7 @@ def found(content, newer):
                 picked[number] = cells[-1 if newer else 0]
                 picked[number].keep_limits(shape)
 
+        from_cells = {number: it.revision for number, it in picked.items()}  # entries up to these are skipped
         segments = {}
         for number in range(shape["slots"]):
             slot = content[first + number * shape["slot"] : first + (number + 1) * shape["slot"]]
@@ -281,7 +282,7 @@ def found(content, newer):
             if document is None:
                 must(entry["name"] is not None)
                 document = picked[entry["document"]] = Document(entry["name"])
-            if entry["revision"] > document.revision:
+            if entry["revision"] > from_cells.get(entry["document"], 0):
                 document.go_on(entry, shape)
         must(sorted(picked) == list(range(len(picked))))
         must(len({document.name for document in picked.values()}) == len(picked))

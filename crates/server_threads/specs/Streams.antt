@@ -13,14 +13,14 @@ use Rattle.server_threads.specs.Answers.{first_desk}
 pub record IsAnsweredAtHub (start : State) (input input' output output' : Option (List ℕ)) (last : Desk) : Type 0 where
   pub served : IsAnswered (PassesAtHub start) first_desk last input input' output output'
 
--- A stream failed. What is written is what comes of a first part of the input that was taken, and a beginning of what comes of the text of a
--- line behind it, or of a line end. Where the output hasn't failed, all that comes of what was taken is written.
+-- `Stream` was answered. What is written is what comes of a first part of the input that was taken, and a beginning of what comes of the text
+-- of a line behind it, or of a line end. Where the output hasn't failed, all that comes of what was taken is written.
 pub record StopsAtHub (start : State) (input input' output output' : Option (List ℕ)) (failed : Bool) (last : Desk) : Type 0 where
   pub stops : StopsServing (PassesAtHub start) beginning first_desk last input input' output output'
   pub cause : (failed ≡ true) ⊎ IsServedSoFar (PassesAtHub start) first_desk last input input' output output'
 
 -- What the session's desk is by how serving ended. All of the input is answered, and the output works, after an Ok and where only the store
--- failed; or a stream failed; or, out of memory, nothing was asked.
+-- failed; or `Stream` was answered; or, out of memory, nothing was asked.
 abbrev pub EndsAtHub : Result (Unit {0}) Failure → State → (input input' output output' : Option (List ℕ)) → (failed : Bool) → Desk → Type 0
 EndsAtHub (Ok answer) start input input' output output' failed last = IsAnsweredAtHub start input input' output output' last × (failed ≡ false)
 EndsAtHub (Err Stream) start input input' output output' failed last = StopsAtHub start input input' output output' failed last

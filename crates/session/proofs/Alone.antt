@@ -7,7 +7,7 @@ use Rattle.session.specs.Exchange.{Exchange}
 use Rattle.session.specs.Reads.{shown_line}
 use Rattle.session.specs.Reply.{subscribed_line, refusal_line}
 use Rattle.session.specs.Subscriptions.{may_follow_shown, subscribed}
-use Rattle.session.specs.News.{news_shown, subscriptions_shown}
+use Rattle.session.specs.News.{news_shown, subscriptions_shown, has_news}
 use Rattle.session.specs.Calls.{Call, Passes, call_of, ComesOf, OfPiece, OfNews, OfMissed, Calls, with_subscriptions}
 use Rattle.session.specs.Session.{Peer, Session}
 use Rattle.session.specs.Replies.{answer_line, IsLine, IsReplied, Greeted, Asked, WasRead, WasSubscribed, NotSubscribed, WasUnsubscribed, Refused, NotTaken, TakesByte, LineContinues, LineOverflows, LineEnds, Replies, Asks, Feeds}
@@ -121,7 +121,7 @@ called old new state after call asked text (OfNews shown) (next, (shows, to), sa
   ap (λ (o : Option State). of_session (with_subscriptions old (subscriptions_shown old.peer.subscriptions o)) after) shows
       ∙ ap (of_session (with_subscriptions old (subscriptions_shown old.peer.subscriptions (Some state)))) (same ∙ to),
 )
-called old new state after call asked text (OfMissed shown) (next, (shows, to), same) finds = (refl, ap (of_session old) (same ∙ to))
+called old new state after call asked text (OfMissed shown wanted) (next, (shows, to), same) finds = (refl, ap (of_session old) (same ∙ to))
 
 -- and of calls, one after another
 pub calls_alone : (old new : Session) (state after : State) (calls : List Call) (asked : List Exchange) (text : List ℕ)
@@ -151,10 +151,19 @@ heard old new state after told call asked text is (OfNews shown) (next, (shows, 
   ap (λ (o : Option State). of_session (with_subscriptions old (subscriptions_shown old.peer.subscriptions o)) after) shows
       ∙ ap (of_session (with_subscriptions old (subscriptions_shown old.peer.subscriptions (Some state)))) (same ∙ to),
 )
-heard old new state after told call asked text is (OfMissed shown) (next, (shows, to), same) = (refl, ap (of_session old) (same ∙ to))
+heard old new state after told call asked text is (OfMissed shown wanted) (next, (shows, to), same) = (refl, ap (of_session old) (same ∙ to))
+
+-- news that are missed are some
+wanted : (old new : Session) (state after : State) (told : Bool) (call : Call) (asked : List Exchange) (text : List ℕ) → call ≡ call_of told
+    → ComesOf old call asked new text → Asks Alone state asked after → told ≡ false → has_news old.peer.subscriptions state ≡ true
+wanted old new state after true call asked text is comes asks missed = cc
+wanted old new state after false call asked text is (OfPiece piece a n t replies) asks missed = cc
+wanted old new state after false call asked text is (OfNews shown) asks missed = cc
+wanted old new state after false call asked text is (OfMissed shown some) (next, (shows, to), same) missed = some state shows
 
 pub hears_alone : (old new : Session) (state after : State) (told : Bool) (out out' : Option (List ℕ))
     → Passes Alone old (call_of told) new state after out out' → HearsAlone told (of_session old state) (of_session new after) out out'
 hears_alone old new state after told out out' passes =
     let h = heard old new state after told (call_of told) passes.asked passes.text refl passes.comes passes.asks in
-    record { text = passes.text; written = passes.written; heard = h.0; goes_on = h.1 }
+    let w = wanted old new state after told (call_of told) passes.asked passes.text refl passes.comes passes.asks in
+    record { text = passes.text; written = passes.written; heard = h.0; goes_on = h.1; wanted = w }

@@ -1,6 +1,7 @@
 -- News of documents, one after another and from one call to the next.
 use Rattle.std.proofs.Common.{◌≡◌, ◌+◌, ◌-◌, ◌≤◌, ◌<◌, ◌++◌, ℕ, max, List, [], ◌∷◌, length, map, take, drop, get_or, Bool, true, false, cond, Option, Some, None, refl, sym, ap, ap₂, ◌∙◌, append_assoc, append-nil, arith}
 use Rattle.std.specs.Prelude.{nat_lt}
+use Rattle.std.proofs.lemmas.Bool.{or_parts}
 use Rattle.std.proofs.lemmas.Bool.Decides.{nat_tests}
 use Rattle.std.proofs.lemmas.List.{drop_all, drop-drop, take-append-drop, length-drop, length-map, length-take-le, take_more, map_more}
 use Rattle.delta.specs.Operation.{Operation}
@@ -8,7 +9,7 @@ use Rattle.revision.specs.Past.{Past, newest, deltas_of, deltas_above}
 use Rattle.revision.specs.State.{DocumentRecord, State, find}
 use Rattle.session.specs.Reply.{news_line}
 use Rattle.session.specs.Subscriptions.{Subscriptions}
-use Rattle.session.specs.News.{lines_of, lines_after, last_after, lines_found, last_found, lines_in, last_in, subscription, going_on, news, subscriptions_after}
+use Rattle.session.specs.News.{lines_of, lines_after, last_after, lines_found, last_found, lines_in, last_in, subscription, going_on, news, subscriptions_after, has_later, has_news, AreNone}
 
 -- the lines of one list of deltas behind another
 pub lines-append : (doc : List ℕ) (revision : ℕ) (front back : List (List Operation))
@@ -69,6 +70,32 @@ none_lines doc last past =
 
 same_last : (last : ℕ) (past : Past) → last_after (max last (newest past)) past ≡ Some (max last (newest past))
 same_last last past = held_last (max last (newest past)) past (omega arith) ∙ ap (λ n. Some n) (omega arith)
+
+-- where no revision is a later one, nothing is told
+nothing_found : (doc : List ℕ) (last : ℕ) (found : Option (ℕ × DocumentRecord)) → has_later last found ≡ false
+    → (lines_found doc last found ≡ []) × (last_found last found ≡ Some last)
+nothing_found doc last None is = (refl, refl)
+nothing_found doc last (Some found) is =
+    let past = found.1.past in
+    let above : newest past ≤ last = grind (arith, nat_tests, is) in
+    let held : past.floor ≤ last = omega (arith, above) in (
+      held_lines doc last past held ∙ ap (lines_of doc last) (none-above past last above),
+      held_last last past held ∙ ap (λ n. Some n) (omega (arith, above)),
+    )
+
+nothing_told : (subscriptions : Subscriptions) (state : State) → has_news subscriptions state ≡ false
+    → (news subscriptions state ≡ []) × (subscriptions_after subscriptions state ≡ subscriptions)
+nothing_told [] state is = (refl, refl)
+nothing_told (first ∷ others) state is =
+    let parts = or_parts (has_later first.1 (find first.0 0 state.documents)) (has_news others state) is in
+    let here = nothing_found first.0 first.1 (find first.0 0 state.documents) parts.0 in
+    let rest = nothing_told others state parts.1 in (
+      ap₂ ◌++◌ here.0 rest.0,
+      ap₂ ◌++◌ (ap (subscription first.0) here.1) rest.1,
+    )
+
+pub are_none : (subscriptions : Subscriptions) (state : State) → has_news subscriptions state ≡ false → AreNone subscriptions (Some state)
+are_none subscriptions state is = let both = nothing_told subscriptions state is in record { lines = both.0; left = both.1 }
 
 -- a subscription that was told, and what is told of it again
 module _ (doc : List ℕ) (state : State) where

@@ -3,14 +3,12 @@ use Rattle.std.specs.Prelude.{◌==◌}
 use Rattle.std.proofs.Common.{Bool, true, false, cond, length, ◌≡◌, ◌++◌, List, ℕ, [], ◌∷◌, Option, Some, None, Result, Ok, Err, IfSome, IfOk, OnOk, OnErr, refl, sym, ap, subst, ◌∙◌, inl, inr, append-nil}
 use Rattle.refusal.specs.declared.Refusal.{Refusal}
 use Rattle.refusal.specs.declared.Refusal.TheVariants.{NoMemory, LineTooLong}
-use Rattle.revision.specs.Command.{Command}
 use Rattle.revision.specs.State.{State}
 use Rattle.session.specs.declared.question.Question.{Question}
-use Rattle.session.specs.declared.reply.Reply.{Reply}
 use Rattle.session.specs.declared.line.Event.{Event}
 use Rattle.session.specs.declared.line.Event.TheVariants.{More, TooLong, Complete}
 use Rattle.session.specs.declared.request.Request.{Request}
-use Rattle.session.specs.declared.request.Request.TheVariants.{Greet, Ask, Read, Subscribe, Unsubscribe}
+use Rattle.session.specs.declared.request.Request.TheVariants.{Greet, Read, Subscribe, Unsubscribe}
 use Rattle.optext.specs.Answer.{IsAnswer}
 use Rattle.session.specs.Line.{Partial, with_byte, RunsThrough}
 use Rattle.session.specs.Request.{request_of}
@@ -19,8 +17,8 @@ use Rattle.session.specs.Subscriptions.{may_follow_shown, subscribed, without_su
 use Rattle.session.specs.Calls.{with_subscriptions}
 use Rattle.session.specs.Reads.{shown_line}
 use Rattle.session.specs.Session.{Peer, Session}
-use Rattle.session.specs.Exchange.{Exchange, Answered, Shown}
-use Rattle.session.specs.Replies.{answer_line, IsLine, text_told, IsReplied, Greeted, Asked, WasRead, WasSubscribed, NotSubscribed, WasUnsubscribed, Refused, NotTaken, TakesByte, LineContinues, LineOverflows, LineEnds, IsAtOnce, Replies, Asks}
+use Rattle.session.specs.Exchange.{Exchange, Shown}
+use Rattle.session.specs.Replies.{IsLine, text_told, IsReplied, Greeted, Asked, WasRead, WasSubscribed, NotSubscribed, WasUnsubscribed, Refused, NotTaken, TakesByte, LineContinues, LineOverflows, LineEnds, IsAtOnce, Replies, Asks}
 
 -- an answer that is no refusal is the one that is due
 pub due_ok : {T : Type 0} (due : Result T Refusal) (x : T) → IsAnswer due (Ok x) → due ≡ Ok x

@@ -1,5 +1,5 @@
 -- A session over a state alone: what each line is replied, and what it does to the state.
-use Rattle.std.specs.Prelude.{◌≡◌, ◌⊎◌, ℕ, Bool, List, [], ◌∷◌, ◌++◌, Option, Some, Result, Ok, Err}
+use Rattle.std.specs.Prelude.{◌≡◌, ◌⊎◌, ℕ, Bool, true, false, List, [], ◌∷◌, ◌++◌, Option, Some, Result, Ok, Err}
 use Rattle.std.specs.Io.KnownBytes.{Appends}
 use Rattle.refusal.specs.declared.Refusal.{Refusal}
 use Rattle.refusal.specs.declared.Refusal.TheVariants.{NoMemory, LineTooLong}
@@ -19,7 +19,7 @@ use Rattle.session.specs.Reply.{greeting, unsubscribed_reply, subscribed_line, l
 use Rattle.session.specs.Replies.{answer_line}
 use Rattle.session.specs.Request.{request_of}
 use Rattle.session.specs.Subscriptions.{may_follow, subscribed, without_subscription}
-use Rattle.session.specs.News.{news, subscriptions_after}
+use Rattle.session.specs.News.{news, subscriptions_after, has_news}
 use Rattle.session.specs.Calls.{Call, Fed, Told, Missed, call_of}
 use Rattle.session.specs.Session.{Peer, Session}
 
@@ -123,12 +123,13 @@ after_call c (Fed piece) = conversation_after c piece
 after_call c Told = after_news c
 after_call c Missed = c
 
--- The news were told, or they weren't: then nothing was written, and the conversation is as it was.
+-- The news were told, or they were missed though there are some: then nothing was written, and the conversation is as it was.
 pub record HearsAlone (told : Bool) (old new : Conversation) (out out' : Option (List ℕ)) : Type 0 where
   pub text : List ℕ
   pub written : Appends out out' text
   pub heard : text ≡ text_of old (call_of told)
   pub goes_on : new ≡ after_call old (call_of told)
+  pub wanted : told ≡ false → has_news old.peer.subscriptions old.state ≡ true
 
 abbrev pub transcript : Conversation → List Call → List ℕ
 transcript c [] = []

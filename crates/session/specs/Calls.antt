@@ -3,7 +3,7 @@ use Rattle.std.specs.Prelude.{◌≡◌, ◌⊎◌, ℕ, ◌++◌, Bool, true, f
 use Rattle.std.specs.Io.KnownBytes.{Appends}
 use Rattle.revision.specs.State.{State}
 use Rattle.session.specs.Exchange.{Exchange, Shown}
-use Rattle.session.specs.News.{news_shown, subscriptions_shown}
+use Rattle.session.specs.News.{news_shown, subscriptions_shown, MayBeMissed}
 use Rattle.session.specs.Session.{Session}
 use Rattle.session.specs.Output.{AppendsFront}
 use Rattle.session.specs.Replies.{Replies, Asks}
@@ -13,7 +13,7 @@ pub data Call : Type 0 where
   Fed : (piece : List ℕ) → Call
   -- it told its news
   Told : Call
-  -- it was to tell its news, and found no memory for them: nothing is told, and the next call tells all of it
+  -- it was to tell its news, and was shown no state or found no memory for them: nothing is told, and the next call tells all of it
   Missed : Call
 
 -- a session whose subscriptions are these
@@ -25,7 +25,7 @@ pub data ComesOf (old : Session) : Call → List Exchange → Session → List �
   OfPiece : (piece : List ℕ) (asked : List Exchange) (new : Session) (text : List ℕ) → Replies old piece asked new text → ComesOf old (Fed piece) asked new text
   OfNews : (shown : Option State)
       → ComesOf old Told (Shown shown ∷ []) (with_subscriptions old (subscriptions_shown old.peer.subscriptions shown)) (news_shown old.peer.subscriptions shown)
-  OfMissed : (shown : Option State) → ComesOf old Missed (Shown shown ∷ []) old []
+  OfMissed : (shown : Option State) → MayBeMissed old.peer.subscriptions shown → ComesOf old Missed (Shown shown ∷ []) old []
 
 -- what comes of calls, one after another
 abbrev pub Calls : Session → List Call → List Exchange → Session → List ℕ → Type 0
@@ -39,7 +39,7 @@ abbrev pub call_of : Bool → Call
 call_of true = Told
 call_of false = Missed
 
--- a call for the news: they are told or, for want of memory, missed
+-- a call for the news: they are told or missed
 abbrev pub IsForNews : Call → Type 0
 IsForNews call = (call ≡ Told) ⊎ (call ≡ Missed)
 

@@ -1,5 +1,7 @@
 -- What is told of the documents that a session follows.
-use Rattle.std.specs.Prelude.{◌≡◌, ℕ, ◌+◌, max, length, nat_lt, if◌then◌else◌, List, [], ◌∷◌, ◌++◌, Option, Some, None}
+use Rattle.std.specs.Prelude.{◌≡◌, ℕ, ◌+◌, max, length, nat_lt, if◌then◌else◌, Bool, true, false, List, [], ◌∷◌, ◌++◌, Option, Some, None}
+use Rattle.std.specs.List.{list_any}
+use Rattle.std.specs.Option.{ForSome}
 use Rattle.delta.specs.Operation.{Operation}
 use Rattle.revision.specs.Past.{Past, newest, deltas_above}
 use Rattle.revision.specs.State.{DocumentRecord, State, find}
@@ -65,8 +67,26 @@ abbrev pub subscriptions_shown : Subscriptions → Option State → Subscription
 subscriptions_shown subscriptions None = subscriptions
 subscriptions_shown subscriptions (Some state) = subscriptions_after subscriptions state
 
+-- whether a document, if it is there, has a revision behind the last that was told
+abbrev pub has_later : ℕ → Option (ℕ × DocumentRecord) → Bool
+has_later last None = false
+has_later last (Some found) = nat_lt last (newest found.1.past)
+
+-- whether there is something to tell of the documents that are followed
+abbrev pub has_news : Subscriptions → State → Bool
+has_news subscriptions state = list_any (λ one. has_later one.1 (find one.0 0 state.documents)) subscriptions
+
+-- The news may be missed where no state is shown, or where there is something to tell of it.
+abbrev pub MayBeMissed : Subscriptions → Option State → Type 0
+MayBeMissed subscriptions shown = ForSome shown (λ state. has_news subscriptions state ≡ true)
+
 -- What is found out before the news are told: their lines, and of each subscription the revision that is told last then.
 pub record AreNews (subscriptions : Subscriptions) (shown : Option State) (text : List ℕ) (last : List (Option ℕ)) : Type 0 where
   pub lines : text ≡ news_shown subscriptions shown
   pub left : going_on subscriptions last ≡ subscriptions_shown subscriptions shown
   pub each : length last ≡ length subscriptions
+
+-- There is nothing to tell: no line, and each subscription stays as it is.
+pub record AreNone (subscriptions : Subscriptions) (shown : Option State) : Type 0 where
+  pub lines : news_shown subscriptions shown ≡ []
+  pub left : subscriptions_shown subscriptions shown ≡ subscriptions

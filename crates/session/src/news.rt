@@ -1,7 +1,8 @@
 //! What is told of the documents that a session follows.
-ghost use Rattle.std.specs.Prelude.{◌≡◌, ◌+◌, ◌<◌, ◌^◌, ◌++◌, Some, length, IfOk, OnOk};
+ghost use Rattle.std.specs.Prelude.{◌≡◌, ◌+◌, ◌<◌, ◌^◌, ◌++◌, Some, None, Ok, true, length, IfOk, IfSome, OnOk, OnErr};
 ghost use Rattle.std.specs.String.{string_bytes};
 ghost use Rattle.revision.specs.Pending.{record_of};
+ghost use Rattle.revision.specs.State.{find};
 ghost use Rattle.session.specs.News as spec;
 
 use crate::reply::{ended_line, news_line};
@@ -18,8 +19,26 @@ pub struct News {
 }
 
 impl News {
-    /// The news of a state. Each revision that is told is printed from its delta as it is held; no document is looked at.
+    /// The news of a state, if there are any: where there are none it takes no memory. Each revision that is told is printed from
+    /// its delta as it is held; no document is looked at.
     pub fn of(
+        alloc: Global,
+        subscriptions: &Subscriptions,
+        state: &State,
+    ) -> Result<Option<News>, AllocError>
+        ensures found { IfOk result (λ found. IfSome found (λ news.
+            spec.AreNews subscriptions.now (Some state.now) (string_bytes news.text) news.last.items)) }
+        ensures none { result ≡ Ok None → spec.AreNone subscriptions.now (Some state.now) }
+        ensures wanted { OnErr result (spec.has_news subscriptions.now state.now ≡ true) }
+    {
+        if has_news(subscriptions.entries(), state) {
+            let news = News::collect(alloc, subscriptions, state)?;
+            return Ok(Some(news));
+        }
+        Ok(None)
+    }
+
+    fn collect(
         alloc: Global,
         subscriptions: &Subscriptions,
         state: &State,
@@ -35,6 +54,27 @@ impl News {
             last.push(next)?;
         }
         Ok(News { text, last })
+    }
+}
+
+// Whether there is something to tell.
+fn has_news(entries: &[(Name, u64)], state: &State) -> bool
+    ensures { result ≡ spec.has_news entries.now state.now }
+{
+    for entry in entries {
+        if has_later(state, &entry.0, entry.1) {
+            return true;
+        }
+    }
+    false
+}
+
+fn has_later(state: &State, name: &Name, last: u64) -> bool
+    ensures { result ≡ spec.has_later last (find name.now 0 state.now.documents) }
+{
+    match state.find(name) {
+        Some((_, found)) => last < found.revision(),
+        None => false,
     }
 }
 

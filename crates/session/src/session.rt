@@ -1,5 +1,5 @@
 //! A session: lines of messages to lines of replies.
-ghost use Rattle.std.specs.Prelude.{◌≡◌, ◌++◌, ℕ, length, Option, Some, None, List, [], ◌∷◌, true, false, Result, IfOk, IfErr, IfSome, IsErr, OnOk, OnErr};
+ghost use Rattle.std.specs.Prelude.{◌≡◌, ◌++◌, ℕ, length, Option, Some, None, List, [], ◌∷◌, true, false, Result, Ok, IfOk, IfErr, IfSome, IsErr, OnOk, OnErr};
 ghost use Rattle.std.specs.String.{string_bytes};
 ghost use Rattle.std.specs.Io.KnownBytes.{Appends};
 ghost use Rattle.refusal.specs.declared.Refusal as refusal;
@@ -15,7 +15,7 @@ ghost use Rattle.session.specs.Shelf.{Fits, IsLater, IsGivenLook};
 ghost use Rattle.session.specs.Exchange.{Exchange, Answered, Shown, IsReadOf};
 ghost use Rattle.session.specs.Output.{AppendsFront};
 ghost use Rattle.session.specs.Subscriptions.{may_follow_shown, subscribed, without_subscription};
-ghost use Rattle.session.specs.News.{AreNews, going_on};
+ghost use Rattle.session.specs.News.{AreNews, AreNone, MayBeMissed, going_on};
 ghost use Rattle.session.specs.Calls.{Passes, TellsNews, StopsNews, call_of, with_subscriptions};
 ghost use Rattle.session.specs.Replies.{IsLine, IsReplied, Asks, Feeds, Stops, answer_line, text_told};
 ghost use Rattle.session.specs.Ahead.{commands_of, AreReplies, Settles, IsPut, TakesAhead, StopsAhead};
@@ -140,7 +140,8 @@ impl Session {
     }
 
     /// Tells the news of each document that is followed, in the order of their names, and answers whether it did. Where the desk
-    /// can show no state, or memory for the news is wanted, none is told, and the next call tells all of them.
+    /// can show no state, or there are news and memory for them is wanted, none is told, and the next call tells all of them.
+    /// Where there are none it takes no memory.
     pub fn on_news<O: Output, D: Desk>(
         &mut self,
         alloc: Global,
@@ -169,11 +170,14 @@ impl Session {
         if self.ended {
             return Err(SessionEnded);
         }
-        let Ok(news) = show_news(alloc, desk, &self.subscriptions) else {
-            return Ok(false);
-        };
-        self.tell(out, &news)?;
-        Ok(true)
+        match show_news(alloc, desk, &self.subscriptions) {
+            Ok(Some(news)) => {
+                self.tell(out, &news)?;
+                Ok(true)
+            }
+            Ok(None) => Ok(true),
+            Err(_) => Ok(false),
+        }
     }
 
     // Writes what is told, and notes it.
@@ -188,9 +192,7 @@ impl Session {
         ensures failed { OnErr result (O.has_failed out.new ≡ true) }
         ensures err { OnErr result (self.new ≡ record self.old { ended = true }) }
     {
-        if !news.text.is_empty() {
-            self.put(out, news.text.as_bytes())?;
-        }
+        self.put(out, news.text.as_bytes())?;
         self.subscriptions.go_on(news.last.as_slice());
         Ok(())
     }
@@ -541,16 +543,19 @@ fn show_held<D: Desk>(desk: &mut D, name: &Name, rev: u64) -> Result<(), Refusal
     }
 }
 
-// Has the desk show its state once, and gives its news. There are none where the desk can show no state, or where memory
-// for them is wanted.
+// Has the desk show its state once, and gives its news, if there are any. Refused where the desk can show no state, or where there
+// are news and memory for them is wanted.
 fn show_news<D: Desk>(
     alloc: Global,
     desk: &mut D,
     subscriptions: &Subscriptions,
-) -> Result<News, AllocError>
+) -> Result<Option<News>, AllocError>
     ensures later { IsLater (D.reached desk.old) (D.reached desk.new) }
     ensures told { (shown : Option state.State) × D.does desk.old (Shown shown) desk.new
-        × IfOk result (λ news. AreNews subscriptions.now shown (string_bytes news.text) news.last.items) }
+        × IfOk result (λ found. IfSome found (λ news.
+        AreNews subscriptions.now shown (string_bytes news.text) news.last.items))
+        × (result ≡ Ok None → AreNone subscriptions.now shown)
+        × OnErr result (MayBeMissed subscriptions.now shown) }
 {
     match desk.view(|state| News::of(alloc, subscriptions, state)) {
         Ok(news) => news,

@@ -83,8 +83,8 @@ impl StateDesk {
         session.feed(alloc, piece, out, self, shelf)
     }
 
-    /// Tells the news of a session over this desk, and answers whether it did: then the news of the state are written. For want
-    /// of memory it writes nothing, and the next call tells all of them.
+    /// Tells the news of a session over this desk, and answers whether it did: then the news of the state are written. Where there
+    /// are news and memory for them is wanted it writes nothing, and the next call tells all of them.
     pub fn on_news<O: Output>(
         &mut self,
         alloc: Global,

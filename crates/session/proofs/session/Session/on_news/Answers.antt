@@ -1,37 +1,45 @@
-use Rattle.std.proofs.Common.{◌≡◌, ap, sym, ◌∙◌}
-use Rattle.session.specs.News.{going_on, news_shown, subscriptions_shown}
+use Rattle.std.proofs.Common.{◌≡◌, Option, Ok, IfSome, refl, sym, ap, subst, ◌∙◌, inl, inr}
+use Rattle.std.specs.String.{string_bytes}
+use Rattle.session.specs.declared.news.News.{News}
+use Rattle.session.specs.News.{going_on, news_shown, subscriptions_shown, AreNews, AreNone, MayBeMissed}
+use Rattle.session.specs.Subscriptions.{Subscriptions}
+use Rattle.session.specs.Calls.{Told, Missed}
 use Rattle.session.specs.Session.{Session}
-use Rattle.session.proofs.Telling.{missed, told, missed_pass, told_pass}
+use Rattle.session.proofs.Telling.{missed_pass, none_pass, told_pass}
 use Rattle.session.proofs.session.Session.on_news.Goals as goal
 
-pub returns-in_default-clause-told : goal.returns-in_default-clause-told
-returns-in_default-clause-told g c =
-    let shown = c.show_news.ensures.told in
-    missed g.D.Desk.does c.args.self.now c.args.desk.now c.show_news.new.desk (g.O.Output.contents c.args.out.now) (shown.0, shown.1)
-
-pub returns-clause-told : goal.returns-clause-told
-returns-clause-told g c =
-    let shown = c.in-Ok.ensures.told in
+pub returns-in_ok-tell-in-Ok-Some-clause-heard : goal.returns-in_ok-tell-in-Ok-Some-clause-heard
+returns-in_ok-tell-in-Ok-Some-clause-heard g c =
+    let shown = c.in-Ok-Some.ensures.told in
     let same : c.self.inside.subscriptions ≡ c.args.self.now.peer.subscriptions = ap (λ (s : Session). s.peer.subscriptions) c.self.view_is in
-    let done = c.in_ok-tell.ensures in
-    told g.D.Desk.does c.args.self.now c.tell.new.self c.args.desk.now c.show_news.new.desk (g.O.Output.contents c.args.out.now) (g.O.Output.contents c.tell.new.out)
-    _ (going_on c.args.self.now.peer.subscriptions c.in-Ok.news.last.items) shown.0 shown.1
-    (shown.2.lines ∙ ap (λ l. news_shown l shown.0) same)
-    (ap (λ l. going_on l c.in-Ok.news.last.items) (sym same) ∙ shown.2.left ∙ ap (λ l. subscriptions_shown l shown.0) same)
-    done.written done.noted
-
-pub returns-clause-heard : goal.returns-clause-heard
-returns-clause-heard g c =
-    let shown = c.in-Ok.ensures.told in
-    let same : c.self.inside.subscriptions ≡ c.args.self.now.peer.subscriptions = ap (λ (s : Session). s.peer.subscriptions) c.self.view_is in
-    let done = c.in_ok-tell.ensures in
+    let news : AreNews c.self.inside.subscriptions shown.0 (string_bytes c.in-Ok-Some.news.text) c.in-Ok-Some.news.last.items =
+    subst (λ (f : Option News). IfSome f (λ news. AreNews c.self.inside.subscriptions shown.0 (string_bytes news.text) news.last.items)) c.in-Ok-Some.field-0-is shown.2 in
+    let done = c.in_ok-tell-in-Ok-Some.ensures in
     told_pass g.D.Desk.does c.args.self.now c.tell.new.self c.args.desk.now c.show_news.new.desk (g.O.Output.contents c.args.out.now) (g.O.Output.contents c.tell.new.out)
-    _ (going_on c.args.self.now.peer.subscriptions c.in-Ok.news.last.items) shown.0 shown.1
-    (shown.2.lines ∙ ap (λ l. news_shown l shown.0) same)
-    (ap (λ l. going_on l c.in-Ok.news.last.items) (sym same) ∙ shown.2.left ∙ ap (λ l. subscriptions_shown l shown.0) same)
+    _ (going_on c.args.self.now.peer.subscriptions c.in-Ok-Some.news.last.items) shown.0 shown.1
+    (news.lines ∙ ap (λ l. news_shown l shown.0) same)
+    (ap (λ l. going_on l c.in-Ok-Some.news.last.items) (sym same) ∙ news.left ∙ ap (λ l. subscriptions_shown l shown.0) same)
     done.written done.noted
 
-pub returns-in_default-clause-heard : goal.returns-in_default-clause-heard
-returns-in_default-clause-heard g c =
-    let shown = c.show_news.ensures.told in
-    missed_pass g.D.Desk.does c.args.self.now c.args.desk.now c.show_news.new.desk (g.O.Output.contents c.args.out.now) (shown.0, shown.1)
+pub returns-in_ok-tell-in-Ok-Some-clause-told : goal.returns-in_ok-tell-in-Ok-Some-clause-told
+returns-in_ok-tell-in-Ok-Some-clause-told g c = (Told, inl refl, returns-in_ok-tell-in-Ok-Some-clause-heard g c)
+
+pub returns-in-Ok-None-clause-heard : goal.returns-in-Ok-None-clause-heard
+returns-in-Ok-None-clause-heard g c =
+    let shown = c.in-Ok-None.ensures.told in
+    let same : c.self.inside.subscriptions ≡ c.args.self.now.peer.subscriptions = ap (λ (s : Session). s.peer.subscriptions) c.self.view_is in
+    none_pass g.D.Desk.does c.args.self.now c.args.desk.now c.show_news.new.desk (g.O.Output.contents c.args.out.now) shown.0 shown.1
+    (subst (λ (l : Subscriptions). AreNone l shown.0) same (shown.3 (ap Ok c.in-Ok-None.field-0-is)))
+
+pub returns-in-Ok-None-clause-told : goal.returns-in-Ok-None-clause-told
+returns-in-Ok-None-clause-told g c = (Told, inl refl, returns-in-Ok-None-clause-heard g c)
+
+pub returns-in-Err-clause-heard : goal.returns-in-Err-clause-heard
+returns-in-Err-clause-heard g c =
+    let shown = c.in-Err.ensures.told in
+    let same : c.self.inside.subscriptions ≡ c.args.self.now.peer.subscriptions = ap (λ (s : Session). s.peer.subscriptions) c.self.view_is in
+    missed_pass g.D.Desk.does c.args.self.now c.args.desk.now c.show_news.new.desk (g.O.Output.contents c.args.out.now) shown.0 shown.1
+    (subst (λ (l : Subscriptions). MayBeMissed l shown.0) same shown.4)
+
+pub returns-in-Err-clause-told : goal.returns-in-Err-clause-told
+returns-in-Err-clause-told g c = (Missed, inr refl, returns-in-Err-clause-heard g c)

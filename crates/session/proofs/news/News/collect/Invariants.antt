@@ -1,7 +1,7 @@
 use Rattle.std.proofs.Common.{◌≡◌, map, take}
 use Rattle.std.specs.String.{string_bytes}
 use Rattle.session.specs.News as spec
-use Rattle.session.proofs.news.News.of.Given as goal
+use Rattle.session.proofs.news.News.collect.Given as goal
 
 -- the news of the subscriptions so far
 abbrev pub invariant-loop-entry : goal.invariant-loop-entry
