@@ -77,12 +77,13 @@ marks_more segment place marks mark inside is =
 marks_first : (segment place : ℕ) (marks : List Mark) → length (within_segment segment (take place marks)) ≤ length (within_segment segment marks)
 marks_first segment zero marks = omega arith
 marks_first segment (suc place) [] = omega arith
-marks_first segment (suc place) (first ∷ others) = by_test (is_of segment first)
+marks_first segment (suc place) (first ∷ others) = by_test (is_of segment first) (marks_first segment place others)
   where
-    by_test : (b : Bool) → length (cond b (first ∷ within_segment segment (take place others)) (within_segment segment (take place others)))
+    by_test : (b : Bool) → length (within_segment segment (take place others)) ≤ length (within_segment segment others)
+        → length (cond b (first ∷ within_segment segment (take place others)) (within_segment segment (take place others)))
         ≤ length (cond b (first ∷ within_segment segment others) (within_segment segment others))
-    by_test true = omega (arith, marks_first segment place others)
-    by_test false = marks_first segment place others
+    by_test true more = omega (arith, more)
+    by_test false more = more
 
 -- twelve calls at most for each of them
 pub calls_all : (segment place calls old_calls : ℕ) (marks : List Mark) → calls ≤ old_calls + 12 * length (within_segment segment (take place marks))
@@ -106,7 +107,8 @@ calls_more segment place calls new_calls old_calls marks mark inside is so_far m
   | inl away ↦ omega (arith, so_far, still away, marks_more segment place marks mark inside is)
   | inr of ↦
       let test : is_of segment mark ≡ true = let same = of.0 in grind (arith, nat_tests) in
-      omega (arith, so_far, more, marks_more segment place marks mark inside is, ap (λ (b : Bool). cond b 1 0) test)
+      let one : cond (is_of segment mark) 1 0 ≡ 1 = ap {B = ℕ} (λ (b : Bool). cond b 1 0) test in
+      omega (arith, so_far, more, marks_more segment place marks mark inside is, one)
 ]
 
 module _ {D : Type 0} {disk : Ghosts D} where

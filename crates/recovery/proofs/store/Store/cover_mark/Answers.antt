@@ -25,18 +25,18 @@ pub returns-then-mark-segment-clause-goes : goal.returns-then-mark-segment-claus
 returns-then-mark-segment-clause-goes g c = goes_nowhere c.args.self.now
 
 -- a mark of no revision
-pub returns-then-mark-revision-clause-covered : goal.returns-then-mark-revision-clause-covered
-returns-then-mark-revision-clause-covered g c of =
+pub returns-then-mark-eq0-clause-covered : goal.returns-then-mark-eq0-clause-covered
+returns-then-mark-eq0-clause-covered g c of =
     let none : c.args.mark.revision ≡ 0 = search rules in
     absurd (omega (arith, none, of.1))
 
-pub returns-then-mark-revision-clause-dropped : goal.returns-then-mark-revision-clause-dropped
-returns-then-mark-revision-clause-dropped g c of =
+pub returns-then-mark-eq0-clause-dropped : goal.returns-then-mark-eq0-clause-dropped
+returns-then-mark-eq0-clause-dropped g c of =
     let none : c.args.mark.revision ≡ 0 = search rules in
     absurd (omega (arith, none, of.1))
 
-pub returns-then-mark-revision-clause-goes : goal.returns-then-mark-revision-clause-goes
-returns-then-mark-revision-clause-goes g c = goes_nowhere c.args.self.now
+pub returns-then-mark-eq0-clause-goes : goal.returns-then-mark-eq0-clause-goes
+returns-then-mark-eq0-clause-goes g c = goes_nowhere c.args.self.now
 
 -- two milestones are put for a mark of the segment
 pub returns-in-Err-clause-of : goal.returns-in-Err-clause-of

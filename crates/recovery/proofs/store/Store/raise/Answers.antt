@@ -53,32 +53,32 @@ pub returns-in-Err-clause-faults : goal.returns-in-Err-clause-faults
 returns-in-Err-clause-faults g c =
     let there : c.in-Err.refusal ≡ Fault → c.or_needed.result ≡ Fault = search rules in
     let back : c.or_needed.result ≡ Fault → c.in-Err.refusal ≡ Fault = search rules in
-    faults_but_jobs (Err c.or_needed.result) c.args.self.now c.put_document.new.self c.give_up_job-2.new.self c.requires.working c.give_up_job-2.ensures.same
+    faults_but_jobs (Err c.or_needed.result) c.args.self.now c.put_document.new.self c.give_up_job-in-Err.new.self c.requires.working c.give_up_job-in-Err.ensures.same
     (faults_as c.in-Err.refusal c.or_needed.result back there c.in-Err.ensures.faults)
 
 pub returns-in-Err-clause-goes : goal.returns-in-Err-clause-goes
 returns-in-Err-clause-goes g c =
     goes_same c.put_document.ensures.state
     (goes_by (Err c.in-Err.refusal) c.in-Err.ensures.faults c.put_document.ensures.any_moment tt c.in-Err.ensures.kept)
-    (goes_but_jobs c.put_document.new.self c.give_up_job-2.new.self c.give_up_job-2.ensures.same c.give_up_job-2.ensures.open)
+    (goes_but_jobs c.put_document.new.self c.give_up_job-in-Err.new.self c.give_up_job-in-Err.ensures.same c.give_up_job-in-Err.ensures.open)
 
 pub returns-in-Err-clause-dropped : goal.returns-in-Err-clause-dropped
-returns-in-Err-clause-dropped g c = c.give_up_job-2.ensures.jobs ∙ c.put_document.ensures.others
+returns-in-Err-clause-dropped g c = c.give_up_job-in-Err.ensures.jobs ∙ c.put_document.ensures.others
 
 pub returns-in-Err-clause-calls : goal.returns-in-Err-clause-calls
 returns-in-Err-clause-calls g c =
-    subst (λ d. length (g.D.Disk.past d) ≤ length (g.D.Disk.past (device_of c.args.self.now)) + 6) (sym c.give_up_job-2.ensures.same.device) c.put_document.ensures.calls
+    subst (λ d. length (g.D.Disk.past d) ≤ length (g.D.Disk.past (device_of c.args.self.now)) + 6) (sym c.give_up_job-in-Err.ensures.same.device) c.put_document.ensures.calls
 
 pub returns-in-Err-clause-keeps : goal.returns-in-Err-clause-keeps
 returns-in-Err-clause-keeps g c =
-    let same = c.give_up_job-2.ensures.same in
+    let same = c.give_up_job-in-Err.ensures.same in
     let e = c.put_document.ensures in
     record { state = same.state ∙ e.state; ring = same.ring ∙ e.ring; marks = same.marks ∙ e.marks }
 
 -- a refusal but for the device's leaves the device as it was
 pub returns-in-Err-clause-unwritten : goal.returns-in-Err-clause-unwritten
 returns-in-Err-clause-unwritten g c other =
-    c.give_up_job-2.ensures.same.device ∙ ⊎_elim (λ away. c.in-Err.ensures.unwritten away) (λ fault. absurd (other fault)) c.or_needed.ensures.only
+    c.give_up_job-in-Err.ensures.same.device ∙ ⊎_elim (λ away. c.in-Err.ensures.unwritten away) (λ fault. absurd (other fault)) c.or_needed.ensures.only
 
 -- the milestone is put
 pub returns-clause-put : goal.returns-clause-put
