@@ -1,12 +1,13 @@
 #!/usr/bin/env python3
-"""Times edits through `richd serve` over standard input, by how far milestones lie apart.
+"""Times edits through `richd serve`, over standard input and over TCP, by how far milestones lie apart.
 
 usage: bench/turns.py [COUNT] [LETTERS] [ROUNDS]     (default: 4,096 edits a row, 8,192 letters, the best of 3 rounds)
 
 Each row is a new store, and each edit puts a letter in place of another one, alone in its batch, with two syncs of the file. Once
 8 documents are edited in turn, once there is one. Each row has the best time, and the least processor time of an edit, which
 depends less on what else the machine does. Milestones lie 16, 256 (the default) and 65,536 revisions apart, where the last
-means none. In the last rows the journal is that of two small slots, which is freed again and again.
+means none. In the third rows the journal is that of two small slots, which is freed again and again. In the last rows 64 sessions edit
+at once over TCP, by the load of bench/load (which needs rustc): each row has the medians of the rounds, of 3 seconds each.
 
 Run ./demo first, which builds crates/richd/out/richd, or name another program in RICHD. The store lies in a temporary folder (TMPDIR); the time depends on how
 long that disk takes to sync. With TMPDIR=/dev/shm its syncs cost next to nothing, and the milestones' share is the largest.
@@ -23,6 +24,10 @@ sys.path.insert(0, str(Path(__file__).resolve().parent.parent / "clients/python"
 
 from richd import messages
 from richd.program import find, format_store
+
+sys.path.insert(0, str(Path(__file__).resolve().parent / "load"))
+
+from runs import Richd, Row, built, medians, milliseconds, temporary_folder
 
 count = int(sys.argv[1]) if len(sys.argv) > 1 else 4096
 letters = int(sys.argv[2]) if len(sys.argv) > 2 else 8192
@@ -88,3 +93,31 @@ with tempfile.TemporaryDirectory() as folder:
             without = without or least
             more = 100 * (least - without) / without
             print(f"  milestones: {name}: {best:.0f} edits a second, {least:.1f} us of a processor each, {more:+.0f} %")
+
+
+class Apart(Richd):
+    """richd with milestones so far apart."""
+
+    def __init__(self, folder, spacing):
+        super().__init__(folder, spacing)
+        self.name = spacing
+
+
+SECONDS = 3
+OVER_TCP = [
+    Row("64 sessions, own documents", ["--sessions", "64"]),
+    Row("64 sessions, one document", ["--sessions", "64", "--documents", "one"]),
+]
+
+with temporary_folder() as folder:
+    built(folder)
+    pairs = [(Apart(folder, spacing), row) for row in OVER_TCP for spacing, _ in spacings]
+    found = medians(folder, pairs, rounds, SECONDS)
+
+for row in OVER_TCP:
+    print(f"{row.name}, over TCP:")
+    without = found[spacings[0][0], row.name]
+    for spacing, name in spacings:
+        here = found[spacing, row.name]
+        ratio = here.p99 / without.p99
+        print(f"  milestones: {name}: {here.edits:.0f} edits a second, p50 and p99 {milliseconds(here)} ms, p99 {ratio:.2f} of that without")

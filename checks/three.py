@@ -286,7 +286,8 @@ def is_greeted(connection):
 
 
 def play_places(refusal):
-    """Counts the places of a server of which a thread is refused. The first thread is the one that writes: without it the program ends."""
+    """Counts the places of a server of which a thread is refused. The first thread is the one that writes: without it the program ends.
+    Those that compose milestones begin beside those of the sessions, so each later one may be a session's or not."""
     undisturbed("format", refusal.store, *S)
     server = Server(refusal, [])
     if refusal.at == 1:
@@ -301,6 +302,6 @@ def play_places(refusal):
     finally:
         for connection in connections:
             connection.close()
-    wanted = PLACES - (refusal.at > 1 and refusal.met())
-    agree(places == wanted, f"{places} sessions find a place, and not {wanted}")
+    least = PLACES - (refusal.at > 1 and refusal.met())
+    agree(least <= places <= PLACES, f"{places} sessions find a place, and not {least} or {PLACES}")
     server.stop()

@@ -27,28 +27,28 @@ items-pair (code_unit u) (code_unit v) high low = and_from (is_high_surrogate u)
 items-pair (code_unit u) (embed key value) high low = absurd low
 items-pair (embed key value) j high low = absurd high
 
-pair-fact : (x y : Element) → is_pair x y ≡ true → IsPair x y
+pub pair-fact : (x y : Element) → is_pair x y ≡ true → IsPair x y
 pair-fact x y e =
     let p = and_parts (are_high_and_low x.item y.item) (same_attributes x.attributes y.attributes) e in
     let items = pair-items x.item y.item p.0 in
     (items.0, items.1, (same_attributes-Decides x.attributes y.attributes).0 p.1)
 
-fact-pair : (x y : Element) → IsPair x y → is_pair x y ≡ true
+pub fact-pair : (x y : Element) → IsPair x y → is_pair x y ≡ true
 fact-pair x y p =
     and_from (are_high_and_low x.item y.item) (same_attributes x.attributes y.attributes) (items-pair x.item y.item p.0 p.1) ((same_attributes-Decides x.attributes y.attributes).1 p.2)
 
 -- fates and inserts, by tests and by facts
-fate-itself : (f : Fate) → same_fate f f ≡ true
+pub fate-itself : (f : Fate) → same_fate f f ≡ true
 fate-itself Del = refl
 fate-itself (Keep c) = (same_changes-Decides c c).1 refl
 
-fate-fact : (f g : Fate) → same_fate f g ≡ true → f ≡ g
+pub fate-fact : (f g : Fate) → same_fate f g ≡ true → f ≡ g
 fate-fact Del Del e = refl
 fate-fact Del (Keep d) e = absurd (cc)
 fate-fact (Keep c) Del e = absurd (cc)
 fate-fact (Keep c) (Keep d) e = ap Keep ((same_changes-Decides c d).0 e)
 
-nothing-fact : (xs : List Element) → is_nothing xs ≡ true → xs ≡ []
+pub nothing-fact : (xs : List Element) → is_nothing xs ≡ true → xs ≡ []
 nothing-fact [] e = refl
 nothing-fact (x ∷ xs) e = absurd (cc)
 
@@ -133,7 +133,7 @@ or-left : (s t : Bool) → s ≡ true → (s || t) ≡ true
 or-left true t e = refl
 or-left false t e = absurd (cc)
 
-cut-there : (d : List Element) (g : Gaps) → cuts_units d g ≡ true → Cuts d g
+pub cut-there : (d : List Element) (g : Gaps) → cuts_units d g ≡ true → Cuts d g
 cut-there [] g e = absurd (cc)
 cut-there (x ∷ []) g e = absurd (cc)
 cut-there (x ∷ y ∷ d) g e =

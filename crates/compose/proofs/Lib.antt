@@ -11,6 +11,7 @@ pub mod Trimmings
 pub mod Outcomes
 pub mod PartsComposed
 pub mod LaidOver
+pub mod WholePairs
 pub mod ManyDeltas
 pub mod StepsBack
 pub mod WayBack

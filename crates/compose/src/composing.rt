@@ -1,8 +1,10 @@
 //! One delta for several.
-ghost use Rattle.std.specs.Prelude.{◌≡◌, ◌+◌, ◌<◌, ◌^◌, [], ◌∷◌, IfOk, OnOk, IfErr};
+ghost use Rattle.std.specs.Prelude.{◌≡◌, ◌+◌, ◌<◌, ◌≤◌, ◌^◌, List, [], ◌∷◌, IfOk, OnOk, IfErr};
+ghost use Rattle.delta.specs.Element.{Element};
 ghost use Rattle.compose.specs.Composes.{Composes};
 ghost use Rattle.compose.specs.Composed.{one_for};
-ghost use Rattle.compose.specs.Many.{many, ComposesAll, lengths_of};
+ghost use Rattle.compose.specs.Many.{many, AreDefined, ComposesAll, lengths_of};
+ghost use Rattle.compose.specs.Whole.{PartNone, IsWhole};
 ghost use Rattle.compose.specs.Outcome.{CanCompose, CanComposeAll, IsComposeRefused, IsComposeAllRefused};
 
 use crate::laying::{end, lay, lay_over};
@@ -31,16 +33,20 @@ pub fn compose(alloc: Global, first: &Delta, second: &Delta) -> Result<Delta, Re
 }
 
 /// The delta with the effect of all in turn, from the left; of none, the empty delta. Refused as `compose` refuses the
-/// first delta that can't be composed with those before it. Each step takes the operations that are there apart and moves
+/// first delta that can't be composed with those before it; where all are defined in turn on some document and part no pair of it, and
+/// their lengths sum to at most 2^48, for want of memory alone. Each step takes the operations that are there apart and moves
 /// those that the next delta leaves whole, with their texts: after its insertion a text is copied only in a step that parts
 /// it, or that merges it with the text before it. A step's time is linear in the operations that are there, those of the
 /// next delta, and the text that is copied.
 pub fn compose_many(alloc: Global, deltas: &[Delta]) -> Result<Delta, Refusal>
     ensures one { IfOk result (λ one. one ≡ many deltas.now) }
     ensures composes { IfOk result (λ one. ComposesAll one deltas.now) }
+    ensures whole { IfOk result (λ one. IsWhole one deltas.now) }
     ensures accepted { OnOk result (CanComposeAll [] deltas.now) }
     ensures only { IfErr result (IsComposeAllRefused [] deltas.now) }
     ensures long { result ≡ Err Refusal.BadOps → 2 ^ 48 < lengths_of deltas.now }
+    ensures memory { IfErr result (λ e. (d : List Element) → AreDefined d deltas.now → PartNone d deltas.now
+        → lengths_of deltas.now ≤ 2 ^ 48 → e ≡ Refusal.NoMemory) }
 {
     let mut one = Builder::new(alloc).finish();
     for delta in deltas {

@@ -38,6 +38,9 @@ refusal_in none (Err refusal) = refusal
 pub same_refusal : {S T : Type 0} (one : Refusal) (two : Refusal) → IsErrOf {T = S} (Err one) two → IsErrOf {T = T} (Err one) two
 same_refusal one two is = ap (λ (e : Refusal). Err e) (ap (refusal_in one) is)
 
+pub told_of_error : {T : Type 0} (one two : Refusal) → IsErrOf {T = T} (Err one) two → one ≡ two
+told_of_error {T} one two is = ap (refusal_in {T = T} one) is
+
 abbrev pub held_in : Option Run → List (List Taken)
 held_in waiting = option_to_list (option_map (λ r. r.commands) waiting)
 
@@ -83,6 +86,10 @@ module _ {D : Type 0} {disk : Ghosts D} (old new : Store D disk) where
 module _ {D : Type 0} {disk : Ghosts D} where
   pub committed_none : (store : Store D disk) (batches : List (List Taken)) → batches ≡ [] → IsHeldCommitted batches store store
   committed_none store batches none = subst (λ (l : List (List Taken)). IsHeldCommitted l store store) (sym none) refl
+
+-- an Ok is no refusal
+pub no_error : {A : Type 0} (answer : A) (refusal : Refusal) → IsErrOf (Ok answer) refusal → ⊥
+no_error answer refusal is = cc
 
 module _ {D : Type 0} {disk : Ghosts D} (old new : Store D disk) where
   -- what a retirement leaves, whatever it answers
@@ -160,13 +167,12 @@ held_grows start state told committed batch order legal begins kept none =
     (kept ∙ ap (λ (l : List (List Taken)). fold start (commands_of (told ++ l))) none ∙ ap (λ (l : List (List Taken)). fold start (commands_of l)) (append-nil told))
     ∙ grow_behind (commands_of told) batch start (begun_grows start (commands_of told ++ batch) order legal begins)
 
--- So its commit isn't refused as a stranger's.
-pub no_stranger : (start begin state : State) (told named committed : List (List Taken)) (run batch : List Taken) (order : List Entry) (refusal : Refusal) → begin ≡ start
+-- The same of a batch that is held, by the token and the list that name what is published and what is held.
+pub held_continues : (start begin state : State) (told named committed : List (List Taken)) (run batch : List Taken) (order : List Entry) → begin ≡ start
     → named ≡ told → batch ≡ run → IsLegal start order → IsPrefix (commands_of named ++ run) (takens order)
-    → state ≡ fold begin (commands_of (told ++ committed)) → committed ≡ [] → (refusal ≡ Stranger → all_grow state batch ≡ false)
-    → ((refusal ≡ JournalFull) ⊎ ((refusal ≡ StillNeeded) ⊎ (refusal ≡ Stranger))) ⊎ ((refusal ≡ NoMemory) ⊎ (refusal ≡ Fault))
-    → ((refusal ≡ JournalFull) ⊎ (refusal ≡ StillNeeded)) ⊎ ((refusal ≡ NoMemory) ⊎ (refusal ≡ Fault))
-no_stranger start begin state told named committed run batch order refusal begun same alike legal next kept none stranger only = by_case only
+    → state ≡ fold begin (commands_of (told ++ committed)) → committed ≡ [] → all_grow state batch ≡ true
+held_continues start begin state told named committed run batch order begun same alike legal next kept none =
+    ap (all_grow state) alike ∙ held_grows start state told committed run order legal goes_on there none
   where
     there : state ≡ fold start (commands_of (told ++ committed))
     there = kept ∙ ap (λ (s : State). fold s (commands_of (told ++ committed))) begun
@@ -174,15 +180,30 @@ no_stranger start begin state told named committed run batch order refusal begun
     goes_on : IsPrefix (commands_of told ++ run) (takens order)
     goes_on = subst (λ (l : List (List Taken)). IsPrefix (commands_of l ++ run) (takens order)) same next
 
-    grow : all_grow state batch ≡ true
-    grow = ap (all_grow state) alike ∙ held_grows start state told committed run order legal goes_on there none
+-- So its commit isn't refused as a stranger's.
+pub not_stranger : (state : State) (batch : List Taken) (refusal : Refusal) → all_grow state batch ≡ true → (refusal ≡ Stranger → all_grow state batch ≡ false)
+    → ((refusal ≡ JournalFull) ⊎ (refusal ≡ Stranger)) ⊎ ((refusal ≡ NoMemory) ⊎ (refusal ≡ Fault))
+    → (refusal ≡ JournalFull) ⊎ ((refusal ≡ NoMemory) ⊎ (refusal ≡ Fault))
+not_stranger state batch refusal grow stranger (inl (inl full)) = inl full
+not_stranger state batch refusal grow stranger (inl (inr strange)) = absurd (false≢true (sym (stranger strange) ∙ grow))
+not_stranger state batch refusal grow stranger (inr other) = inr other
 
-    by_case : ((refusal ≡ JournalFull) ⊎ ((refusal ≡ StillNeeded) ⊎ (refusal ≡ Stranger))) ⊎ ((refusal ≡ NoMemory) ⊎ (refusal ≡ Fault))
-        → ((refusal ≡ JournalFull) ⊎ (refusal ≡ StillNeeded)) ⊎ ((refusal ≡ NoMemory) ⊎ (refusal ≡ Fault))
-    by_case (inl (inl full)) = inl (inl full)
-    by_case (inl (inr (inl needed))) = inl (inr needed)
-    by_case (inl (inr (inr strange))) = absurd (false≢true (sym (stranger strange) ∙ grow))
-    by_case (inr other) = inr other
+-- nor is the one that makes room
+pub no_stranger : (state : State) (batch : List Taken) (refusal : Refusal) → all_grow state batch ≡ true → (refusal ≡ Stranger → all_grow state batch ≡ false)
+    → ((refusal ≡ JournalFull) ⊎ ((refusal ≡ StillNeeded) ⊎ (refusal ≡ Stranger))) ⊎ ((refusal ≡ NoMemory) ⊎ (refusal ≡ Fault))
+    → ((refusal ≡ JournalFull) ⊎ (refusal ≡ StillNeeded)) ⊎ ((refusal ≡ NoMemory) ⊎ (refusal ≡ Fault))
+no_stranger state batch refusal grow stranger (inl (inl full)) = inl (inl full)
+no_stranger state batch refusal grow stranger (inl (inr (inl needed))) = inl (inr needed)
+no_stranger state batch refusal grow stranger (inl (inr (inr strange))) = absurd (false≢true (sym (stranger strange) ∙ grow))
+no_stranger state batch refusal grow stranger (inr other) = inr other
+
+-- A refusal of a commit but for the device's leaves the store unchanged.
+pub unchanged_without : {D : Type 0} {disk : Ghosts D} (old new : Store D disk) (refusal : Refusal)
+    → ((refusal ≡ JournalFull) ⊎ (refusal ≡ Stranger)) ⊎ ((refusal ≡ NoMemory) ⊎ (refusal ≡ Fault))
+    → ((refusal ≡ JournalFull) ⊎ (refusal ≡ Stranger) → IsUnchanged old new) → (refusal ≡ NoMemory → IsUnchanged old new) → refusal ≢ Fault → IsUnchanged old new
+unchanged_without old new refusal (inl first) untouched given_up other = untouched first
+unchanged_without old new refusal (inr (inl memory)) untouched given_up other = given_up memory
+unchanged_without old new refusal (inr (inr fault)) untouched given_up other = absurd (other fault)
 
 -- the next part of the order, for a publisher
 pub next_by : (told named : List (List Taken)) (batch receipt order : List Taken) → named ≡ told → receipt ≡ batch → 1 ≤ length batch

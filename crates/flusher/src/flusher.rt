@@ -18,6 +18,7 @@ use hub::Run;
 use published::{Ordered, Site, Told};
 use recovery::Store;
 use refusal::Refusal;
+use revision::State;
 use std::alloc::Global;
 use std::sync::Wait;
 use view::{Publisher, Viewer};
@@ -37,7 +38,7 @@ pub struct Flusher<D: Disk, J: Site> {
 impl<D: Disk, J: Site> Flusher<D, J> {
     ghost use Rattle.segments.specs.Numbers.{open_count};
     ghost use Rattle.segments.specs.Ring.{known_numbers};
-    ghost use Rattle.recovery.specs.Open.{IsOpen, IsUnchanged, IsFreedNow, IsWithOrWithout, has_failed, has_room, ring_of};
+    ghost use Rattle.recovery.specs.Open.{IsOpen, IsUnchanged, IsCommittedNow, IsFreedNow, IsWithOrWithout, has_failed, has_room, ring_of};
     ghost use Rattle.flusher.specs.Flushers.{IsUsedUp, IsWritten, IsHeldCommitted, IsGivenUp, cap_of};
     ghost use Rattle.recovery.specs.Goes.{Goes};
     ghost use Rattle.flusher.specs.Holding.{IsUncommitted, store_of, told_of, committed_of, waiting_of};
@@ -122,11 +123,192 @@ impl<D: Disk, J: Site> Flusher<D, J> {
         fill(&mut self.waiting, run);
     }
 
-    /// Commits the batch that is held, if it isn't yet, and keeps the receipt. Where the journal is full the oldest segment is freed
-    /// first, by milestones of its documents. Refused as `Store::commit_freeing` refuses it, but never with `Stranger`, since the batch is the
-    /// next part of the order; the batch is held still then. So in an open store neither `JournalFull` nor `StillNeeded` comes before the
-    /// numbers of its segments are used up. The readers are shown nothing new.
+    /// Commits the batch that is held, if it isn't yet, and keeps the receipt. Refused as `Store::commit` refuses it, but never with
+    /// `Stranger`, since the batch is the next part of the order; the batch is held still then. The readers are shown nothing new.
     pub fn commit_held(&mut self, alloc: Global) -> Result<(), Refusal>
+        // A crash at any moment leaves the state before it, or the one with the batch.
+        ensures goes { Goes (IsWithOrWithout (state_of (store_of self.old)) (commands_of (waiting_of self.old)))
+            (store_of self.old) (store_of self.new) }
+
+        // What each answer leaves.
+        ensures told { told_of self.new ≡ told_of self.old }
+        ensures ok { OnOk result ((committed_of self.new ≡ committed_of self.old ++ waiting_of self.old)
+            × (waiting_of self.new ≡ [])) }
+        ensures held { OnErr result ((committed_of self.new ≡ committed_of self.old)
+            × (waiting_of self.new ≡ waiting_of self.old)) }
+        ensures state { OnOk result (state_of (store_of self.new)
+            ≡ fold (state_of (store_of self.old)) (commands_of (waiting_of self.old))) }
+        ensures committed { OnOk result ((batch : List Taken) → waiting_of self.old ≡ batch ∷ []
+            → (is_open : IsOpen (store_of self.old))
+            → IsCommittedNow batch (store_of self.old) is_open (store_of self.new)) }
+        ensures unchanged { IfErr result (λ e. e ≢ Refusal.Fault → IsUnchanged (store_of self.old) (store_of self.new)) }
+
+        // When each refusal comes.
+        ensures fails { has_failed (store_of self.old) ≡ false
+            → (has_failed (store_of self.new) ≡ true ↔ IsErrOf result Refusal.Fault) }
+        ensures failed_before { has_failed (store_of self.old) ≡ true → (batch : List Taken)
+            → waiting_of self.old ≡ batch ∷ [] → IsErrOf result Refusal.Fault
+            × IsUnchanged (store_of self.old) (store_of self.new) }
+        ensures none { waiting_of self.old ≡ [] → OnErr result ⊥ }
+        ensures full { (batch : List Taken) → waiting_of self.old ≡ batch ∷ [] → has_failed (store_of self.old) ≡ false
+            → (IsErrOf result Refusal.JournalFull ↔ (has_room (store_of self.old) batch ≡ false)) }
+        ensures only { IfErr result (λ e. (e ≡ Refusal.JournalFull) ⊎ ((e ≡ Refusal.NoMemory) ⊎ (e ≡ Refusal.Fault))) }
+    {
+        match self.waiting.take() {
+            None => Ok(()),
+            Some(run) => {
+                self.begun.is_start();
+                let ordered = run.goes_on(self.publisher.told());
+                ordered.legal();
+                match self.store.commit(alloc, run.commands()) {
+                    Ok(receipt) => {
+                        run.committed(&receipt);
+                        self.publisher.accept(receipt, ordered);
+                        Ok(())
+                    }
+                    Err(refusal) => {
+                        fill(&mut self.waiting, run);
+                        Err(refusal)
+                    }
+                }
+            }
+        }
+    }
+
+    /// Commits the batch that is held, if it isn't yet, and publishes it, between the gate's moments: gives the receipt of the commit
+    /// and the token that ends with the batch, to be settled by, or `None` where no batch is held. On a refusal the next call goes on where this one
+    /// stopped: the same batch is committed, or published, by then. Where the journal is full, the oldest segment is freed by milestones of
+    /// its documents, and the batch committed behind that. Refused as `commit_held`, but with `JournalFull` or `StillNeeded` only where the
+    /// journal can't be freed, and then as the publish, with `NoMemory` alone. The batch is on the disk then.
+    pub fn write<R: Wait, G: Gate>(
+        &mut self,
+        rt: &R,
+        alloc: Global,
+        gate: &mut G,
+    ) -> Result<Option<Written<D, J>>, Refusal>
+        // A crash at any moment leaves the state before it, or the one with the batch.
+        ensures goes { Goes (IsWithOrWithout (state_of (store_of self.old)) (commands_of (waiting_of self.old)))
+            (store_of self.old) (store_of self.new) }
+
+        // What each answer leaves.
+        ensures some { IfOk result
+            (λ answer. IfSome answer (λ both. IsWritten (told_of self.old) (committed_of self.old
+            ++ waiting_of self.old) (told_of self.new) both.0 both.1)) }
+        ensures none { IfOk result (λ answer. IfNone answer ((committed_of self.old ++ waiting_of self.old ≡ [])
+            × (told_of self.new ≡ told_of self.old))) }
+        ensures done { OnOk result ((committed_of self.new ≡ []) × (waiting_of self.new ≡ [])) }
+        ensures told { OnErr result (told_of self.new ≡ told_of self.old) }
+        ensures held { OnErr result (committed_of self.new ++ waiting_of self.new ≡ committed_of self.old
+            ++ waiting_of self.old) }
+        ensures state { OnOk result (state_of (store_of self.new)
+            ≡ fold (state_of (store_of self.old)) (commands_of (waiting_of self.old))) }
+        // The cells and the slots are those of before, but for the batch, where it had room, and else those that freeing left; where no
+        // batch waits the store is as it was.
+        ensures committed { OnOk result (IsHeldCommitted (waiting_of self.old) (store_of self.old) (store_of self.new)) }
+        ensures memory { IsErrOf result Refusal.NoMemory
+            → ((waiting_of self.new ≡ waiting_of self.old)
+            × IsGivenUp (waiting_of self.old) (store_of self.old) (store_of self.new))
+            ⊎ ((waiting_of self.new ≡ [])
+            × IsHeldCommitted (waiting_of self.old) (store_of self.old) (store_of self.new)) }
+
+        // After `NoMemory` the batch may be committed, and after any other refusal it isn't.
+        ensures uncommitted { IfErr result (λ e. e ≢ Refusal.NoMemory → IsUncommitted self.old self.new) }
+
+        // A failure of the device is told as such, and nothing else is.
+        ensures fails { has_failed (store_of self.old) ≡ false
+            → (has_failed (store_of self.new) ≡ true ↔ IsErrOf result Refusal.Fault) }
+        ensures failed_before { has_failed (store_of self.old) ≡ true → (batch : List Taken)
+            → waiting_of self.old ≡ batch ∷ [] → IsErrOf result Refusal.Fault
+            × IsUnchanged (store_of self.old) (store_of self.new) }
+        // When each other refusal comes.
+        ensures full { IsErrOf result Refusal.JournalFull → (batch : List Taken) × (waiting_of self.old ≡ batch ∷ [])
+            × (has_room (store_of self.old) batch ≡ false) × (has_room (store_of self.new) batch ≡ false) }
+        ensures needed { IsErrOf result Refusal.StillNeeded → (batch : List Taken) × (waiting_of self.old ≡ batch ∷ [])
+            × (has_room (store_of self.old) batch ≡ false) }
+        ensures few { (batch : List Taken) → waiting_of self.old ≡ batch ∷ [] → has_failed (store_of self.old) ≡ false
+            → has_room (store_of self.old) batch ≡ false
+            → open_count (known_numbers (ring_of (store_of self.old))) < 2
+            → IsErrOf result Refusal.StillNeeded }
+        ensures needed_by_few { IsErrOf result Refusal.StillNeeded → IsOpen (store_of self.old)
+            → open_count (known_numbers (ring_of (store_of self.old))) < 2 }
+        ensures needed_untouched { IsErrOf result Refusal.StillNeeded → IsOpen (store_of self.old)
+            → IsUnchanged (store_of self.old) (store_of self.new) }
+        ensures full_still { IsErrOf result Refusal.JournalFull → (is_open : IsOpen (store_of self.old))
+            → IsFreedNow (store_of self.old) is_open (store_of self.new) }
+        ensures never_full { (IsErrOf result Refusal.JournalFull) ⊎ (IsErrOf result Refusal.StillNeeded)
+            → IsUsedUp (store_of self.old) }
+        ensures only { IfErr result (λ e. ((e ≡ Refusal.JournalFull) ⊎ (e ≡ Refusal.StillNeeded))
+            ⊎ ((e ≡ Refusal.NoMemory) ⊎ (e ≡ Refusal.Fault))) }
+    {
+        gate.pass(Moment::BeforeCommit);
+        if let Err(refusal) = self.commit_freeing(alloc) {
+            return Err(refusal);
+        }
+        gate.pass(Moment::AfterCommit);
+        match self.publisher.publish(rt, alloc) {
+            Ok(published) => Ok(to_settle(published)),
+            Err(refusal) => Err(refusal),
+        }
+    }
+
+    /// Whether a batch is held that isn't committed yet, or one is committed that isn't published yet.
+    pub fn holds(&self) -> bool
+        ensures held { result ≡ false → (committed_of self.now ≡ []) × (waiting_of self.now ≡ []) }
+        ensures none { committed_of self.now ++ waiting_of self.now ≡ [] → result ≡ false }
+    {
+        self.publisher.holds() || self.waiting.is_some()
+    }
+
+    /// How many bytes a batch may have: what fits a slot in which nothing stands yet.
+    pub fn cap(&self) -> u32
+        ensures { result ≡ cap_of (state_of (store_of self.now)) }
+    {
+        self.store.state().limits().width().saturating_add(4)
+    }
+
+    /// The state that the store holds.
+    pub fn state(&self) -> &State
+        ensures { result.now ≡ state_of (store_of self.now) }
+    {
+        self.store.state()
+    }
+
+    /// The token of what is published.
+    pub fn told(&self) -> &Told<D, J>
+        ensures { result.now ≡ told_of self.now }
+    {
+        self.publisher.told()
+    }
+
+    /// A reader of what is published, if there is a place for one more. It takes no memory.
+    pub fn viewer(&self) -> Option<Viewer<D, J>>
+        ensures { IfSome result (λ viewer. viewer ≡ told_of self.now) }
+    {
+        self.publisher.viewer()
+    }
+
+    /// Ends the publishing, and gives the store back. A run that is held is given up.
+    pub fn end<R: Wait>(self, rt: &R) -> Store<D>
+        ensures { result ≡ store_of self }
+    {
+        let Flusher {
+            store,
+            publisher,
+            waiting,
+            begun: _,
+        } = self;
+        publisher.end(rt);
+        match waiting {
+            None => store,
+            Some(run) => run.unwritten(store),
+        }
+    }
+
+    // Commits the batch that is held, if it isn't yet, and keeps the receipt. Where the journal is full the oldest segment is freed
+    // first, by milestones of its documents. Refused as `Store::commit_freeing` refuses it, but never with `Stranger`, since the batch is the
+    // next part of the order; the batch is held still then. So in an open store neither `JournalFull` nor `StillNeeded` comes before the
+    // numbers of its segments are used up. The readers are shown nothing new.
+    fn commit_freeing(&mut self, alloc: Global) -> Result<(), Refusal>
         // A crash at any moment leaves the state before it, or the one with the batch.
         ensures goes { Goes (IsWithOrWithout (state_of (store_of self.old)) (commands_of (waiting_of self.old)))
             (store_of self.old) (store_of self.new) }
@@ -190,127 +372,6 @@ impl<D: Disk, J: Site> Flusher<D, J> {
                     }
                 }
             }
-        }
-    }
-
-    /// Commits the batch that is held, if it isn't yet, and publishes it, between the gate's moments: gives the receipt of the commit
-    /// and the token that ends with the batch, to be settled by, or `None` where no batch is held. On a refusal the next call goes on where this one
-    /// stopped: the same batch is committed, or published, by then. Refused as `commit_held`, with `JournalFull` or `StillNeeded` where
-    /// the journal is full and can't be freed, and then as the publish, with `NoMemory` alone. The batch is on the disk then.
-    pub fn write<R: Wait, G: Gate>(
-        &mut self,
-        rt: &R,
-        alloc: Global,
-        gate: &mut G,
-    ) -> Result<Option<Written<D, J>>, Refusal>
-        // A crash at any moment leaves the state before it, or the one with the batch.
-        ensures goes { Goes (IsWithOrWithout (state_of (store_of self.old)) (commands_of (waiting_of self.old)))
-            (store_of self.old) (store_of self.new) }
-
-        // What each answer leaves.
-        ensures some { IfOk result
-            (λ answer. IfSome answer (λ both. IsWritten (told_of self.old) (committed_of self.old
-            ++ waiting_of self.old) (told_of self.new) both.0 both.1)) }
-        ensures none { IfOk result (λ answer. IfNone answer ((committed_of self.old ++ waiting_of self.old ≡ [])
-            × (told_of self.new ≡ told_of self.old))) }
-        ensures done { OnOk result ((committed_of self.new ≡ []) × (waiting_of self.new ≡ [])) }
-        ensures told { OnErr result (told_of self.new ≡ told_of self.old) }
-        ensures held { OnErr result (committed_of self.new ++ waiting_of self.new ≡ committed_of self.old
-            ++ waiting_of self.old) }
-        ensures state { OnOk result (state_of (store_of self.new)
-            ≡ fold (state_of (store_of self.old)) (commands_of (waiting_of self.old))) }
-        // The cells and the slots are those of before, but for the batch, where it had room, and else those that freeing left; where no
-        // batch waits the store is as it was.
-        ensures committed { OnOk result (IsHeldCommitted (waiting_of self.old) (store_of self.old) (store_of self.new)) }
-        ensures memory { IsErrOf result Refusal.NoMemory
-            → ((waiting_of self.new ≡ waiting_of self.old)
-            × IsGivenUp (waiting_of self.old) (store_of self.old) (store_of self.new))
-            ⊎ ((waiting_of self.new ≡ [])
-            × IsHeldCommitted (waiting_of self.old) (store_of self.old) (store_of self.new)) }
-
-        // After `NoMemory` the batch may be committed, and after any other refusal it isn't.
-        ensures uncommitted { IfErr result (λ e. e ≢ Refusal.NoMemory → IsUncommitted self.old self.new) }
-
-        // A failure of the device is told as such, and nothing else is.
-        ensures fails { has_failed (store_of self.old) ≡ false
-            → (has_failed (store_of self.new) ≡ true ↔ IsErrOf result Refusal.Fault) }
-        ensures failed_before { has_failed (store_of self.old) ≡ true → (batch : List Taken)
-            → waiting_of self.old ≡ batch ∷ [] → IsErrOf result Refusal.Fault
-            × IsUnchanged (store_of self.old) (store_of self.new) }
-        // When each other refusal comes.
-        ensures full { IsErrOf result Refusal.JournalFull → (batch : List Taken) × (waiting_of self.old ≡ batch ∷ [])
-            × (has_room (store_of self.old) batch ≡ false) × (has_room (store_of self.new) batch ≡ false) }
-        ensures needed { IsErrOf result Refusal.StillNeeded → (batch : List Taken) × (waiting_of self.old ≡ batch ∷ [])
-            × (has_room (store_of self.old) batch ≡ false) }
-        ensures few { (batch : List Taken) → waiting_of self.old ≡ batch ∷ [] → has_failed (store_of self.old) ≡ false
-            → has_room (store_of self.old) batch ≡ false
-            → open_count (known_numbers (ring_of (store_of self.old))) < 2
-            → IsErrOf result Refusal.StillNeeded }
-        ensures needed_by_few { IsErrOf result Refusal.StillNeeded → IsOpen (store_of self.old)
-            → open_count (known_numbers (ring_of (store_of self.old))) < 2 }
-        ensures needed_untouched { IsErrOf result Refusal.StillNeeded → IsOpen (store_of self.old)
-            → IsUnchanged (store_of self.old) (store_of self.new) }
-        ensures full_still { IsErrOf result Refusal.JournalFull → (is_open : IsOpen (store_of self.old))
-            → IsFreedNow (store_of self.old) is_open (store_of self.new) }
-        ensures never_full { (IsErrOf result Refusal.JournalFull) ⊎ (IsErrOf result Refusal.StillNeeded)
-            → IsUsedUp (store_of self.old) }
-        ensures only { IfErr result (λ e. ((e ≡ Refusal.JournalFull) ⊎ (e ≡ Refusal.StillNeeded))
-            ⊎ ((e ≡ Refusal.NoMemory) ⊎ (e ≡ Refusal.Fault))) }
-    {
-        gate.pass(Moment::BeforeCommit);
-        if let Err(refusal) = self.commit_held(alloc) {
-            return Err(refusal);
-        }
-        gate.pass(Moment::AfterCommit);
-        match self.publisher.publish(rt, alloc) {
-            Ok(published) => Ok(to_settle(published)),
-            Err(refusal) => Err(refusal),
-        }
-    }
-
-    /// Whether a batch is held that isn't committed yet, or one is committed that isn't published yet.
-    pub fn holds(&self) -> bool
-        ensures held { result ≡ false → (committed_of self.now ≡ []) × (waiting_of self.now ≡ []) }
-        ensures none { committed_of self.now ++ waiting_of self.now ≡ [] → result ≡ false }
-    {
-        self.publisher.holds() || self.waiting.is_some()
-    }
-
-    /// How many bytes a batch may have: what fits a slot in which nothing stands yet.
-    pub fn cap(&self) -> u32
-        ensures { result ≡ cap_of (state_of (store_of self.now)) }
-    {
-        self.store.state().limits().width().saturating_add(4)
-    }
-
-    /// The token of what is published.
-    pub fn told(&self) -> &Told<D, J>
-        ensures { result.now ≡ told_of self.now }
-    {
-        self.publisher.told()
-    }
-
-    /// A reader of what is published, if there is a place for one more. It takes no memory.
-    pub fn viewer(&self) -> Option<Viewer<D, J>>
-        ensures { IfSome result (λ viewer. viewer ≡ told_of self.now) }
-    {
-        self.publisher.viewer()
-    }
-
-    /// Ends the publishing, and gives the store back. A run that is held is given up.
-    pub fn end<R: Wait>(self, rt: &R) -> Store<D>
-        ensures { result ≡ store_of self }
-    {
-        let Flusher {
-            store,
-            publisher,
-            waiting,
-            begun: _,
-        } = self;
-        publisher.end(rt);
-        match waiting {
-            None => store,
-            Some(run) => run.unwritten(store),
         }
     }
 }

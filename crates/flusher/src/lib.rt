@@ -5,8 +5,9 @@
 //! has to be settled, at a hub or on a board of the same thread. `start` makes a flusher and its board over a store, where nothing is
 //! under way, as `IsCalm` of specs/Standing.antt says. The crate `lives` says what runs of one thread over both keep.
 //!
-//! Where the journal is full, a commit frees its oldest segment first, by milestones of that segment's documents. Milestones that are due
-//! are put by `put_due` between batches; `milestone_job` and `put_milestone` let another thread compose one.
+//! Where the journal is full, a write frees its oldest segment first, by milestones of that segment's documents; `commit_held` frees nothing.
+//! `job_due` tells to which revision a milestone of a document is due. `milestone_job` and `put_milestone` let another thread compose it, and
+//! `give_up_job` drops a job that wasn't composed.
 #![tactic(auto)]
 
 mod begun;

@@ -5,13 +5,13 @@ ghost use Rattle.refusal.specs.declared.Refusal.TheVariants.{NoDocument, Future,
 ghost use Rattle.history.specs.Cell.{cells_at};
 ghost use Rattle.recovery.specs.declared.run.StoreStep.TheVariants.{Milestone, Retire};
 ghost use Rattle.recovery.specs.Begun.{IsLeftByMemory};
-ghost use Rattle.recovery.specs.Due.{due_for, IsPutDue};
+ghost use Rattle.recovery.specs.Due.{job_due_for};
 ghost use Rattle.recovery.specs.Faults.{FailsAtFaults};
 ghost use Rattle.recovery.specs.Found.{FoundAs};
-ghost use Rattle.recovery.specs.Jobs.{IsJobTo, highest, no_job_for, with_job, without_job};
+ghost use Rattle.recovery.specs.Jobs.{IsJobTo, highest, last_job, no_job_for, with_job, without_job};
 ghost use Rattle.recovery.specs.Open.{IsOpen, IsPutNow, IsUnchanged, device_of, state_of, has_failed, known_cells, kept_jobs};
 ghost use Rattle.recovery.specs.Cells.{highest_known};
-ghost use Rattle.recovery.specs.Unwritten.{IsUnwritten};
+ghost use Rattle.recovery.specs.Unwritten.{IsUnchangedButJobs};
 ghost use Rattle.recovery.specs.Run.{IsTaken, IsWhy};
 ghost use Rattle.recovery.specs.Goes.{Goes};
 ghost use Rattle.flusher.specs.Holding.{store_of, told_of, committed_of, waiting_of};
@@ -24,34 +24,6 @@ use refusal::Refusal;
 use std::alloc::Global;
 
 impl<D: Disk, J: Site> Flusher<D, J> {
-    /// Puts a milestone of a document where one is due, and retires the oldest segment where nothing needs it any more, as
-    /// `Store::put_due` does. What is held, and what is published, stays. Refused for want of memory, and with `Fault`.
-    pub fn put_due(&mut self, alloc: Global, document: u32, every: u64) -> Result<bool, Refusal>
-        requires { 1 ≤ every }
-        ensures faults { FailsAtFaults result (store_of self.old) (store_of self.new) }
-        ensures goes { Goes (λ content. FoundAs content (state_of (store_of self.old))) (store_of self.old)
-            (store_of self.new) }
-        ensures state { state_of (store_of self.new) ≡ state_of (store_of self.old) }
-        ensures put { IfOk result (λ put. put ≡ true → (is_open : IsOpen (store_of self.old))
-            → IsPutDue every document (store_of self.old) is_open (store_of self.new)) }
-        ensures none { IfOk result (λ put. put ≡ false → (is_open : IsOpen (store_of self.old))
-            → due_for every (slice_get (state_of (store_of self.old)).documents document)
-            (highest (cells_at is_open.cells document)) ≡ None) }
-        ensures untouched { IfOk result (λ put. put ≡ false → IsUnchanged (store_of self.old) (store_of self.new)) }
-        ensures dropped { IfOk result (λ put. put ≡ true
-            → kept_jobs (store_of self.new) ≡ without_job document (kept_jobs (store_of self.old))) }
-        ensures memory { IsErrOf result NoMemory → (revision : ℕ)
-            × (due_for every (slice_get (state_of (store_of self.old)).documents document)
-            (highest_known (known_cells (store_of self.old)) document) ≡ Some revision)
-            × IsUnwritten document revision (store_of self.old) (store_of self.new) }
-        ensures only { IfErr result (λ e. (e ≡ NoMemory) ⊎ (e ≡ Fault)) }
-        ensures told { told_of self.new ≡ told_of self.old }
-        ensures committed { committed_of self.new ≡ committed_of self.old }
-        ensures waiting { waiting_of self.new ≡ waiting_of self.old }
-    {
-        self.store.put_due(alloc, document, every)
-    }
-
     /// Puts a milestone of the document of this number at a revision, as `Store::put_document` does: hands out its job, composes it here,
     /// and puts what came of it. What is held, and what is published, stays.
     pub fn put_document(
@@ -84,6 +56,17 @@ impl<D: Disk, J: Site> Flusher<D, J> {
         self.store.put_document(alloc, document, revision)
     }
 
+    /// The revision to which a job of a document is due, as `Store::job_due` tells it. It takes no memory.
+    pub fn job_due(&self, document: u32, every: u64) -> Option<u64>
+        requires { 1 ≤ every }
+        ensures due { result
+            ≡ job_due_for every (slice_get (state_of (store_of self.now)).documents document)
+            (highest_known (known_cells (store_of self.now)) document)
+            (last_job document (kept_jobs (store_of self.now))) }
+    {
+        self.store.job_due(document, every)
+    }
+
     /// The job of a milestone of a document at a revision, as `Store::milestone_job` gives it: it can be composed in another thread, and
     /// is put by `put_milestone`. What is held, and what is published, stays.
     pub fn milestone_job(
@@ -114,6 +97,20 @@ impl<D: Disk, J: Site> Flusher<D, J> {
         ensures waiting { waiting_of self.new ≡ waiting_of self.old }
     {
         self.store.milestone_job(alloc, document, revision)
+    }
+
+    /// Drops the copy of a document's job, as `Store::give_up_job` does: another one may be due. It takes no memory. What is held, and what is
+    /// published, stays.
+    pub fn give_up_job(&mut self, document: u32)
+        ensures goes { Goes (λ content. FoundAs content (state_of (store_of self.old))) (store_of self.old)
+            (store_of self.new) }
+        ensures jobs { kept_jobs (store_of self.new) ≡ without_job document (kept_jobs (store_of self.old)) }
+        ensures same { IsUnchangedButJobs (store_of self.old) (store_of self.new) }
+        ensures told { told_of self.new ≡ told_of self.old }
+        ensures committed { committed_of self.new ≡ committed_of self.old }
+        ensures waiting { waiting_of self.new ≡ waiting_of self.old }
+    {
+        self.store.give_up_job(document);
     }
 
     /// Puts the milestone that came of a job, as `Store::put_milestone` does. What is held, and what is published, stays.

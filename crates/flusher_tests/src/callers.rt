@@ -55,7 +55,7 @@ pub fn flush_to_the_end<D: Disk, J: Site, R: Wait>(
     ensures stays { (more : List (List Taken)) × (told_of flusher.new ≡ told_of flusher.old ++ more) }
     ensures holds { OnOk result (state_of (store_of flusher.new) ≡ fold J.start (commands_of (told_of flusher.new))) }
 {
-    let ended = flush_all(rt, alloc, flusher, hub, writer, 0, &mut OpenGate);
+    let ended = flush_all(rt, alloc, flusher, hub, writer, 0, None, &mut OpenGate);
     flusher.kept();
     ended
 }

@@ -6,6 +6,10 @@
 #[cfg(test)]
 pub mod callers;
 #[cfg(test)]
+mod committing;
+#[cfg(test)]
+mod composing;
+#[cfg(test)]
 mod freeing;
 #[cfg(test)]
 mod jobs;

@@ -188,7 +188,7 @@ pub fn run(
         }
     };
     if let Some(every) = script.every {
-        return serve(rt, store, script, every, begin);
+        return serve(rt, store, script, every.max(1), begin);
     }
     let (done, stopped) = take_steps(rt.alloc(), &mut store, script, begin);
     Ended {

@@ -30,7 +30,8 @@ pub enum Step {
 #[derive(Clone, Copy)]
 pub struct Script {
     pub name: &'static str,
-    /// None for a store alone. Else a hub's turns write, which put a milestone where so many revisions are passed.
+    /// None for a store alone. Else a hub's turns write, and before each of them a milestone is put where one is due at a multiple of this; in
+    /// the end there is a turn more.
     pub every: Option<u32>,
     pub steps: &'static [Step],
     /// The document before the first command and after each: its name, revision and operations, and the last number of its source with
@@ -120,7 +121,7 @@ pub const RICH_TEXT: Script = Script {
 };
 
 /// A full journal: the third command finds both slots taken. A slot and a batch, twice; then a milestone in each cell, the retirement of slot 0,
-/// the slot again and the batch.
+/// the slot again and the batch. The last turn retires slot 1, whose only entry both cells cover.
 pub const FULL_JOURNAL: Script = Script {
     name: "a full journal",
     every: Some(256),
@@ -131,8 +132,8 @@ pub const FULL_JOURNAL: Script = Script {
         r#"d 2 {"ops":[{"insert":"z"}]} 2 2"#,
         r#"d 3 {"ops":[{"insert":"z"}]} 3 3"#,
     ],
-    calls: 34,
-    gates: &[(64, true), (1_088, true), (1_344, true)],
+    calls: 36,
+    gates: &[(64, true), (1_088, true), (1_344, false)],
 };
 
 /// The command of a number on "d" by "a": the first one creates the document, and each other one is made on this revision.

@@ -1,5 +1,5 @@
 //! Commands that are submitted to a hub, and written by turns of its flusher.
-ghost use Rattle.std.specs.Prelude.{◌≡◌};
+ghost use Rattle.std.specs.Prelude.{◌≡◌, ◌≤◌};
 ghost use Rattle.recovery.specs.Open.{state_of};
 
 use crate::runs::{Begin, Ended, commands_in, stop_of};
@@ -17,13 +17,23 @@ use std::sync::Wait;
 use std::sync::ledger::Blank;
 use turns::{Upkeep, flush_turn};
 
+// A milestone that is due of the only document is composed and put, as composers and a turn do it together. What keeps it from that, the next
+// turn tells, or the next command asks for it again.
+fn put_due<J: Site>(rt: &impl AllocGlobal, flusher: &mut Flusher<FaultDisk, J>, every: u32)
+    requires { 1 ≤ every }
+{
+    if let Some(revision) = flusher.job_due(0, u64::from(every)) {
+        let _ = flusher.put_document(rt.alloc(), 0, revision);
+    }
+}
+
 // A turn, whose failure is told as its refusal.
 fn turn<J: Site, R: Wait + AllocGlobal>(
     rt: &R,
     flusher: &mut Flusher<FaultDisk, J>,
     hub: &Hub<FaultDisk, J>,
     writer: &mut Writer<J>,
-    upkeep: &mut Upkeep<FaultDisk>,
+    upkeep: &mut Upkeep,
 ) -> Result<(), Refusal> {
     let alloc = rt.alloc();
     if let Err(stop) = flush_turn(rt, alloc, flusher, hub, writer, upkeep, &mut OpenGate) {
@@ -66,18 +76,22 @@ fn acknowledged<J: Site, R: Wait>(
     }
 }
 
-// A command is submitted, written in a turn and acknowledged.
+// A command is submitted, written in a turn behind the milestone that is due, and acknowledged.
 fn send<J: Site, R: Wait + AllocGlobal>(
     rt: &R,
     flusher: &mut Flusher<FaultDisk, J>,
     hub: &Hub<FaultDisk, J>,
     writer: &mut Writer<J>,
     seat: &mut Seat<J>,
-    upkeep: &mut Upkeep<FaultDisk>,
+    upkeep: &mut Upkeep,
+    every: u32,
     number: u64,
     step: &Step,
-) -> Result<Option<Reply>, Refusal> {
+) -> Result<Option<Reply>, Refusal>
+    requires { 1 ≤ every }
+{
     let ticket = ordered(rt, hub, seat, number, step)?;
+    put_due(rt, flusher, every);
     turn(rt, flusher, hub, writer, upkeep)?;
     acknowledged(rt, hub, &ticket)
 }
@@ -89,16 +103,19 @@ fn asked<J: Site, R: Wait + AllocGlobal>(
     hub: &Hub<FaultDisk, J>,
     writer: &mut Writer<J>,
     seat: &mut Seat<J>,
-    upkeep: &mut Upkeep<FaultDisk>,
+    upkeep: &mut Upkeep,
+    every: u32,
     number: u64,
     step: &Step,
     is_again: bool,
-) -> Option<&'static str> {
-    let found = send(rt, flusher, hub, writer, seat, upkeep, number, step);
+) -> Option<&'static str>
+    requires { 1 ≤ every }
+{
+    let found = send(rt, flusher, hub, writer, seat, upkeep, every, number, step);
     if !matches!(found, Err(Refusal::NoMemory | Refusal::Fault)) {
         return stop_of(found, number, is_again);
     }
-    let second = send(rt, flusher, hub, writer, seat, upkeep, number, step);
+    let second = send(rt, flusher, hub, writer, seat, upkeep, every, number, step);
     match (found, second) {
         (Err(Refusal::Fault), Err(Refusal::StoreFailed)) => Some("Fault"),
         (Err(Refusal::Fault), _) => Some("another answer after a fault"),
@@ -106,7 +123,26 @@ fn asked<J: Site, R: Wait + AllocGlobal>(
     }
 }
 
-// The steps of a script, up to one that stops it.
+// A last turn, in which nothing is to be written: the oldest segment is retired while nothing needs it. It is made once more where memory was
+// wanted.
+fn rest<J: Site, R: Wait + AllocGlobal>(
+    rt: &R,
+    flusher: &mut Flusher<FaultDisk, J>,
+    hub: &Hub<FaultDisk, J>,
+    writer: &mut Writer<J>,
+    upkeep: &mut Upkeep,
+) -> Option<&'static str> {
+    let mut ended = turn(rt, flusher, hub, writer, upkeep);
+    if matches!(ended, Err(Refusal::NoMemory)) {
+        ended = turn(rt, flusher, hub, writer, upkeep);
+    }
+    match ended {
+        Ok(()) => None,
+        Err(refusal) => Some(refusal.name()),
+    }
+}
+
+// The steps of a script, up to one that stops it, and a last turn.
 fn send_steps<J: Site, R: Wait + AllocGlobal>(
     rt: &R,
     flusher: &mut Flusher<FaultDisk, J>,
@@ -116,8 +152,10 @@ fn send_steps<J: Site, R: Wait + AllocGlobal>(
     every: u32,
     script: &Script,
     begin: Begin,
-) -> (usize, Option<&'static str>) {
-    let mut upkeep = Upkeep::new(every);
+) -> (usize, Option<&'static str>)
+    requires { 1 ≤ every }
+{
+    let mut upkeep = Upkeep::new(rt.alloc(), 0, None, flusher.state());
     let mut number = 0_u64;
     for (at, step) in script.steps.iter().enumerate() {
         number = number.saturating_add(commands_in(step));
@@ -130,6 +168,7 @@ fn send_steps<J: Site, R: Wait + AllocGlobal>(
                 writer,
                 seat,
                 &mut upkeep,
+                every,
                 number,
                 step,
                 is_again,
@@ -139,7 +178,8 @@ fn send_steps<J: Site, R: Wait + AllocGlobal>(
             }
         }
     }
-    (script.steps.len(), None)
+    let stopped = rest(rt, flusher, hub, writer, &mut upkeep);
+    (script.steps.len(), stopped)
 }
 
 // The life of a hub over a store.
@@ -157,6 +197,7 @@ fn lived<J: Site, R: Wait + Abort + AllocGlobal>(
     requires parts { blank.parts ≡ J.parts }
     requires seats { blank.parts ≡ 2 }
     requires begin { state_of store ≡ J.start }
+    requires every { 1 ≤ every }
 {
     let (mut flusher, mut board) = match start::<_, J>(rt.alloc(), store, opened, blank, 1) {
         Ok(both) => both,
@@ -194,7 +235,9 @@ pub fn serve<R: Wait + Abort + AllocGlobal>(
     script: &Script,
     every: u32,
     begin: Begin,
-) -> Ended {
+) -> Ended
+    requires { 1 ≤ every }
+{
     let opened = Opened::new().expect(rt, "logs");
     lived::<Brand, R>(rt, store, opened, Blank::new(2), every, script, begin)
 }

@@ -1,80 +1,132 @@
--- The one delta for deltas that lead from the empty document.
-use Rattle.std.proofs.Common.{◌≡◌, inl, inr, ◌≤◌, List, [], ◌∷◌, length, refl, sym, ap, subst, arith}
-use Rattle.std.proofs.lemmas.List.{append-nil}
+-- The one delta for deltas that stand in turn.
+use Rattle.std.proofs.Common.{◌≡◌, ℕ, zero, suc, ◌+◌, ◌/◌, ◌≤◌, ◌^◌, List, [], ◌∷◌, length, take, drop, refl, sym, ap, subst, ◌∙◌, arith}
 use Rattle.refusal.specs.declared.Refusal.{Refusal}
-use Rattle.refusal.specs.declared.Refusal.TheVariants.{CutsPair, BadOps, NoMemory}
+use Rattle.refusal.specs.declared.Refusal.TheVariants.{NoMemory}
 use Rattle.delta.specs.Element.{Element}
 use Rattle.delta.specs.Operation.{Operation, base_of}
-use Rattle.delta.specs.Gaps.{Gaps, End, Gap, counted, apply, units_below}
-use Rattle.delta.specs.Places.{IsDefined}
-use Rattle.delta.proofs.CallerLemmas.{units_below-counted, length-apply_counted}
-use Rattle.document.specs.Places.{Cuts}
+use Rattle.delta.specs.Gaps.{counted, apply}
+use Rattle.delta.proofs.CallerLemmas.{length-apply_counted}
 use Rattle.document.specs.Outcome.{IsAccepted}
-use Rattle.compose.specs.Composed.{one_for}
-use Rattle.compose.specs.Cuts.{CutsInserted}
-use Rattle.compose.specs.Many.{AreDefined, applied, ComposesAll}
-use Rattle.compose.specs.Outcome.{CanCompose, CanComposeAll, IsComposeRefused, IsComposeAllRefused}
-use Rattle.compose.proofs.CallerLemmas.{composes_by_normal, defined-one}
+use Rattle.compose.specs.Many.{AreDefined, applied, lengths_of}
+use Rattle.compose.specs.Whole.{PartNone}
 use Rattle.revision.specs.Past.{StandInTurn}
+use Rattle.revision.proofs.CallerLemmas.{stand-take, stand-drop}
+use Rattle.milestone.specs.Job.{Job, KeepLengths, IsJob, units_of_job}
+use Rattle.milestone.specs.Halves.{IsPart, ComposesPart, first_half, second_half}
 
--- a gap form that stands on the empty document inserts alone: where it cuts a pair that the first inserts, it cuts one of the document
-cuts_document : (g h : Gaps) → units_below g ≤ 0 → CutsInserted g h → Cuts (apply [] g) h
-cuts_document (End xs) h le cuts = subst (λ d. Cuts d h) (sym (append-nil xs)) cuts
-cuts_document (Gap xs f g) h le cuts = absurd (omega (arith, le))
-
--- one more can be composed
-can_compose : (one next : List Operation) → IsDefined [] (counted one) → IsAccepted (apply [] (counted one)) (counted next) → CanCompose one next
-can_compose one next stands accepted =
-    let both = defined-one [] one next stands accepted.0 in
-    let base : base_of (one_for one next) ≤ 0 = omega (arith, both, units_below-counted (one_for one next)) in
-    let effect = (composes_by_normal one next).effect [] stands accepted.0 in (
-      λ cuts. accepted.1 (cuts_document (counted one) (counted next) stands cuts),
-      record {
-        base = omega (arith, base);
-        out = omega (arith, base, length-apply_counted [] (one_for one next) base, ap length effect, accepted.2);
-      },
-    )
-
--- and so can all that are accepted in turn
-can_compose_after : (one : List Operation) (others : List (List Operation)) → IsDefined [] (counted one) → StandInTurn (apply [] (counted one)) others
-    → CanComposeAll one others
-can_compose_after one [] stands turn = tt
-can_compose_after one (next ∷ others) stands turn =
-    let effect = (composes_by_normal one next).effect [] stands turn.0.0 in (
-      can_compose one next stands turn.0,
-      can_compose_after (one_for one next) others (defined-one [] one next stands turn.0.0)
-          (subst (λ d. StandInTurn d others) (sym effect) turn.1),
-    )
-
-pub can_compose_all : (deltas : List (List Operation)) → StandInTurn [] deltas → CanComposeAll [] deltas
-can_compose_all deltas turn = can_compose_after [] deltas (omega arith) turn
-
--- where each can be composed, memory alone is wanted
-memory_of_two : (one next : List Operation) (refusal : Refusal) → CanCompose one next → IsComposeRefused one next refusal → refusal ≡ NoMemory
-memory_of_two one next CutsPair can refused = absurd (can.0 refused)
-memory_of_two one next BadOps can refused = absurd (refused.1 can.1)
-memory_of_two one next NoMemory can refused = refl
-memory_of_two one next _ can refused = absurd refused
-
-memory_of_all : (one : List Operation) (others : List (List Operation)) (refusal : Refusal) → CanComposeAll one others → IsComposeAllRefused one others refusal
-    → refusal ≡ NoMemory
-memory_of_all one [] refusal can refused = absurd refused
-memory_of_all one (next ∷ others) refusal can (inl refused) = memory_of_two one next refusal can.0 refused
-memory_of_all one (next ∷ others) refusal can (inr refused) = memory_of_all (one_for one next) others refusal can.1 refused.1
-
-pub wants_memory : (deltas : List (List Operation)) (refusal : Refusal) → StandInTurn [] deltas → IsComposeAllRefused [] deltas refusal → refusal ≡ NoMemory
-wants_memory deltas refusal turn refused = memory_of_all [] deltas refusal (can_compose_all deltas turn) refused
-
--- they are defined in turn
+-- they are defined in turn, and part no pair
 are_defined : (units : List Element) (deltas : List (List Operation)) → StandInTurn units deltas → AreDefined units deltas
 are_defined units [] turn = tt
 are_defined units (first ∷ others) turn = (turn.0.0, are_defined (apply units (counted first)) others turn.1)
 
--- the one delta for them stands on the empty document, and makes what they make
-pub one_inserts : (deltas : List (List Operation)) (one : List Operation) → StandInTurn [] deltas → ComposesAll one deltas → base_of one ≡ 0
-one_inserts deltas one turn composes =
-    let stands = composes.defined [] (are_defined [] deltas turn) in omega (arith, stands, units_below-counted one)
+part_none : (units : List Element) (deltas : List (List Operation)) → StandInTurn units deltas → PartNone units deltas
+part_none units [] turn = tt
+part_none units (first ∷ others) turn = (turn.0.1, part_none (apply units (counted first)) others turn.1)
 
-pub one_makes : (deltas : List (List Operation)) (one : List Operation) → StandInTurn [] deltas → ComposesAll one deltas
-    → apply [] (counted one) ≡ applied [] deltas
-one_makes deltas one turn composes = composes.effect [] (are_defined [] deltas turn)
+-- so they are refused for want of memory alone
+pub wants_memory : (deltas : List (List Operation)) (e : Refusal) → IsPart deltas
+    → ((d : List Element) → AreDefined d deltas → PartNone d deltas → lengths_of deltas ≤ 2 ^ 48 → e ≡ NoMemory) → e ≡ NoMemory
+wants_memory deltas e part refused =
+    refused part.units (are_defined part.units deltas part.stand) (part_none part.units deltas part.stand) part.lengths
+
+-- what they make is short
+short_after : (units : List Element) (deltas : List (List Operation)) → length units ≤ 2 ^ 48 → StandInTurn units deltas → length (applied units deltas) ≤ 2 ^ 48
+short_after units [] short turn = short
+short_after units (first ∷ others) short turn = short_after (apply units (counted first)) others turn.0.2 turn.1
+
+-- the one delta for them makes it of the units, and is accepted there
+pub one_makes : (units : List Element) (deltas : List (List Operation)) (one : List Operation) → StandInTurn units deltas → ComposesPart one deltas
+    → apply units (counted one) ≡ applied units deltas
+one_makes units deltas one turn composes = composes.all.effect units (are_defined units deltas turn)
+
+pub one_accepted : (units : List Element) (deltas : List (List Operation)) (one : List Operation) → length units ≤ 2 ^ 48 → StandInTurn units deltas
+    → ComposesPart one deltas → IsAccepted units (counted one)
+one_accepted units deltas one short turn composes =
+    let defined = are_defined units deltas turn in (
+      composes.all.defined units defined,
+      composes.whole units defined (part_none units deltas turn),
+      omega (arith, ap length (composes.all.effect units defined), short_after units deltas short turn),
+    )
+
+-- a part of them has no longer lengths
+lengths-take : (n : ℕ) (deltas : List (List Operation)) → lengths_of (take n deltas) ≤ lengths_of deltas
+lengths-take zero deltas = omega arith
+lengths-take (suc n) [] = omega arith
+lengths-take (suc n) (first ∷ others) = omega (arith, lengths-take n others)
+
+lengths-drop : (n : ℕ) (deltas : List (List Operation)) → lengths_of (drop n deltas) ≤ lengths_of deltas
+lengths-drop zero deltas = omega arith
+lengths-drop (suc n) [] = omega arith
+lengths-drop (suc n) (first ∷ others) = omega (arith, lengths-drop n others)
+
+-- the units of a job are short
+job_short : (job : Job) → IsJob job → length (units_of_job job) ≤ 2 ^ 48
+job_short job is =
+    let none : base_of job.base ≤ 0 = omega (arith, is.inserts) in omega (arith, is.inserts, is.lengths, length-apply_counted [] job.base none)
+
+-- all deltas of a job are a part, and so are its halves
+pub job_part : (job : Job) → IsJob job → IsPart job.deltas
+job_part job is = record { units = units_of_job job; stand = is.stand; lengths = omega (arith, is.lengths) }
+
+pub first_part : (job : Job) → IsJob job → IsPart (first_half job.deltas)
+first_part job is = record {
+  units = units_of_job job;
+  stand = stand-take (length job.deltas / 2) (units_of_job job) job.deltas is.stand;
+  lengths = omega (arith, is.lengths, lengths-take (length job.deltas / 2) job.deltas);
+}
+
+pub second_part : (job : Job) → IsJob job → IsPart (second_half job.deltas)
+second_part job is = record {
+  units = applied (units_of_job job) (first_half job.deltas);
+  stand = stand-drop (length job.deltas / 2) (units_of_job job) job.deltas is.stand;
+  lengths = omega (arith, is.lengths, lengths-drop (length job.deltas / 2) job.deltas);
+}
+
+-- the second half after the first
+applied-parts : (n : ℕ) (units : List Element) (deltas : List (List Operation)) → applied (applied units (take n deltas)) (drop n deltas) ≡ applied units deltas
+applied-parts zero units deltas = refl
+applied-parts (suc n) units [] = refl
+applied-parts (suc n) units (first ∷ others) = applied-parts n (apply units (counted first)) others
+
+-- the one delta for all, on the units of the job
+pub all_accepted : (job : Job) (units : List Element) (one : List Operation) → IsJob job → units ≡ units_of_job job → ComposesPart one job.deltas
+    → IsAccepted units (counted one)
+all_accepted job units one is same composes =
+    subst (λ (d : List Element). IsAccepted d (counted one)) (sym same) (one_accepted (units_of_job job) job.deltas one (job_short job is) is.stand composes)
+
+pub all_made : (job : Job) (units : List Element) (one : List Operation) → IsJob job → units ≡ units_of_job job → ComposesPart one job.deltas
+    → apply units (counted one) ≡ applied (units_of_job job) job.deltas
+all_made job units one is same composes = ap (λ d. apply d (counted one)) same ∙ one_makes (units_of_job job) job.deltas one is.stand composes
+
+-- that for the first half
+pub first_accepted : (job : Job) (units : List Element) (one : List Operation) (half : List (List Operation)) → IsJob job → units ≡ units_of_job job
+    → half ≡ first_half job.deltas → ComposesPart one half → IsAccepted units (counted one)
+first_accepted job units one half is same is_half composes =
+    subst (λ (d : List Element). IsAccepted d (counted one)) (sym same)
+    (one_accepted (units_of_job job) (first_half job.deltas) one (job_short job is) (stand-take (length job.deltas / 2) (units_of_job job) job.deltas is.stand)
+    (subst (ComposesPart one) is_half composes))
+
+pub first_made : (job : Job) (units : List Element) (one : List Operation) (half : List (List Operation)) → IsJob job → units ≡ units_of_job job
+    → half ≡ first_half job.deltas → ComposesPart one half → apply units (counted one) ≡ applied (units_of_job job) (first_half job.deltas)
+first_made job units one half is same is_half composes =
+    ap (λ d. apply d (counted one)) same
+    ∙ one_makes (units_of_job job) (first_half job.deltas) one (stand-take (length job.deltas / 2) (units_of_job job) job.deltas is.stand)
+    (subst (ComposesPart one) is_half composes)
+
+-- and that for the second, on what the first makes
+pub second_accepted : (job : Job) (units : List Element) (one : List Operation) (half : List (List Operation)) → IsJob job
+    → units ≡ applied (units_of_job job) (first_half job.deltas) → half ≡ second_half job.deltas → ComposesPart one half → IsAccepted units (counted one)
+second_accepted job units one half is same is_half composes =
+    subst (λ (d : List Element). IsAccepted d (counted one)) (sym same)
+    (one_accepted (applied (units_of_job job) (first_half job.deltas)) (second_half job.deltas) one
+    (short_after (units_of_job job) (first_half job.deltas) (job_short job is) (stand-take (length job.deltas / 2) (units_of_job job) job.deltas is.stand))
+    (stand-drop (length job.deltas / 2) (units_of_job job) job.deltas is.stand) (subst (ComposesPart one) is_half composes))
+
+pub second_made : (job : Job) (units : List Element) (one : List Operation) (half : List (List Operation)) → IsJob job
+    → units ≡ applied (units_of_job job) (first_half job.deltas) → half ≡ second_half job.deltas → ComposesPart one half
+    → apply units (counted one) ≡ applied (units_of_job job) job.deltas
+second_made job units one half is same is_half composes =
+    ap (λ d. apply d (counted one)) same
+    ∙ (one_makes (applied (units_of_job job) (first_half job.deltas)) (second_half job.deltas) one (stand-drop (length job.deltas / 2) (units_of_job job) job.deltas is.stand)
+    (subst (ComposesPart one) is_half composes)
+    ∙ applied-parts (length job.deltas / 2) (units_of_job job) job.deltas)

@@ -1,6 +1,6 @@
--- The lengths of the deltas that lead from the empty document to a revision.
-use Rattle.std.proofs.Common.{◌≡◌, ℕ, zero, suc, ◌+◌, ◌-◌, ◌*◌, ◌≤◌, ◌^◌, true, false, Bool, List, [], ◌∷◌, length, take, ap, subst, length-append, arith}
-use Rattle.std.specs.Prelude.{◌==◌, ◌<◌, if◌then◌else◌}
+-- The lengths of the inserts and the deltas that a revision is made of.
+use Rattle.std.proofs.Common.{◌≡◌, ℕ, zero, suc, ◌+◌, ◌-◌, ◌*◌, ◌≤◌, ◌^◌, List, [], ◌∷◌, length, take, drop, sym, ap, subst, length-append, arith}
+use Rattle.std.specs.Prelude.{◌<◌}
 use Rattle.std.proofs.lemmas.List.{length-map}
 use Rattle.delta.specs.Element.{Element}
 use Rattle.delta.specs.Operation.{Operation, base_of, out_of}
@@ -9,9 +9,9 @@ use Rattle.delta.specs.Normal.{nf}
 use Rattle.delta.proofs.CallerLemmas.{apply-nf, base_of-nf, length-apply_counted, units_below-counted}
 use Rattle.document.specs.Weight as document
 use Rattle.compose.specs.Many.{applied, lengths_of}
-use Rattle.revision.specs.Past.{Past, Change, StandInTurn, StayShort, newest, newest_units, content_at, sources_at, deltas_of}
+use Rattle.revision.specs.Past.{Past, Change, StandInTurn, StayShort, newest, content_at, sources_at, deltas_of, deltas_above}
 use Rattle.revision.specs.Sources.{count_of}
-use Rattle.revision.specs.Replay.{deltas_to}
+use Rattle.revision.specs.Replay.{IsReplay}
 use Rattle.revision.specs.State.{Limits, weight_of}
 use Rattle.revision.specs.Invariants.{IsLimits, IsPast}
 use Rattle.milestone.specs.Job.{KeepLengths}
@@ -57,11 +57,16 @@ lengths_in_turn units (taken ∷ others) stand short =
       lengths_in_turn (apply units (counted taken)) others stand.1 short.1,
     )
 
--- the first of them have no more
+-- some of them have no more
 lengths_first : (count : ℕ) (deltas : List (List Operation)) → lengths_of (take count deltas) ≤ lengths_of deltas
 lengths_first zero deltas = omega arith
 lengths_first (suc count) [] = omega arith
 lengths_first (suc count) (taken ∷ others) = omega (arith, lengths_first count others)
+
+lengths_after : (count : ℕ) (deltas : List (List Operation)) → lengths_of (drop count deltas) ≤ lengths_of deltas
+lengths_after zero deltas = omega arith
+lengths_after (suc count) [] = omega arith
+lengths_after (suc count) (taken ∷ others) = omega (arith, lengths_after count others)
 
 -- where the document is short after each count of them, it stays short
 stays_short : (units : List Element) (deltas : List (List Operation))
@@ -95,15 +100,18 @@ module _ (limits : Limits) (past : Past) (ranges : IsLimits limits) (keeps : IsP
         ranges.keep,
       )
 
-  by_test : (revision : ℕ) (b : Bool) → KeepLengths (if b then nf (End (newest_units past)) ∷ [] else deltas_to past revision)
-  by_test revision true = omega (arith, inserts_short (newest_units past) (short_at (newest past) (omega arith) (omega arith)))
-  by_test revision false =
+  -- so a job may have the inserts of what stands at a base, and the deltas from there
+  replay_lengths : (revision : ℕ) (units : List Element) (deltas : List (List Operation)) → revision ≤ newest past → IsReplay past revision units deltas
+      → KeepLengths (nf (End units)) deltas
+  replay_lengths revision units deltas there is =
       omega (
         arith,
-        inserts_short past.content.units (short_after 0 (omega arith)),
-        lengths_first (revision - past.floor) (deltas_of past),
+        inserts_short units (subst (λ (u : List Element). length u ≤ 2 ^ 29) (sym is.content) (short_at is.base is.held (omega (arith, is.below, there)))),
+        ap lengths_of is.between,
+        lengths_first (revision - is.base) (deltas_above past is.base),
+        lengths_after (is.base - past.floor) (deltas_of past),
         all_lengths,
       )
 
 pub pasts_keep_lengths : PastsKeepLengths
-pasts_keep_lengths limits past revision ranges keeps = by_test limits past ranges keeps revision (revision == newest past)
+pasts_keep_lengths limits past revision units deltas ranges keeps there is = replay_lengths limits past ranges keeps revision units deltas there is

@@ -1,12 +1,15 @@
 -- What holds of cells.
 use Rattle.std.specs.Prelude.{ℕ, ◌≡◌, ◌+◌, ◌*◌, ◌≤◌, List, length, take, drop}
 use Rattle.delta.specs.Element.{Element}
+use Rattle.delta.specs.Operation.{Operation}
+use Rattle.delta.specs.Gaps.{End}
+use Rattle.delta.specs.Normal.{nf}
 use Rattle.document.specs.Weight.{weight_of}
 use Rattle.revision.specs.State.{Limits}
 use Rattle.revision.specs.Width.{delta_width}
-use Rattle.revision.specs.Past.{Past}
+use Rattle.revision.specs.Past.{Past, newest}
 use Rattle.revision.specs.Invariants.{IsLimits, IsPast}
-use Rattle.revision.specs.Replay.{replay_of}
+use Rattle.revision.specs.Replay.{IsReplay}
 use Rattle.history.specs.Cell.{Cell, Pair, CellKeeps}
 use Rattle.milestone.specs.CellSpelling.{cell_body, inserts_of, IsCell}
 use Rattle.milestone.specs.Job.{KeepLengths}
@@ -31,7 +34,8 @@ abbrev pub AgreeWithin : Type 0
 AgreeWithin = (place size number : ℕ) (a b : List ℕ) (pair : Pair) → take (2 * size) (drop place b) ≡ take (2 * size) (drop place a)
     → HoldsPair place size number a pair → HoldsPair place size number b pair
 
--- What leads from the empty document to a revision keeps the bound of a job's lengths, where the past keeps the limits: it is the inserts of
--- one document and at most 65,536 deltas, and each document has at most 2^29 units.
+-- What a revision that is held is made of keeps the bound of a job's lengths, where the past keeps the limits: each document has at most 2^29
+-- units, and at most 65,536 deltas are held.
 abbrev pub PastsKeepLengths : Type 0
-PastsKeepLengths = (limits : Limits) (past : Past) (revision : ℕ) → IsLimits limits → IsPast limits past → KeepLengths (replay_of past revision)
+PastsKeepLengths = (limits : Limits) (past : Past) (revision : ℕ) (units : List Element) (deltas : List (List Operation)) → IsLimits limits → IsPast limits past
+    → revision ≤ newest past → IsReplay past revision units deltas → KeepLengths (nf (End units)) deltas

@@ -1,6 +1,7 @@
 pub mod Milestone
 pub mod MilestoneView
 pub mod Job
+pub mod Halves
 pub mod JobView
 pub mod CellSpelling
 pub mod OneCell

@@ -1,11 +1,15 @@
 //! A milestone is made of a job.
-ghost use Rattle.std.specs.Prelude.{◌≡◌, [], IfOk, IfErr, IsOkUnless};
+ghost use Rattle.std.specs.Prelude.{◌≡◌, ◌⊎◌, ◌↔◌, IsTrue, IfOk, OnOk, IfErr, IsOkUnless};
+ghost use Rattle.delta.specs.Gaps.{counted, apply};
+ghost use Rattle.document.specs.Outcome.{IsAccepted};
 ghost use Rattle.compose.specs.Many.{applied};
-ghost use Rattle.milestone.specs.Job.{IsJob, cell_of_job};
+ghost use Rattle.milestone.specs.Halves.{AreHalves};
+ghost use Rattle.milestone.specs.Job.{units_of_job, cell_of_job};
 
-use crate::job::Job;
+use crate::job::{Job, same_deltas};
 use crate::milestone::Milestone;
-use compose::compose_many;
+use crate::part::{PartDone, one_for};
+use delta::Delta;
 use document::Document;
 use refusal::Refusal;
 use std::alloc::Global;
@@ -54,7 +58,7 @@ impl Composed {
     }
 }
 
-/// Does a job: composes its deltas into one, and makes the milestone of it. Refused for want of memory alone, and then the job
+/// Does a job: composes its deltas into one, applies that to its units, and makes the milestone of it. Refused for want of memory alone, and then the job
 /// comes back.
 pub fn compose_job(alloc: Global, job: Job) -> Result<Composed, Uncomposed>
     ensures done { IfOk result (λ composed. composed ≡ job) }
@@ -67,29 +71,129 @@ pub fn compose_job(alloc: Global, job: Job) -> Result<Composed, Uncomposed>
     }
 }
 
+/// Makes the milestone of a job of its two halves, each of which was composed by itself: applies the one delta of the first to the units
+/// of the job, and then that of the second. Refused as `Stranger` just where the two aren't the first and the second half of this job, in
+/// this order, else for want of memory alone; and then the job comes back.
+pub fn join_parts(
+    alloc: Global,
+    job: Job,
+    first: PartDone,
+    second: PartDone,
+) -> Result<Composed, Uncomposed>
+    ensures done { IfOk result (λ composed. composed ≡ job) }
+    ensures halves { OnOk result (AreHalves job first second) }
+    ensures stranger { IfErr result (λ back. back.refusal ≡ Refusal.Stranger ↔ (¬ AreHalves job first second)) }
+    ensures back { IfErr result (λ back. back.job ≡ job) }
+    ensures only { IfErr result (λ back. (back.refusal ≡ Refusal.Stranger) ⊎ (back.refusal ≡ Refusal.NoMemory)) }
+{
+    if !are_halves(&job, &first, &second) {
+        return Err(Uncomposed {
+            job,
+            refusal: Refusal::Stranger,
+        });
+    }
+    match milestone_by_halves(alloc, &job, &first, &second) {
+        Ok(milestone) => Ok(Composed { job, milestone }),
+        Err(refusal) => Err(Uncomposed { job, refusal }),
+    }
+}
+
+// whether they are the first and the second half of the job
+fn are_halves(job: &Job, first: &PartDone, second: &PartDone) -> bool
+    ensures { IsTrue result ↔ AreHalves job.now first.now second.now }
+{
+    let deltas = job.deltas();
+    let (one, other) = deltas.split_at(deltas.len() / 2);
+    if !same_deltas(first.deltas(), one) {
+        return false;
+    }
+    same_deltas(second.deltas(), other)
+}
+
 // The milestone that comes of a job. Refused for want of memory alone.
 fn milestone_of(alloc: Global, job: &Job) -> Result<Milestone, Refusal>
     ensures milestone { IfOk result (λ milestone. milestone ≡ cell_of_job job.now) }
     ensures only { IsOkUnless result Refusal.NoMemory }
 {
     let document = content_of(alloc, job)?;
+    milestone_with(alloc, job, document)
+}
+
+// The same of its halves.
+fn milestone_by_halves(
+    alloc: Global,
+    job: &Job,
+    first: &PartDone,
+    second: &PartDone,
+) -> Result<Milestone, Refusal>
+    requires { AreHalves job.now first.now second.now }
+    ensures milestone { IfOk result (λ milestone. milestone ≡ cell_of_job job.now) }
+    ensures only { IsOkUnless result Refusal.NoMemory }
+{
+    let document = content_by_halves(alloc, job, first, second)?;
+    milestone_with(alloc, job, document)
+}
+
+// The milestone of a job with its content. Refused for want of memory alone.
+fn milestone_with(alloc: Global, job: &Job, document: Document) -> Result<Milestone, Refusal>
+    requires { document ≡ applied (units_of_job job.now) job.now.deltas }
+    ensures milestone { IfOk result (λ milestone. milestone ≡ cell_of_job job.now) }
+    ensures only { IsOkUnless result Refusal.NoMemory }
+{
     let name = job.name().copy(alloc)?;
     let sources = job.sources().copy(alloc)?;
     Ok(Milestone::new(name, job.revision(), document, sources))
 }
 
-// What a job's deltas make of the empty document. Refused for want of memory alone.
-#[tactic(auto, using(crate::proofs::InTurn::wants_memory, crate::proofs::InTurn::one_inserts, crate::proofs::InTurn::one_makes))]
+// What a job's deltas make of its units, by the one delta for all. Refused for want of memory alone.
+#[tactic(auto, using(crate::proofs::InTurn::job_part))]
 fn content_of(alloc: Global, job: &Job) -> Result<Document, Refusal>
-    ensures content { IfOk result (λ document. document ≡ applied [] job.now.deltas) }
+    ensures content { IfOk result (λ document. document ≡ applied (units_of_job job.now) job.now.deltas) }
     ensures only { IsOkUnless result Refusal.NoMemory }
 {
-    let one = match compose_many(alloc, job.deltas()) {
-        Ok(one) => one,
-        Err(refusal) => return Err(refusal),
-    };
-    match Document::from_delta(alloc, &one) {
+    let one = one_for(alloc, job.deltas())?;
+    let mut document = base_of_job(alloc, job)?;
+    apply_one(alloc, &mut document, &one)?;
+    Ok(document)
+}
+
+// The same by the one delta for each half, in turn.
+fn content_by_halves(
+    alloc: Global,
+    job: &Job,
+    first: &PartDone,
+    second: &PartDone,
+) -> Result<Document, Refusal>
+    requires { AreHalves job.now first.now second.now }
+    ensures content { IfOk result (λ document. document ≡ applied (units_of_job job.now) job.now.deltas) }
+    ensures only { IsOkUnless result Refusal.NoMemory }
+{
+    let _ = job.revision();
+    let mut document = base_of_job(alloc, job)?;
+    apply_one(alloc, &mut document, first.one())?;
+    apply_one(alloc, &mut document, second.one())?;
+    Ok(document)
+}
+
+// What the base of a job makes of the empty document. Refused for want of memory alone.
+fn base_of_job(alloc: Global, job: &Job) -> Result<Document, Refusal>
+    ensures units { IfOk result (λ document. document ≡ units_of_job job.now) }
+    ensures only { IsOkUnless result Refusal.NoMemory }
+{
+    match Document::from_delta(alloc, job.base()) {
         Ok(document) => Ok(document),
+        Err(refusal) => Err(refusal),
+    }
+}
+
+// Applies a delta that the document accepts. Refused for want of memory alone.
+fn apply_one(alloc: Global, document: &mut Document, one: &Delta) -> Result<(), Refusal>
+    requires { IsAccepted document.old (counted one.now) }
+    ensures made { OnOk result (document.new ≡ apply document.old (counted one.now)) }
+    ensures only { IsOkUnless result Refusal.NoMemory }
+{
+    match document.apply(alloc, one) {
+        Ok(()) => Ok(()),
         Err(refusal) => Err(refusal),
     }
 }

@@ -1,5 +1,7 @@
 //! What a milestone is made of.
 ghost use Rattle.std.specs.Prelude.{◌≡◌, ◌≤◌, ◌↔◌, true, [], IsTrue, IfOk, IsOkUnless};
+ghost use Rattle.delta.specs.Operation.{base_of};
+ghost use Rattle.delta.specs.Gaps.{counted, apply};
 ghost use Rattle.revision.specs.Past.{StandInTurn};
 ghost use Rattle.revision.specs.State.{last_of_all, are_sources};
 ghost use Rattle.milestone.specs.Job.{KeepLengths, IsJob};
@@ -10,13 +12,15 @@ use revision::{Name, Sources};
 use std::alloc::Global;
 use std::marker::Model;
 
-/// What a milestone is made of: deltas that lead in turn from the empty document to a revision of a document, and the document's
-/// sources there. It stands apart from the store, so that the deltas can be composed in another thread.
+/// What a milestone is made of: what stood in a document at some revision, as the inserts that make it, the deltas in turn that lead from
+/// there to a later one, and the document's sources there. It stands apart from the store, so that the deltas can be composed in
+/// another thread.
 #[derive(Drop)]
 pub struct Job {
     document: u32,
     name: Name,
     revision: u64,
+    base: Delta,
     deltas: Vec<Delta>,
     sources: Sources,
 }
@@ -36,18 +40,20 @@ impl Model for Job {
 }
 
 impl Job {
-    /// A job for the document of this number, counted from 0 in order of creation, at a revision of 1 to 2^53 - 1. Each delta is
-    /// accepted by the document that those before it make of the empty one, the base lengths and the output lengths of all sum to at
-    /// most 2^48, and the sources have numbers of 1 to 2^53 - 1 and revisions of 1 to this one. It takes no memory.
+    /// A job for the document of this number, counted from 0 in order of creation, at a revision of 1 to 2^53 - 1. The base only inserts.
+    /// Each delta is accepted by the document that those before it make of what the base makes of the empty one, the base lengths and the
+    /// output lengths of all sum to at most 2^48, and the sources have numbers of 1 to 2^53 - 1 and revisions of 1 to this one. It takes no memory.
     pub fn new(
         document: u32,
         name: Name,
         revision: u64,
+        base: Delta,
         deltas: Vec<Delta>,
         sources: Sources,
     ) -> Job
-        requires stand { StandInTurn [] deltas.items }
-        requires lengths { KeepLengths deltas.items }
+        requires inserts { base_of base ≡ 0 }
+        requires stand { StandInTurn (apply [] (counted base)) deltas.items }
+        requires lengths { KeepLengths base deltas.items }
         requires first { 1 ≤ revision }
         requires last { revision ≤ last_of_all }
         requires sources { are_sources revision sources.entries ≡ true }
@@ -56,6 +62,7 @@ impl Job {
               document = document;
               name = name;
               revision = revision;
+              base = base;
               deltas = deltas.items;
               sources =
                   sources;
@@ -67,6 +74,7 @@ impl Job {
             document,
             name,
             revision,
+            base,
             deltas,
             sources,
         }
@@ -94,7 +102,15 @@ impl Job {
         self.revision
     }
 
-    /// The deltas that lead from the empty document to the revision.
+    /// The inserts that make what the first delta stands on.
+    pub fn base(&self) -> &Delta
+        ensures base { result.now ≡ self.now.base }
+        ensures job { IsJob self.now }
+    {
+        &self.base
+    }
+
+    /// The deltas that lead from there to the revision.
     pub fn deltas(&self) -> &[Delta]
         ensures deltas { result.now ≡ self.now.deltas }
         ensures job { IsJob self.now }
@@ -118,6 +134,7 @@ impl Job {
             document: self.document,
             name: self.name.copy(alloc)?,
             revision: self.revision,
+            base: self.base.copy(alloc)?,
             deltas: copies(alloc, self.deltas())?,
             sources: self.sources.copy(alloc)?,
         })
@@ -139,6 +156,9 @@ impl Job {
         if !same_sources(self.sources(), other.sources()) {
             return false;
         }
+        if !same_delta(self.base(), other.base()) {
+            return false;
+        }
         same_deltas(self.deltas(), other.deltas())
     }
 }
@@ -157,15 +177,22 @@ fn same_sources(one: &Sources, other: &Sources) -> bool
     one == other
 }
 
-// whether they are the same deltas in the same order
-fn same_deltas(one: &[Delta], other: &[Delta]) -> bool
+// whether two deltas are equal
+fn same_delta(one: &Delta, other: &Delta) -> bool
     ensures { IsTrue result ↔ (one.now ≡ other.now) }
 {
     one == other
 }
 
-// Equal deltas. Refused for want of memory alone.
-fn copies(alloc: Global, deltas: &[Delta]) -> Result<Vec<Delta>, Refusal>
+/// Whether they are the same deltas in the same order.
+pub(crate) fn same_deltas(one: &[Delta], other: &[Delta]) -> bool
+    ensures { IsTrue result ↔ (one.now ≡ other.now) }
+{
+    one == other
+}
+
+/// Equal deltas. Refused for want of memory alone.
+pub(crate) fn copies(alloc: Global, deltas: &[Delta]) -> Result<Vec<Delta>, Refusal>
     ensures same { IfOk result (λ copies. copies.items ≡ deltas.now) }
     ensures only { IsOkUnless result Refusal.NoMemory }
 {

@@ -21,7 +21,7 @@ pub fn agree_within()
     ensures { AgreeWithin }
 {}
 
-/// What leads from the empty document to a revision of a past that keeps the limits has lengths that sum to at most 2^48.
+/// What a revision of a past that keeps the limits is made of has lengths that sum to at most 2^48.
 pub fn job_lengths()
     ensures { PastsKeepLengths }
 {}

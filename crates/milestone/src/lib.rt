@@ -1,7 +1,7 @@
 //! Milestones: a document at a revision with its sources there, how they are made, and the two cells of a device that hold them.
 //!
 //! A `Milestone` is what a cell holds, a document of a name and a revision that can be (specs/Milestone.antt). It is made of a `Job`,
-//! which stands apart from the store: deltas that lead in turn from the empty document to a content, which the maker gives as the
+//! which stands apart from the store: units, and deltas that lead in turn from them to a content, which the maker gives as the
 //! document's at that revision (specs/Job.antt). The layer above makes a job. `compose_job` needs nothing of the store, so any thread
 //! may call it. Its answer holds the job, and `Job::is_same` tells whether it is the one that was given. The crate promises that the
 //! milestone is what the job's deltas make, and that nothing but want of memory refuses it.
@@ -14,15 +14,16 @@
 //! A caller, with its contract, which `store_tests` proves as it stands:
 //!
 //! ```text
-//! ghost use Rattle.std.specs.Prelude.{◌≡◌, [], length, IfOk, IfErr};
+//! ghost use Rattle.std.specs.Prelude.{◌≡◌, length, IfOk, IfErr};
 //! ghost use Rattle.compose.specs.Many.{applied};
+//! ghost use Rattle.milestone.specs.Job.{units_of_job};
 //!
 //! use milestone::{Job, Uncomposed, compose_job};
 //! use std::alloc::Global;
 //!
 //! /// How many units a document has at the revision of a job. Refused for want of memory alone, and then the job comes back.
 //! pub fn length_of(alloc: Global, job: Job) -> Result<u64, Uncomposed>
-//!     ensures length { IfOk result (λ len. len ≡ length (applied [] job.deltas)) }
+//!     ensures length { IfOk result (λ len. len ≡ length (applied (units_of_job job) job.deltas)) }
 //!     ensures back { IfErr result (λ back. back.job ≡ job) }
 //! {
 //!     match compose_job(alloc, job) {
@@ -40,10 +41,12 @@ mod content;
 mod job;
 pub mod laws;
 mod milestone;
+mod part;
 mod reading;
 mod writing;
 
 pub use cells::{Cells, ReadCells};
-pub use composing::{Composed, Uncomposed, compose_job};
+pub use composing::{Composed, Uncomposed, compose_job, join_parts};
 pub use job::Job;
 pub use milestone::{Milestone, MilestoneParts};
+pub use part::{Part, PartBack, PartDone, compose_part};

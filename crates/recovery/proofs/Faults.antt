@@ -1,5 +1,5 @@
 -- What calls of a store say of its device's faults, one after another, and what that says of the store.
-use Rattle.std.proofs.Common.{◌≡◌, ◌≢◌, ◌⊎◌, inl, inr, ℕ, List, false, refl, sym, ◌∙◌, ap, subst}
+use Rattle.std.proofs.Common.{◌≡◌, ◌≢◌, ◌⊎◌, inl, inr, ◌↔◌, ℕ, Bool, List, false, refl, sym, ◌∙◌, ap, subst}
 use Rattle.std.specs.Prelude.{Result, Ok, Err, OnOk, IfErr, IsErrOf}
 use Rattle.std.proofs.lemmas.Bool.{false≢true}
 use Rattle.disk.specs.declared.device.Disk.{Ghosts}
@@ -11,11 +11,11 @@ use Rattle.recovery.specs.declared.store.Store.{Store}
 use Rattle.recovery.specs.Faults.{FailsAtFaults}
 use Rattle.recovery.specs.Found.{FoundAs}
 use Rattle.recovery.specs.Goes.{Goes}
-use Rattle.recovery.specs.Marked.{MayRetire}
+use Rattle.recovery.specs.Unwritten.{IsUnchangedButJobs}
 use Rattle.recovery.specs.Open.{IsOpen, IsUnchanged, IsRetiredNow, device_of, state_of, has_failed}
-use Rattle.recovery.specs.steps.Freeing.{IsOverFewer}
 use Rattle.recovery.proofs.Refusals.{refusal_or, ok≢err}
-use Rattle.recovery.proofs.Going.{open_unchanged, unchanged_cells, unchanged_table, goes_call}
+use Rattle.recovery.proofs.Going.{goes_call, goes_still}
+use Rattle.recovery.proofs.Runs.{found_as, found_open}
 use Rattle.recovery.proofs.PutAtOnce.{is_false, refused_unfailed, goes_on_retired, goes_on_needed}
 
 module _ {D : Type 0} {disk : Ghosts D} where
@@ -123,6 +123,22 @@ module _ {D : Type 0} {disk : Ghosts D} where
   kept_by (Ok answer) faults goes = tt
   kept_by (Err refusal) faults goes = λ other. goes.opens (works_still refusal faults other)
 
+  -- the kept jobs alone changed afterwards
+  pub faults_but_jobs : {A : Type 0} (result : Result A Refusal) (old mid new : Store D disk) → has_failed old ≡ false → IsUnchangedButJobs mid new
+      → FailsAtFaults result old mid → FailsAtFaults result old new
+  faults_but_jobs result old mid new works same faults = record {
+    failed_before = λ failed. absurd (false≢true (sym works ∙ failed));
+    fault = λ told worked. subst (λ (d : D). Rose (disk.faults (device_of old)) (disk.faults d)) (sym same.device) (faults.fault told worked);
+    no_fault = subst (λ (d : D). IfErr result (λ e. e ≢ Fault → disk.faults d ≡ disk.faults (device_of old))) (sym same.device) faults.no_fault;
+    good = subst (λ (d : D). OnOk result (disk.faults d ≡ disk.faults (device_of old))) (sym same.device) faults.good;
+    fails = λ worked. (λ failed. (faults.fails worked).0 (sym same.failed ∙ failed), λ told. same.failed ∙ (faults.fails worked).1 told);
+    works = subst (λ (b : Bool). OnOk result (b ≡ false)) (sym same.failed) faults.works;
+    honest = subst (λ (d : D). disk.honest d ↔ disk.honest (device_of old)) (sym same.device) faults.honest;
+  }
+
+  pub goes_but_jobs : (old new : Store D disk) → IsUnchangedButJobs old new → (IsOpen old → IsOpen new) → Goes (λ content. FoundAs content (state_of old)) old new
+  goes_but_jobs old new same opens = goes_still same.device same.failed opens (λ is_open. found_as _ _ (found_open old is_open))
+
   -- a retirement, by its clauses
   pub retire_goes : (old new : Store D disk) (result : Result (Unit {0}) Refusal) → FailsAtFaults result old new
       → (has_failed old ≡ false → IsOpen old → LeavesOnly disk (λ content. FoundAs content (state_of old)) (device_of old) (device_of new))
@@ -130,15 +146,3 @@ module _ {D : Type 0} {disk : Ghosts D} where
       → OnOk result ((is_open : IsOpen old) → IsRetiredNow is_open.cells is_open.table new) → Goes (λ content. FoundAs content (state_of old)) old new
   retire_goes old new result faults any_moment only untouched done =
       goes_by result faults any_moment (goes_on_retired old new result done) (goes_on_needed old new result only untouched)
-
-  -- one that wasn't refused by the device
-  pub fewer : (old new : Store D disk) (result : Result (Unit {0}) Refusal) → ¬ IsErrOf result Fault → IfErr result (λ e. (e ≡ StillNeeded) ⊎ (e ≡ Fault))
-      → (IsErrOf result StillNeeded → (is_open : IsOpen old) → ¬ MayRetire is_open.table is_open.cells) → (IsErrOf result StillNeeded → IsUnchanged old new)
-      → OnOk result ((is_open : IsOpen old) → IsRetiredNow is_open.cells is_open.table new)
-      → (is_open : IsOpen old) → IsOverFewer is_open.cells is_open.table new
-  fewer old new (Ok answer) other only needed untouched done is_open =
-      let now = done is_open in record { goes_on = now.goes_on; same_cells = now.same_cells; slots = inr now.retired }
-  fewer old new (Err refusal) other (inl is) needed untouched done is_open =
-      let told : IsErrOf {T = Unit {0}} {E = Refusal} (Err refusal) StillNeeded = ap (λ (r : Refusal). Err r) is in
-      record { goes_on = open_unchanged (untouched told) is_open; same_cells = unchanged_cells (untouched told) is_open; slots = inl (unchanged_table (untouched told) is_open, needed told is_open) }
-  fewer old new (Err refusal) other (inr is) needed untouched done is_open = absurd (other (ap (λ (r : Refusal). Err r) is))

@@ -1,24 +1,67 @@
--- A commit behind a segment that was freed for it, and a milestone that was due.
-use Rattle.std.proofs.Common.{◌≡◌, ◌≢◌, ◌↔◌, ◌⊎◌, ⊎_elim, inl, inr, true, false, Bool, refl, ℕ, ◌+◌, ◌≤◌, Option, Some, List, length, sym, ◌∙◌, ap, subst, arith}
-use Rattle.std.specs.Prelude.{Result, Ok, Err, OnOk, OnErr, IfErr, IsErrOf, slice_get}
+-- A commit behind a segment that was freed for it.
+use Rattle.std.proofs.Common.{◌≡◌, ◌↔◌, ◌⊎◌, inl, inr, true, false, Bool, refl, ℕ, ◌+◌, ◌*◌, ◌≤◌, List, length, sym, ◌∙◌, ap, arith}
+use Rattle.std.specs.Prelude.{Result, Ok, Err, IfErr, IsErrOf}
 use Rattle.std.proofs.lemmas.Bool.{false≢true}
 use Rattle.disk.specs.declared.device.Disk.{Ghosts}
 use Rattle.refusal.specs.declared.Refusal.{Refusal}
-use Rattle.refusal.specs.declared.Refusal.TheVariants.{JournalFull, StillNeeded, Stranger, NoDocument, Future, TooOld, NoMemory, Fault}
-use Rattle.history.specs.Cell.{Pair}
-use Rattle.segments.specs.Slot.{Segment}
-use Rattle.segments.specs.Table.{IsRetired}
-use Rattle.recovery.specs.declared.marks.Mark.{Mark}
+use Rattle.refusal.specs.declared.Refusal.TheVariants.{JournalFull, StillNeeded, Stranger, NoMemory, Fault}
+use Rattle.milestone.specs.Job.{Job}
 use Rattle.recovery.specs.declared.store.Store.{Store}
-use Rattle.recovery.specs.Cells.{highest_known}
-use Rattle.recovery.specs.Due.{due_for, IsPutDue}
-use Rattle.recovery.specs.Marked.{MayRetire}
-use Rattle.recovery.specs.Open.{IsOpen, state_of}
-use Rattle.recovery.specs.Run.{IsPutAt}
-use Rattle.recovery.specs.steps.Freeing.{IsOverFewer}
+use Rattle.recovery.specs.Freed.{HasFew, IsUnfreed, KeepsOthers, CostsAtMost}
+use Rattle.recovery.specs.Open.{IsUnchanged, device_of, kept_jobs}
 use Rattle.recovery.proofs.HandedOut.{same_error}
 use Rattle.recovery.proofs.Refusals.{ok≢err, refusal_or}
-use Rattle.recovery.proofs.Retirement.{known_highest}
+use Rattle.recovery.proofs.SparedJobs.{spared_same}
+
+-- what a retirement tells, freeing tells
+pub needed_or_fault : (refusal : Refusal) → (refusal ≡ StillNeeded) ⊎ (refusal ≡ Fault) → (refusal ≡ StillNeeded) ⊎ ((refusal ≡ NoMemory) ⊎ (refusal ≡ Fault))
+needed_or_fault refusal (inl needed) = inl needed
+needed_or_fault refusal (inr fault) = inr (inr fault)
+
+-- a retirement takes no memory
+one_memory : (refusal : Refusal) → (refusal ≡ StillNeeded) ⊎ (refusal ≡ Fault) → refusal ≡ NoMemory → ⊥
+one_memory refusal (inl is) memory = let same : StillNeeded ≡ NoMemory = sym is ∙ memory in cc
+one_memory refusal (inr is) memory = let same : Fault ≡ NoMemory = sym is ∙ memory in cc
+
+module _ {D : Type 0} {disk : Ghosts D} where
+  -- nothing was done
+  pub keeps_others_none : (store : Store D disk) → KeepsOthers store store
+  keeps_others_none store = record { jobs = λ is_open slot segment oldest. spared_same segment store store refl; no_more = omega arith }
+
+  pub costs_none : (more : ℕ) (store : Store D disk) → CostsAtMost more store store
+  costs_none more store = record { by_segment = λ slot segment oldest. omega arith; by_marks = omega arith }
+
+  pub unfreed_none : (refusal : Refusal) (store : Store D disk) → (refusal ≡ StillNeeded) ⊎ (refusal ≡ Fault) → (refusal ≡ StillNeeded → HasFew store) → IsUnfreed refusal store store
+  unfreed_none refusal store only few = record {
+    only = needed_or_fault refusal only;
+    ring = refl;
+    marks = refl;
+    needed = λ is is_open. (few is, record { device = refl; shape = refl; ring = refl; cells = refl; marks = refl; jobs = refl; state = refl; failed = refl });
+    half = λ memory. absurd (one_memory refusal only memory);
+  }
+
+  -- a call that makes few calls of the device, and leaves the kept jobs, and others then
+  pub keeps_others_same : (old new : Store D disk) → kept_jobs new ≡ kept_jobs old → KeepsOthers old new
+  keeps_others_same old new same = record {
+    jobs = λ is_open slot segment oldest. spared_same segment old new same;
+    no_more = omega (arith, ap (λ (l : List Job). length l) same);
+  }
+
+  pub costs_few : (more : ℕ) (old new : Store D disk) → length (disk.past (device_of new)) ≤ length (disk.past (device_of old)) + more → CostsAtMost more old new
+  costs_few more old new few = record { by_segment = λ slot segment oldest. omega (arith, few); by_marks = omega (arith, few) }
+
+  pub costs_more : (few more : ℕ) (old new : Store D disk) → few ≤ more → CostsAtMost few old new → CostsAtMost more old new
+  costs_more few more old new less costs = record {
+    by_segment = λ slot segment oldest. omega (arith, less, costs.by_segment slot segment oldest);
+    by_marks = omega (arith, less, costs.by_marks);
+  }
+
+  pub costs_on : (more few : ℕ) (old mid new : Store D disk) → CostsAtMost more old mid → length (disk.past (device_of new)) ≤ length (disk.past (device_of mid)) + few
+      → CostsAtMost (more + few) old new
+  costs_on more few old mid new first behind = record {
+    by_segment = λ slot segment oldest. omega (arith, first.by_segment slot segment oldest, behind);
+    by_marks = omega (arith, first.by_marks, behind);
+  }
 
 -- a commit doesn't tell that a segment is needed, nor does freeing tell that there is no room
 abbrev pub OfCommit : Refusal → Type 0
@@ -35,10 +78,6 @@ no_needed (Ok answer) only told = ok≢err answer StillNeeded told
 no_needed {A} (Err refusal) only told = one_needed refusal only (ap (refusal_or {T = A} StillNeeded) told)
 
 -- nor does a retirement take memory
-one_memory : (refusal : Refusal) → (refusal ≡ StillNeeded) ⊎ (refusal ≡ Fault) → refusal ≡ NoMemory → ⊥
-one_memory refusal (inl is) memory = let same : StillNeeded ≡ NoMemory = sym is ∙ memory in cc
-one_memory refusal (inr is) memory = let same : Fault ≡ NoMemory = sym is ∙ memory in cc
-
 pub no_memory : {A : Type 0} (result : Result A Refusal) → IfErr result (λ e. (e ≡ StillNeeded) ⊎ (e ≡ Fault)) → IsErrOf result NoMemory → ⊥
 no_memory (Ok answer) only told = ok≢err answer NoMemory told
 no_memory {A} (Err refusal) only told = one_memory refusal only (ap (refusal_or {T = A} NoMemory) told)
@@ -59,48 +98,13 @@ no_stranger_freed refusal (inl is) stranger = let same : StillNeeded ≡ Strange
 no_stranger_freed refusal (inr (inl is)) stranger = let same : NoMemory ≡ Stranger = sym is ∙ stranger in cc
 no_stranger_freed refusal (inr (inr is)) stranger = let same : Fault ≡ Stranger = sym is ∙ stranger in cc
 
--- the marks behind a commit, whatever it answered
-pub marks_grow : {A : Type 0} (result : Result A Refusal) (before after : List Mark) (count : ℕ) → OnOk result (length after ≤ length before + count)
-    → OnErr result (after ≡ before) → length after ≤ length before + count
-marks_grow (Ok answer) before after count more same = more
-marks_grow (Err refusal) before after count more same = omega (arith, ap (λ (l : List Mark). length l) same)
+-- what each of them tells, a commit that makes room may tell
+pub of_commit : (refusal : Refusal) → OfCommit refusal → ((refusal ≡ JournalFull) ⊎ ((refusal ≡ StillNeeded) ⊎ (refusal ≡ Stranger))) ⊎ ((refusal ≡ NoMemory) ⊎ (refusal ≡ Fault))
+of_commit refusal (inl (inl full)) = inl (inl full)
+of_commit refusal (inl (inr stranger)) = inl (inr (inr stranger))
+of_commit refusal (inr other) = inr other
 
-pub widened : {A : Type 0} (result : Result A Refusal) → IfErr result (λ e. OfCommit e)
-    → IfErr result (λ e. ((e ≡ JournalFull) ⊎ ((e ≡ StillNeeded) ⊎ (e ≡ Stranger))) ⊎ ((e ≡ NoMemory) ⊎ (e ≡ Fault)))
-widened (Ok answer) only = tt
-widened (Err refusal) (inl (inl is)) = inl (inl is)
-widened (Err refusal) (inl (inr is)) = inl (inr (inr is))
-widened (Err refusal) (inr is) = inr is
-
--- where nothing speaks against a milestone, memory or the device does
-pub only_memory : (refusal : Refusal) → ((refusal ≡ NoDocument) ⊎ ((refusal ≡ Future) ⊎ (refusal ≡ TooOld))) ⊎ ((refusal ≡ NoMemory) ⊎ (refusal ≡ Fault))
-    → (refusal ≢ NoMemory → refusal ≢ Fault → ⊥) → (refusal ≡ NoMemory) ⊎ (refusal ≡ Fault)
-only_memory refusal (inl (inl is)) none =
-    absurd (none (λ other. let same : NoDocument ≡ NoMemory = sym is ∙ other in cc) (λ other. let same : NoDocument ≡ Fault = sym is ∙ other in cc))
-only_memory refusal (inl (inr (inl is))) none =
-    absurd (none (λ other. let same : Future ≡ NoMemory = sym is ∙ other in cc) (λ other. let same : Future ≡ Fault = sym is ∙ other in cc))
-only_memory refusal (inl (inr (inr is))) none =
-    absurd (none (λ other. let same : TooOld ≡ NoMemory = sym is ∙ other in cc) (λ other. let same : TooOld ≡ Fault = sym is ∙ other in cc))
-only_memory refusal (inr is) none = is
-
-module _ {D : Type 0} {disk : Ghosts D} where
-  pub due_put : (old mid new : Store D disk) (every document revision : ℕ) (is_open : IsOpen old)
-      → due_for every (slice_get (state_of old).documents document) (highest_known old.cells.items document) ≡ Some revision
-      → (put : IsPutAt document revision old is_open mid) → ((mid_open : IsOpen mid) → IsOverFewer mid_open.cells mid_open.table new) → IsPutDue every document old is_open new
-  due_put old mid new every document revision is_open due put fewer =
-      let over = fewer put.put.goes_on in
-      record {
-        revision = revision;
-        due = ap (λ n. due_for every (slice_get (state_of old).documents document) n) (sym (known_highest old is_open document)) ∙ due;
-        job = put.job;
-        to = put.to;
-        goes_on = over.goes_on;
-        put = over.same_cells ∙ put.put.put;
-        slots = ⊎_elim
-            (λ both. inl (
-              both.0 ∙ put.put.same_table,
-              λ may. both.1 (subst (λ (t : List (Option Segment)). MayRetire t put.put.goes_on.cells) (sym put.put.same_table)
-                  (subst (λ (l : List Pair). MayRetire is_open.table l) over.same_cells may)),
-            ))
-            (λ retired. inr (subst (λ (t : List (Option Segment)). IsRetired t over.goes_on.table) put.put.same_table retired)) over.slots;
-      }
+pub of_freeing : (refusal : Refusal) → (refusal ≡ StillNeeded) ⊎ ((refusal ≡ NoMemory) ⊎ (refusal ≡ Fault))
+    → ((refusal ≡ JournalFull) ⊎ ((refusal ≡ StillNeeded) ⊎ (refusal ≡ Stranger))) ⊎ ((refusal ≡ NoMemory) ⊎ (refusal ≡ Fault))
+of_freeing refusal (inl needed) = inl (inr (inl needed))
+of_freeing refusal (inr other) = inr other

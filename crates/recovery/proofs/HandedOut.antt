@@ -6,11 +6,15 @@ use Rattle.std.proofs.lemmas.Option.{slice_get_within}
 use Rattle.std.proofs.lemmas.List.Elements.{All-push}
 use Rattle.refusal.specs.declared.Refusal.{Refusal}
 use Rattle.refusal.specs.declared.Refusal.TheVariants.{NoMemory}
+use Rattle.delta.specs.Element.{Element}
+use Rattle.delta.specs.Operation.{Operation}
+use Rattle.delta.specs.Gaps.{End}
+use Rattle.delta.specs.Normal.{nf}
 use Rattle.revision.specs.Past.{sources_at}
 use Rattle.revision.specs.Pending.{PendingDocument, record_of}
 use Rattle.revision.specs.State.{Limits, DocumentRecord, State, revision_of, are_sources}
 use Rattle.revision.specs.Invariants.{IsState}
-use Rattle.revision.specs.Replay.{replay_of}
+use Rattle.revision.specs.Replay.{IsReplay}
 use Rattle.history.specs.Cell.{CellKeeps, cell_of}
 use Rattle.milestone.specs.Job.{Job, KeepLengths, cell_of_job}
 use Rattle.milestone.proofs.CallerLemmas.{pasts_keep_lengths}
@@ -56,8 +60,10 @@ same_error result x y one other = cc
 
 -- what leads to a revision of a document has lengths that a job may have
 pub lengths_here : (state : State) (is_state : IsState state) (document : ℕ) (found : DocumentRecord) → slice_get state.documents document ≡ Some found
-    → (revision : ℕ) → KeepLengths (replay_of found.past revision)
-lengths_here state is_state document found there revision = pasts_keep_lengths state.limits found.past revision is_state.limits (is_state.each document found there)
+    → (revision : ℕ) → revision ≤ revision_of found → (units : List Element) (deltas : List (List Operation)) → IsReplay found.past revision units deltas
+    → KeepLengths (nf (End units)) deltas
+lengths_here state is_state document found there revision reached units deltas is =
+    pasts_keep_lengths state.limits found.past revision units deltas is_state.limits (is_state.each document found there) reached is
 
 module _ (state : State) (is_state : IsState state) (document revision highest : ℕ) (found : DocumentRecord) (there : slice_get state.documents document ≡ Some found)
     (none : no_job_of found highest revision ≡ None) where

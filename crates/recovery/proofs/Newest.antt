@@ -20,17 +20,15 @@ use Rattle.recovery.specs.declared.shape.Shape.{Shape}
 use Rattle.recovery.specs.declared.store.Store.{Store}
 use Rattle.recovery.specs.Faults.{FailsAtFaults}
 use Rattle.recovery.specs.Found.{HoldsParts}
-use Rattle.recovery.specs.Jobs.{IsJobTo, IsMadeOf, MayKeepNewest, highest, jobs_for, without_job}
+use Rattle.recovery.specs.Jobs.{highest}
 use Rattle.recovery.specs.Goes.{Goes}
-use Rattle.recovery.specs.Open.{IsOpen, AreBothNewest, newest_cell, device_of, state_of, kept_jobs}
+use Rattle.recovery.specs.Open.{IsOpen, AreBothNewest, IsOnePut, newest_cell, device_of, state_of}
 use Rattle.recovery.specs.Run.{IsPutAt}
 use Rattle.recovery.specs.steps.Freeing.{reached_in, IsPutOf, IsHalfPut}
-use Rattle.recovery.specs.Unwritten.{MayKeepJob}
 use Rattle.recovery.proofs.FoundOnce.{cells_same, slots_same}
 use Rattle.recovery.proofs.Named.{named_same}
 use Rattle.recovery.proofs.Faults.{works_still}
 use Rattle.recovery.proofs.HandedOut.{same_some}
-use Rattle.recovery.proofs.OtherJobs.{none_own, own_with}
 use Rattle.recovery.proofs.PutCells.{pair_own, pair_other}
 use Rattle.recovery.proofs.Reaching.{cells_reached, document_reached}
 use Rattle.recovery.proofs.Retirement.{known_highest}
@@ -80,6 +78,18 @@ put_twice cell (Some first, Some second) below one = by_test (nat_lt second.revi
 pub newest_lowest : (state : State) (document : ℕ) (pair : Pair) → AreBothNewest state document pair → lowest pair ≡ reached_in state document
 newest_lowest state document pair newest =
     omega (arith, ap lowest newest.both, ap newest_revision newest.there)
+
+-- one more over two of them
+pub newest_again : (state : State) (document : ℕ) (before after : Pair) → AreBothNewest state document before → IsOnePut state document before after
+    → AreBothNewest state document after
+newest_again state document before after both put = record {
+  found = both.found;
+  there = both.there;
+  both = put.put
+      ∙ (ap (λ (f : DocumentRecord). with_cell (newest_cell f) (freed before)) (same_some put.found both.found (sym put.there ∙ both.there))
+      ∙ (ap (λ (p : Pair). with_cell (newest_cell both.found) (freed p)) both.both
+      ∙ behind_first (newest_cell both.found) (newest_cell both.found) (omega arith)));
+}
 
 open_there : (P : Cell → Type 0) (x : Option Cell) (cell : Cell) → x ≡ Some cell → OfOpen P x → P cell
 open_there P x cell is has = subst (λ (c : Option Cell). OfOpen P c) is has
@@ -172,55 +182,30 @@ module _ {D : Type 0} {disk : Ghosts D} where
           ∙ (ap (λ (p : Pair). with_cell cell (freed p)) (own_put old mid is_open document first)
           ∙ put_twice cell before below (newest_already old is_open document found first.to.there some)))
 
-  -- a milestone at the newest revision that was given up may leave its job
-  pub newest_kept : (old new : Store D disk) (document : ℕ) → MayKeepJob document (reached_in (state_of old) document) old new
-      → MayKeepNewest (state_of old) document (jobs_for document (kept_jobs old)) (jobs_for document (kept_jobs new))
-  newest_kept old new document (inl same) = inl (ap (λ (l : List Job). jobs_for document l) same)
-  newest_kept old new document (inr one) =
-      let job = one.0 in
-      let to = one.1.0 in
-      let made = one.1.1 in
-      let newest : reached_in (state_of old) document ≡ revision_of to.found = ap newest_revision to.there in
-      inr (record {
-        job = job;
-        found = to.found;
-        there = to.there;
-        to = subst (λ n. IsJobTo (state_of old).documents document n job) newest to;
-        made = subst (λ n. IsMadeOf (state_of old).documents document n job) newest made;
-        alone = ap (λ (l : List Job). jobs_for document l) one.2 ∙ own_with document job (kept_jobs old) to.number;
-      })
-
   -- no more than one was put, where the store is over the same device as behind it, or as before
-  pub none_put : (old new : Store D disk) (is_open : IsOpen old) (document : ℕ) → IsOpen new → device_of new ≡ device_of old
-      → MayKeepJob document (reached_in (state_of old) document) old new → IsHalfPut document old is_open new
-  none_put old new is_open document now device job =
+  pub none_put : (old new : Store D disk) (is_open : IsOpen old) (document : ℕ) → IsOpen new → device_of new ≡ device_of old → IsHalfPut document old is_open new
+  none_put old new is_open document now device =
       let same = still_parts old new is_open now device in
       record {
         goes_on = now;
         same_table = same.1;
         others = λ number apart. ap (λ (l : List Pair). cells_at l number) same.0;
-        own = inl (ap (λ (l : List Pair). cells_at l document) same.0, newest_kept old new document job);
+        own = inl (ap (λ (l : List Pair). cells_at l document) same.0);
       }
 
   pub one_put_then : (old mid new : Store D disk) (is_open : IsOpen old) (document : ℕ) → IsPutAt document (reached_in (state_of old) document) old is_open mid
-      → IsOpen new → device_of new ≡ device_of mid → state_of mid ≡ state_of old → kept_jobs mid ≡ without_job document (kept_jobs old)
-      → MayKeepJob document (reached_in (state_of mid) document) mid new → IsHalfPut document old is_open new
-  one_put_then old mid new is_open document first now device state dropped job =
+      → IsOpen new → device_of new ≡ device_of mid → IsHalfPut document old is_open new
+  one_put_then old mid new is_open document first now device =
       let same = still_parts mid new first.put.goes_on now device in
-      let none : jobs_for document (kept_jobs mid) ≡ [] = ap (λ (l : List Job). jobs_for document l) dropped ∙ none_own document (kept_jobs old) in
       record {
         goes_on = now;
         same_table = same.1 ∙ first.put.same_table;
         others = λ number apart. ap (λ (l : List Pair). cells_at l number) same.0 ∙ others_stay old mid is_open document first number apart;
-        own = inr (
-          record {
-            found = first.to.found;
-            there = first.to.there;
-            put = ap (λ (l : List Pair). cells_at l document) same.0 ∙ own_put old mid is_open document first;
-          },
-          subst (λ (s : State). MayKeepNewest s document [] (jobs_for document (kept_jobs new))) state
-              (subst (λ (l : List Job). MayKeepNewest (state_of mid) document l (jobs_for document (kept_jobs new))) none (newest_kept mid new document job)),
-        );
+        own = inr (inl (record {
+          found = first.to.found;
+          there = first.to.there;
+          put = ap (λ (l : List Pair). cells_at l document) same.0 ∙ own_put old mid is_open document first;
+        }));
       }
 
   -- behind the second one, by its answer
@@ -234,11 +219,8 @@ module _ {D : Type 0} {disk : Ghosts D} where
 
   pub half_behind : {A : Type 0} {P : List ℕ → Type 0} (old mid new : Store D disk) (document : ℕ) (result : Result A Refusal)
       → ((is_open : IsOpen old) → IsPutAt document (reached_in (state_of old) document) old is_open mid)
-      → state_of mid ≡ state_of old → kept_jobs mid ≡ without_job document (kept_jobs old)
-      → IfErr result (λ e. e ≢ Fault → device_of new ≡ device_of mid) → OnErr result (MayKeepJob document (reached_in (state_of mid) document) mid new)
-      → FailsAtFaults result mid new → Goes P mid new
+      → IfErr result (λ e. e ≢ Fault → device_of new ≡ device_of mid) → FailsAtFaults result mid new → Goes P mid new
       → IfErr result (λ e. e ≢ Fault → (is_open : IsOpen old) → IsHalfPut document old is_open new)
-  half_behind old mid new document (Ok answer) first state dropped device job faults goes = tt
-  half_behind {A} old mid new document (Err refusal) first state dropped device job faults goes = λ other is_open.
+  half_behind old mid new document (Ok answer) first device faults goes = tt
+  half_behind {A} old mid new document (Err refusal) first device faults goes = λ other is_open.
       one_put_then old mid new is_open document (first is_open) (goes.opens (works_still refusal faults other) (first is_open).put.goes_on) (device other)
-      state dropped job

@@ -1,6 +1,6 @@
 -- What is refused, whatever was asked for.
-use Rattle.std.proofs.Common.{◌≡◌, ◌⊎◌, inl, inr, sym, ◌∙◌, ap}
-use Rattle.std.specs.Prelude.{Result, Ok, Err, IfErr, IsErrOf}
+use Rattle.std.proofs.Common.{◌≡◌, ◌⊎◌, inl, inr, refl, sym, ◌∙◌, ap, subst}
+use Rattle.std.specs.Prelude.{Result, Ok, Err, OnOk, OnErr, IfErr, IsErrOf}
 use Rattle.refusal.specs.declared.Refusal.{Refusal}
 use Rattle.refusal.specs.declared.Refusal.TheVariants.{JournalFull, Stranger, NoMemory, Fault}
 
@@ -12,6 +12,28 @@ refusal_or other (Err refusal) = refusal
 -- an Ok tells no refusal
 pub ok≢err : {T : Type 0} (value : T) (refusal : Refusal) → ◌≡◌ {A = Result T Refusal} (Ok value) (Err refusal) → ⊥
 ok≢err value refusal is = cc
+
+-- what holds of each refusal that a result may be, and of an Ok
+pub if_err : {T : Type 0} (P : Refusal → Type 0) (result : Result T Refusal) → ((e : Refusal) → result ≡ Err e → P e) → IfErr result P
+if_err P (Ok value) has = tt
+if_err P (Err refusal) has = has refusal refl
+
+pub on_ok_by : {T : Type 0} {P : Type 0} (result : Result T Refusal) → ((value : T) → result ≡ Ok value → P) → OnOk result P
+on_ok_by (Ok value) has = has value refl
+on_ok_by (Err refusal) has = tt
+
+-- and what is told of a result, of the one that it is
+pub of_err : {T : Type 0} {P : Type 0} (result : Result T Refusal) (e : Refusal) → result ≡ Err e → OnErr result P → P
+of_err (Ok value) e is has = absurd (ok≢err value e is)
+of_err (Err refusal) e is has = has
+
+pub of_if_err : {T : Type 0} (P : Refusal → Type 0) (result : Result T Refusal) (e : Refusal) → result ≡ Err e → IfErr result P → P e
+of_if_err P (Ok value) e is has = absurd (ok≢err value e is)
+of_if_err {T} P (Err refusal) e is has = subst P (ap (refusal_or {T = T} e) is) has
+
+pub of_ok : {T : Type 0} {P : Type 0} (result : Result T Refusal) (value : T) → result ≡ Ok value → OnOk result P → P
+of_ok (Ok one) value is has = has
+of_ok (Err refusal) value is has = absurd (ok≢err value refusal (sym is))
 
 -- what an append to the ring answers is no stranger
 among : (refusal : Refusal) → (refusal ≡ JournalFull) ⊎ ((refusal ≡ NoMemory) ⊎ (refusal ≡ Fault)) → refusal ≡ Stranger → ⊥

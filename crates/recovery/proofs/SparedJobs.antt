@@ -1,5 +1,5 @@
--- The kept jobs of documents that need no milestone while a segment is freed.
-use Rattle.std.proofs.Common.{◌≡◌, ◌≢◌, ◌⊎◌, inl, inr, ℕ, ◌+◌, ◌≤◌, ◌<◌, arith, List, length, get_or, sym, ◌∙◌, ap, subst}
+-- The kept jobs of documents that have no entry in a segment, while it is freed.
+use Rattle.std.proofs.Common.{◌≡◌, ◌≢◌, ◌⊎◌, inl, inr, ℕ, ◌+◌, ◌≤◌, ◌<◌, arith, List, length, get_or, refl, sym, ◌∙◌, ap, subst}
 use Rattle.std.proofs.lemmas.Bool.{cases_eq}
 use Rattle.disk.specs.declared.device.Disk.{Ghosts}
 use Rattle.milestone.specs.Job.{Job}
@@ -7,14 +7,13 @@ use Rattle.recovery.specs.declared.marks.Mark.{Mark}
 use Rattle.recovery.specs.declared.store.Store.{Store}
 use Rattle.segments.specs.Numbers.{IsOldest}
 use Rattle.segments.specs.Ring.{known_numbers}
-use Rattle.recovery.specs.Cells.{lowest_known}
 use Rattle.recovery.specs.Jobs.{jobs_for, without_job}
-use Rattle.recovery.specs.steps.Freeing.{IsMarkSpared, IsMarkAbove}
-use Rattle.recovery.specs.Unwritten.{MayKeepJob}
-use Rattle.recovery.specs.Open.{IsSpared, KeepsJobs, ring_of, known_cells, known_marks, kept_jobs}
-use Rattle.recovery.proofs.Covering.{spared_or_above}
+use Rattle.recovery.specs.steps.Freeing.{IsMarkElsewhere, IsMarkOf}
+use Rattle.recovery.specs.Open.{HasNone, KeepsJobs, ring_of, known_marks, kept_jobs}
+use Rattle.recovery.proofs.Covering.{elsewhere_or_of}
 use Rattle.recovery.proofs.Marked.{one_oldest}
-use Rattle.recovery.proofs.OtherJobs.{own_stay, fewer_without, one_more_with}
+use Rattle.recovery.proofs.Marking.{marked_member}
+use Rattle.recovery.proofs.OtherJobs.{own_stay, others_without, fewer_without}
 
 module _ {D : Type 0} {disk : Ghosts D} where
   -- nothing but other things changed
@@ -24,17 +23,12 @@ module _ {D : Type 0} {disk : Ghosts D} where
   pub spared_then : (segment : ℕ) (old mid new : Store D disk) → KeepsJobs segment old mid → kept_jobs new ≡ kept_jobs mid → KeepsJobs segment old new
   spared_then segment old mid new keeps same document spared = ap (λ (l : List Job). jobs_for document l) same ∙ keeps document spared
 
-  -- one job more is kept at most
-  pub may_keep_one : (document revision : ℕ) (old new : Store D disk) → MayKeepJob document revision old new → length (kept_jobs new) ≤ length (kept_jobs old) + 1
-  may_keep_one document revision old new (inl same) = omega (arith, ap (λ (l : List Job). length l) same)
-  may_keep_one document revision old new (inr one) = omega (arith, ap (λ (l : List Job). length l) one.2, one_more_with one.0 (kept_jobs old))
-
-  -- and none more where a document's are dropped
-  pub no_more_kept : (segment : ℕ) (mark : Mark) (old new : Store D disk) → (IsMarkSpared segment mark old → new ≡ old)
-      → (IsMarkAbove segment mark old → kept_jobs new ≡ without_job mark.document (kept_jobs old)) → length (kept_jobs new) ≤ length (kept_jobs old)
-  no_more_kept segment mark old new still dropped = elim (spared_or_above segment mark old) [
-    | inl spared ↦ omega (arith, ap (λ s. length (kept_jobs s)) (still spared))
-    | inr above ↦ omega (arith, ap (λ (l : List Job). length l) (dropped above), fewer_without mark.document (kept_jobs old))
+  -- no more jobs are kept where a document's are dropped
+  pub no_more_kept : (segment : ℕ) (mark : Mark) (old new : Store D disk) → (IsMarkElsewhere segment mark → new ≡ old)
+      → (IsMarkOf segment mark → kept_jobs new ≡ without_job mark.document (kept_jobs old)) → length (kept_jobs new) ≤ length (kept_jobs old)
+  no_more_kept segment mark old new still dropped = elim (elsewhere_or_of segment mark) [
+    | inl away ↦ omega (arith, ap (λ s. length (kept_jobs s)) (still away))
+    | inr of ↦ omega (arith, ap (λ (l : List Job). length l) (dropped of), fewer_without mark.document (kept_jobs old))
   ]
 
   -- one segment is the oldest
@@ -45,23 +39,21 @@ module _ {D : Type 0} {disk : Ghosts D} where
 
   -- one mark more was looked at
   pub spared_more : (start store new : Store D disk) (segment place : ℕ) (mark : Mark) → place < length (known_marks start) → get_or (known_marks start) place mark ≡ mark
-      → (mark.segment ≡ segment → IsSpared segment mark.document start → mark.revision ≤ lowest_known (known_cells store) mark.document)
-      → ((mark.segment ≢ segment) ⊎ (mark.revision ≤ lowest_known (known_cells store) mark.document) → kept_jobs new ≡ kept_jobs store)
-      → without_job mark.document (kept_jobs new) ≡ without_job mark.document (kept_jobs store)
+      → (IsMarkElsewhere segment mark → kept_jobs new ≡ kept_jobs store)
+      → (IsMarkOf segment mark → kept_jobs new ≡ without_job mark.document (kept_jobs store))
       → KeepsJobs segment start store → KeepsJobs segment start new
-  spared_more start store new segment place mark inside is still same others keeps document spared =
-      now ∙ keeps document spared
+  spared_more start store new segment place mark inside is same dropped keeps document none =
+      now ∙ keeps document none
     where
-      unmoved : mark.document ≡ document → kept_jobs new ≡ kept_jobs store
-      unmoved own = elim (cases_eq mark.segment segment) [
-        | inl one ↦
-            let here : IsSpared segment mark.document start = subst (λ n. IsSpared segment n start) (sym own) spared in
-            same (inr (still one here))
-        | inr away ↦ same (inl away)
-      ]
-
       now : jobs_for document (kept_jobs new) ≡ jobs_for document (kept_jobs store)
-      now = elim (cases_eq mark.document document) [
-        | inl own ↦ ap (λ (l : List Job). jobs_for document l) (unmoved own)
-        | inr apart ↦ own_stay document mark.document (kept_jobs store) (kept_jobs new) (λ is. apart (sym is)) others
+      now = elim (elsewhere_or_of segment mark) [
+        | inl away ↦ ap (λ (l : List Job). jobs_for document l) (same away)
+        | inr of ↦ elim (cases_eq mark.document document) [
+          | inr apart ↦
+              own_stay document mark.document (kept_jobs store) (kept_jobs new) (λ is. apart (sym is))
+              (ap (λ (l : List Job). without_job mark.document l) (dropped of) ∙ others_without mark.document mark.document (kept_jobs store) refl)
+          | inl own ↦
+              let here : HasNone segment mark.document start = subst (λ n. HasNone segment n start) (sym own) none in
+              absurd (omega (arith, here, of.1, marked_member segment (known_marks start) place mark inside is of.0))
+        ]
       ]

@@ -3,9 +3,9 @@ use Rattle.std.proofs.Common.{◌≡◌, inl, inr, ℕ, ◌+◌, ◌≤◌, List
 use Rattle.std.specs.Prelude.{Result, Ok, Err, IfOk, slice_get}
 use Rattle.disk.specs.declared.device.Disk.{Ghosts}
 use Rattle.refusal.specs.declared.Refusal.{Refusal}
-use Rattle.revision.specs.Replay.{replay_of}
+use Rattle.revision.specs.Replay.{IsReplay}
 use Rattle.revision.specs.State.{DocumentRecord}
-use Rattle.milestone.specs.Job.{Job}
+use Rattle.milestone.specs.Job.{Job, units_of_job}
 use Rattle.recovery.specs.declared.store.Store.{Store}
 use Rattle.recovery.specs.Jobs.{IsJobTo, IsMadeOf, with_job}
 use Rattle.recovery.specs.Open.{IsUnchanged, device_of, state_of, kept_jobs}
@@ -44,9 +44,10 @@ module _ {D : Type 0} {disk : Ghosts D} where
 
 -- what a job that is given is made of
 pub made_of : (documents : List DocumentRecord) (document revision : ℕ) (found : DocumentRecord) → slice_get documents document ≡ Some found
-    → (result : Result Job Refusal) → IfOk result (λ job. job.deltas ≡ replay_of found.past revision) → IfOk result (λ job. IsMadeOf documents document revision job)
-made_of documents document revision found there (Ok job) deltas = record { found = found; there = there; deltas = deltas }
-made_of documents document revision found there (Err refusal) deltas = tt
+    → (result : Result Job Refusal) → IfOk result (λ job. IsReplay found.past revision (units_of_job job) job.deltas)
+    → IfOk result (λ job. IsMadeOf documents document revision job)
+made_of documents document revision found there (Ok job) replay = record { found = found; there = there; replay = replay }
+made_of documents document revision found there (Err refusal) replay = tt
 
 module _ {D : Type 0} {disk : Ghosts D} (old mid : Store D disk) (device : device_of mid ≡ device_of old) (most : ℕ) where
   -- no call of the device was made, and then a few

@@ -3,13 +3,13 @@ use Rattle.std.specs.Prelude.{◌≡◌, ◌⊎◌, ◌≤◌, ◌<◌, ℕ, ◌
 use Rattle.refusal.specs.declared.Refusal.{Refusal}
 use Rattle.refusal.specs.declared.Refusal.TheVariants.{NoDocument, Future, TooOld}
 use Rattle.revision.specs.Command.{Taken}
-use Rattle.revision.specs.Replay.{replay_of}
+use Rattle.revision.specs.Replay.{IsReplay}
 use Rattle.revision.specs.State.{Limits, DocumentRecord, State, revision_of}
 use Rattle.history.specs.Entries.{of_document}
 use Rattle.history.specs.Cell.{Pair, cells_at, cell_of, CellKeeps}
 use Rattle.history.specs.Running.{IsCellOf}
 use Rattle.milestone.specs.Revisions.{revisions_in, highest_of}
-use Rattle.milestone.specs.Job.{Job, cell_of_job}
+use Rattle.milestone.specs.Job.{Job, units_of_job, cell_of_job}
 use Rattle.recovery.specs.declared.jobs.Jobs.{Jobs}
 
 -- the jobs that are kept
@@ -23,6 +23,11 @@ without_job document jobs = filter (λ job. not (job.document == document)) jobs
 -- those of this document alone
 abbrev pub jobs_for : ℕ → List Job → List Job
 jobs_for document jobs = filter (λ job. job.document == document) jobs
+
+-- the revision of the job that is kept of a document, 0 where none is
+abbrev pub last_job : ℕ → List Job → ℕ
+last_job document [] = 0
+last_job document (job ∷ jobs) = if job.document == document then job.revision else last_job document jobs
 
 -- with one more, in place of what its document had
 abbrev pub with_job : Job → List Job → List Job
@@ -72,22 +77,9 @@ pub record IsJobTo (documents : List DocumentRecord) (document revision : ℕ) (
   pub reached : revision ≤ revision_of found
   pub is : cell_of_job job ≡ cell_of found revision
 
--- A job is made of what the document of this number holds and of nothing else: what stands at its floor as one delta, and behind that each
--- delta up to the revision; or, to the newest revision, what stands there as one delta.
+-- A job is made of what the document of this number holds and of nothing else: what stands at a revision that is held, and behind that each delta
+-- up to the job's own.
 pub record IsMadeOf (documents : List DocumentRecord) (document revision : ℕ) (job : Job) : Type 0 where
   pub found : DocumentRecord
   pub there : slice_get documents document ≡ Some found
-  pub deltas : job.deltas ≡ replay_of found.past revision
-
--- One job alone is kept of a document: it leads to the newest revision, and is made of what the document holds.
-pub record IsNewestJob (state : State) (document : ℕ) (jobs : List Job) : Type 0 where
-  pub job : Job
-  pub found : DocumentRecord
-  pub there : slice_get state.documents document ≡ Some found
-  pub to : IsJobTo state.documents document (revision_of found) job
-  pub made : IsMadeOf state.documents document (revision_of found) job
-  pub alone : jobs ≡ job ∷ []
-
--- the jobs that are kept of a document are those of before, or the one to its newest revision in their place
-abbrev pub MayKeepNewest : State → ℕ → List Job → List Job → Type 0
-MayKeepNewest state document before now = (now ≡ before) ⊎ IsNewestJob state document now
+  pub replay : IsReplay found.past revision (units_of_job job) job.deltas

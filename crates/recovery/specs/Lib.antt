@@ -14,5 +14,6 @@ pub mod Laws
 pub mod Run
 pub mod Begun
 pub mod Due
+pub mod Freed
 pub mod Formatting
 pub mod steps

@@ -16,6 +16,10 @@ room_of marks = vec_capacity marks.list - length marks.list.items
 abbrev pub is_of : ℕ → Mark → Bool
 is_of segment mark = mark.segment == segment
 
+-- the marks of this segment
+abbrev pub within_segment : ℕ → List Mark → List Mark
+within_segment segment marks = filter (is_of segment) marks
+
 -- the marks of other segments than this one
 abbrev pub without_segment : ℕ → List Mark → List Mark
 without_segment segment marks = filter (λ mark. not (is_of segment mark)) marks

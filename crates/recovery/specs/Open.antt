@@ -1,5 +1,5 @@
 -- A store that is open, and what a crash within a commit leaves of it.
-use Rattle.std.specs.Prelude.{◌≡◌, ◌≢◌, ◌⊎◌, ◌+◌, ◌≤◌, ℕ, zero, suc, nat_lt, if◌then◌else◌, Bool, Option, Some, List, [], length, slice_get}
+use Rattle.std.specs.Prelude.{◌≡◌, ◌≢◌, ◌⊎◌, ◌+◌, ◌≤◌, ℕ, Bool, Option, Some, List, [], length, slice_get}
 use Rattle.disk.specs.declared.device.Disk.{Ghosts}
 use Rattle.revision.specs.Command.{Taken}
 use Rattle.journal.specs.BatchSpelling.{batch as spelled, batch_width}
@@ -21,7 +21,7 @@ use Rattle.recovery.specs.Cells.{AreCellsOf, FitEach, lowest_known}
 use Rattle.recovery.specs.declared.marks.Mark.{Mark}
 use Rattle.recovery.specs.Marks.{marks_of, greatest_marked}
 use Rattle.recovery.specs.Marked.{AreMarked}
-use Rattle.recovery.specs.Jobs.{jobs_of, jobs_for, CanAllBePut, MayKeepNewest}
+use Rattle.recovery.specs.Jobs.{jobs_of, jobs_for, CanAllBePut}
 use Rattle.recovery.specs.Found.{limits_of, commands_of, HoldsParts, FoundAs}
 
 -- a content that stands for a state that agrees with the one before a batch, or with the one with it
@@ -32,13 +32,6 @@ IsWithOrWithout state batch content = FoundAs content state ⊎ FoundAs content 
 -- the closed gate behind it, 15 bytes more than its own. An entry alone has 19 bytes less than a slot at most, and fits.
 abbrev pub FitsSlot : State → List Taken → Type 0
 FitsSlot state batch = batch_width batch ≤ state.limits.width + 4
-
--- How many of the first documents, by their numbers, need a milestone before a segment is retired: some open cell of theirs is below their
--- marks there, or none is open.
-abbrev pub needing : ℕ → List Mark → List Cells → ℕ → ℕ
-needing segment marks known zero = 0
-needing segment marks known (suc count) =
-    (if nat_lt (lowest_known known count) (greatest_marked segment count marks) then 1 else 0) + needing segment marks known count
 
 -- a document at its newest revision
 abbrev pub newest_cell : DocumentRecord → Cell
@@ -56,12 +49,9 @@ pub record IsOnePut (state : State) (document : ℕ) (before after : Pair) : Typ
   pub there : slice_get state.documents document ≡ Some found
   pub put : after ≡ with_cell (newest_cell found) (freed before)
 
--- Milestones of a document were given up: no cell of it was put, or one, at its newest revision. The job of the next one may be kept, in place
--- of those of before; those of before are dropped where one was put.
-abbrev pub IsHalfRaised : State → ℕ → Pair → List Job → Pair → List Job → Type 0
-IsHalfRaised state document cells jobs cells_now jobs_now =
-    ((cells_now ≡ cells) × MayKeepNewest state document jobs jobs_now)
-    ⊎ (IsOnePut state document cells cells_now × MayKeepNewest state document [] jobs_now)
+-- Milestones of a document were given up: no cell of it was put, or one, at its newest revision, or both.
+abbrev pub IsHalfRaised : State → ℕ → Pair → Pair → Type 0
+IsHalfRaised state document before after = (after ≡ before) ⊎ (IsOnePut state document before after ⊎ AreBothNewest state document after)
 
 module _ {D : Type 0} {disk : Ghosts D} where
   -- the device under a store
@@ -152,14 +142,18 @@ module _ {D : Type 0} {disk : Ghosts D} where
   abbrev pub IsSpared : ℕ → ℕ → Store D disk → Type 0
   IsSpared segment document store = greatest_marked segment document (known_marks store) ≤ lowest_known (known_cells store) document
 
-  -- After room was made in the journal: the store goes on, and the slot of the oldest segment is closed. The cells of each document that
-  -- needed no milestone for it are as they were. Both cells of each other document hold it at its newest revision, and no job of it is kept.
+  -- no entry of a document stands in a segment
+  abbrev pub HasNone : ℕ → ℕ → Store D disk → Type 0
+  HasNone segment document store = greatest_marked segment document (known_marks store) ≡ 0
+
+  -- After room was made in the journal: the store goes on, and the slot of the oldest segment is closed. The cells of each document that had no
+  -- entry there are as they were. Both cells of each other document hold it at its newest revision, and no job of it is kept.
   pub record IsFreedNow (old : Store D disk) (is_open : IsOpen old) (new : Store D disk) : Type 0 where
     pub goes_on : IsOpen new
     pub retired : IsRetired is_open.table goes_on.table
-    pub spared : (document : ℕ) → IsSpared retired.segment.number document old → cells_at goes_on.cells document ≡ cells_at is_open.cells document
-    pub raised : (document : ℕ) → ¬ IsSpared retired.segment.number document old → AreBothNewest (state_of old) document (cells_at goes_on.cells document)
-    pub dropped : (document : ℕ) → ¬ IsSpared retired.segment.number document old → jobs_for document (kept_jobs new) ≡ []
+    pub spared : (document : ℕ) → HasNone retired.segment.number document old → cells_at goes_on.cells document ≡ cells_at is_open.cells document
+    pub raised : (document : ℕ) → ¬ HasNone retired.segment.number document old → AreBothNewest (state_of old) document (cells_at goes_on.cells document)
+    pub dropped : (document : ℕ) → ¬ HasNone retired.segment.number document old → jobs_for document (kept_jobs new) ≡ []
 
   -- the cells of a document and the kept jobs of it are as they were
   abbrev pub IsLeft : (old : Store D disk) → IsOpen old → (new : Store D disk) → IsOpen new → ℕ → Type 0
@@ -171,21 +165,21 @@ module _ {D : Type 0} {disk : Ghosts D} where
   IsRaised old new goes_on document =
       AreBothNewest (state_of old) document (cells_at goes_on.cells document) × (jobs_for document (kept_jobs new) ≡ [])
 
-  -- Room was being made when it was given up, in the milestones of one document that needs them: the store goes on over the same slots. Each
-  -- document that needs no milestone for the oldest segment is left as it was, with its kept jobs. So is each other one, or it has both its
-  -- milestones and no kept job; the one document has one of them at most, and the job of the next one may be kept.
+  -- Room was being made when it was given up, in the milestones of one document: the store goes on over the same slots. Each document that has no
+  -- entry in the oldest segment is left as it was, with its kept jobs. So is each other one, or it has both its milestones and no kept job;
+  -- the one document has some of them, and no kept job.
   pub record IsHalfFreed (old : Store D disk) (is_open : IsOpen old) (new : Store D disk) : Type 0 where
     pub goes_on : IsOpen new
     pub same_table : goes_on.table ≡ is_open.table
     pub slot : ℕ
     pub segment : ℕ
     pub oldest : IsOldest (known_numbers (ring_of old)) slot segment
-    pub spared : (document : ℕ) → IsSpared segment document old → IsLeft old is_open new goes_on document
+    pub spared : (document : ℕ) → HasNone segment document old → IsLeft old is_open new goes_on document
     pub under_way : ℕ
-    pub needs : ¬ IsSpared segment under_way old
-    pub own : IsHalfRaised (state_of old) under_way (cells_at is_open.cells under_way) (jobs_for under_way (kept_jobs old))
-        (cells_at goes_on.cells under_way) (jobs_for under_way (kept_jobs new))
-    pub others : (document : ℕ) → document ≢ under_way → ¬ IsSpared segment document old
+    pub needs : ¬ HasNone segment under_way old
+    pub own : IsHalfRaised (state_of old) under_way (cells_at is_open.cells under_way) (cells_at goes_on.cells under_way)
+    pub dropped : jobs_for under_way (kept_jobs new) ≡ []
+    pub others : (document : ℕ) → document ≢ under_way → ¬ HasNone segment document old
         → IsLeft old is_open new goes_on document ⊎ IsRaised old new goes_on document
 
   -- After a commit for which room was made: the oldest segment was freed first, and the batch committed behind that.
@@ -194,9 +188,9 @@ module _ {D : Type 0} {disk : Ghosts D} where
     pub freed : IsFreedNow old is_open mid
     pub committed : IsCommittedNow commands mid freed.goes_on new
 
-  -- The kept jobs stay of each document that needs no milestone before a segment is retired.
+  -- The kept jobs stay of each document that has no entry in a segment.
   abbrev pub KeepsJobs : ℕ → Store D disk → Store D disk → Type 0
-  KeepsJobs segment old new = (document : ℕ) → IsSpared segment document old → jobs_for document (kept_jobs new) ≡ jobs_for document (kept_jobs old)
+  KeepsJobs segment old new = (document : ℕ) → HasNone segment document old → jobs_for document (kept_jobs new) ≡ jobs_for document (kept_jobs old)
 
   -- After a milestone was put: the store goes on over the same slots, and the cell that comes of the job is open in its document's pair,
   -- in place of the older one where both were open. The other documents' cells are as they were.

@@ -1,6 +1,6 @@
 //! The jobs of milestones that a store has handed out.
 ghost use Rattle.std.specs.Prelude.{◌≡◌, ◌↔◌, [], not, ◌==◌, filter, Contains, IsTrue, OnOk, OnErr, IsOkUnless};
-ghost use Rattle.recovery.specs.Jobs.{jobs_of, without_job, with_job};
+ghost use Rattle.recovery.specs.Jobs.{jobs_of, last_job, without_job, with_job};
 
 use milestone::Job;
 use refusal::Refusal;
@@ -32,6 +32,18 @@ impl Jobs {
             }
         }
         false
+    }
+
+    /// The revision of the job that is kept of a document, 0 where none is. It takes no memory.
+    pub fn last(&self, document: u32) -> u64
+        ensures { result ≡ last_job document (jobs_of self.now) }
+    {
+        for kept in &self.list {
+            if kept.document_number() == document {
+                return kept.revision();
+            }
+        }
+        0
     }
 
     /// Keeps a job, in place of the one that was kept of its document. Refused for want of memory alone.

@@ -1,15 +1,19 @@
 //! Handing out the jobs of milestones.
-ghost use Rattle.std.specs.Prelude.{◌≡◌, ◌≢◌, ◌⊎◌, ◌≤◌, true, false, Some, None, slice_get, OnOk, OnErr, IfOk, IfErr, IfSome, IsErrOf, IsOkUnless};
+ghost use Rattle.std.specs.Prelude.{List, ◌≡◌, ◌≢◌, ◌⊎◌, ◌≤◌, true, false, Some, None, slice_get, OnOk, OnErr, IfOk, IfErr, IfSome, IsErrOf, IsOkUnless};
 ghost use Rattle.refusal.specs.declared.Refusal.{Refusal as Why};
+ghost use Rattle.delta.specs.Element.{Element};
+ghost use Rattle.delta.specs.Operation.{Operation};
+ghost use Rattle.delta.specs.Gaps.{End};
+ghost use Rattle.delta.specs.Normal.{nf};
 ghost use Rattle.revision.specs.Past.{sources_at};
 ghost use Rattle.revision.specs.Pending.{record_of};
-ghost use Rattle.revision.specs.Replay.{replay_of};
+ghost use Rattle.revision.specs.Replay.{IsReplay};
 ghost use Rattle.revision.specs.State.{are_sources, revision_of};
 ghost use Rattle.history.specs.Cell.{cells_at, cell_of};
-ghost use Rattle.milestone.specs.Job.{KeepLengths, cell_of_job};
+ghost use Rattle.milestone.specs.Job.{KeepLengths, units_of_job, cell_of_job};
 ghost use Rattle.recovery.specs.Cells.{highest_known};
 ghost use Rattle.recovery.specs.Faults.{FailsAtFaults};
-ghost use Rattle.recovery.specs.Jobs.{IsJobTo, IsMadeOf, KeepsLimits, highest, no_job_of, no_job_for, with_job};
+ghost use Rattle.recovery.specs.Jobs.{IsJobTo, IsMadeOf, KeepsLimits, highest, no_job_of, no_job_for, with_job, without_job};
 ghost use Rattle.recovery.specs.Open.{IsOpen, IsUnchanged, IsStillOver, device_of, ring_of, state_of, known_cells, known_marks, has_failed, kept_jobs};
 ghost use Rattle.recovery.specs.Unwritten.{IsUnchangedButJobs};
 
@@ -21,10 +25,10 @@ use revision::{DocState, Replay};
 use std::alloc::Global;
 
 impl<D: Disk> Store<D> {
-    /// What a milestone of a document at a revision is made of: what the document held at its floor, as one delta, and the edits
-    /// behind that up to the revision, with the document's sources there; to the newest revision it is the one delta that makes
-    /// what stands there. The edits are copied, and none of them is applied, so that a job can be composed in another thread. The
-    /// store keeps a copy of it, of each document the last one.
+    /// What a milestone of a document at a revision is made of: what the document held at the nearest revision that is at hand, the edits
+    /// after that up to the revision, and the document's sources there; to the newest revision it is what the document holds, and no edit.
+    /// The edits are copied, and none of them is applied, so that a job can be composed in another thread. The store keeps a copy of it,
+    /// of each document the last one.
     ///
     /// `NoDocument` comes where there is none of this number, `Future` where it hasn't reached the revision, and `TooOld` where
     /// the revision is 0, below the floor, or below that of an open cell of the document. Want of memory is told in place of no
@@ -77,6 +81,16 @@ impl<D: Disk> Store<D> {
         let copy = job.copy(alloc)?;
         self.jobs.keep(copy)?;
         Ok(job)
+    }
+
+    /// Drops the copy of the job that was handed out of a document, where one is kept: what comes of that job isn't put any more, and
+    /// another one may be due. It takes no memory.
+    pub fn give_up_job(&mut self, document: u32)
+        ensures jobs { kept_jobs self.new ≡ without_job document (kept_jobs self.old) }
+        ensures same { IsUnchangedButJobs self.old self.new }
+        ensures open { IsOpen self.old → IsOpen self.new }
+    {
+        self.jobs.forget(document);
     }
 
     // The job, or why there is none.
@@ -138,14 +152,20 @@ fn job_of(alloc: Global, document: u32, found: &DocState, revision: u64) -> Resu
     requires held { found.now.past.past.floor ≤ revision }
     requires there { revision ≤ revision_of (record_of found.now) }
     requires sources { are_sources revision (sources_at found.now.past.past revision).entries ≡ true }
-    requires lengths { KeepLengths (replay_of found.now.past.past revision) }
+    requires lengths { (units : List Element) (deltas : List (List Operation))
+        → IsReplay found.now.past.past revision units deltas → KeepLengths (nf (End units)) deltas }
     ensures document { IfOk result (λ job. job.document ≡ document) }
     ensures is { IfOk result (λ job. cell_of_job job ≡ cell_of (record_of found.now) revision) }
-    ensures deltas { IfOk result (λ job. job.deltas ≡ replay_of found.now.past.past revision) }
+    ensures made { IfOk result (λ job. IsReplay found.now.past.past revision (units_of_job job) job.deltas) }
     ensures only { IsOkUnless result Refusal.NoMemory }
 {
-    let Replay { deltas, sources } = found.replay_to(alloc, revision)?;
+    let Replay {
+        document: from,
+        deltas,
+        sources,
+    } = found.replay_to(alloc, revision)?;
+    let base = from.as_delta(alloc)?.share(alloc)?;
     let name = found.name().copy(alloc)?;
     let _ = found.revision();
-    Ok(Job::new(document, name, revision, deltas, sources))
+    Ok(Job::new(document, name, revision, base, deltas, sources))
 }

@@ -91,7 +91,7 @@ fn are_covered(cells: &[Cells], marks: &[Mark], segment: u64) -> bool
 }
 
 // The lowest revision of a document's open cells, 0 where none is open.
-pub(crate) fn lowest_of(cells: &[Cells], document: u32) -> u64
+fn lowest_of(cells: &[Cells], document: u32) -> u64
     ensures { result ≡ lowest_known cells.now document }
 {
     match cells.get(document as usize) {

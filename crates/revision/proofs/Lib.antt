@@ -22,7 +22,8 @@ pub mod Admitting
 pub mod Room
 pub mod Replays
 mod Replaying
-mod FromFloor
+mod FromBase
+pub mod NewestReplay
 pub mod Kept
 pub mod Told
 pub mod Changing

@@ -1,4 +1,4 @@
--- What leads from the empty document to a revision that is held.
+-- What leads to a revision that is held.
 use Rattle.std.proofs.Common.{◌≡◌, ℕ, zero, suc, ◌+◌, ◌-◌, ◌≤◌, ◌<◌, ◌^◌, List, [], ◌∷◌, length, take, drop, get_or, refl, sym, ap, subst, ◌∙◌, arith}
 use Rattle.std.proofs.lemmas.List.{take-take, length-take-le}
 use Rattle.delta.specs.Element.{Element}
@@ -29,14 +29,6 @@ noted-here start i sources takers deltas taker same there is =
     let within : i < length deltas = omega (arith, same, there) in
     sym (sources-here start i sources takers deltas taker (get_or deltas i []) same within is (at_itself i deltas within))
 
--- a document's inserts, and then the deltas that stand on it
-pub stand_from_empty : (units : List Element) (first : List Operation) (deltas : List (List Operation)) → length units ≤ 2 ^ 29 → base_of first ≡ 0
-    → apply [] (counted first) ≡ units → StandInTurn units deltas → StandInTurn [] (first ∷ deltas)
-stand_from_empty units first deltas short inserts made stand = (
-  (omega (arith, inserts, units_below-counted first), λ cuts. cuts.1, omega (arith, short, ap length made)),
-  subst (λ d. StandInTurn d deltas) (sym made) stand,
-)
-
 -- as they are kept
 module _ (parts : Parts) (is : AreParts parts) (now : Prepared) (same : seen parts ≡ now) (revision : ℕ) (held : now.past.floor ≤ revision) (there : revision ≤ newest now.past) where
   count : ℕ
@@ -45,19 +37,6 @@ module _ (parts : Parts) (is : AreParts parts) (now : Prepared) (same : seen par
   within : count ≤ parts.count
   unfolding count
   within = omega (arith, below_newest parts is now same revision held there)
-
-  pub replay_stand : StandInTurn parts.units (take (revision - parts.start) parts.deltas)
-  replay_stand = stand-take (revision - parts.start) parts.units parts.deltas is.stand
-
-  pub replay_short : length parts.units ≤ 2 ^ 29
-  replay_short = short-first parts.units parts.deltas is.short
-
-  -- what stands there is short
-  pub short_there : length (content_at now.past revision).units ≤ 2 ^ 29
-  short_there =
-      subst (λ (units : List Element). length units ≤ 2 ^ 29) (document_is parts is now same revision held there parts.deltas refl)
-      (short-first (applied parts.units (take (revision - parts.start) parts.deltas)) (drop (revision - parts.start) parts.deltas)
-      (short-drop (revision - parts.start) parts.units parts.deltas is.short))
 
   pub replay_same : length (take (revision - parts.start) parts.takers) ≡ length (take (revision - parts.start) parts.deltas)
   unfolding count

@@ -1,15 +1,19 @@
--- What leads from the empty document to a revision that is held.
-use Rattle.std.specs.Prelude.{ℕ, ◌-◌, ◌==◌, if◌then◌else◌, List, [], ◌∷◌, take}
+-- What a revision that is held is made of.
+use Rattle.std.specs.Prelude.{◌≡◌, ℕ, ◌-◌, ◌≤◌, List, take, drop}
+use Rattle.delta.specs.Element.{Element}
 use Rattle.delta.specs.Operation.{Operation}
-use Rattle.delta.specs.Gaps.{End}
-use Rattle.delta.specs.Normal.{nf}
-use Rattle.revision.specs.Past.{Past, newest, newest_units, deltas_of}
+use Rattle.compose.specs.Many.{applied}
+use Rattle.revision.specs.Past.{Past, StandInTurn, content_at, deltas_above}
 
--- The deltas up to a revision: the first makes, by inserts alone, what stands at the floor, and behind it come those of the revisions after
--- the floor.
-abbrev pub deltas_to : Past → ℕ → List (List Operation)
-deltas_to past revision = nf (End past.content.units) ∷ take (revision - past.floor) (deltas_of past)
+-- What stands at a revision that is held and is no later, the base, and the deltas of the revisions after it up to this one.
+pub record IsReplay (past : Past) (revision : ℕ) (units : List Element) (deltas : List (List Operation)) : Type 0 where
+  pub base : ℕ
+  pub held : past.floor ≤ base
+  pub below : base ≤ revision
+  pub content : units ≡ (content_at past base).units
+  pub between : deltas ≡ take (revision - base) (deltas_above past base)
 
--- The same where what stands at the newest revision is at hand: to that one it is the one delta that makes it.
-abbrev pub replay_of : Past → ℕ → List (List Operation)
-replay_of past revision = if revision == newest past then nf (End (newest_units past)) ∷ [] else deltas_to past revision
+-- Of deltas that stand in turn so do the first, and those that are left, on the document after the first.
+abbrev pub PartsStand : Type 0
+PartsStand = (count : ℕ) (units : List Element) (deltas : List (List Operation)) → StandInTurn units deltas
+    → StandInTurn units (take count deltas) × StandInTurn (applied units (take count deltas)) (drop count deltas)

@@ -7,7 +7,7 @@ ghost use Rattle.revision.specs.Late.{late as late_edit, HasCommandRoom};
 ghost use Rattle.compose.specs.Many.{applied};
 ghost use Rattle.revision.specs.Past.{empty_past, StandInTurn, newest, content_at, sources_at, deltas_of, deltas_above, undo_of, with_changes, prepared_units, prepared_revision};
 ghost use Rattle.document.specs.Outcome.{IsAccepted};
-ghost use Rattle.revision.specs.Replay.{replay_of};
+ghost use Rattle.revision.specs.Replay.{IsReplay};
 ghost use Rattle.revision.specs.Invariants.{IsLimits};
 ghost use Rattle.attributes.specs.Map.{get};
 ghost use Rattle.revision.specs.Name.{is_source_name};
@@ -269,25 +269,40 @@ impl DocState {
         self.past.document_at(alloc, revision)
     }
 
-    /// What leads from the empty document to a revision that is held: what stands at the floor as one delta, and the deltas after it
-    /// in turn, and the sources at the revision. To the newest revision it is one delta, the document's own. It applies no delta
-    /// but what is kept from below the floor. Refused for want of memory alone.
+    /// What a revision that is held is made of: the nearest document that is at hand, the deltas from there in turn, and the sources at
+    /// the revision. To the newest revision it is the document and no delta. Refused for want of memory alone.
+    #[tactic(auto, using(crate::proofs::NewestReplay::newest_replay))]
     pub fn replay_to(&self, alloc: Global, revision: u64) -> Result<Replay, Refusal>
         requires held { self.now.past.past.floor ≤ revision }
         requires there { revision ≤ newest self.now.past.past }
-        ensures deltas { IfOk result (λ replay. replay.deltas.items ≡ replay_of self.now.past.past revision) }
-        ensures stand { IfOk result (λ replay. StandInTurn [] replay.deltas.items) }
-        ensures units { IfOk result (λ replay. applied [] replay.deltas.items
+        ensures made { IfOk result (λ replay. IsReplay self.now.past.past revision replay.document replay.deltas.items) }
+        ensures stand { IfOk result (λ replay. StandInTurn replay.document replay.deltas.items) }
+        ensures units { IfOk result (λ replay. applied replay.document replay.deltas.items
             ≡ (content_at self.now.past.past revision).units) }
         ensures sources { IfOk result (λ replay. replay.sources ≡ sources_at self.now.past.past revision) }
         ensures only { IsOkUnless result Refusal.NoMemory }
     {
         if revision == self.revision() {
-            return self
-                .past
-                .replay_at(alloc, revision, self.document(), self.sources());
+            return self.replay_newest(alloc);
         }
         self.past.replay_to(alloc, revision)
+    }
+
+    // The same to the newest revision.
+    fn replay_newest(&self, alloc: Global) -> Result<Replay, Refusal>
+        ensures document { IfOk result (λ replay. replay.document
+            ≡ (content_at self.now.past.past (newest self.now.past.past)).units) }
+        ensures deltas { IfOk result (λ replay. replay.deltas.items ≡ []) }
+        ensures sources { IfOk result (λ replay. replay.sources
+            ≡ sources_at self.now.past.past (newest self.now.past.past)) }
+        ensures only { IsOkUnless result Refusal.NoMemory }
+    {
+        let _ = self.revision();
+        Ok(Replay {
+            document: self.document().copy(alloc)?,
+            deltas: Vec::new(alloc),
+            sources: self.sources().copy(alloc)?,
+        })
     }
 
     /// An edit that was made on a revision that is held, late past what was taken since. Its lengths are those of a

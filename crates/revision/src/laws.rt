@@ -5,6 +5,7 @@ ghost use Rattle.utf16.specs.Units.{units_of};
 ghost use Rattle.revision.specs.Spellable.{IsText};
 ghost use Rattle.revision.specs.Acceptance.{TakenGrows};
 ghost use Rattle.revision.specs.Parting.{PartsTold};
+ghost use Rattle.revision.specs.Replay.{PartsStand};
 ghost use Rattle.revision.specs.Agree.{AgreeSame, AgreeTurned, AgreeThrough, AgreeingContinue, AgreeingGrow, AgreeingAnswer, AgreeingAnswerHeld};
 ghost use Rattle.revision.specs.Invariants.{EmptyIsState, GrowingKeeps, AdoptingKeeps, ContinuingKeeps};
 ghost use Rattle.revision.specs.Floors.{FromItself, FromTwice, FromNewest, FromLonger, ChangeMakes};
@@ -30,6 +31,11 @@ pub fn inserted_stay()
 pub fn late_room()
     ensures commands { RoomForCommands }
     ensures undo { RoomForUndo }
+{}
+
+/// Of deltas that stand in turn the first do, and those that are left, on the document after the first.
+pub fn parts_stand()
+    ensures { PartsStand }
 {}
 
 /// The test of a parted pair tells just where a delta cuts one.

@@ -2,15 +2,14 @@
 ghost use Rattle.std.specs.Prelude.{◌≡◌, ◌+◌, ◌≤◌, ◌<◌, ◌^◌, ◌∷◌, ◌++◌, [], true, ℕ, ◌-◌, List, length, take, drop, IfOk, IfSome, OnOk, OnErr, IsOkUnless};
 ghost use Rattle.delta.specs.Element.{Element};
 ghost use Rattle.delta.specs.Operation.{Operation, base_of, out_of};
-ghost use Rattle.delta.specs.Gaps.{End, counted, apply};
-ghost use Rattle.delta.specs.Normal.{nf};
+ghost use Rattle.delta.specs.Gaps.{counted, apply};
 ghost use Rattle.document.specs.Outcome.{IsAccepted};
 ghost use Rattle.compose.specs.Many.{applied};
 ghost use Rattle.revision.specs.Floors.{raised};
 ghost use Rattle.revision.specs.Late.{late as late_edit, all_inserted, HasCommandRoom};
 ghost use Rattle.revision.specs.Past.{Change, StandInTurn, IsKept, AreKept, newest, newest_units, content_at, deltas_of, deltas_above, undo_of, way_back, way_back_late, with_changes, prepared_units, prepared_revision, without_last, sources_after, sources_at, changes_by};
 ghost use Rattle.revision.specs.Name.{is_source_name};
-ghost use Rattle.revision.specs.Replay.{deltas_to};
+ghost use Rattle.revision.specs.Replay.{IsReplay};
 ghost use Rattle.revision.specs.Sources.{with_last};
 
 use crate::kept_document::Kept;
@@ -49,10 +48,10 @@ pub struct Past {
     kept: Vec<Kept>,
 }
 
-/// What leads from the empty document to a revision: deltas in turn, of which the first inserts what stands in an older revision,
-/// and the sources there.
+/// What a revision is made of: what stands at an older revision, the deltas in turn that lead from it, and the sources at the revision.
 #[derive(Drop)]
 pub struct Replay {
+    pub document: Document,
     pub deltas: Vec<Delta>,
     pub sources: Sources,
 }
@@ -134,53 +133,44 @@ impl Past {
         document_after(alloc, base, deltas, (revision - from) as usize)
     }
 
-    /// What leads from the empty document to a revision that is held: what stands at the floor as one delta, and a copy of each delta
-    /// after it. It applies none of those, but what is kept from below the floor, to come to what stands there. Refused for
-    /// want of memory alone.
+    /// What a revision that is held is made of: a copy of the nearest document that is at hand, of the deltas from there, and of the
+    /// sources at the revision. It applies a delta only where no document is kept between the floor and the revision, to come to what
+    /// stands at the floor. Refused for want of memory alone.
     pub fn replay_to(&self, alloc: Global, revision: u64) -> Result<Replay, Refusal>
         requires held { self.now.past.floor ≤ revision }
         requires there { revision ≤ newest self.now.past }
-        ensures deltas { IfOk result (λ replay. replay.deltas.items ≡ deltas_to self.now.past revision) }
-        ensures stand { IfOk result (λ replay. StandInTurn [] replay.deltas.items) }
-        ensures units { IfOk result (λ replay. applied [] replay.deltas.items
+        ensures made { IfOk result (λ replay. IsReplay self.now.past revision replay.document replay.deltas.items) }
+        ensures stand { IfOk result (λ replay. StandInTurn replay.document replay.deltas.items) }
+        ensures units { IfOk result (λ replay. applied replay.document replay.deltas.items
             ≡ (content_at self.now.past revision).units) }
         ensures sources { IfOk result (λ replay. replay.sources ≡ sources_at self.now.past revision) }
         ensures only { IsOkUnless result Refusal.NoMemory }
     {
+        let base = self.base_for(revision);
         let count = (revision - self.start) as usize;
-        let below = (self.floor - self.start) as usize;
+        let below = (base - self.start) as usize;
         let takers = &self.takers.as_slice()[..count];
         let taken = &self.deltas.as_slice()[..count];
         let sources = noted_all(alloc, &self.sources, self.start, takers, taken)?;
-        let document = self.document_at(alloc, self.floor)?;
-        let deltas = deltas_from_empty(alloc, &document, &taken[below..])?;
-        Ok(Replay { deltas, sources })
+        let document = self.document_at(alloc, base)?;
+        let deltas = copies_of_deltas(alloc, &taken[below..])?;
+        Ok(Replay {
+            document,
+            deltas,
+            sources,
+        })
     }
 
-    /// The same where what stands at the revision is at hand, with its sources: the document as one delta. Refused for want of memory
-    /// alone.
-    pub fn replay_at(
-        &self,
-        alloc: Global,
-        revision: u64,
-        document: &Document,
-        sources: &Sources,
-    ) -> Result<Replay, Refusal>
+    // The revision of the last document that is kept from the floor up to a revision, or the floor.
+    fn base_for(&self, revision: u64) -> u64
         requires held { self.now.past.floor ≤ revision }
-        requires there { revision ≤ newest self.now.past }
-        requires document { document.now ≡ (content_at self.now.past revision).units }
-        requires sources { sources.now ≡ sources_at self.now.past revision }
-        ensures deltas { IfOk result (λ replay. replay.deltas.items ≡ nf (End document.now) ∷ []) }
-        ensures stand { IfOk result (λ replay. StandInTurn [] replay.deltas.items) }
-        ensures units { IfOk result (λ replay. applied [] replay.deltas.items
-            ≡ (content_at self.now.past revision).units) }
-        ensures sources { IfOk result (λ replay. replay.sources ≡ sources_at self.now.past revision) }
-        ensures only { IsOkUnless result Refusal.NoMemory }
+        ensures held { self.now.past.floor ≤ result }
+        ensures below { result ≤ revision }
     {
-        let _ = &self.start;
-        let sources = sources.copy(alloc)?;
-        let deltas = deltas_from_empty(alloc, document, &[])?;
-        Ok(Replay { deltas, sources })
+        match nearest(self.kept.as_slice(), self.floor, revision) {
+            Some(found) => found.revision,
+            None => self.floor,
+        }
     }
 
     /// An edit that was made on a revision that is held, late past what was taken since. Its lengths are those of a
@@ -638,25 +628,6 @@ fn noted_all(
         noted.set(source, taker.number, start + i as u64 + 1)?;
     }
     Ok(noted)
-}
-
-// The delta that makes a document of the empty one, and behind it copies of these. Refused for want of memory alone.
-fn deltas_from_empty(
-    alloc: Global,
-    document: &Document,
-    deltas: &[Delta],
-) -> Result<Vec<Delta>, Refusal>
-    requires stand { StandInTurn document.now deltas.now }
-    requires short { length document.now ≤ 2 ^ 29 }
-    ensures deltas { IfOk result (λ all. all.items ≡ nf (End document.now) ∷ deltas.now) }
-    ensures stand { IfOk result (λ all. StandInTurn [] all.items) }
-    ensures units { IfOk result (λ all. applied [] all.items ≡ applied document.now deltas.now) }
-    ensures only { IsOkUnless result Refusal.NoMemory }
-{
-    let mut all = Vec::new(alloc);
-    all.push(document.as_delta(alloc)?)?;
-    push_copies(alloc, &mut all, deltas)?;
-    Ok(all)
 }
 
 // Adds copies of these. Refused for want of memory alone.

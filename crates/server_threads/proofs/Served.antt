@@ -179,13 +179,14 @@ module _ {D J : Type 0} {disk : Ghosts D} where
     unbegun = λ not_begun. refl;
   }
 
-  pub ended_run : (start : State) (old new : Flusher D J disk) (answer : Result (Unit {0}) Refusal) → Writes start old new
+  pub has_written : (start : State) (old new : Flusher D J disk) (answer : Result (Unit {0}) Refusal) → Writes start old new
       → OnOk answer ((committed_of new ≡ []) × (waiting_of new ≡ []))
-      → (has_failed (store_of old) ≡ false → (has_failed (store_of new) ≡ true ↔ IsErrOf answer Fault)) → HasRun start old new answer true
-  ended_run start old new answer writes nothing fails = record {
-    wrote = record { writes = writes; nothing = nothing; fails = fails };
-    unbegun = λ not_begun. absurd (false≢true (sym not_begun));
-  }
+      → (has_failed (store_of old) ≡ false → (has_failed (store_of new) ≡ true ↔ IsErrOf answer Fault)) → HasWritten start old new answer
+  has_written start old new answer writes nothing fails = record { writes = writes; nothing = nothing; fails = fails }
+
+  pub ended_run : (start : State) (old new : Flusher D J disk) (answer : Result (Unit {0}) Refusal) (begun : Bool) → HasWritten start old new answer
+      → begun ≡ true → HasRun start old new answer begun
+  ended_run start old new answer begun wrote is = record { wrote = wrote; unbegun = λ not_begun. absurd (false≢true (sym not_begun ∙ is)) }
 
   -- of two flushers that were just started over one store the same is written
   same_writes : (start : State) (here old new : Flusher D J disk) → IsStarted here → IsStarted old → store_of here ≡ store_of old

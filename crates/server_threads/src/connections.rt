@@ -35,7 +35,7 @@ const PARTS: u64 = 65;
 /// Serves a store to those who connect, 64 at once, until the listener fails; where there are fewer places for readers than 64, as many at
 /// once as have one. Then each session ends within its next read, what was ordered is written, and the store is given back, with the refusal
 /// that kept it from serving or that ended the writing: `NoMemory`, also where the system gives no thread to write in, or what failed the
-/// board. A milestone of a document is put where it passes a multiple of `every` revisions; 0 puts none.
+/// board. Milestones of a document are made at multiples of `every` revisions, as composers come to it; 0 makes none.
 pub fn serve_on<
     R: Threads + Wait + Sync,
     N: OpenListener<Stream = TcpStream>,

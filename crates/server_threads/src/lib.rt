@@ -10,7 +10,7 @@
 //!
 //! A server begins (`begin` in `life.rt`) with a flusher and a board from `start`, a hub of that board, and all seats. It has a desk at the hub
 //! for each seat for which there is a viewer. `hold_beside` holds whatever sessions it is given at these desks, beside the thread that writes,
-//! by `flush_all` of `turns`. When the sessions have ended the hub is ended, and the flusher writes what is left. Then the desks are tallied,
+//! by `flush_all` of `turns`, and this one beside the composers of milestones, where it gets a thread for them. When the sessions have ended the hub is ended, and the flusher writes what is left. Then the desks are tallied,
 //! and the hub gives its board back: the board owns the order, and its seats have counted all of it. The thread that writes is asked for
 //! before anybody is served. Where the system gives none, nobody is, and the store comes back unchanged.
 //!
@@ -39,7 +39,7 @@
 //! use std::sync::Wait;
 //! use std::thread::Threads;
 //!
-//! /// Serves a store until the listener fails, with a milestone after about every 256 revisions, and gives it back where all that was
+//! /// Serves a store until the listener fails, with milestones at about every 256 revisions, and gives it back where all that was
 //! /// ordered is written.
 //! pub fn serve_store<
 //!     R: Threads + Wait + Sync,

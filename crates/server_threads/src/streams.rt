@@ -41,8 +41,8 @@ pub struct Streamed<I, O, D: Disk> {
 }
 
 /// Serves one session to the end of the input, with the news after each line, while a thread of its own writes: a reply is out once its
-/// command is on the disk. Then what was ordered is written, the thread has ended, and the store and the streams are given back. A milestone
-/// of a document is put where it passes a multiple of `every` revisions; 0 puts none.
+/// command is on the disk. Then what was ordered is written, the thread has ended, and the store and the streams are given back.
+/// Milestones of a document are made at multiples of `every` revisions, as composers come to it; 0 makes none.
 ///
 /// It ends at once where a stream fails (`Stream`), else with `StoreFailed` where the store has failed by then; and with `NoMemory` before
 /// it takes any of the input, also where the system gives no thread to write in.

@@ -3,6 +3,7 @@ ghost use Rattle.std.specs.Prelude.{◌≡◌, ◌↔◌, [], true, false, OnOk,
 ghost use Rattle.recovery.specs.Open.{has_failed};
 ghost use Rattle.flusher.specs.Holding.{store_of, committed_of, waiting_of};
 ghost use Rattle.turns.specs.Writing.{Writes};
+ghost use Rattle.server_threads.specs.Written.{HasWritten};
 
 use crate::written::Written;
 use disk::Disk;
@@ -13,7 +14,8 @@ use refusal::Refusal;
 use std::alloc::Global;
 use std::sync::Wait;
 use std::sync::atomic::{AtomicBool, Ordering};
-use turns::flush_all;
+use std::thread::{Threads, join};
+use turns::{Composers, OpenHalves, channels, compose_workers, flush_all};
 
 /// What the thread that writes and those of the sessions share.
 #[derive(Drop)]
@@ -45,24 +47,24 @@ impl<D: Disk + Drop, J: Site, R: Wait> Drop for Writing<'_, D, J, R> {
     }
 }
 
-impl<'a, D: Disk + Drop, J: Site, R: Wait> Writing<'a, D, J, R> {
+impl<'a, D: Disk + Drop, J: Site, R: Threads + Wait + Sync> Writing<'a, D, J, R> {
     ghost use Rattle.server_threads.specs.Served.{IsStarted};
     ghost use Rattle.server_threads.specs.Written.{HasRun};
 
-    /// Makes turns until the hub is ended. Where there is no thread for it, it writes nothing.
+    /// Makes turns until the hub is ended, beside composers. Where there is no thread for it, it writes nothing.
     #[tactic(auto, using(crate::proofs::Served::unbegun_run, crate::proofs::Served::ended_run))]
     pub(crate) fn run(self) -> Written<'a, D, J, R>
         requires { IsStarted self.flusher }
         ensures { HasRun J.start self.entry.flusher result.flusher result.answer result.is_begun }
     {
-        let Writing {
-            shared,
-            has_thread,
-            flusher,
-            writer,
-        } = self;
-        flusher.kept();
-        if !has_thread.load(Ordering::SeqCst) {
+        self.flusher.kept();
+        if !self.has_thread.load(Ordering::SeqCst) {
+            let Writing {
+                shared,
+                has_thread: _,
+                flusher,
+                writer: _,
+            } = self;
             return Written {
                 rt: shared.rt,
                 flusher,
@@ -70,9 +72,24 @@ impl<'a, D: Disk + Drop, J: Site, R: Wait> Writing<'a, D, J, R> {
                 is_begun: false,
             };
         }
+        write_beside(self)
+    }
+
+    // Makes turns until the hub is ended.
+    #[tactic(auto, using(crate::proofs::Served::has_written))]
+    fn write(self, composers: Option<Composers>) -> Written<'a, D, J, R>
+        ensures written { HasWritten J.start self.entry.flusher result.flusher result.answer }
+        ensures begun { result.is_begun ≡ true }
+    {
+        let Writing {
+            shared,
+            has_thread: _,
+            flusher,
+            writer,
+        } = self;
         let mut flusher = flusher;
         let mut writer = writer;
-        let answer = write_all(shared, &mut flusher, &mut writer);
+        let answer = write_all(shared, &mut flusher, &mut writer, composers);
         Written {
             rt: shared.rt,
             flusher,
@@ -82,11 +99,38 @@ impl<'a, D: Disk + Drop, J: Site, R: Wait> Writing<'a, D, J, R> {
     }
 }
 
+// Makes turns until the hub is ended, beside composers in a thread of their own. Where there is no memory for the channels to them, or no
+// such thread, it makes the turns without them.
+fn write_beside<'a, D: Disk + Drop, J: Site, R: Threads + Wait + Sync>(
+    writing: Writing<'a, D, J, R>,
+) -> Written<'a, D, J, R>
+    ensures written { HasWritten J.start writing.entry.flusher result.flusher result.answer }
+    ensures begun { result.is_begun ≡ true }
+{
+    let rt = writing.shared.rt;
+    let alloc = writing.shared.alloc;
+    match channels(alloc) {
+        Ok((composers, first, second)) => {
+            let (_ended, written) = join(
+                rt,
+                move || compose_workers(rt, alloc, first, second, &OpenHalves),
+                move || -> Written<'_, D, J, R>
+                    ensures written { HasWritten J.start writing.entry.flusher result.flusher result.answer }
+                    ensures begun { result.is_begun ≡ true }
+                { writing.write(Some(composers)) },
+            );
+            written
+        }
+        Err(_) => writing.write(None),
+    }
+}
+
 // Makes turns until the hub is ended.
 fn write_all<J: Site, R: Wait, D: Disk>(
     shared: &Shared<'_, D, J, R>,
     flusher: &mut Flusher<D, J>,
     writer: &mut Writer<J>,
+    composers: Option<Composers>,
 ) -> Result<(), Refusal>
     ensures writes { Writes J.start flusher.old flusher.new }
     ensures nothing { OnOk result ((committed_of flusher.new ≡ []) × (waiting_of flusher.new ≡ [])) }
@@ -100,6 +144,7 @@ fn write_all<J: Site, R: Wait, D: Disk>(
         shared.hub,
         writer,
         shared.every,
+        composers,
         &mut OpenGate,
     ) {
         Ok(_idle) => Ok(()),

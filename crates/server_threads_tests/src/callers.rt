@@ -47,7 +47,7 @@ pub fn serve_in_turn<
     Ok(serve_desks(rt, alloc, desks, listener)?)
 }
 
-/// Serves a store until the listener fails, with a milestone after about every 256 revisions, and gives it back where all that was
+/// Serves a store until the listener fails, with milestones at about every 256 revisions, and gives it back where all that was
 /// ordered is written.
 pub fn serve_store<
     R: Threads + Wait + Sync,

@@ -1,3 +1,4 @@
+mod apart;
 mod edits;
 mod faults;
 mod many;

@@ -8,6 +8,7 @@ ghost use Rattle.journal.specs.Area.{Stands};
 ghost use Rattle.journal.specs.BatchSpelling as spelling;
 ghost use Rattle.journal.specs.BatchSpelling.{batch_width};
 ghost use Rattle.milestone.specs.CellSpelling.{cell_body, IsCell};
+ghost use Rattle.milestone.specs.Job.{units_of_job};
 ghost use Rattle.milestone.specs.OneCell.{HoldsPair};
 ghost use Rattle.milestone.specs.Cells.{with_cell};
 ghost use Rattle.milestone.specs.ReadCells.{pair_of};
@@ -71,7 +72,7 @@ pub fn append_byte<D: Disk>(
 
 /// How many units a document has at the revision of a job. Refused for want of memory alone, and then the job comes back.
 pub fn length_of(alloc: Global, job: Job) -> Result<u64, Uncomposed>
-    ensures length { IfOk result (λ len. len ≡ length (applied [] job.deltas)) }
+    ensures length { IfOk result (λ len. len ≡ length (applied (units_of_job job) job.deltas)) }
     ensures back { IfErr result (λ back. back.job ≡ job) }
 {
     match compose_job(alloc, job) {

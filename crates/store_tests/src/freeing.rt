@@ -1,6 +1,4 @@
 //! Commits that free the journal where it is full, and milestones that are put as they are due.
-ghost use Rattle.std.specs.Prelude.{◌≤◌};
-
 use crate::crashes::{is_beginning, leaves_beginning};
 use crate::rings::{LEFT, second, with_last_number};
 use crate::scripts::{
@@ -40,32 +38,6 @@ fn is_freed_for<D: Disk>(
     wanted: Result<(), Refusal>,
 ) {
     is_answer(rt, commit_freeing(rt, store, bytes), wanted);
-}
-
-// Puts a milestone of a document where one is due.
-fn put_due<D: Disk>(
-    rt: &(impl Abort + AllocGlobal),
-    store: &mut Store<D>,
-    document: u32,
-    every: u64,
-) -> Result<bool, Refusal>
-    requires { 1 ≤ every }
-{
-    store.put_due(rt.alloc(), document, every)
-}
-
-// A milestone was put or not, or an error came.
-fn is_put(rt: &impl Abort, found: Result<bool, Refusal>, wanted: Result<bool, Refusal>) {
-    assert!(rt; found == wanted);
-}
-
-// Every second revision of document 0 is put.
-fn is_due<D: Disk>(
-    rt: &(impl Abort + AllocGlobal),
-    store: &mut Store<D>,
-    wanted: Result<bool, Refusal>,
-) {
-    is_put(rt, put_due(rt, store, 0, 2), wanted);
 }
 
 // Frees the oldest segment.
@@ -125,7 +97,6 @@ fn fails_in_next<D: Disk>(rt: &(impl Abort + AllocGlobal), store: &mut Store<D>,
         is_freed_for(rt, store, &next, Err(Refusal::Fault));
     }
     is_answer(rt, free_oldest(rt, store), Err(Refusal::Fault));
-    is_due(rt, store, Err(Refusal::Fault));
 }
 
 // A call of the freeing commit fails, and where it stops each later one.
@@ -170,6 +141,21 @@ fn take_change<D: Disk>(
     script.moves.push(next).expect(rt, "memory");
 }
 
+// The revision to which a job of document 0 is due, with a milestone at every second revision.
+fn due(rt: &impl Abort, store: &Store<MemDisk>, wanted: Option<u64>) {
+    assert!(rt; store.job_due(0, 2) == wanted);
+}
+
+// Puts the milestone that is due of document 0, and retires what nothing needs any more.
+fn put(rt: &(impl Abort + AllocGlobal), store: &mut Store<MemDisk>, revision: u64) {
+    is_answer(rt, store.put_document(rt.alloc(), 0, revision), Ok(()));
+    for _ in 0..3u8 {
+        if store.retire().is_err() {
+            return;
+        }
+    }
+}
+
 // Every second revision of the only document is put, so its cells are never four below, and a segment is given up before each
 // slot is taken: no plain commit finds the journal full.
 #[test]
@@ -177,12 +163,15 @@ fn a_milestone_is_put_where_it_is_due(rt: HostRuntime) {
     let mut store = open_store(&rt, script_device(&rt));
     let mut numbers = Numbers { state: 2 };
     let mut script = no_moves(&rt);
-    is_due(&rt, &mut store, Ok(false));
+    due(&rt, &store, None);
     for revision in 1..101 {
         push_change(&rt, &mut numbers, &mut script, 0);
         take_change(&rt, &mut store, &mut script);
-        is_due(&rt, &mut store, Ok(revision % 2 == 0));
-        is_due(&rt, &mut store, Ok(false));
+        if revision % 2 == 0 {
+            due(&rt, &store, Some(revision));
+            put(&rt, &mut store, revision);
+        }
+        due(&rt, &store, None);
     }
     is_beginning(&rt, store.close().bytes(), &script, 100);
 }

@@ -23,6 +23,8 @@ mod filling;
 #[cfg(test)]
 mod freeing;
 #[cfg(test)]
+mod halves;
+#[cfg(test)]
 mod heaviest;
 #[cfg(test)]
 mod jobs;

@@ -20,7 +20,7 @@ use Rattle.flusher.specs.Batches.{IsBeginning}
 use Rattle.flusher.specs.Flushers.{IsUsedUp, IsWritten}
 use Rattle.flusher.specs.Holding.{IsUncommitted, store_of, told_of, committed_of, waiting_of}
 use Rattle.flusher.proofs.CallerLemmas.{commands-append, fewer, longer, within_write}
-use Rattle.turns.specs.Writing.{WasAt, IsKeptUp, IsFullFor, IsOneMore, IsTurnFailed, IsUntouched, given_to, told_count, Writes}
+use Rattle.turns.specs.Writing.{WasAt, IsKeptUp, KeepsUp, IsUpkeep, IsFullFor, IsOneMore, IsTurnFailed, IsUntouched, given_to, told_count, Writes}
 use Rattle.turns.specs.Turning.{HasTurned}
 use Rattle.turns.specs.declared.turned.Turned.{Turned}
 use Rattle.turns.specs.declared.turned.Turned.TheVariants.{Settled, Nothing}
@@ -371,6 +371,75 @@ module _ {D : Type 0} {disk : Ghosts D} where
   }
 
 module _ {D J : Type 0} {disk : Ghosts D} where
+  -- a flusher that is kept up, by no call, and by one call and then others
+  pub keeps_none : (flusher : Flusher D J disk) → KeepsUp flusher flusher
+  keeps_none flusher = record { kept_up = kept_up_none (store_of flusher); told = refl; committed = refl; waiting = refl }
+
+  pub keeps_on : (old mid new : Flusher D J disk) → KeepsUp old mid → KeepsUp mid new → KeepsUp old new
+  keeps_on old mid new first second = record {
+    kept_up = kept_up_on (store_of old) (store_of mid) (store_of new) first.kept_up second.kept_up;
+    told = second.told ∙ first.told;
+    committed = second.committed ∙ first.committed;
+    waiting = second.waiting ∙ first.waiting;
+  }
+
+  -- a call of a flusher that leaves its store's state
+  pub keeps_call : (old new : Flusher D J disk) → Goes (λ content. FoundAs content (state_of (store_of old))) (store_of old) (store_of new)
+      → state_of (store_of new) ≡ state_of (store_of old) → told_of new ≡ told_of old → committed_of new ≡ committed_of old → waiting_of new ≡ waiting_of old → KeepsUp old new
+  keeps_call old new goes state told committed waiting =
+      record { kept_up = record { goes = goes; state = state }; told = told; committed = committed; waiting = waiting }
+
+  -- a step of the upkeep that makes no call, and one that can't fail
+  pub upkeep_none : {A : Type 0} (answer : A) (flusher : Flusher D J disk) → IsUpkeep (Ok answer) flusher flusher
+  upkeep_none answer flusher =
+      record { keeps = keeps_none flusher; fails = fails_ok answer (has_failed (store_of flusher)) (has_failed (store_of flusher)) (λ works. works); only = tt }
+
+  pub upkeep_still : {A : Type 0} (answer : A) (old new : Flusher D J disk) → KeepsUp old new → has_failed (store_of new) ≡ has_failed (store_of old) → IsUpkeep (Ok answer) old new
+  upkeep_still answer old new keeps same =
+      record { keeps = keeps; fails = fails_ok answer (has_failed (store_of old)) (has_failed (store_of new)) (λ works. same ∙ works); only = tt }
+
+  -- a store that worked works after one that isn't refused
+  upkeep_works : {A : Type 0} (answer : A) (old new : Flusher D J disk) → IsUpkeep (Ok answer) old new → has_failed (store_of old) ≡ false → has_failed (store_of new) ≡ false
+  upkeep_works answer old new step = works_after answer (has_failed (store_of old)) (has_failed (store_of new)) step.fails
+
+  -- one that is told by another answer
+  pub upkeep_as : {A B : Type 0} (answer : A) (other : B) (old new : Flusher D J disk) → IsUpkeep (Ok answer) old new → IsUpkeep (Ok other) old new
+  upkeep_as answer other old new step =
+      record { keeps = step.keeps; fails = fails_ok other (has_failed (store_of old)) (has_failed (store_of new)) (upkeep_works answer old new step); only = tt }
+
+  pub upkeep_refused : {A B : Type 0} (refusal : Refusal) (old new : Flusher D J disk) → IsUpkeep {A = A} (Err refusal) old new → IsUpkeep {A = B} (Err refusal) old new
+  upkeep_refused {A} {B} refusal old new step =
+      record { keeps = step.keeps; fails = fails_err {S = A} {T = B} refusal (has_failed (store_of old)) (has_failed (store_of new)) step.fails; only = step.only }
+
+  -- one after others
+  pub upkeep_on : {A B : Type 0} (answer : A) (result : Result B Refusal) (old mid new : Flusher D J disk) → IsUpkeep (Ok answer) old mid → IsUpkeep result mid new
+      → IsUpkeep result old new
+  upkeep_on answer result old mid new first second =
+      record { keeps = keeps_on old mid new first.keeps second.keeps; fails = λ works. second.fails (upkeep_works answer old mid first works); only = second.only }
+
+  -- a call that was refused, which the step tells as `Fault`, or which it doesn't tell
+  pub upkeep_fault : {A B : Type 0} (refusal : Refusal) (old new : Flusher D J disk) → KeepsUp old new
+      → (has_failed (store_of old) ≡ false → (has_failed (store_of new) ≡ true ↔ IsErrOf {T = A} (Err refusal) Fault)) → refusal ≡ Fault → IsUpkeep {A = B} (Err refusal) old new
+  upkeep_fault {A} {B} refusal old new keeps fails is =
+      record { keeps = keeps; fails = fails_err {S = A} {T = B} refusal (has_failed (store_of old)) (has_failed (store_of new)) fails; only = is }
+
+  pub upkeep_but : {A B : Type 0} (refusal : Refusal) (answer : B) (old new : Flusher D J disk) → KeepsUp old new
+      → (has_failed (store_of old) ≡ false → (has_failed (store_of new) ≡ true ↔ IsErrOf {T = A} (Err refusal) Fault)) → refusal ≢ Fault → IsUpkeep (Ok answer) old new
+  upkeep_but {A} refusal answer old new keeps fails other = record {
+    keeps = keeps;
+    fails = fails_ok answer (has_failed (store_of old)) (has_failed (store_of new)) (works_refused {A = A} refusal (has_failed (store_of old)) (has_failed (store_of new)) fails other);
+    only = tt;
+  }
+
+  -- a call that wasn't refused
+  pub upkeep_done : {A B : Type 0} (answer : A) (other : B) (old new : Flusher D J disk) → KeepsUp old new
+      → (has_failed (store_of old) ≡ false → (has_failed (store_of new) ≡ true ↔ IsErrOf (Ok answer) Fault)) → IsUpkeep (Ok other) old new
+  upkeep_done answer other old new keeps fails = record {
+    keeps = keeps;
+    fails = fails_ok other (has_failed (store_of old)) (has_failed (store_of new)) (works_after answer (has_failed (store_of old)) (has_failed (store_of new)) fails);
+    only = tt;
+  }
+
   -- a store that was kept up, and nothing else
   pub writes_kept_up : (start : State) (old new : Flusher D J disk) → Kept start (state_of (store_of old)) (told_of old) (committed_of old) → IsKeptUp (store_of old) (store_of new)
       → told_of new ≡ told_of old → committed_of new ≡ committed_of old → waiting_of new ≡ waiting_of old → Writes start old new

@@ -1,10 +1,10 @@
 -- What the flusher's thread does from one moment to a later one, with no word of the board, which other threads move meanwhile.
-use Rattle.std.specs.Prelude.{◌≡◌, ◌⊎◌, ℕ, false, List, [], ◌∷◌, ◌++◌, length}
+use Rattle.std.specs.Prelude.{◌≡◌, ◌⊎◌, ◌↔◌, ℕ, true, false, List, [], ◌∷◌, ◌++◌, length, Result, IfErr, IsErrOf}
 use mathlib.Core.List.{IsPrefix}
 use Rattle.disk.specs.declared.device.Disk.{Ghosts}
 use Rattle.disk.specs.Crash.{MayLeaveNow}
 use Rattle.refusal.specs.declared.Refusal.{Refusal}
-use Rattle.refusal.specs.declared.Refusal.TheVariants.{JournalFull, Stranger, StillNeeded}
+use Rattle.refusal.specs.declared.Refusal.TheVariants.{JournalFull, Stranger, StillNeeded, Fault}
 use Rattle.revision.specs.Command.{Taken}
 use Rattle.published.specs.Batches.{IsShorter}
 use Rattle.revision.specs.State.{State, fold}
@@ -62,6 +62,20 @@ module _ {D J : Type 0} {disk : Ghosts D} where
     pub held : WasAt start (told_count old) (told_of new ++ committed_of new) (given_to new) (store_of old) (store_of new)
     pub lasts : has_failed (store_of old) ≡ false → IsOpen (store_of old)
         → (content : List ℕ) → MayLeaveNow disk (device_of (store_of new)) content → IsBeginning (told_count new) start (given_to new) content
+
+  -- A flusher's store was kept up, and nothing else: what is published, committed and held stays.
+  pub record KeepsUp (old new : Flusher D J disk) : Type 0 where
+    pub kept_up : IsKeptUp (store_of old) (store_of new)
+    pub told : told_of new ≡ told_of old
+    pub committed : committed_of new ≡ committed_of old
+    pub waiting : waiting_of new ≡ waiting_of old
+
+  -- What a step of the upkeep comes to, whatever it answers: the store was kept up. It fails exactly where `Fault` is told, and nothing else
+  -- refuses the step.
+  pub record IsUpkeep {A : Type 0} (result : Result A Refusal) (old new : Flusher D J disk) : Type 0 where
+    pub keeps : KeepsUp old new
+    pub fails : has_failed (store_of old) ≡ false → (has_failed (store_of new) ≡ true ↔ IsErrOf result Fault)
+    pub only : IfErr result (λ e. e ≡ Fault)
 
   -- Just one batch was published.
   pub record IsOneMore (old new : Flusher D J disk) : Type 0 where

@@ -1,7 +1,10 @@
 //! The turns of the flusher's thread: each takes a batch of what sessions have ordered, writes it with the board unlocked, and settles it.
 //!
 //! `flush_turn` makes one turn, by the calls of a `Flusher` and of a `Hub`, and `flush_all` one after another until the hub is ended.
-//! `Upkeep` is what a turn leaves to the next: the batch whose documents may be due for a milestone.
+//! `Upkeep` is what a turn leaves to the next: the documents that are to be looked at, and the ends of the channels to the composers
+//! (`composers`), to which a turn hands out jobs and from which it takes back what came of them. Where a channel is full or empty a turn
+//! goes on. `compose_workers` runs the composers, in threads beside this one.
+//!
 //! Other threads change the board between a turn's steps, so a turn says nothing of it. It says of its flusher, by `Writes` of
 //! specs/Writing.antt, that no batch that it was given is dropped, none that was published is taken back, and what a crash leaves of them; and
 //! by `IsTurnFailed` why it fails the board. The rest stands in the types of what it passes: a run is one that a board took off, a
@@ -42,18 +45,21 @@
 //!     ensures holds { OnOk result (state_of (store_of flusher.new)
 //!         ≡ fold J.start (commands_of (told_of flusher.new))) }
 //! {
-//!     let ended = flush_all(rt, alloc, flusher, hub, writer, 0, &mut OpenGate);
+//!     let ended = flush_all(rt, alloc, flusher, hub, writer, 0, None, &mut OpenGate);
 //!     flusher.kept();
 //!     ended
 //! }
 //! ```
 #![tactic(auto)]
 
+mod exchange;
+mod queue;
 mod stop;
 mod turn;
 mod turned;
 mod upkeep;
 
+pub use composers::{Composers, HalfGate, OpenHalves, Worker, channels, compose_workers};
 pub use stop::Stop;
 pub use turn::{flush_all, flush_turn};
 pub use turned::Turned;

@@ -11,6 +11,7 @@ ghost use Rattle.turns.specs.Turning.{HasTurned};
 use crate::stop::{Stop, stopped};
 use crate::turned::Turned;
 use crate::upkeep::Upkeep;
+use composers::Composers;
 use disk::Disk;
 use flusher::{Flusher, Gate};
 use hub::{Failed, Hub, Idle, Nothing, Run, Writer};
@@ -20,9 +21,10 @@ use std::alloc::Global;
 use std::sync::Wait;
 use std::thread;
 
-/// Puts the milestones that are due of the documents of the batch before, as `upkeep` knows them. Then takes the longest run of the next
-/// commands that makes one batch, writes it while the board is unlocked, and settles it. It answers with the hub's token of that, or with the
-/// one that nothing was to be taken.
+/// Puts the milestones that composers have given back, hands out the jobs that are due, as `upkeep` knows them, and retires the oldest
+/// segment while nothing needs it; where nothing has come, or no place is free, it goes on. Then takes the longest run of the next commands
+/// that makes one batch, writes it while the board is unlocked, and settles it. It answers with the hub's token of that, or with the one
+/// that nothing was to be taken.
 ///
 /// Refused with `NoMemory` where memory was wanted for a batch, and then the next turn goes on with the same batch, or with its
 /// publishing; where it was wanted for a milestone, the next turn looks for it again. Each other refusal fails the board, and has the
@@ -34,7 +36,7 @@ pub fn flush_turn<D: Disk, J: Site, R: Wait, G: Gate>(
     flusher: &mut Flusher<D, J>,
     hub: &Hub<D, J>,
     writer: &mut Writer<J>,
-    upkeep: &mut Upkeep<D>,
+    upkeep: &mut Upkeep,
     gate: &mut G,
 ) -> Result<Turned<D, J>, Stop<J>>
     // What a crash leaves, and what is published and held after it.
@@ -62,7 +64,7 @@ fn turn_made<D: Disk, J: Site, R: Wait, G: Gate>(
     flusher: &mut Flusher<D, J>,
     hub: &Hub<D, J>,
     writer: &mut Writer<J>,
-    upkeep: &mut Upkeep<D>,
+    upkeep: &mut Upkeep,
     gate: &mut G,
 ) -> Result<Turned<D, J>, Refusal>
     ensures writes { Writes J.start flusher.old flusher.new }
@@ -75,7 +77,7 @@ fn turn_made<D: Disk, J: Site, R: Wait, G: Gate>(
         → IsTurnFailed flusher.old e flusher.new) }
 {
     flusher.kept();
-    if let Err(refusal) = upkeep.put_due(alloc, flusher) {
+    if let Err(refusal) = upkeep.keep_up(rt, alloc, flusher) {
         return Err(refusal);
     }
     let answer = match hold_next(rt, alloc, flusher, hub, writer) {
@@ -164,7 +166,7 @@ fn write_held<D: Disk, J: Site, R: Wait, G: Gate>(
     flusher: &mut Flusher<D, J>,
     hub: &Hub<D, J>,
     writer: &mut Writer<J>,
-    upkeep: &mut Upkeep<D>,
+    upkeep: &mut Upkeep,
     gate: &mut G,
 ) -> Result<Turned<D, J>, Refusal>
     requires held { committed_of flusher.old ++ waiting_of flusher.old ≢ [] }
@@ -191,7 +193,7 @@ fn write_held<D: Disk, J: Site, R: Wait, G: Gate>(
             flusher.kept();
             match both.settle(rt, hub, writer) {
                 Ok((receipt, settled)) => {
-                    upkeep.note(receipt);
+                    upkeep.note(&receipt);
                     Ok(Turned::Settled(settled))
                 }
                 Err((failed, _unsettled)) => Err(failed.refusal()),
@@ -200,10 +202,10 @@ fn write_held<D: Disk, J: Site, R: Wait, G: Gate>(
     }
 }
 
-/// Makes turns until the hub is ended and all that was ordered is settled, or until a turn fails the board. It waits where nothing is
-/// to be taken, and where memory is wanted it lets other threads run and tries again. A document's milestone is due where it passes a
-/// multiple of `every` revisions; 0 puts none. It answers with the hub's token of its end, or with the one that the hub was told of a
-/// failure.
+/// Makes turns until the hub is ended and all that was ordered is settled, or until a turn fails the board. After a turn it waits where
+/// nothing is to be taken, and where memory is wanted it lets other threads run and tries again. A document's job is due where it passes a multiple of
+/// `every` revisions; 0 hands out none. At its end it lets go of its ends of the composers' channels, so that they end. It answers with the
+/// hub's token of its end, or with the one that the hub was told of a failure.
 ///
 /// A crash at any moment of it leaves some first batches of those that were given, and no fewer commands than were published when it
 /// began; one after its return no fewer than are published then. Of each turn `flush_turn` says the same.
@@ -214,6 +216,7 @@ pub fn flush_all<D: Disk, J: Site, R: Wait, G: Gate>(
     hub: &Hub<D, J>,
     writer: &mut Writer<J>,
     every: u32,
+    composers: Option<Composers>,
     gate: &mut G,
 ) -> Result<Idle<J>, Failed<J>>
     ensures writes { Writes J.start flusher.old flusher.new }
@@ -223,19 +226,40 @@ pub fn flush_all<D: Disk, J: Site, R: Wait, G: Gate>(
     ensures causes { IfErr result (λ e. e ≢ Refusal.Fault → IsEndedBy J.start flusher.old e flusher.new) }
 {
     flusher.kept();
-    let mut upkeep = Upkeep::new(every);
+    let mut upkeep = Upkeep::new(alloc, every, composers, flusher.state());
     for _ in rt.forever() {
+        if let Err(failed) = turn_on(rt, alloc, flusher, hub, writer, &mut upkeep, gate) {
+            return Err(failed);
+        }
         if !flusher.holds() {
             if let Err(idle) = hub.wait_work(rt, writer) {
                 return Ok(idle);
             }
         }
-        if let Err(stop) = flush_turn(rt, alloc, flusher, hub, writer, &mut upkeep, gate) {
-            if let Some(failed) = stop.into_failed() {
-                return Err(failed);
-            }
-            thread::yield_now();
-        }
     }
     unreachable!()
+}
+
+// Makes a turn. Where memory is wanted it lets other threads run. Refused where the turn fails the board.
+fn turn_on<D: Disk, J: Site, R: Wait, G: Gate>(
+    rt: &R,
+    alloc: Global,
+    flusher: &mut Flusher<D, J>,
+    hub: &Hub<D, J>,
+    writer: &mut Writer<J>,
+    upkeep: &mut Upkeep,
+    gate: &mut G,
+) -> Result<(), Failed<J>>
+    ensures writes { Writes J.start flusher.old flusher.new }
+    ensures fails { has_failed (store_of flusher.old) ≡ false
+        → (has_failed (store_of flusher.new) ≡ true ↔ IsErrOf result Refusal.Fault) }
+    ensures causes { IfErr result (λ e. e ≢ Refusal.Fault → IsTurnFailed flusher.old e flusher.new) }
+{
+    if let Err(stop) = flush_turn(rt, alloc, flusher, hub, writer, upkeep, gate) {
+        if let Some(failed) = stop.into_failed() {
+            return Err(failed);
+        }
+        thread::yield_now();
+    }
+    Ok(())
 }

@@ -1,91 +1,102 @@
 //! Milestones between turns.
-ghost use Rattle.std.specs.Prelude.{◌≡◌, ◌≤◌, ◌⊎◌, ◌↔◌, true, false, IfErr, IsErrOf};
-ghost use Rattle.recovery.specs.Open.{has_failed};
-ghost use Rattle.flusher.specs.Holding.{store_of, told_of, committed_of, waiting_of};
-ghost use Rattle.turns.specs.Writing.{IsKeptUp};
+ghost use Rattle.turns.specs.Writing.{IsUpkeep};
 
+use crate::exchange::{Exchange, exchange_with};
+use composers::Composers;
 use disk::Disk;
 use flusher::Flusher;
 use published::Site;
 use recovery::Receipt;
 use refusal::Refusal;
-use revision::Taken;
+use revision::State;
 use std::alloc::Global;
+use std::sync::Wait;
 
-/// What the flusher's thread keeps from turn to turn for the milestones: how often they are put, and the receipt of the batch that was
-/// settled last, whose documents are looked at before the next one. It never keeps more than one batch.
+/// A store has no more slots.
+const MOST_SLOTS: u32 = 1024;
+
+/// What the flusher's thread keeps from turn to turn for the milestones. Without composers none are put, but those that a full journal wants.
 #[derive(Drop)]
-pub struct Upkeep<D> {
-    every: u32,
-    settled: Option<Receipt<D>>,
+pub struct Upkeep {
+    exchange: Option<Exchange>,
 }
 
-impl<D: Disk> Upkeep<D> {
-    /// A milestone of a document is due where it passes a multiple of `every` revisions; 0 puts none. It takes no memory.
-    pub fn new(every: u32) -> Upkeep<D> {
+impl Upkeep {
+    /// A job of a document is due where it passes a multiple of `every` revisions; 0 hands out none. All documents of the state are looked
+    /// at in the first turn. Where there is no memory for it, it has no composers.
+    pub fn new(alloc: Global, every: u32, composers: Option<Composers>, state: &State) -> Upkeep {
         Upkeep {
-            every,
-            settled: None,
+            exchange: exchange_with(alloc, every, composers, state),
         }
     }
 
-    // Notes a batch that was settled, in place of the one before.
-    pub(crate) fn note(&mut self, receipt: Receipt<D>) {
-        self.settled = Some(receipt);
+    // Notes a batch that was settled, whose documents are looked at in the next turn.
+    pub(crate) fn note<D>(&mut self, receipt: &Receipt<D>) {
+        if let Some(exchange) = &mut self.exchange {
+            exchange.note(receipt.batch());
+        }
     }
 
-    // Puts what is due of the documents of the batch that was settled last. Where memory is wanted the next turn looks at them again.
-    // Refused with `Fault` alone.
-    pub(crate) fn put_due<J: Site>(
+    // Puts what the composers have done, hands out the jobs that are due, and retires the oldest segment while it may. A channel without a
+    // message or without a place leaves the rest to a later turn, and so does the end of memory. Refused with `Fault` alone.
+    pub(crate) fn keep_up<D: Disk, J: Site, R: Wait>(
         &mut self,
+        rt: &R,
         alloc: Global,
         flusher: &mut Flusher<D, J>,
     ) -> Result<(), Refusal>
-        ensures kept_up { IsKeptUp (store_of flusher.old) (store_of flusher.new) }
-        ensures fails { has_failed (store_of flusher.old) ≡ false
-            → (has_failed (store_of flusher.new) ≡ true ↔ IsErrOf result Refusal.Fault) }
-        ensures told { told_of flusher.new ≡ told_of flusher.old }
-        ensures committed { committed_of flusher.new ≡ committed_of flusher.old }
-        ensures waiting { waiting_of flusher.new ≡ waiting_of flusher.old }
-        ensures only { IfErr result (λ e. e ≡ Refusal.Fault) }
+        ensures { IsUpkeep result flusher.old flusher.new }
     {
-        let Some(receipt) = &self.settled else {
-            return Ok(());
-        };
-        if self.every == 0 {
-            return Ok(());
-        }
-        if let Err(refusal) = put_each(alloc, flusher, receipt.batch(), self.every) {
-            if refusal == Refusal::NoMemory {
-                return Ok(());
-            }
+        if let Err(refusal) = self.compose_on(rt, alloc, flusher) {
             return Err(refusal);
         }
-        self.settled = None;
-        Ok(())
+        retire_all(flusher)
+    }
+
+    // Puts what the composers have done, and hands out the jobs that are due. Refused with `Fault` alone.
+    fn compose_on<D: Disk, J: Site, R: Wait>(
+        &mut self,
+        rt: &R,
+        alloc: Global,
+        flusher: &mut Flusher<D, J>,
+    ) -> Result<(), Refusal>
+        ensures { IsUpkeep result flusher.old flusher.new }
+    {
+        match &mut self.exchange {
+            None => Ok(()),
+            Some(exchange) => exchange.compose_on(rt, alloc, flusher),
+        }
     }
 }
 
-// Puts what is due of the documents of a batch. Of a document that stands in it again nothing is due any more.
-fn put_each<D: Disk, J: Site>(
-    alloc: Global,
-    flusher: &mut Flusher<D, J>,
-    batch: &[Taken],
-    every: u32,
-) -> Result<(), Refusal>
-    requires { 1 ≤ every }
-    ensures kept_up { IsKeptUp (store_of flusher.old) (store_of flusher.new) }
-    ensures fails { has_failed (store_of flusher.old) ≡ false
-        → (has_failed (store_of flusher.new) ≡ true ↔ IsErrOf result Refusal.Fault) }
-    ensures told { told_of flusher.new ≡ told_of flusher.old }
-    ensures committed { committed_of flusher.new ≡ committed_of flusher.old }
-    ensures waiting { waiting_of flusher.new ≡ waiting_of flusher.old }
-    ensures only { IfErr result (λ e. (e ≡ Refusal.NoMemory) ⊎ (e ≡ Refusal.Fault)) }
+// Retires the oldest segment while nothing needs it. Refused with `Fault` alone.
+fn retire_all<D: Disk, J: Site>(flusher: &mut Flusher<D, J>) -> Result<(), Refusal>
+    ensures { IsUpkeep result flusher.old flusher.new }
 {
-    for taken in batch {
-        if let Err(refusal) = flusher.put_due(alloc, taken.document_number(), u64::from(every)) {
-            return Err(refusal);
+    for _ in 0..MOST_SLOTS {
+        let more = match retire_one(flusher) {
+            Ok(more) => more,
+            Err(refusal) => return Err(refusal),
+        };
+        if !more {
+            return Ok(());
         }
     }
     Ok(())
+}
+
+// Retires the oldest segment where nothing needs it, and tells whether it did. Refused with `Fault` alone.
+#[tactic(auto, using(crate::proofs::Writing::keeps_call, crate::proofs::Writing::upkeep_fault, crate::proofs::Writing::upkeep_but))]
+fn retire_one<D: Disk, J: Site>(flusher: &mut Flusher<D, J>) -> Result<bool, Refusal>
+    ensures { IsUpkeep result flusher.old flusher.new }
+{
+    match flusher.retire() {
+        Ok(()) => Ok(true),
+        Err(refusal) => {
+            if refusal == Refusal::Fault {
+                return Err(refusal);
+            }
+            Ok(false)
+        }
+    }
 }

@@ -1,5 +1,5 @@
 -- Making room in a full journal: the steps on the way to where nothing needs the oldest segment.
-use Rattle.std.specs.Prelude.{◌≡◌, ◌≢◌, ◌⊎◌, ℕ, ◌≤◌, ◌<◌, Option, List, [], slice_get}
+use Rattle.std.specs.Prelude.{◌≡◌, ◌≢◌, ◌⊎◌, ℕ, ◌≤◌, Option, List, [], slice_get}
 use Rattle.disk.specs.declared.device.Disk.{Ghosts}
 use Rattle.revision.specs.State.{State, newest_revision}
 use Rattle.history.specs.Cell.{Pair, cells_at}
@@ -7,11 +7,10 @@ use Rattle.segments.specs.Slot.{Segment}
 use Rattle.segments.specs.Table.{IsRetired}
 use Rattle.recovery.specs.declared.marks.Mark.{Mark}
 use Rattle.recovery.specs.declared.store.Store.{Store}
-use Rattle.recovery.specs.Cells.{lowest_known}
 use Rattle.recovery.specs.Jobs.{jobs_for}
 use Rattle.recovery.specs.Marked.{MayRetire}
 use Rattle.recovery.specs.Marks.{greatest_marked}
-use Rattle.recovery.specs.Open.{IsOpen, IsHalfRaised, AreBothNewest, state_of, ring_of, known_cells, known_marks, kept_jobs}
+use Rattle.recovery.specs.Open.{IsOpen, IsHalfRaised, AreBothNewest, state_of, ring_of, known_marks, kept_jobs}
 
 -- the newest revision of a document, by its number
 abbrev pub reached_in : State → ℕ → ℕ
@@ -21,26 +20,20 @@ reached_in state document = newest_revision (slice_get state.documents document)
 abbrev pub MayReach : ℕ → Mark → State → Type 0
 MayReach segment mark state = mark.segment ≡ segment → mark.revision ≤ reached_in state mark.document
 
+-- a mark says nothing of a segment: it is one of another, or of no revision
+abbrev pub IsMarkElsewhere : ℕ → Mark → Type 0
+IsMarkElsewhere segment mark = (mark.segment ≢ segment) ⊎ (mark.revision ≡ 0)
+
+-- it is one of the segment
+abbrev pub IsMarkOf : ℕ → Mark → Type 0
+IsMarkOf segment mark = (mark.segment ≡ segment) × (1 ≤ mark.revision)
+
 module _ {D : Type 0} {disk : Ghosts D} where
   -- the documents stay, and so do the segments and what is known of them
   pub record KeepsSegments (old new : Store D disk) : Type 0 where
     pub state : state_of new ≡ state_of old
     pub ring : ring_of new ≡ ring_of old
     pub marks : known_marks new ≡ known_marks old
-
-  -- the store is open over the same cells, and over the slots without the oldest segment, or over all of them, where it is needed
-  pub record IsOverFewer (cells : List Pair) (table : List (Option Segment)) (store : Store D disk) : Type 0 where
-    pub goes_on : IsOpen store
-    pub same_cells : goes_on.cells ≡ cells
-    pub slots : ((goes_on.table ≡ table) × (¬ MayRetire table cells)) ⊎ IsRetired table goes_on.table
-
-  -- a mark is of another segment, or no open cell of its document is below it
-  abbrev pub IsMarkSpared : ℕ → Mark → Store D disk → Type 0
-  IsMarkSpared segment mark store = (mark.segment ≢ segment) ⊎ (mark.revision ≤ lowest_known (known_cells store) mark.document)
-
-  -- it is of the segment, and above an open cell of its document, or none is open
-  abbrev pub IsMarkAbove : ℕ → Mark → Store D disk → Type 0
-  IsMarkAbove segment mark store = (mark.segment ≡ segment) × (lowest_known (known_cells store) mark.document < mark.revision)
 
   -- The store goes on over the same slots, and P says what has become of the cells of one document. Those of the others are as they were.
   pub record IsPutOf (document : ℕ) (P : Pair → Type 0) (old : Store D disk) (is_open : IsOpen old) (new : Store D disk) : Type 0 where
@@ -54,19 +47,14 @@ module _ {D : Type 0} {disk : Ghosts D} where
     pub goes_on : IsOpen new
     pub same_table : goes_on.table ≡ is_open.table
     pub others : (number : ℕ) → number ≢ document → cells_at goes_on.cells number ≡ cells_at is_open.cells number
-    pub own : IsHalfRaised (state_of old) document (cells_at is_open.cells document) (jobs_for document (kept_jobs old))
-        (cells_at goes_on.cells document) (jobs_for document (kept_jobs new))
+    pub own : IsHalfRaised (state_of old) document (cells_at is_open.cells document) (cells_at goes_on.cells document)
 
-  -- The documents of these marks of a segment are covered: the store goes on over the same slots. Where no mark is above the open cells of a
-  -- document these are as they were, and so are its kept jobs; else both hold it at its newest revision, and no job of it is kept.
+  -- The documents of these marks of a segment are covered: the store goes on over the same slots. The cells of a document without a mark are as
+  -- they were, and so are its kept jobs; both cells of each other document hold it at its newest revision, and no job of it is kept.
   pub record AreCovered (segment : ℕ) (marks : List Mark) (old : Store D disk) (is_open : IsOpen old) (new : Store D disk) : Type 0 where
     pub goes_on : IsOpen new
     pub same_table : goes_on.table ≡ is_open.table
-    pub spared : (document : ℕ) → greatest_marked segment document marks ≤ lowest_known (known_cells old) document
-        → cells_at goes_on.cells document ≡ cells_at is_open.cells document
-    pub kept : (document : ℕ) → greatest_marked segment document marks ≤ lowest_known (known_cells old) document
-        → jobs_for document (kept_jobs new) ≡ jobs_for document (kept_jobs old)
-    pub raised : (document : ℕ) → lowest_known (known_cells old) document < greatest_marked segment document marks
-        → AreBothNewest (state_of old) document (cells_at goes_on.cells document)
-    pub dropped : (document : ℕ) → lowest_known (known_cells old) document < greatest_marked segment document marks
-        → jobs_for document (kept_jobs new) ≡ []
+    pub spared : (document : ℕ) → greatest_marked segment document marks ≡ 0 → cells_at goes_on.cells document ≡ cells_at is_open.cells document
+    pub kept : (document : ℕ) → greatest_marked segment document marks ≡ 0 → jobs_for document (kept_jobs new) ≡ jobs_for document (kept_jobs old)
+    pub raised : (document : ℕ) → 1 ≤ greatest_marked segment document marks → AreBothNewest (state_of old) document (cells_at goes_on.cells document)
+    pub dropped : (document : ℕ) → 1 ≤ greatest_marked segment document marks → jobs_for document (kept_jobs new) ≡ []

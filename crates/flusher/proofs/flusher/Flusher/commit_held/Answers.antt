@@ -1,13 +1,15 @@
-use Rattle.std.proofs.Common.{◌≡◌, ⊎_elim, inl, inr, [], ◌∷◌, ◌++◌, List, length, Some, None, Err, refl, sym, ◌∙◌, ap, append-nil, arith}
+use Rattle.std.proofs.Common.{◌≡◌, ⊎_elim, inl, inr, [], ◌∷◌, ◌++◌, List, length, Some, None, Err, refl, sym, ◌∙◌, ap, subst, append-nil, arith}
+use Rattle.std.proofs.lemmas.Bool.{false≢true}
 use Rattle.revision.specs.Command.{Taken}
 use Rattle.revision.specs.State.{fold}
 use Rattle.world.specs.World.{takens}
 use Rattle.recovery.specs.Found.{commands_of}
-use Rattle.recovery.specs.Open.{has_room}
+use Rattle.recovery.specs.Open.{IsCommittedNow, has_room}
+use Rattle.recovery.proofs.CallerLemmas.{goes_call}
 use Rattle.refusal.specs.declared.Refusal.{Refusal}
-use Rattle.refusal.specs.declared.Refusal.TheVariants.{JournalFull, StillNeeded, NoMemory, Fault}
+use Rattle.refusal.specs.declared.Refusal.TheVariants.{JournalFull, Fault}
 use Rattle.view.specs.Published.{Published}
-use Rattle.flusher.proofs.Holdings.{held_in, goes_not, goes_batch, committed_none, committed_one, given_up_one, kept_more, next_by, no_batch, no_stranger, same_batch, same_refusal}
+use Rattle.flusher.proofs.Holdings.{held_in, goes_not, goes_batch, kept_more, next_by, no_batch, no_error, held_continues, not_stranger, unchanged_without, same_batch, same_refusal}
 use Rattle.flusher.proofs.flusher.Flusher.commit_held.Goals as goal
 
 pub returns-in-None-clause-goes : goal.returns-in-None-clause-goes
@@ -26,16 +28,17 @@ returns-in-None-clause-state g c =
 
 pub returns-in-Ok-clause-goes : goal.returns-in-Ok-clause-goes
 returns-in-Ok-clause-goes g c =
-    let held : c.args.self.now.waiting ≡ Some c.in-Some.batch = cc in
-    let same : c.commands.result.now ≡ c.in-Some.batch.commands = cc in
-    let e = c.commit_freeing.ensures in
-    goes_batch _ _ c.commands.result.now _ (ap held_in held ∙ ap (λ (b : List Taken). b ∷ []) (sym same)) e.goes
+    let held : c.args.self.now.waiting ≡ Some c.in-Some.run = cc in
+    let same : c.commands.result.now ≡ c.in-Some.run.commands = cc in
+    let e = c.commit.ensures in
+    goes_batch _ _ c.commands.result.now _ (ap held_in held ∙ ap (λ (b : List Taken). b ∷ []) (sym same))
+    (goes_call c.commit.result e.faults.failed_before e.faults.fails e.any_moment e.done e.kept)
 
 pub returns-in-Ok-clause-ok : goal.returns-in-Ok-clause-ok
 returns-in-Ok-clause-ok g c =
-    let held : c.args.self.now.waiting ≡ Some c.in-Some.batch = cc in
-    let same : c.commands.result.now ≡ c.in-Some.batch.commands = cc in
-    let alone = (c.args.self.now.fits c.in-Some.batch held).alone in (
+    let held : c.args.self.now.waiting ≡ Some c.in-Some.run = cc in
+    let same : c.commands.result.now ≡ c.in-Some.run.commands = cc in
+    let alone = (c.args.self.now.fits c.in-Some.run held).alone in (
       ap (λ (p : Published). p.unpublished) c.accept.ensures ∙ ap (λ (b : List Taken). b ∷ []) (c.in-Ok.ensures.receipt ∙ same) ∙ sym (ap held_in held)
           ∙ sym (ap (λ (l : List (List Taken)). l ++ held_in c.args.self.now.waiting) alone),
       ap held_in c.in-Some.ensures.after,
@@ -43,115 +46,93 @@ returns-in-Ok-clause-ok g c =
 
 pub returns-in-Ok-clause-state : goal.returns-in-Ok-clause-state
 returns-in-Ok-clause-state g c =
-    let held : c.args.self.now.waiting ≡ Some c.in-Some.batch = cc in
-    let same : c.commands.result.now ≡ c.in-Some.batch.commands = cc in
+    let held : c.args.self.now.waiting ≡ Some c.in-Some.run = cc in
+    let same : c.commands.result.now ≡ c.in-Some.run.commands = cc in
     c.in-Ok.ensures.state ∙ ap (fold c.args.self.now.store.state) (same ∙ sym (ap commands_of (ap held_in held) ∙ append-nil _))
-
-pub returns-in-None-clause-committed : goal.returns-in-None-clause-committed
-returns-in-None-clause-committed g c =
-    let none : c.args.self.now.waiting ≡ None = cc in
-    committed_none c.args.self.now.store (held_in c.args.self.now.waiting) (ap held_in none)
-
-pub returns-in-Ok-clause-committed : goal.returns-in-Ok-clause-committed
-returns-in-Ok-clause-committed g c =
-    let held : c.args.self.now.waiting ≡ Some c.in-Some.batch = cc in
-    let same : c.commands.result.now ≡ c.in-Some.batch.commands = cc in
-    committed_one _ _ c.commands.result.now _ (ap held_in held ∙ ap (λ (b : List Taken). b ∷ []) (sym same)) c.in-Ok.ensures.committed c.in-Ok.ensures.committed_behind
-
-pub returns-in-Err-clause-given_up : goal.returns-in-Err-clause-given_up
-returns-in-Err-clause-given_up g c told =
-    let held : c.args.self.now.waiting ≡ Some c.in-Some.batch = cc in
-    let same : c.commands.result.now ≡ c.in-Some.batch.commands = cc in
-    given_up_one _ _ c.commands.result.now _ (ap held_in held ∙ ap (λ (b : List Taken). b ∷ []) (sym same))
-    (λ room. c.in-Err.ensures.given_up room (same_refusal c.in-Err.refusal NoMemory told))
-    (λ full is_open. c.in-Err.ensures.memory_behind (same_refusal c.in-Err.refusal NoMemory told) full is_open)
 
 pub goes_on-ordered-requires : goal.goes_on-ordered-requires
 goes_on-ordered-requires g c =
-    let held : c.args.self.now.waiting ≡ Some c.in-Some.batch = cc in
-    c.args.self.now.placed c.in-Some.batch held ∙ ap (λ (l : List (List Taken)). length (commands_of l)) (sym c.told.ensures)
+    let held : c.args.self.now.waiting ≡ Some c.in-Some.run = cc in
+    c.args.self.now.placed c.in-Some.run held ∙ ap (λ (l : List (List Taken)). length (commands_of l)) (sym c.told.ensures)
+
+-- what is committed
+pub returns-in-None-clause-committed : goal.returns-in-None-clause-committed
+returns-in-None-clause-committed g c batch held is_open =
+    let none : c.args.self.now.waiting ≡ None = cc in
+    absurd (no_batch batch (held_in c.args.self.now.waiting) (ap held_in none) held)
+
+pub returns-in-Ok-clause-committed : goal.returns-in-Ok-clause-committed
+returns-in-Ok-clause-committed g c batch waits is_open =
+    let held : c.args.self.now.waiting ≡ Some c.in-Some.run = cc in
+    let same : c.commands.result.now ≡ c.in-Some.run.commands = cc in
+    let one : c.commands.result.now ≡ batch = same_batch (held_in c.args.self.now.waiting) c.commands.result.now batch (ap held_in held ∙ ap (λ (b : List Taken). b ∷ []) (sym same)) waits in
+    subst (λ (b : List Taken). IsCommittedNow b c.args.self.now.store is_open c.commit.new.self) one (c.in-Ok.ensures.committed is_open)
+
+pub returns-in-Err-clause-unchanged : goal.returns-in-Err-clause-unchanged
+returns-in-Err-clause-unchanged g c =
+    unchanged_without c.args.self.now.store c.commit.new.self c.in-Err.refusal c.in-Err.ensures.only
+    (λ first. c.in-Err.ensures.untouched (⊎_elim (λ full. inl (ap (λ (r : Refusal). Err r) full)) (λ strange. inr (ap (λ (r : Refusal). Err r) strange)) first))
+    (λ memory. c.in-Err.ensures.given_up (ap (λ (r : Refusal). Err r) memory))
+
+-- it finds no room
+pub returns-in-None-clause-full : goal.returns-in-None-clause-full
+returns-in-None-clause-full g c batch held works =
+    let none : c.args.self.now.waiting ≡ None = cc in
+    absurd (no_batch batch (held_in c.args.self.now.waiting) (ap held_in none) held)
+
+pub returns-in-Ok-clause-full : goal.returns-in-Ok-clause-full
+returns-in-Ok-clause-full g c batch waits works =
+    let held : c.args.self.now.waiting ≡ Some c.in-Some.run = cc in
+    let same : c.commands.result.now ≡ c.in-Some.run.commands = cc in
+    let one : c.commands.result.now ≡ batch = same_batch (held_in c.args.self.now.waiting) c.commands.result.now batch (ap held_in held ∙ ap (λ (b : List Taken). b ∷ []) (sym same)) waits in
+    (λ told. absurd (no_error tt JournalFull told), λ none. absurd (false≢true (sym none ∙ ap (has_room c.args.self.now.store) (sym one) ∙ c.in-Ok.ensures.room)))
+
+pub returns-in-Err-clause-full : goal.returns-in-Err-clause-full
+returns-in-Err-clause-full g c batch waits works =
+    let held : c.args.self.now.waiting ≡ Some c.in-Some.run = cc in
+    let same : c.commands.result.now ≡ c.in-Some.run.commands = cc in
+    let one : c.commands.result.now ≡ batch = same_batch (held_in c.args.self.now.waiting) c.commands.result.now batch (ap held_in held ∙ ap (λ (b : List Taken). b ∷ []) (sym same)) waits in
+    let full = rw c.in-Err.is at (c.commit.ensures.full works) in (
+      λ told. ap (has_room c.args.self.now.store) (sym one) ∙ full.0 (same_refusal c.in-Err.refusal JournalFull told),
+      λ none. same_refusal c.in-Err.refusal JournalFull (full.1 (ap (has_room c.args.self.now.store) one ∙ none)),
+    )
 
 -- it never is a stranger's
 pub returns-in-Err-clause-only : goal.returns-in-Err-clause-only
 returns-in-Err-clause-only g c =
-    let held : c.args.self.now.waiting ≡ Some c.in-Some.batch = cc in
-    let same : c.commands.result.now ≡ c.in-Some.batch.commands = cc in
-    no_stranger g.J.Site.start c.args.self.now.begun c.args.self.now.store.state c.args.self.now.publisher.told c.told.result.now c.args.self.now.publisher.unpublished
-    c.in-Some.batch.commands c.commands.result.now c.goes_on-ordered.result c.in-Err.refusal c.is_start.ensures c.told.ensures same c.legal.ensures c.goes_on-ordered.ensures.next
-    c.args.self.now.kept (c.args.self.now.fits c.in-Some.batch held).alone
+    let held : c.args.self.now.waiting ≡ Some c.in-Some.run = cc in
+    let same : c.commands.result.now ≡ c.in-Some.run.commands = cc in
+    not_stranger c.args.self.now.store.state c.commands.result.now c.in-Err.refusal
+    (held_continues g.J.Site.start c.args.self.now.begun c.args.self.now.store.state c.args.self.now.publisher.told c.told.result.now c.args.self.now.publisher.unpublished
+    c.in-Some.run.commands c.commands.result.now c.goes_on-ordered.result c.is_start.ensures c.told.ensures same c.legal.ensures c.goes_on-ordered.ensures.next
+    c.args.self.now.kept (c.args.self.now.fits c.in-Some.run held).alone)
     (λ is. c.in-Err.ensures.stranger (ap (λ (r : Refusal). Err r) is)) c.in-Err.ensures.only
 
 pub accept-requires-clause-next : goal.accept-requires-clause-next
 accept-requires-clause-next g c =
-    let held : c.args.self.now.waiting ≡ Some c.in-Some.batch = cc in
-    let same : c.commands.result.now ≡ c.in-Some.batch.commands = cc in
-    next_by c.args.self.now.publisher.told c.told.result.now c.in-Some.batch.commands c.in-Ok.receipt (takens c.goes_on-ordered.result) c.told.ensures
-    (c.in-Ok.ensures.receipt ∙ same) (c.args.self.now.fits c.in-Some.batch held).some c.goes_on-ordered.ensures.few c.goes_on-ordered.ensures.next
-
-pub returns-in-None-clause-few : goal.returns-in-None-clause-few
-returns-in-None-clause-few g c batch held works full few =
-    let none : c.args.self.now.waiting ≡ None = cc in
-    absurd (no_batch batch (held_in c.args.self.now.waiting) (ap held_in none) held)
-
-pub returns-in-Ok-clause-few : goal.returns-in-Ok-clause-few
-returns-in-Ok-clause-few g c batch waits works full few =
-    let held : c.args.self.now.waiting ≡ Some c.in-Some.batch = cc in
-    let same : c.commands.result.now ≡ c.in-Some.batch.commands = cc in
-    let one : c.commands.result.now ≡ batch = same_batch (held_in c.args.self.now.waiting) c.commands.result.now batch (ap held_in held ∙ ap (λ (b : List Taken). b ∷ []) (sym same)) waits in
-    let told = c.commit_freeing.ensures.few works (ap (has_room c.args.self.now.store) one ∙ full) few in
-    let no : ⊥ = cc in absurd no
-
-pub returns-in-Err-clause-few : goal.returns-in-Err-clause-few
-returns-in-Err-clause-few g c batch waits works full few =
-    let held : c.args.self.now.waiting ≡ Some c.in-Some.batch = cc in
-    let same : c.commands.result.now ≡ c.in-Some.batch.commands = cc in
-    let one : c.commands.result.now ≡ batch = same_batch (held_in c.args.self.now.waiting) c.commands.result.now batch (ap held_in held ∙ ap (λ (b : List Taken). b ∷ []) (sym same)) waits in
-    same_refusal c.in-Err.refusal StillNeeded (rw c.in-Err.is at (c.commit_freeing.ensures.few works (ap (has_room c.args.self.now.store) one ∙ full) few))
-
-pub returns-in-Err-clause-needed_by_few : goal.returns-in-Err-clause-needed_by_few
-returns-in-Err-clause-needed_by_few g c told = c.in-Err.ensures.needed_by_few (same_refusal c.in-Err.refusal StillNeeded told)
-
-pub returns-in-Err-clause-needed_untouched : goal.returns-in-Err-clause-needed_untouched
-returns-in-Err-clause-needed_untouched g c told = c.in-Err.ensures.needed_untouched (same_refusal c.in-Err.refusal StillNeeded told)
-
-pub returns-in-Err-clause-full_still : goal.returns-in-Err-clause-full_still
-returns-in-Err-clause-full_still g c told = c.in-Err.ensures.full_still (same_refusal c.in-Err.refusal JournalFull told)
+    let held : c.args.self.now.waiting ≡ Some c.in-Some.run = cc in
+    let same : c.commands.result.now ≡ c.in-Some.run.commands = cc in
+    next_by c.args.self.now.publisher.told c.told.result.now c.in-Some.run.commands c.in-Ok.receipt (takens c.goes_on-ordered.result) c.told.ensures
+    (c.in-Ok.ensures.receipt ∙ same) (c.args.self.now.fits c.in-Some.run held).some c.goes_on-ordered.ensures.few c.goes_on-ordered.ensures.next
 
 pub returns-in-Err-clause-goes : goal.returns-in-Err-clause-goes
 returns-in-Err-clause-goes g c =
-    let held : c.args.self.now.waiting ≡ Some c.in-Some.batch = cc in
-    let same : c.commands.result.now ≡ c.in-Some.batch.commands = cc in
-    let e = c.commit_freeing.ensures in
-    goes_batch _ _ c.commands.result.now _ (ap held_in held ∙ ap (λ (b : List Taken). b ∷ []) (sym same)) e.goes
+    let held : c.args.self.now.waiting ≡ Some c.in-Some.run = cc in
+    let same : c.commands.result.now ≡ c.in-Some.run.commands = cc in
+    let e = c.commit.ensures in
+    goes_batch _ _ c.commands.result.now _ (ap held_in held ∙ ap (λ (b : List Taken). b ∷ []) (sym same))
+    (goes_call c.commit.result e.faults.failed_before e.faults.fails e.any_moment e.done e.kept)
 
 pub returns-in-Err-clause-held : goal.returns-in-Err-clause-held
 returns-in-Err-clause-held g c =
-    let held : c.args.self.now.waiting ≡ Some c.in-Some.batch = cc in
+    let held : c.args.self.now.waiting ≡ Some c.in-Some.run = cc in
     (refl, ap held_in c.fill.ensures.some ∙ sym (ap held_in held))
-
-pub returns-in-Err-clause-full : goal.returns-in-Err-clause-full
-returns-in-Err-clause-full g c is =
-    let held : c.args.self.now.waiting ≡ Some c.in-Some.batch = cc in
-    let same : c.commands.result.now ≡ c.in-Some.batch.commands = cc in
-    let room = c.in-Err.ensures.full (same_refusal c.in-Err.refusal JournalFull is) in
-    (c.commands.result.now, ap held_in held ∙ ap (λ (b : List Taken). b ∷ []) (sym same), room.0, room.1)
-
-pub returns-in-Err-clause-needed : goal.returns-in-Err-clause-needed
-returns-in-Err-clause-needed g c is =
-    let held : c.args.self.now.waiting ≡ Some c.in-Some.batch = cc in
-    let same : c.commands.result.now ≡ c.in-Some.batch.commands = cc in
-    (c.commands.result.now, ap held_in held ∙ ap (λ (b : List Taken). b ∷ []) (sym same), c.in-Err.ensures.needed (same_refusal c.in-Err.refusal StillNeeded is))
-
-pub returns-in-Err-clause-never_full : goal.returns-in-Err-clause-never_full
-returns-in-Err-clause-never_full g c told =
-    c.in-Err.ensures.never_full
-    (⊎_elim (λ full. inl (same_refusal c.in-Err.refusal JournalFull full)) (λ needed. inr (same_refusal c.in-Err.refusal StillNeeded needed)) told)
 
 pub invariant_of-self-in-Ok : goal.invariant_of-self-in-Ok
 invariant_of-self-in-Ok g c =
-    let held : c.args.self.now.waiting ≡ Some c.in-Some.batch = cc in
+    let held : c.args.self.now.waiting ≡ Some c.in-Some.run = cc in
     record {
-      kept = kept_more _ _ _ _ _ _ c.commands.result.now c.args.self.now.kept (c.args.self.now.fits c.in-Some.batch held).alone c.accept.ensures c.in-Ok.ensures.receipt c.in-Ok.ensures.state;
+      kept = kept_more _ _ _ _ _ _ c.commands.result.now c.args.self.now.kept (c.args.self.now.fits c.in-Some.run held).alone c.accept.ensures c.in-Ok.ensures.receipt c.in-Ok.ensures.state;
       few = omega (arith, ap (λ (p : Published). length p.unpublished) c.accept.ensures);
       fits = λ x is. absurd (let none : ⊥ = cc in none);
       placed = λ x is. absurd (let none : ⊥ = cc in none);
@@ -165,10 +146,10 @@ returns-in-None-clause-failed_before g c failed batch held =
 
 pub returns-in-Ok-clause-failed_before : goal.returns-in-Ok-clause-failed_before
 returns-in-Ok-clause-failed_before g c failed batch held =
-    let told = (c.commit_freeing.ensures.faults.failed_before failed).0 in
+    let told = (c.commit.ensures.faults.failed_before failed).0 in
     let no : ⊥ = cc in absurd no
 
 pub returns-in-Err-clause-failed_before : goal.returns-in-Err-clause-failed_before
 returns-in-Err-clause-failed_before g c failed batch held =
-    let both = c.commit_freeing.ensures.faults.failed_before failed in
+    let both = c.commit.ensures.faults.failed_before failed in
     (same_refusal c.in-Err.refusal Fault (rw c.in-Err.is at both.0), both.1)

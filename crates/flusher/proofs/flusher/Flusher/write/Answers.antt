@@ -6,7 +6,7 @@ use Rattle.flusher.proofs.flusher.Flusher.write.Goals as goal
 -- what was given is published, or it stays given
 pub invariant_of-self : goal.invariant_of-self
 invariant_of-self g c =
-    let before = c.commit_held.new.self in
+    let before = c.commit_freeing.new.self in
     let e = c.publish.ensures in
     let moved = published_or_not c.publish.result before.publisher c.publish.new.self e.batch e.told e.shown e.none e.unchanged in
     let none : before.waiting ≡ None = none_of_held before.waiting c.in_default.ensures.ok.1 in

@@ -1,17 +1,13 @@
-use Rattle.std.proofs.Common.{◌≡◌, ◌≢◌, ◌∙◌, ⊎_elim, List, length, refl, ap, arith, rules}
-use Rattle.std.proofs.lemmas.Result.{on_ok_weaker, on_err_weaker}
+use Rattle.std.proofs.Common.{◌≡◌, ◌≢◌, ◌∙◌, ⊎_elim, List, refl, ap, arith, rules}
 use Rattle.milestone.specs.Job.{Job}
-use Rattle.milestone.specs.declared.cells.Cells.{Cells}
-use Rattle.recovery.specs.Jobs.{without_job}
-use Rattle.recovery.proofs.OtherJobs.{others_without, fewer_without}
-use Rattle.recovery.specs.Cells.{lowest_known}
-use Rattle.recovery.specs.Open.{IsOpen, kept_jobs, state_of}
-use Rattle.recovery.specs.steps.Freeing.{reached_in, IsMarkAbove}
 use Rattle.revision.specs.State.{State}
+use Rattle.recovery.specs.Jobs.{without_job}
+use Rattle.recovery.specs.Open.{IsOpen, kept_jobs}
+use Rattle.recovery.specs.steps.Freeing.{reached_in, IsMarkOf}
 use Rattle.recovery.proofs.Going.{goes_nowhere, goes_same}
 use Rattle.recovery.proofs.Faults.{faults_on, works_still}
 use Rattle.recovery.proofs.Newest.{on_err, none_put, half_behind, covered_behind}
-use Rattle.recovery.proofs.SparedJobs.{may_keep_one}
+use Rattle.recovery.proofs.OtherJobs.{others_without}
 use Rattle.recovery.proofs.store.Store.cover_mark.Goals as goal
 
 -- another segment's mark
@@ -28,57 +24,50 @@ returns-then-mark-segment-clause-dropped g c above =
 pub returns-then-mark-segment-clause-goes : goal.returns-then-mark-segment-clause-goes
 returns-then-mark-segment-clause-goes g c = goes_nowhere c.args.self.now
 
--- a mark that no open cell is below
-pub returns-then-mark-lowest_of-clause-covered : goal.returns-then-mark-lowest_of-clause-covered
-returns-then-mark-lowest_of-clause-covered g c above =
-    let lowest : c.lowest_of.result ≡ lowest_known c.args.self.now.cells.items c.args.mark.document =
-    c.lowest_of.ensures ∙ ap (λ (l : List Cells). lowest_known l c.args.mark.document) c.deref.ensures.value in
-    absurd (omega (arith, c.if-mark-lowest_of.true, lowest, above.1))
+-- a mark of no revision
+pub returns-then-mark-eq0-clause-covered : goal.returns-then-mark-eq0-clause-covered
+returns-then-mark-eq0-clause-covered g c of =
+    let none : c.args.mark.revision ≡ 0 = search rules in
+    absurd (omega (arith, none, of.1))
 
-pub returns-then-mark-lowest_of-clause-dropped : goal.returns-then-mark-lowest_of-clause-dropped
-returns-then-mark-lowest_of-clause-dropped g c above =
-    let lowest : c.lowest_of.result ≡ lowest_known c.args.self.now.cells.items c.args.mark.document =
-    c.lowest_of.ensures ∙ ap (λ (l : List Cells). lowest_known l c.args.mark.document) c.deref.ensures.value in
-    absurd (omega (arith, c.if-mark-lowest_of.true, lowest, above.1))
+pub returns-then-mark-eq0-clause-dropped : goal.returns-then-mark-eq0-clause-dropped
+returns-then-mark-eq0-clause-dropped g c of =
+    let none : c.args.mark.revision ≡ 0 = search rules in
+    absurd (omega (arith, none, of.1))
 
-pub returns-then-mark-lowest_of-clause-goes : goal.returns-then-mark-lowest_of-clause-goes
-returns-then-mark-lowest_of-clause-goes g c = goes_nowhere c.args.self.now
+pub returns-then-mark-eq0-clause-goes : goal.returns-then-mark-eq0-clause-goes
+returns-then-mark-eq0-clause-goes g c = goes_nowhere c.args.self.now
 
--- two milestones are put for a mark of the segment that is above the cells
-pub returns-in-Err-clause-above : goal.returns-in-Err-clause-above
-returns-in-Err-clause-above g c =
+-- two milestones are put for a mark of the segment
+pub returns-in-Err-clause-of : goal.returns-in-Err-clause-of
+returns-in-Err-clause-of g c =
     let here : c.args.mark.segment ≡ c.args.segment = search rules in
-    let lowest : c.lowest_of.result ≡ lowest_known c.args.self.now.cells.items c.args.mark.document =
-    c.lowest_of.ensures ∙ ap (λ (l : List Cells). lowest_known l c.args.mark.document) c.deref.ensures.value in
-    (here, omega (arith, lowest, c.if-mark-lowest_of.false))
+    let some : c.args.mark.revision ≢ 0 = search rules in
+    (here, omega (arith, some))
 
-pub returns-clause-above : goal.returns-clause-above
-returns-clause-above g c =
+pub returns-clause-of : goal.returns-clause-of
+returns-clause-of g c =
     let here : c.args.mark.segment ≡ c.args.segment = search rules in
-    let lowest : c.lowest_of.result ≡ lowest_known c.args.self.now.cells.items c.args.mark.document =
-    c.lowest_of.ensures ∙ ap (λ (l : List Cells). lowest_known l c.args.mark.document) c.deref.ensures.value in
-    on_err c.raise-2.result (here, omega (arith, lowest, c.if-mark-lowest_of.false))
+    let some : c.args.mark.revision ≢ 0 = search rules in
+    on_err c.raise-2.result (here, omega (arith, some))
 
-pub returns-in-Err-clause-spared : goal.returns-in-Err-clause-spared
-returns-in-Err-clause-spared g c out =
+pub returns-in-Err-clause-elsewhere : goal.returns-in-Err-clause-elsewhere
+returns-in-Err-clause-elsewhere g c out =
     let here : c.args.mark.segment ≡ c.args.segment = search rules in
-    let lowest : c.lowest_of.result ≡ lowest_known c.args.self.now.cells.items c.args.mark.document =
-    c.lowest_of.ensures ∙ ap (λ (l : List Cells). lowest_known l c.args.mark.document) c.deref.ensures.value in
-    ⊎_elim (λ away. absurd (away here)) (λ low. absurd (omega (arith, low, lowest, c.if-mark-lowest_of.false))) out
+    let some : c.args.mark.revision ≢ 0 = search rules in
+    ⊎_elim (λ away. absurd (away here)) (λ none. absurd (some none)) out
 
-pub returns-clause-spared : goal.returns-clause-spared
-returns-clause-spared g c out =
+pub returns-clause-elsewhere : goal.returns-clause-elsewhere
+returns-clause-elsewhere g c out =
     let here : c.args.mark.segment ≡ c.args.segment = search rules in
-    let lowest : c.lowest_of.result ≡ lowest_known c.args.self.now.cells.items c.args.mark.document =
-    c.lowest_of.ensures ∙ ap (λ (l : List Cells). lowest_known l c.args.mark.document) c.deref.ensures.value in
-    ⊎_elim (λ away. absurd (away here)) (λ low. absurd (omega (arith, low, lowest, c.if-mark-lowest_of.false))) out
+    let some : c.args.mark.revision ≢ 0 = search rules in
+    ⊎_elim (λ away. absurd (away here)) (λ none. absurd (some none)) out
 
 -- the first one was refused
 pub returns-in-Err-clause-half : goal.returns-in-Err-clause-half
 returns-in-Err-clause-half g c other is_open =
     none_put c.args.self.now c.raise.new.self is_open c.args.mark.document
     (c.raise.ensures.goes.opens (works_still c.in-Err.refusal c.in-Err.ensures.faults other) is_open) (c.in-Err.ensures.unwritten other)
-    c.in-Err.ensures.job
 
 -- the second one was put, or refused
 pub returns-clause-needed : goal.returns-clause-needed
@@ -90,37 +79,18 @@ returns-clause-needed g c told is_open reach =
 
 pub returns-clause-covered : goal.returns-clause-covered
 returns-clause-covered g c =
-    covered_behind c.args.self.now c.raise.new.self c.raise-2.new.self (IsMarkAbove c.args.segment c.args.mark c.args.self.now) c.args.mark.document c.raise-2.result c.raise.ensures.keeps.state
+    covered_behind c.args.self.now c.raise.new.self c.raise-2.new.self (IsMarkOf c.args.segment c.args.mark) c.args.mark.document c.raise-2.result c.raise.ensures.keeps.state
     c.in_default.ensures.put c.raise-2.ensures.put
 
 pub returns-clause-dropped : goal.returns-clause-dropped
-returns-clause-dropped g c =
-    on_ok_weaker c.raise-2.result
-    (λ dropped above.
-    dropped
-    ∙ (ap (λ (l : List Job). without_job c.args.mark.document l) c.in_default.ensures.dropped ∙ others_without c.args.mark.document c.args.mark.document (kept_jobs c.args.self.now) refl))
+returns-clause-dropped g c of =
     c.raise-2.ensures.dropped
+    ∙ (ap (λ (l : List Job). without_job c.args.mark.document l) c.raise.ensures.dropped ∙ others_without c.args.mark.document c.args.mark.document (kept_jobs c.args.self.now) refl)
 
 pub returns-clause-half : goal.returns-clause-half
 returns-clause-half g c =
-    half_behind c.args.self.now c.raise.new.self c.raise-2.new.self c.args.mark.document c.raise-2.result c.in_default.ensures.put c.raise.ensures.keeps.state
-    c.in_default.ensures.dropped c.raise-2.ensures.unwritten c.raise-2.ensures.job c.raise-2.ensures.faults c.raise-2.ensures.goes
-
--- the job of the one that was refused is one more at most
-pub returns-in-Err-clause-one_job : goal.returns-in-Err-clause-one_job
-returns-in-Err-clause-one_job g c = may_keep_one c.args.mark.document (reached_in (state_of c.args.self.now) c.args.mark.document) c.args.self.now c.raise.new.self c.in-Err.ensures.job
-
-pub returns-clause-one_job : goal.returns-clause-one_job
-returns-clause-one_job g c =
-    let old = kept_jobs c.args.self.now in
-    on_err_weaker c.raise-2.result
-    (λ job. omega (
-      arith,
-      may_keep_one c.args.mark.document (reached_in (state_of c.raise.new.self) c.args.mark.document) c.raise.new.self c.raise-2.new.self job,
-      ap (λ (l : List Job). length l) c.in_default.ensures.dropped,
-      fewer_without c.args.mark.document old,
-    ))
-    c.raise-2.ensures.job
+    half_behind c.args.self.now c.raise.new.self c.raise-2.new.self c.args.mark.document c.raise-2.result c.in_default.ensures.put c.raise-2.ensures.unwritten c.raise-2.ensures.faults
+    c.raise-2.ensures.goes
 
 pub returns-clause-calls : goal.returns-clause-calls
 returns-clause-calls g c = omega (arith, c.raise.ensures.calls, c.raise-2.ensures.calls)
@@ -130,6 +100,3 @@ returns-clause-faults g c = faults_on c.in_default.field-0 c.raise-2.result c.in
 
 pub returns-clause-goes : goal.returns-clause-goes
 returns-clause-goes g c = goes_same c.raise.ensures.keeps.state c.raise.ensures.goes c.raise-2.ensures.goes
-
-pub returns-clause-others : goal.returns-clause-others
-returns-clause-others g c = c.raise-2.ensures.others ∙ c.raise.ensures.others

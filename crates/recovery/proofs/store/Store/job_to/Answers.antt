@@ -7,7 +7,7 @@ use Rattle.revision.specs.State.{DocumentRecord}
 use Rattle.refusal.specs.declared.Refusal.{Refusal}
 use Rattle.recovery.specs.Cells.{highest_known}
 use Rattle.recovery.specs.Jobs.{no_job_of, no_job_for}
-use Rattle.recovery.proofs.HandedOut.{document_there, none≢some, same_some, on_ok, memory_alone, no_reason, lengths_here, sources_here, job_given, job_keeps}
+use Rattle.recovery.proofs.HandedOut.{document_there, held_here, none≢some, same_some, on_ok, memory_alone, no_reason, lengths_here, sources_here, job_given, job_keeps}
 use Rattle.recovery.proofs.Unwritten.{made_of}
 use Rattle.recovery.proofs.store.Store.job_to.Goals as goal
 
@@ -25,8 +25,10 @@ job_of-requires-clause-lengths g c =
     let store = c.args.self.now in
     let found = c.in-Some.found.now in
     let there : slice_get c.documents.result.now c.args.document ≡ Some found = slice_get_read c.documents.result.now (length c.documents.result.now) c.args.document found refl c.in-Some.ensures.lookup.3.0 c.in-Some.ensures.lookup.1 in
+    let none : no_job_of (record_of found) c.highest_of.result c.args.revision ≡ None = sym c.why_none.ensures.is ∙ c.in_default-why_none.is in
     lengths_here store.state c.limits.ensures.state c.args.document (record_of found)
     (document_there c.documents.result.now store.state.documents c.args.document found c.documents.ensures.documents there) c.args.revision
+    (held_here (record_of found) c.highest_of.result c.args.revision none).2
 
 pub returns-clause-job : goal.returns-clause-job
 returns-clause-job g c =
@@ -103,4 +105,4 @@ returns-clause-made g c =
     let found = c.in-Some.found.now in
     let there : slice_get c.documents.result.now c.args.document ≡ Some found = slice_get_read c.documents.result.now (length c.documents.result.now) c.args.document found refl c.in-Some.ensures.lookup.3.0 c.in-Some.ensures.lookup.1 in
     made_of store.state.documents c.args.document c.args.revision (record_of found)
-    (document_there c.documents.result.now store.state.documents c.args.document found c.documents.ensures.documents there) c.job_of.result c.job_of.ensures.deltas
+    (document_there c.documents.result.now store.state.documents c.args.document found c.documents.ensures.documents there) c.job_of.result c.job_of.ensures.made

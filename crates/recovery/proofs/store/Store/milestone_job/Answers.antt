@@ -119,3 +119,25 @@ returns-in_err-copy-clause-refusal g c = memory_alone _ _ (search rules)
 
 pub returns-in_err-keep-clause-refusal : goal.returns-in_err-keep-clause-refusal
 returns-in_err-keep-clause-refusal g c = memory_alone _ _ (search rules)
+
+-- the copy found no place: the jobs are as they were
+pub returns-in_err-keep-clause-open : goal.returns-in_err-keep-clause-open
+returns-in_err-keep-clause-open g c is_open =
+    let same : jobs_of c.keep.new.self ≡ jobs_of c.args.self.now.jobs = c.in_err-keep.ensures.err in
+    record {
+      synced = is_open.synced;
+      cells = is_open.cells;
+      table = is_open.table;
+      batches = is_open.batches;
+      order = is_open.order;
+      holds = is_open.holds;
+      fits = is_open.fits;
+      ring_at = is_open.ring_at;
+      ring_size = is_open.ring_size;
+      cells_are = is_open.cells_are;
+      cells_fit = is_open.cells_fit;
+      marked = is_open.marked;
+      limits = is_open.limits;
+      runs = is_open.runs;
+      kept = subst (λ (l : List Job). CanAllBePut is_open.order is_open.cells l) (sym same) is_open.kept;
+    }

@@ -5,7 +5,7 @@ use Rattle.compose.specs.Many.{applied}
 use Rattle.revision.specs.Past.{AreKept, StandInTurn}
 use Rattle.revision.specs.steps.PastView.{parts_of}
 use Rattle.revision.proofs.Parts.{document_is}
-use Rattle.revision.proofs.FromFloor.{slice-from}
+use Rattle.revision.proofs.FromBase.{slice-from}
 use Rattle.revision.proofs.Beginnings.{begin_stand, begin_applied}
 use Rattle.revision.proofs.past.Past.document_at.Goals as goal
 

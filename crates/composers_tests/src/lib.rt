@@ -1,0 +1,10 @@
+//! Tests of `composers`, by its public calls alone.
+#![tactic(auto)]
+
+pub mod callers;
+#[cfg(test)]
+mod halves;
+#[cfg(test)]
+mod made;
+#[cfg(test)]
+mod places;

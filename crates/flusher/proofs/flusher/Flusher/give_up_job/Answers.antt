@@ -1,0 +1,19 @@
+use Rattle.std.proofs.Common.{sym, subst, ◌∙◌}
+use Rattle.recovery.proofs.CallerLemmas.{goes_still, found_as, found_open}
+use Rattle.flusher.specs.Flushers.{MayCommit}
+use Rattle.flusher.proofs.flusher.Flusher.give_up_job.Goals as goal
+
+pub returns-clause-goes : goal.returns-clause-goes
+returns-clause-goes g c =
+    let e = c.give_up_job.ensures in
+    goes_still e.same.device e.same.failed e.open (λ is_open. found_as _ _ (found_open c.args.self.now.store is_open))
+
+pub invariant_of-self : goal.invariant_of-self
+invariant_of-self g c =
+    let same = c.give_up_job.ensures.same.state in
+    record {
+      kept = same ∙ c.args.self.now.kept;
+      few = c.args.self.now.few;
+      fits = λ run is. subst (λ s. MayCommit s run.commands c.args.self.now.publisher.unpublished) (sym same) (c.args.self.now.fits run is);
+      placed = c.args.self.now.placed;
+    }

@@ -1,0 +1,82 @@
+-- What a commit for which room may be made in a full journal comes to, and what making room leaves where it is refused.
+use Rattle.std.specs.Prelude.{◌≡◌, ◌⊎◌, ◌+◌, ◌*◌, ◌≤◌, ◌<◌, ◌-◌, ◌^◌, ℕ, true, false, List, length}
+use Rattle.disk.specs.declared.device.Disk.{Ghosts}
+use Rattle.refusal.specs.declared.Refusal.{Refusal}
+use Rattle.refusal.specs.declared.Refusal.TheVariants.{JournalFull, StillNeeded, Stranger, NoMemory, Fault}
+use Rattle.revision.specs.Command.{Taken}
+use Rattle.revision.specs.State.{fold, all_grow, first_grows}
+use Rattle.segments.specs.Numbers.{IsOldest, newest_number, open_count}
+use Rattle.segments.specs.Ring.{known_numbers}
+use Rattle.recovery.specs.declared.store.Store.{Store}
+use Rattle.recovery.specs.Found.{FoundAs}
+use Rattle.recovery.specs.Goes.{Goes}
+use Rattle.recovery.specs.Marks.{within_segment, without_segment}
+use Rattle.recovery.specs.Open.{IsOpen, IsUnchanged, IsCommittedNow, IsCommittedBehind, IsFreedNow, IsHalfFreed, KeepsJobs, device_of, ring_of, state_of, known_cells, known_marks, kept_jobs, has_room, fits_newest_segment}
+
+module _ {D : Type 0} {disk : Ghosts D} where
+  -- fewer than two slots are open
+  abbrev pub HasFew : Store D disk → Type 0
+  HasFew store = open_count (known_numbers (ring_of store)) < 2
+
+  -- the number of the last segment that there can be is in use
+  abbrev pub IsSpent : Store D disk → Type 0
+  IsSpent store = 2 ^ 64 - 1 ≤ newest_number (known_numbers (ring_of store))
+
+  -- Making room leaves the kept jobs of each document that has no entry in the oldest segment, and keeps no more jobs.
+  pub record KeepsOthers (old new : Store D disk) : Type 0 where
+    pub jobs : IsOpen old → (slot segment : ℕ) → IsOldest (known_numbers (ring_of old)) slot segment → KeepsJobs segment old new
+    pub no_more : length (kept_jobs new) ≤ length (kept_jobs old)
+
+  -- Making room takes twelve calls of the device at most for each mark of the oldest segment, and so many more.
+  pub record CostsAtMost (more : ℕ) (old new : Store D disk) : Type 0 where
+    pub by_segment : (slot segment : ℕ) → IsOldest (known_numbers (ring_of old)) slot segment
+        → length (disk.past (device_of new)) ≤ length (disk.past (device_of old)) + (12 * length (within_segment segment (known_marks old)) + more)
+    pub by_marks : length (disk.past (device_of new)) ≤ length (disk.past (device_of old)) + (12 * length (known_marks old) + more)
+
+  -- Room was made: the oldest segment is closed, and its marks are gone.
+  pub record IsFreed (old new : Store D disk) : Type 0 where
+    pub now : (is_open : IsOpen old) → IsFreedNow old is_open new
+    pub marks : (slot segment : ℕ) → IsOldest (known_numbers (ring_of old)) slot segment → known_marks new ≡ without_segment segment (known_marks old)
+
+  -- Room was not made, and why: too few slots are open, and the store is left as it was; memory ran out, and some milestones may be put; or the
+  -- device failed. The segments stay.
+  pub record IsUnfreed (refusal : Refusal) (old new : Store D disk) : Type 0 where
+    pub only : (refusal ≡ StillNeeded) ⊎ ((refusal ≡ NoMemory) ⊎ (refusal ≡ Fault))
+    pub ring : ring_of new ≡ ring_of old
+    pub marks : known_marks new ≡ known_marks old
+    pub needed : refusal ≡ StillNeeded → IsOpen old → HasFew old × IsUnchanged old new
+    pub half : refusal ≡ NoMemory → (is_open : IsOpen old) → IsHalfFreed old is_open new
+
+  -- A batch that has room is committed or refused without more: the jobs and the cells stay, and the calls of the device are few.
+  pub record IsPlain (batch : List Taken) (old new : Store D disk) : Type 0 where
+    pub jobs : kept_jobs new ≡ kept_jobs old
+    pub cells : known_cells new ≡ known_cells old
+    pub calls : length (disk.past (device_of new)) ≤ length (disk.past (device_of old)) + 8
+    pub calls_where_it_fits : fits_newest_segment old batch ≡ true → length (disk.past (device_of new)) ≤ length (disk.past (device_of old)) + 4
+
+  -- A batch is committed: the cells and the slots are those of before, but for the batch, where it had room, and else those that making room
+  -- left. One mark more is known at most for each command.
+  pub record IsCommittedFreeing (batch : List Taken) (old new : Store D disk) : Type 0 where
+    pub grow : all_grow (state_of old) batch ≡ true
+    pub state : state_of new ≡ fold (state_of old) batch
+    pub now : has_room old batch ≡ true → (is_open : IsOpen old) → IsCommittedNow batch old is_open new
+    pub behind : has_room old batch ≡ false → (is_open : IsOpen old) → IsCommittedBehind batch old is_open new
+    pub marks : length (known_marks new) ≤ length (known_marks old) + length batch
+
+  -- A batch is not committed, and why. The documents stay, and where the batch had room, all of the store. Where it had none, it is refused
+  -- as `JournalFull` behind a segment that was freed, and as `StillNeeded` where none could be, and then the numbers of segments are used up; as
+  -- `Stranger` behind a segment that was freed; and where memory ran out, one is freed or partly freed, and nothing of the batch is written.
+  pub record IsUncommitted (refusal : Refusal) (batch : List Taken) (old new : Store D disk) : Type 0 where
+    pub only : ((refusal ≡ JournalFull) ⊎ ((refusal ≡ StillNeeded) ⊎ (refusal ≡ Stranger))) ⊎ ((refusal ≡ NoMemory) ⊎ (refusal ≡ Fault))
+    pub state : state_of new ≡ state_of old
+    pub marks : length (known_marks new) ≤ length (known_marks old)
+    pub same_marks : has_room old batch ≡ true → known_marks new ≡ known_marks old
+    pub full : refusal ≡ JournalFull → (has_room old batch ≡ false) × (has_room new batch ≡ false) × ((is_open : IsOpen old) → IsFreedNow old is_open new)
+    pub needed : refusal ≡ StillNeeded → (has_room old batch ≡ false) × (ring_of new ≡ ring_of old) × (known_marks new ≡ known_marks old)
+        × (IsOpen old → HasFew old × IsUnchanged old new)
+    pub spent : (refusal ≡ JournalFull) ⊎ (refusal ≡ StillNeeded) → IsOpen old → IsSpent old
+    pub stranger : refusal ≡ Stranger → all_grow (state_of old) batch ≡ false
+    pub memory : refusal ≡ NoMemory → (has_room old batch ≡ true → first_grows (state_of old) batch ≡ true) × Goes (λ content. FoundAs content (state_of old)) old new
+    pub unchanged : (refusal ≡ Stranger) ⊎ (refusal ≡ NoMemory) → has_room old batch ≡ true → IsUnchanged old new
+    pub behind : (refusal ≡ Stranger) ⊎ (refusal ≡ NoMemory) → has_room old batch ≡ false → (is_open : IsOpen old)
+        → (IsFreedNow old is_open new) ⊎ ((refusal ≡ NoMemory) × IsHalfFreed old is_open new)

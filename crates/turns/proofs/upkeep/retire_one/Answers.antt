@@ -1,0 +1,7 @@
+use Rattle.turns.proofs.Writing.{keeps_call, upkeep_done}
+use Rattle.turns.proofs.upkeep.retire_one.Goals as goal
+
+pub returns-in-Ok : goal.returns-in-Ok
+returns-in-Ok g c =
+    let e = c.retire.ensures in
+    upkeep_done tt true c.args.flusher.now c.retire.new.self (keeps_call c.args.flusher.now c.retire.new.self e.goes e.state e.told e.committed e.waiting) c.in-Ok.ensures.faults.fails
