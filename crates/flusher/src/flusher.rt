@@ -141,6 +141,7 @@ impl<D: Disk, J: Site> Flusher<D, J> {
         ensures committed { OnOk result ((batch : List Taken) → waiting_of self.old ≡ batch ∷ []
             → (is_open : IsOpen (store_of self.old))
             → IsCommittedNow batch (store_of self.old) is_open (store_of self.new)) }
+        ensures still { waiting_of self.old ≡ [] → store_of self.new ≡ store_of self.old }
         ensures unchanged { IfErr result (λ e. e ≢ Refusal.Fault → IsUnchanged (store_of self.old) (store_of self.new)) }
 
         // When each refusal comes.

@@ -1,5 +1,5 @@
 //! Handing out the jobs of milestones.
-ghost use Rattle.std.specs.Prelude.{List, ◌≡◌, ◌≢◌, ◌⊎◌, ◌≤◌, true, false, Some, None, slice_get, OnOk, OnErr, IfOk, IfErr, IfSome, IsErrOf, IsOkUnless};
+ghost use Rattle.std.specs.Prelude.{List, ◌≡◌, ◌≢◌, ◌⊎◌, ◌≤◌, true, false, Some, None, slice_get, Contains, OnOk, OnErr, IfOk, IfErr, IfSome, IsErrOf, IsOkUnless};
 ghost use Rattle.refusal.specs.declared.Refusal.{Refusal as Why};
 ghost use Rattle.delta.specs.Element.{Element};
 ghost use Rattle.delta.specs.Operation.{Operation};
@@ -83,9 +83,22 @@ impl<D: Disk> Store<D> {
         Ok(job)
     }
 
-    /// Drops the copy of the job that was handed out of a document, where one is kept: what comes of that job isn't put any more, and
+    /// Drops the copy of a job, where this very job is still the one that is kept of its document: what comes of it isn't put any more, and
     /// another one may be due. It takes no memory.
-    pub fn give_up_job(&mut self, document: u32)
+    pub fn give_up_job(&mut self, job: &Job)
+        ensures kept { Contains (kept_jobs self.old) job.now
+            → kept_jobs self.new ≡ without_job job.now.document (kept_jobs self.old) }
+        ensures other { (¬ Contains (kept_jobs self.old) job.now) → kept_jobs self.new ≡ kept_jobs self.old }
+        ensures same { IsUnchangedButJobs self.old self.new }
+        ensures open { IsOpen self.old → IsOpen self.new }
+    {
+        if self.jobs.is_kept(job) {
+            self.drop_job(job.document_number());
+        }
+    }
+
+    // Drops the copy of the job of a document, where one is kept. It takes no memory.
+    pub(crate) fn drop_job(&mut self, document: u32)
         ensures jobs { kept_jobs self.new ≡ without_job document (kept_jobs self.old) }
         ensures same { IsUnchangedButJobs self.old self.new }
         ensures open { IsOpen self.old → IsOpen self.new }

@@ -101,8 +101,8 @@ impl Exchange {
         Ok(())
     }
 
-    // Puts what was done next, and tells whether there may be more. A job that came back for want of memory is given up, and its document
-    // looked at again. Refused with `Fault` alone.
+    // Puts what was done next, and tells whether there may be more. A job that came back as it was is given up, and its document looked at
+    // again. Refused with `Fault` alone.
     fn put_next<D: Disk, J: Site, R: Wait>(
         &mut self,
         rt: &R,
@@ -117,9 +117,8 @@ impl Exchange {
         match done {
             Ok(composed) => self.put(alloc, flusher, composed),
             Err(back) => {
-                let document = back.job.document_number();
-                flusher.give_up_job(document);
-                self.queue.add(document);
+                flusher.give_up_job(&back.job);
+                self.queue.add(back.job.document_number());
                 Ok(true)
             }
         }

@@ -68,6 +68,16 @@ returns-in-Ok-clause-committed g c batch waits is_open =
     let one : c.commands.result.now ≡ batch = same_batch (held_in c.args.self.now.waiting) c.commands.result.now batch (ap held_in held ∙ ap (λ (b : List Taken). b ∷ []) (sym same)) waits in
     subst (λ (b : List Taken). IsCommittedNow b c.args.self.now.store is_open c.commit.new.self) one (c.in-Ok.ensures.committed is_open)
 
+pub returns-in-Ok-clause-still : goal.returns-in-Ok-clause-still
+returns-in-Ok-clause-still g c waits =
+    let held : c.args.self.now.waiting ≡ Some c.in-Some.run = cc in
+    absurd (no_batch c.in-Some.run.commands (held_in c.args.self.now.waiting) waits (ap held_in held))
+
+pub returns-in-Err-clause-still : goal.returns-in-Err-clause-still
+returns-in-Err-clause-still g c waits =
+    let held : c.args.self.now.waiting ≡ Some c.in-Some.run = cc in
+    absurd (no_batch c.in-Some.run.commands (held_in c.args.self.now.waiting) waits (ap held_in held))
+
 pub returns-in-Err-clause-unchanged : goal.returns-in-Err-clause-unchanged
 returns-in-Err-clause-unchanged g c =
     unchanged_without c.args.self.now.store c.commit.new.self c.in-Err.refusal c.in-Err.ensures.only
