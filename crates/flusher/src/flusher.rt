@@ -204,7 +204,7 @@ impl<D: Disk, J: Site> Flusher<D, J> {
         ensures state { OnOk result (state_of (store_of self.new)
             ≡ fold (state_of (store_of self.old)) (commands_of (waiting_of self.old))) }
         // The cells and the slots are those of before, but for the batch, where it had room, and else those that freeing left; where no
-        // batch waits the store is as it was.
+        // batch waits the store is unchanged.
         ensures committed { OnOk result (IsHeldCommitted (waiting_of self.old) (store_of self.old) (store_of self.new)) }
         ensures memory { IsErrOf result Refusal.NoMemory
             → ((waiting_of self.new ≡ waiting_of self.old)
@@ -325,7 +325,7 @@ impl<D: Disk, J: Site> Flusher<D, J> {
         ensures same_state { OnErr result (state_of (store_of self.new) ≡ state_of (store_of self.old)) }
         // The cells and the slots are those of before, but for the batch, where it had room, and else those that freeing left.
         ensures committed { OnOk result (IsHeldCommitted (waiting_of self.old) (store_of self.old) (store_of self.new)) }
-        // Where it had room, all of the store is as it was, and else the oldest segment is freed, or partly freed.
+        // Where it had room, all of the store is unchanged, and else the oldest segment is freed, or partly freed.
         ensures given_up { IsErrOf result Refusal.NoMemory
             → IsGivenUp (waiting_of self.old) (store_of self.old) (store_of self.new) }
 

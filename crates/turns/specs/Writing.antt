@@ -18,7 +18,7 @@ use Rattle.flusher.specs.Flushers.{IsUsedUp}
 use Rattle.flusher.specs.Holding.{store_of, told_of, committed_of, waiting_of}
 
 module _ {D : Type 0} {disk : Ghosts D} where
-  -- Milestones were put and segments retired, and nothing else: the state is as it was, and a crash at any moment leaves it.
+  -- Milestones were put and segments retired, and nothing else: the state is unchanged, and a crash at any moment leaves it.
   pub record IsKeptUp (old new : Store D disk) : Type 0 where
     pub goes : Goes (λ content. FoundAs content (state_of old)) old new
     pub state : state_of new ≡ state_of old

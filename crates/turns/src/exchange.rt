@@ -1,5 +1,5 @@
 //! The composers, as the thread that writes has them.
-ghost use Rattle.std.specs.Prelude.{◌≤◌, Ok};
+ghost use Rattle.std.specs.Prelude.{◌≡◌, ◌≤◌, false, Some, Ok, IfOk};
 ghost use Rattle.turns.specs.Writing.{IsUpkeep};
 
 use crate::queue::Queue;
@@ -17,7 +17,7 @@ use std::sync::Wait;
 const MOST_PUT: u32 = 64;
 
 /// How often a milestone is due, the ends of the channels to the composers, the documents that are looked at next, one job at most that found
-/// no place in the channel, and one at most that is done and found no memory to be put.
+/// no place in the channel, and one at most that is done and for whose putting memory ran out.
 #[derive(Drop)]
 pub(crate) struct Exchange {
     every: u32,
@@ -101,7 +101,7 @@ impl Exchange {
         Ok(())
     }
 
-    // Puts what was done next, and tells whether there may be more. A job that came back as it was is given up, and its document looked at
+    // Puts what was done next, and tells whether there may be more. A job that came back undone is given up, and its document looked at
     // again. Refused with `Fault` alone.
     fn put_next<D: Disk, J: Site, R: Wait>(
         &mut self,
@@ -124,7 +124,7 @@ impl Exchange {
         }
     }
 
-    // What is done next: what found no memory to be put, or what comes.
+    // What is done next: what is still to be put, or what comes.
     fn next_done<R: Wait>(&mut self, rt: &R) -> Option<Done> {
         match self.unput.take() {
             Some(composed) => Some(Ok(composed)),
@@ -141,7 +141,8 @@ impl Exchange {
         flusher: &mut Flusher<D, J>,
         composed: Composed,
     ) -> Result<bool, Refusal>
-        ensures { IsUpkeep result flusher.old flusher.new }
+        ensures upkeep { IsUpkeep result flusher.old flusher.new }
+        ensures kept { IfOk result (λ more. more ≡ false → self.new.unput ≡ Some composed) }
     {
         self.queue.add(composed.job().document_number());
         match flusher.put_milestone(alloc, &composed) {
@@ -210,7 +211,9 @@ impl Exchange {
     }
 
     // Sends a job to the composers, and tells whether there was a place. Else it is kept.
-    fn send<R: Wait>(&mut self, rt: &R, job: Job) -> bool {
+    fn send<R: Wait>(&mut self, rt: &R, job: Job) -> bool
+        ensures kept { result ≡ false → self.new.unsent ≡ Some job }
+    {
         match self.composers.hand_out(rt, job) {
             Ok(()) => true,
             Err(back) => {
