@@ -1,5 +1,5 @@
 -- What the flusher's thread does from one moment to a later one, with no word of the board, which other threads move meanwhile.
-use Rattle.std.specs.Prelude.{◌≡◌, ◌⊎◌, ◌↔◌, ℕ, true, false, List, [], ◌∷◌, ◌++◌, length, Result, IfErr, IsErrOf}
+use Rattle.std.specs.Prelude.{◌≡◌, ◌⊎◌, ◌↔◌, ℕ, true, false, List, [], ◌∷◌, ◌++◌, length, Result, Ok, IfErr, IsErrOf}
 use mathlib.Core.List.{IsPrefix}
 use Rattle.disk.specs.declared.device.Disk.{Ghosts}
 use Rattle.disk.specs.Crash.{MayLeaveNow}
@@ -76,6 +76,10 @@ module _ {D J : Type 0} {disk : Ghosts D} where
     pub keeps : KeepsUp old new
     pub fails : has_failed (store_of old) ≡ false → (has_failed (store_of new) ≡ true ↔ IsErrOf result Fault)
     pub only : IfErr result (λ e. e ≡ Fault)
+
+  -- a step that nothing refuses
+  abbrev pub IsUnrefused : Flusher D J disk → Flusher D J disk → Type 0
+  IsUnrefused old new = IsUpkeep {A = Unit {0}} (Ok tt) old new
 
   -- Just one batch was published.
   pub record IsOneMore (old new : Flusher D J disk) : Type 0 where

@@ -1,6 +1,6 @@
 //! The composers, as the thread that writes has them.
-ghost use Rattle.std.specs.Prelude.{◌≡◌, ◌≤◌, false, Some, Ok, IfOk};
-ghost use Rattle.turns.specs.Writing.{IsUpkeep};
+ghost use Rattle.std.specs.Prelude.{◌≡◌, ◌≤◌, false, Some, IfOk};
+ghost use Rattle.turns.specs.Writing.{IsUpkeep, IsUnrefused};
 
 use crate::queue::Queue;
 use composers::{Composers, Done};
@@ -167,7 +167,7 @@ impl Exchange {
         alloc: Global,
         flusher: &mut Flusher<D, J>,
     )
-        ensures { IsUpkeep (Ok tt) flusher.old flusher.new }
+        ensures { IsUnrefused flusher.old flusher.new }
     {
         if !self.send_again(rt) {
             return;
@@ -187,7 +187,7 @@ impl Exchange {
         alloc: Global,
         flusher: &mut Flusher<D, J>,
     ) -> bool
-        ensures { IsUpkeep (Ok tt) flusher.old flusher.new }
+        ensures { IsUnrefused flusher.old flusher.new }
     {
         let Some(document) = self.queue.next() else {
             return false;
@@ -232,7 +232,7 @@ fn job_of<D: Disk, J: Site>(
     every: u32,
 ) -> Result<Option<Job>, Refusal>
     requires { 1 ≤ every }
-    ensures { IsUpkeep (Ok tt) flusher.old flusher.new }
+    ensures { IsUnrefused flusher.old flusher.new }
 {
     match flusher.job_due(document, u64::from(every)) {
         None => Ok(None),
