@@ -176,11 +176,13 @@ fn turned<J: Site, R: Wait + Clock + Abort + AllocGlobal>(
     requires seats { blank.parts ≡ 2 }
     requires begin { state_of store ≡ J.start }
 {
-    assert!(rt; 1 <= work.every && 2 <= work.last);
+    let every = work.every;
+    let last = work.last;
+    assert!(rt; 1 <= every && 2 <= last);
     let (mut flusher, mut board) = started::<J>(rt, store, opened, blank);
     let mut seat = board.seat().expect(rt, "a seat");
     let (hub, mut writer, _closer) = Hub::new(board);
-    let mut upkeep = Upkeep::new(rt.alloc(), work.every, Some(ends), flusher.state());
+    let mut upkeep = Upkeep::new(rt.alloc(), every, Some(ends), flusher.state());
     write_commands(
         rt,
         &mut flusher,
@@ -191,15 +193,15 @@ fn turned<J: Site, R: Wait + Clock + Abort + AllocGlobal>(
         work,
     );
     for _ in 0..2u8 {
-        idle_turn(rt, &mut flusher, &hub, &mut writer, &mut upkeep, work.every);
+        idle_turn(rt, &mut flusher, &hub, &mut writer, &mut upkeep, every);
     }
     is_open.store(true, Ordering::SeqCst);
     for _ in 0..TURNS {
-        if are_put(&flusher, work.last) {
+        if are_put(&flusher, last) {
             return flusher.end(rt).close();
         }
         sleep(rt, Duration::from_millis(1));
-        idle_turn(rt, &mut flusher, &hub, &mut writer, &mut upkeep, work.every);
+        idle_turn(rt, &mut flusher, &hub, &mut writer, &mut upkeep, every);
     }
     panic!(rt; "a milestone isn't put")
 }
@@ -330,7 +332,8 @@ fn alone<J: Site, R: Wait + Abort + AllocGlobal>(
     for _ in 0..3u8 {
         idle_turn(rt, &mut flusher, &hub, &mut writer, &mut upkeep, 4);
     }
-    drop((first, second));
+    drop(first);
+    drop(second);
     for _ in 0..3u8 {
         idle_turn(rt, &mut flusher, &hub, &mut writer, &mut upkeep, 4);
     }
