@@ -150,7 +150,7 @@ fn are_put<J: Site>(flusher: &Flusher<MemDisk, J>, last: u64) -> bool
     let mut document = 0;
     for _ in flusher.state().documents() {
         if flusher.job_due(document, last) != Some(last)
-            || flusher.job_due(document, last - 1) != None
+            || flusher.job_due(document, last - 1).is_some()
         {
             return false;
         }
@@ -247,7 +247,7 @@ const WIDE: Shape = Shape {
     keep: 64,
 };
 
-// As many documents as have no place in the channel and with the composers: each of them gets its milestone, at the multiple 2.
+// There are more documents than places in the channel and with the composers. Each gets its milestone, at the multiple 2.
 #[test]
 fn each_of_many_documents_gets_a_milestone(rt: HostRuntime) {
     let work = Work {
@@ -267,7 +267,7 @@ fn each_of_many_documents_gets_a_milestone(rt: HostRuntime) {
     }
 }
 
-// The edits of a document pass the multiple 4. So far it has no milestone, and there is no document when the turns begin.
+// The edits pass the multiple 4. There is no document when the turns begin.
 #[test]
 fn a_batch_leads_to_a_milestone(rt: HostRuntime) {
     let work = Work {
@@ -295,7 +295,7 @@ fn a_multiple_that_is_passed_meanwhile_gets_its_milestone(rt: HostRuntime) {
     let _ = left_beside(&rt, work);
 }
 
-// Each of three slots holds a command's record, and the first two go in the turn that puts the milestone at revision 2.
+// Each of three slots holds a command. The first two are retired in the turn that puts the milestone at revision 2.
 #[test]
 fn the_turn_that_puts_a_milestone_retires_what_waits_for_it(rt: HostRuntime) {
     let work = Work {
