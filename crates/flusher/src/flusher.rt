@@ -157,18 +157,18 @@ impl<D: Disk, J: Site> Flusher<D, J> {
     {
         match self.waiting.take() {
             None => Ok(()),
-            Some(run) => {
+            Some(held) => {
                 self.begun.is_start();
-                let ordered = run.goes_on(self.publisher.told());
+                let ordered = held.goes_on(self.publisher.told());
                 ordered.legal();
-                match self.store.commit(alloc, run.commands()) {
+                match self.store.commit(alloc, held.commands()) {
                     Ok(receipt) => {
-                        run.committed(&receipt);
+                        held.committed(&receipt);
                         self.publisher.accept(receipt, ordered);
                         Ok(())
                     }
                     Err(refusal) => {
-                        fill(&mut self.waiting, run);
+                        fill(&mut self.waiting, held);
                         Err(refusal)
                     }
                 }
