@@ -1,8 +1,10 @@
 use super::{greeted, is_told, served};
-use disk::{Disk, MemDisk};
+use disk::{Disk, FileDisk, MemDisk};
 use recovery::{Pick, Shape, Store, format_device};
+use std::fs::{self, File};
 use std::net::{Net, SocketAddr, TcpListener, TcpStream};
 use std::process::Abort;
+use std::rt::Files;
 use std::sync::Wait;
 use std::thread::Threads;
 use std::time::Clock;
@@ -98,4 +100,45 @@ fn milestones_lie_at_multiples(rt: HostRuntime) {
     let mut disk = MemDisk::new(rt.alloc(), SHAPE.device_len() as usize).expect(&rt, "memory");
     assert_eq!(&rt; format_device(rt.alloc(), &mut disk, SHAPE), Ok(()));
     are_written(&rt, super::opened(&rt, disk));
+}
+
+/// The place of the first document's first cell, at whose begin the gate stands, and the gate where it is open.
+const GATE: usize = 64;
+
+const OPEN: u8 = 0xa5;
+
+/// So many edits are made at most. The journal has room for them.
+const MOST: u64 = 2_000;
+
+/// A session that writes a document until that has a milestone in the file.
+fn write_until_put<R: Files<File = File> + Abort + AllocGlobal + Net<Stream = TcpStream>>(
+    rt: &R,
+    address: SocketAddr,
+    path: &str,
+) {
+    let stream = greeted(rt, address, "ann");
+    for number in 1..=MOST {
+        is_taken(rt, &stream, 'a', number);
+        let bytes = fs::read(rt, path).expect(rt, "the file");
+        if bytes.get(GATE) == Some(&OPEN) {
+            return;
+        }
+    }
+    panic!(rt; "no milestone is put");
+}
+
+#[test]
+fn a_milestone_is_put_beside_edits(rt: HostRuntime) {
+    let path = "apart.store";
+    let mut disk = FileDisk::create(&rt, path, SHAPE.device_len()).expect(&rt, "a file");
+    assert_eq!(&rt; format_device(rt.alloc(), &mut disk, SHAPE), Ok(()));
+    let store = super::opened(&rt, disk);
+    let (_store, ended) = served(
+        &rt,
+        store,
+        EVERY,
+        |address| write_until_put(&rt, address, path),
+    );
+    assert_eq!(&rt; ended, Ok(()));
+    assert!(&rt; fs::remove_file(&rt, path).is_ok());
 }
