@@ -11,7 +11,7 @@ import time
 
 from refusing import NO_MEMORY, PATIENCE, STORE_FAILED, S, Disagreement, Refusal, agree, content_of, undisturbed
 
-WINDOW = 1  # how many of a source's last numbers are sent again after a start: those that the store answers by `again`
+WINDOW = 16  # how many of a source's last numbers are sent again after a start: those that the store answers by `again`
 
 
 class Script:
@@ -97,7 +97,7 @@ SCRIPTS = [
                     since("d", 1),  # TooOld
                     edit("d", 4, 2, retain(1), insert("e")),  # again
                     edit("d", 6, 4),  # Gap
-                    undo("d", 3),  # OldNumber
+                    undo("d", 3),  # again
                     create("e", insert("\U0001f600")),
                     create("f"),  # TooManyDocuments
                     undo("e", 2),

@@ -16,7 +16,8 @@ use Rattle.segments.specs.Slot.{Segment}
 use Rattle.segments.proofs.CallerLemmas.{one_table}
 use Rattle.recovery.specs.declared.shape.Shape.{Shape}
 use Rattle.recovery.specs.Shape.{cells_place, slots_place}
-use Rattle.recovery.specs.Layout.{HoldsCells, HoldsSlots}
+use Rattle.milestone.specs.CellSpelling.{Format, Two}
+use Rattle.recovery.specs.Layout.{HoldsCellsIn, HoldsSlots}
 use Rattle.segments.specs.Order.{bodies_of}
 use Rattle.recovery.specs.Found.{Found, RunsWith, HoldsParts, SpellBatches, limits_of, commands_of}
 use Rattle.recovery.proofs.Named.{named_same}
@@ -32,12 +33,12 @@ pairs_same (x ∷ a) (y ∷ b) count each =
     λ i. first i ∷ others i
 
 -- the cells of a shape hold one list of pairs at most, and its slots one table
-pub cells_same : (content : List ℕ) (shape : Shape) (a b : List Pair) → HoldsCells content shape a → HoldsCells content shape b → a ≡ b
-cells_same content shape a b is_a is_b =
+pub cells_same : (format : Format) (content : List ℕ) (shape : Shape) (a b : List Pair) → HoldsCellsIn format content shape a → HoldsCellsIn format content shape b → a ≡ b
+cells_same format content shape a b is_a is_b =
     pairs_same a b (is_a.count ∙ sym is_b.count)
     (λ number inside.
     let below : number < shape.docs = omega (arith, inside, is_a.count) in
-    one_pair (cells_place shape number) shape.cell number content (cells_at a number) (cells_at b number) (is_a.each number below) (is_b.each number below))
+    one_pair format (cells_place shape number) shape.cell number content (cells_at a number) (cells_at b number) (is_a.each number below) (is_b.each number below))
 
 pub slots_same : (content : List ℕ) (shape : Shape) (a b : List (Option Segment)) → HoldsSlots content shape a → HoldsSlots content shape b → a ≡ b
 slots_same content shape a b is_a is_b = one_table (slots_place shape) shape.slot content a b (is_a.count ∙ sym is_b.count) is_a.holds is_b.holds
@@ -67,12 +68,12 @@ pub record SameParts (shape : Shape) (cells : List Pair) (batches : List (List T
 pub parts_once : (content : List ℕ) (shape other : Shape) (cells other_cells : List Pair) (table other_table : List (Option Segment)) (batches other_batches : List (List Taken))
     → HoldsParts content shape cells table batches → HoldsParts content other other_cells other_table other_batches → SameParts shape cells batches other other_cells other_batches
 parts_once content shape other cells other_cells table other_table batches other_batches holds others =
-    let shapes : other ≡ shape = named_same content other shape others.laid_out.names holds.laid_out.names in
+    let shapes : other ≡ shape = named_same Two content other shape others.laid_out.names holds.laid_out.names in
     let here : HoldsParts content shape other_cells other_table other_batches = subst (λ (s : Shape). HoldsParts content s other_cells other_table other_batches) shapes others in
     let tables : other_table ≡ table = slots_same content shape other_table table here.laid_out.in_slots holds.laid_out.in_slots in
     record {
       shapes = shapes;
-      cells_are = cells_same content shape other_cells cells here.laid_out.in_cells holds.laid_out.in_cells;
+      cells_are = cells_same Two content shape other_cells cells here.laid_out.in_cells holds.laid_out.in_cells;
       batches_are = batches_same table other_batches batches (subst (λ (t : List (Option Segment)). SpellBatches (bodies_of t) other_batches) tables here.spell) holds.spell;
     }
 

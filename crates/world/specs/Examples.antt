@@ -16,7 +16,7 @@ use Rattle.world.specs.Step.{may_leave, run}
 
 -- a store without documents, of which each holds two revisions below its newest one
 abbrev empty_store : State
-empty_store = record { limits = record { docs = 2; sources = 4; weight = 1000; width = 237; keep = 2 }; documents = [] }
+empty_store = record { limits = record { docs = 2; sources = 4; weight = 1000; width = 237; keep = 2; retry = 8 }; documents = [] }
 
 -- source a's commands to document d
 abbrev ask : ℕ → Action → Command
