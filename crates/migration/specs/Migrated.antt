@@ -1,18 +1,15 @@
 -- The documents of a store of the first format, as a store of the second one begins with them.
 use Rattle.std.specs.Prelude.{◌≡◌, ◌⊎◌, ℕ, List, [], ◌∷◌, Some, length, map, slice_get}
-use Rattle.revision.specs.Window.{Window, last_revision}
+use Rattle.revision.specs.Sources.{cut}
 use Rattle.revision.specs.Past.{newest, content_at, sources_at}
 use Rattle.revision.specs.State.{DocumentRecord, State}
 use Rattle.history.specs.Cell.{Cell}
 use Rattle.history.specs.Law.{begun_with}
+use Rattle.milestone.specs.CellSpelling.{IsCell}
 use Rattle.recovery.specs.declared.shape.Shape.{Shape}
 use Rattle.recovery.specs.Found.{FoundAs, limits_of}
 use Rattle.recovery.specs.Formatting.{IsUnformatted}
 use Rattle.migration.specs.declared.migrate.Old.{Old}
-
--- a source with its last number alone
-abbrev pub cut : List ℕ × Window → List ℕ × Window
-cut source = (source.0, record { number = source.1.number; revisions = last_revision source.1 ∷ [] })
 
 -- a document at its newest revision, with the last number of each of its sources
 pub record IsCutTo (document : DocumentRecord) (cell : Cell) : Type 0 where
@@ -34,10 +31,13 @@ shape_of old = old.shape
 abbrev pub start_of : Old → List Cell
 start_of old = old.start.items
 
--- a content that is found as the store which began with these documents, in the second format's limits of its shape, and goes on
-pub record IsFoundAsBegun (start : List Cell) (content : List ℕ) : Type 0 where
-  pub shape : Shape
-  pub found : FoundAs content (begun_with (limits_of shape) start)
+-- each has a spelling as the cell of its number
+abbrev pub AreSpelled : List Cell → Type 0
+AreSpelled start = (number : ℕ) (cell : Cell) → slice_get start number ≡ Some cell → IsCell number cell
 
-abbrev pub IsUnformattedOrFound : List Cell → List ℕ → Type 0
-IsUnformattedOrFound start content = IsUnformatted content ⊎ IsFoundAsBegun start content
+-- a content that is found as the store of this shape which began with these documents, and goes on
+abbrev pub IsFoundAsBegun : Shape → List Cell → List ℕ → Type 0
+IsFoundAsBegun shape start content = FoundAs content (begun_with (limits_of shape) start)
+
+abbrev pub IsUnformattedOrFound : Shape → List Cell → List ℕ → Type 0
+IsUnformattedOrFound shape start content = IsUnformatted content ⊎ IsFoundAsBegun shape start content

@@ -103,6 +103,8 @@ pub fn read_old<D: Disk>(alloc: Global, disk: &mut D) -> Result<OldStore, Refusa
     ensures found { IfOk result (λ old. D.honest disk.new → FoundIn One (D.seen disk.old) Newer old.state) }
     ensures only_state { IfOk result (λ old. D.honest disk.new → (state : StateValue)
         → FoundIn One (D.seen disk.old) Newer state → state ≡ old.state) }
+    ensures only_shape { IfOk result (λ old. D.honest disk.new → (state : StateValue)
+        → (is : FoundIn One (D.seen disk.old) Newer state) → is.shape ≡ old.shape) }
     ensures limits { IfOk result (λ old. old.state.limits ≡ limits_in One old.shape) }
     ensures in_range { IfOk result (λ old. is_in_range old.shape ≡ true) }
 

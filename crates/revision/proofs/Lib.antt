@@ -9,6 +9,7 @@ mod OneMore
 mod Noted
 mod Outcomes
 mod Named
+mod Cutting
 mod Following
 mod Light
 mod KeptDocuments

@@ -5,7 +5,7 @@ use Rattle.std.specs.Coded.{Coded, code_by, coded×}
 use Rattle.std.specs.Bool.{Decides}
 use Rattle.attributes.specs.Map.{Map, by_bytes, get, insert, remove, map_code, same_map_by, same_map_by-Decides}
 use Rattle.revision.specs.Name.{is_source_name}
-use Rattle.revision.specs.Window.{Window, nothing_taken, taken_as, window_code, same_window, same_window-Decides}
+use Rattle.revision.specs.Window.{Window, nothing_taken, taken_as, last_revision, window_code, same_window, same_window-Decides}
 
 -- each source's window, by the sources' names in the order of their bytes
 abbrev pub Sources : Type 0
@@ -14,6 +14,10 @@ Sources = Map Window
 -- what a source has, the empty window where it isn't there
 abbrev pub window_of : List ℕ → Sources → Window
 window_of source sources = unwrap_or (get sources source) nothing_taken
+
+-- a source with its last number alone
+abbrev pub cut : List ℕ × Window → List ℕ × Window
+cut source = (source.0, record { number = source.1.number; revisions = last_revision source.1 ∷ [] })
 
 -- how many sources there are
 abbrev pub count_of : Sources → ℕ

@@ -1,11 +1,11 @@
 //! The sources of a document.
-ghost use Rattle.std.specs.Prelude.{◌≡◌, ◌≤◌, ◌-◌, ◌^◌, ℕ, T, true, false, None, List, min, is_some, unwrap_or, slice_get, MatchResult, IfOk, OnOk, OnErr, OnSome, IsOkUnless, length};
+ghost use Rattle.std.specs.Prelude.{◌≡◌, ◌≤◌, ◌-◌, ◌^◌, ℕ, T, true, false, None, List, min, map, is_some, unwrap_or, slice_get, MatchResult, IfOk, OnOk, OnErr, OnSome, IsOkUnless, length};
 ghost use Rattle.std.specs.FinMap.Entries.{is_sorted};
 ghost use Rattle.attributes.specs.Map.{by_bytes, empty, get, insert, remove};
 ghost use Rattle.attributes.specs.Place.{IsHere, IsFree};
 ghost use Rattle.revision.specs.Name.{is_source_name};
 ghost use Rattle.revision.specs.Window.{nothing_taken};
-ghost use Rattle.revision.specs.Sources.{are_named, count_of, total_of, window_of, with_taken, with_entry};
+ghost use Rattle.revision.specs.Sources.{are_named, count_of, cut, total_of, window_of, with_taken, with_entry};
 ghost use Rattle.revision.specs.State.{weight_of_sources, window_weight};
 ghost use Rattle.revision.specs.steps.Weighing.{more_weight, Fits};
 ghost use Rattle.revision.specs.steps.NameAt.{has_name};
@@ -295,6 +295,16 @@ impl Sources {
             list: copy_of(alloc, self.entries())?,
         })
     }
+
+    /// The same sources, each with its last number alone. Refused for want of memory alone.
+    pub fn with_last_numbers(&self, alloc: Global) -> Result<Sources, Refusal>
+        ensures cut { IfOk result (λ sources. sources.entries ≡ map cut self.now.entries) }
+        ensures only { IsOkUnless result Refusal.NoMemory }
+    {
+        Ok(Sources {
+            list: last_numbers_of(alloc, self.entries())?,
+        })
+    }
 }
 
 impl PartialEq for Sources {
@@ -308,6 +318,22 @@ impl PartialEq for Sources {
     fn eq(&self, other: &Self) -> bool {
         self.entries() == other.entries()
     }
+}
+
+// Sources with their last numbers alone, in order.
+fn last_numbers_of(
+    alloc: Global,
+    entries: &[(Name, Window)],
+) -> Result<Vec<(Name, Window)>, Refusal>
+    ensures cut { IfOk result (λ list. list.items ≡ map cut entries.now) }
+    ensures only { IsOkUnless result Refusal.NoMemory }
+{
+    let mut list = Vec::new(alloc);
+    for (source, window) in entries {
+        let last = Window::of_one(window.number(), window.last_revision());
+        list.push((source.copy(alloc)?, last))?;
+    }
+    Ok(list)
 }
 
 // How two names stand to each other in the order of their bytes. They are compared byte by byte, which for such short texts takes a
