@@ -39,20 +39,26 @@ pub fn migrate<A: Disk, B: Disk>(alloc: Global, old: &mut A, new: &mut B) -> Res
     ensures damaged { result ≡ Err Refusal.Damaged → A.honest old.new → IsFormatted (A.seen old.old)
         × ¬ IsOfFormat Two (A.seen old.old) × ((found : StateValue) → ¬ FoundIn One (A.seen old.old) Newer found) }
 
-    // From the first sync of a device without a store on, a crash at any moment leaves that device without one, or with one that is found
-    // as the documents of the old one with their windows cut, and that goes on; at Ok the latter.
+    // From the first sync of a device without a store on, a crash at any moment leaves that device without one, or with one of the old
+    // shape that is found as the documents of the old one with their windows cut, and that goes on; at Ok the latter.
     ensures from_sync { A.honest old.new → IsUnformatted (B.seen new.old) → (state : StateValue)
-        → FoundIn One (A.seen old.old) Newer state → (start : List Cell) × AreCut state start
-        × LeavesFromSync (IsUnformattedOrFound start) (history_of ⟦<B as Disk>⟧ new.old)
+        → (is : FoundIn One (A.seen old.old) Newer state) → (start : List Cell) × AreCut state start
+        × LeavesFromSync (IsUnformattedOrFound is.shape start) (history_of ⟦<B as Disk>⟧ new.old)
         (history_of ⟦<B as Disk>⟧ new.new) }
-    ensures done { OnOk result (A.honest old.new → (state : StateValue) → FoundIn One (A.seen old.old) Newer state
-        → (start : List Cell) × AreCut state start × IsFoundAsBegun start (B.seen new.new)) }
+    ensures found { OnOk result (A.honest old.new
+        → (state : StateValue) × FoundIn One (A.seen old.old) Newer state) }
+    ensures done { OnOk result (A.honest old.new → (state : StateValue)
+        → (is : FoundIn One (A.seen old.old) Newer state)
+        → (start : List Cell) × AreCut state start × IsFoundAsBegun is.shape start (B.seen new.new)) }
     ensures synced { OnOk result (B.unsynced new.new ≡ []) }
 
-    // A new device that has a store is told of, and stays.
+    // A new device that has a store is told of, and stays; so is one that is too short.
     ensures already_formatted { result ≡ Err Refusal.AlreadyFormatted → B.honest new.new → IsFormatted (B.seen new.old) }
+    ensures formatted { OnOk result (B.honest new.new → ¬ IsFormatted (B.seen new.old)) }
     ensures kept { B.honest new.new → IsFormatted (B.seen new.old)
         → IsOnlySynced (history_of ⟦<B as Disk>⟧ new.old) (history_of ⟦<B as Disk>⟧ new.new) }
+    ensures bad_shape { result ≡ Err Refusal.BadShape → A.honest old.new → (state : StateValue)
+        → (is : FoundIn One (A.seen old.old) Newer state) → ¬ Fits is.shape (length (B.seen new.old)) }
     ensures memory { result ≡ Err Refusal.NoMemory → IsUnformatted (B.seen new.old) → IsUnformatted (B.seen new.new) }
     ensures length { length (B.seen new.new) ≡ length (B.seen new.old) }
     ensures only { IfErr result (λ e. (e ≡ Refusal.NotFormatted) ⊎ ((e ≡ Refusal.NotOld) ⊎ ((e ≡ Refusal.Damaged)
@@ -68,8 +74,12 @@ impl Old {
 
     /// Reads a device of the first format, and writes nothing.
     pub fn read<A: Disk>(alloc: Global, disk: &mut A) -> Result<Old, Refusal>
+        ensures found { OnOk result (A.honest disk.new
+            → (state : StateValue) × FoundIn One (A.seen disk.old) Newer state) }
         ensures cut { IfOk result (λ old. A.honest disk.new → (state : StateValue)
             → FoundIn One (A.seen disk.old) Newer state → AreCut state (start_of old)) }
+        ensures shape { IfOk result (λ old. A.honest disk.new → (state : StateValue)
+            → (is : FoundIn One (A.seen disk.old) Newer state) → is.shape ≡ shape_of old) }
         ensures not_formatted { IfErr result (λ e. e ≡ Refusal.NotFormatted → A.honest disk.new
             → ¬ IsFormatted (A.seen disk.old)) }
         ensures not_old { IfErr result (λ e. e ≡ Refusal.NotOld → A.honest disk.new
@@ -107,6 +117,7 @@ impl Old {
             → IsOnlySynced (history_of ⟦<B as Disk>⟧ disk.old) (history_of ⟦<B as Disk>⟧ disk.new) }
         ensures already_formatted { result ≡ Err Refusal.AlreadyFormatted → B.honest disk.new
             → IsFormatted (B.seen disk.old) }
+        ensures formatted { OnOk result (B.honest disk.new → ¬ IsFormatted (B.seen disk.old)) }
         ensures bad_shape { result ≡ Err Refusal.BadShape → ¬ Fits (shape_of self.now) (length (B.seen disk.old)) }
         ensures memory { result ≡ Err Refusal.NoMemory → IsUnformatted (B.seen disk.old) → IsUnformatted (B.seen disk.new) }
         ensures only { IfErr result (λ e. (e ≡ Refusal.BadShape) ⊎ ((e ≡ Refusal.AlreadyFormatted)

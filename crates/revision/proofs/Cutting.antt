@@ -1,12 +1,16 @@
 -- Sources with their last numbers alone.
-use Rattle.std.proofs.Common.{◌≡◌, ℕ, List, [], ◌∷◌, map, T, refl, sym, ap, ap₂, subst}
-use Rattle.std.specs.Prelude.{◌&&◌}
+use Rattle.std.proofs.Common.{◌≡◌, ℕ, zero, suc, ◌+◌, ◌-◌, ◌*◌, ◌≤◌, ◌<◌, Bool, true, List, [], ◌∷◌, length, map, T, Option, Some, None, refl, sym, ◌∙◌, ap, ap₂, subst, arith}
+use Rattle.std.specs.Prelude.{◌&&◌, nat_lt, nat_le, unwrap_or}
 use Rattle.std.specs.Ordering.{is_lt}
 use Rattle.std.specs.FinMap.Entries.{is_sorted, below_all}
+use Rattle.std.proofs.lemmas.Bool.{and_parts, and_from, le-leb, lt-ltb}
 use Rattle.attributes.specs.Map.{by_bytes}
 use Rattle.revision.specs.Name.{is_source_name}
-use Rattle.revision.specs.Window.{Window}
-use Rattle.revision.specs.Sources.{are_named, cut}
+use Rattle.revision.specs.Window.{Window, revision_in, last_revision}
+use Rattle.revision.specs.Sources.{are_named, cut, total_of}
+use Rattle.revision.specs.State.{Limits, is_window, are_sources, window_weight}
+use Rattle.revision.specs.Retries.{CutStays, CutWeighs}
+use Rattle.revision.proofs.Windows.{again_in_window, window-parts, window-from, last-within, last-above}
 
 pub named-cut : (es : List (List ℕ × Window)) → are_named (map cut es) ≡ are_named es
 named-cut [] = refl
@@ -23,3 +27,30 @@ sorted-cut (e ∷ es) = ap₂ (λ a b. a && b) (below-cut e.0 es) (sorted-cut es
 -- they are in order still
 pub ascending-cut : (es list : List (List ℕ × Window)) → list ≡ map cut es → T (is_sorted by_bytes es) → T (is_sorted by_bytes list)
 ascending-cut es list is sorted = subst (λ l. T (is_sorted by_bytes l)) (sym is) (subst (λ b. T b) (sym (sorted-cut es)) sorted)
+
+-- the last number is one that a source may have still
+window-cut : (revision : ℕ) (source : List ℕ × Window) → is_window revision source.1 ≡ true → is_window revision (cut source).1 ≡ true
+window-cut revision source is =
+    let parts = window-parts revision source.1 is in
+    let last = last_revision source.1 in
+    window-from revision (cut source).1
+    (record {
+      some = omega arith;
+      short = omega arith;
+      numbers = omega (arith, parts.some, parts.numbers);
+      last = parts.last;
+      ascend = and_from _ _ (and_from _ _ (lt-ltb 0 last (last-above revision source.1 is)) (le-leb last revision (last-within revision source.1 is))) refl;
+    })
+
+pub cut_stays : CutStays
+cut_stays revision [] is = refl
+cut_stays revision (first ∷ others) is =
+    let parts = and_parts (is_window revision first.1) (are_sources revision others) is in
+    and_from _ _ (window-cut revision first parts.0) (cut_stays revision others parts.1)
+
+pub cut_weighs : CutWeighs
+cut_weighs limits free [] low none = refl
+cut_weighs limits free (first ∷ others) low none =
+    let one : window_weight limits (cut first).1 ≡ 64 = omega (arith, low) in
+    let all : window_weight free first.1 ≡ 64 = ap (λ r. 64 - r + r * length first.1.revisions) none in
+    ap₂ (λ a b. a + b) (one ∙ sym all) (cut_weighs limits free others low none)

@@ -9,7 +9,6 @@ mod OneMore
 mod Noted
 mod Outcomes
 mod Named
-mod Cutting
 mod Following
 mod Light
 mod KeptDocuments
@@ -18,6 +17,7 @@ mod LettingGo
 mod NewNames
 mod Raising
 pub mod Windows
+mod Cutting
 pub mod Sums
 pub mod Texts
 pub mod Taking

@@ -1,5 +1,5 @@
 -- Windows as commands are taken.
-use Rattle.std.proofs.Common.{◌≡◌, ◌⊎◌, inl, inr, ℕ, zero, suc, ◌+◌, ◌-◌, ◌≤◌, ◌<◌, Bool, true, false, cond, List, [], ◌∷◌, ◌++◌, length, drop, Option, Some, None, refl, sym, ap, ◌∙◌, length-append, arith}
+use Rattle.std.proofs.Common.{◌≡◌, ◌⊎◌, inl, inr, ℕ, zero, suc, ◌+◌, ◌-◌, ◌≤◌, ◌<◌, Bool, true, false, cond, List, [], ◌∷◌, ◌++◌, length, drop, Option, Some, None, refl, sym, ap, subst, ◌∙◌, length-append, arith}
 use Rattle.std.specs.Prelude.{◌&&◌, nat_lt, nat_le, slice_get, unwrap_or, min}
 use Rattle.std.proofs.lemmas.Bool.{and_parts, and_from, leb-true, ltb-true, le-leb, lt-ltb, cases_lt}
 use Rattle.std.proofs.lemmas.Bool.Decides.{nat_tests}
@@ -240,6 +240,29 @@ last-within revision window h = by_found (revision_in window.number window) refl
         let above = (found window window.number x is).above in
         ascend-get 0 revision window.revisions (window.number + length window.revisions - (window.number + 1)) x (window-parts revision window h).ascend
         (sym (here window window.number above) ∙ is)
+
+-- nor is it 0
+ascend-above : (low high : ℕ) (xs : List ℕ) (i x : ℕ) → ascend low high xs ≡ true → slice_get xs i ≡ Some x → low < x
+ascend-above low high [] i x h is = absurd (cc)
+ascend-above low high (y ∷ ys) zero x h is =
+    let last = and_parts (nat_lt low y && nat_le y high) (ascend y high ys) h in
+    let first = and_parts (nat_lt low y) (nat_le y high) last.0 in
+    let same : y ≡ x = cc in
+    omega (arith, same, ltb-true low y first.0)
+ascend-above low high (y ∷ ys) (suc i) x h is =
+    let last = and_parts (nat_lt low y && nat_le y high) (ascend y high ys) h in
+    let first = and_parts (nat_lt low y) (nat_le y high) last.0 in
+    omega (arith, ltb-true low y first.0, ascend-above y high ys i x last.1 is)
+
+pub last-above : (revision : ℕ) (window : Window) → is_window revision window ≡ true → 0 < last_revision window
+last-above revision window h =
+    let parts = window-parts revision window h in
+    let above : window.number < window.number + length window.revisions = omega (arith, parts.some) in
+    let there = again_in_window window window.number (record { above = above; below = omega arith }) in
+    let positive : 0 < there.0 =
+    ascend-above 0 revision window.revisions (window.number + length window.revisions - (window.number + 1)) there.0 parts.ascend
+    (sym (here window window.number above) ∙ there.1) in
+    subst (λ (o : Option ℕ). 0 < unwrap_or o 0) (sym there.1) positive
 
 -- ---- many commands more
 

@@ -1,8 +1,9 @@
 -- What holds of windows as commands are taken. It holds of every value, also of such as no program makes. That it is so is promised by
 -- `laws::windows`.
-use Rattle.std.specs.Prelude.{◌≡◌, ◌⊎◌, ℕ, ◌+◌, ◌-◌, ◌≤◌, ◌<◌, min, nat_lt, slice_get, if◌then◌else◌, true, List, [], ◌∷◌, length, Option, Some, None}
+use Rattle.std.specs.Prelude.{◌≡◌, ◌⊎◌, ℕ, ◌+◌, ◌-◌, ◌≤◌, ◌<◌, min, map, nat_lt, slice_get, if◌then◌else◌, true, List, [], ◌∷◌, length, Option, Some, None}
 use Rattle.revision.specs.Window.{longest, Window, nothing_taken, taken_next, taken_all, revision_in, IsIn}
-use Rattle.revision.specs.State.{last_of_all, is_window}
+use Rattle.revision.specs.Sources.{cut, total_of}
+use Rattle.revision.specs.State.{Limits, last_of_all, is_window, are_sources, window_weight}
 
 -- Each number of a window has a revision, and no other one has.
 abbrev pub AgainInWindow : Type 0
@@ -42,6 +43,15 @@ AgainForLong = (window : Window) (taken : List ℕ) (number revision : ℕ) → 
 abbrev pub TakenOrHad : Type 0
 TakenOrHad = (window : Window) (taken : List ℕ) (number revision : ℕ) → revision_in number (taken_all window taken) ≡ Some revision
     → ((window.number < number) × (number ≤ window.number + length taken)) ⊎ (revision_in number window ≡ Some revision)
+
+-- Sources with their last numbers alone may be so at a revision where they may be so with all. They weigh as much as with all where a
+-- further number weighs nothing.
+abbrev pub CutStays : Type 0
+CutStays = (revision : ℕ) (entries : List (List ℕ × Window)) → are_sources revision entries ≡ true → are_sources revision (map cut entries) ≡ true
+
+abbrev pub CutWeighs : Type 0
+CutWeighs = (limits free : Limits) (entries : List (List ℕ × Window)) → limits.retry ≤ 64 → free.retry ≡ 0
+    → total_of (window_weight limits) (map cut entries) ≡ total_of (window_weight free) entries
 
 -- Of a source of which nothing was taken before them, the commands' numbers are their places, counted from 1: a number among the last ones
 -- has the revision that stands at its place.

@@ -9,7 +9,7 @@ ghost use Rattle.revision.specs.Replay.{PartsStand};
 ghost use Rattle.revision.specs.Agree.{AgreeSame, AgreeTurned, AgreeThrough, AgreeingContinue, AgreeingGrow, AgreeingAnswer, AgreeingAnswerHeld};
 ghost use Rattle.revision.specs.Invariants.{EmptyIsState, GrowingKeeps, AdoptingKeeps, ContinuingKeeps};
 ghost use Rattle.revision.specs.Floors.{FromItself, FromTwice, FromNewest, FromLonger, ChangeMakes};
-ghost use Rattle.revision.specs.Retries.{AgainInWindow, NoneOutside, Shifts, StaysWindow, OneRevision, AgainForLong, TakenOrHad, FromNothing};
+ghost use Rattle.revision.specs.Retries.{AgainInWindow, NoneOutside, Shifts, StaysWindow, OneRevision, AgainForLong, TakenOrHad, FromNothing, CutStays, CutWeighs};
 ghost use Rattle.revision.specs.Late.{InsertedStay, LightInserts, RoomForCommands, RoomForUndo};
 
 /// What the rule of acceptance takes continues the state.
@@ -83,6 +83,12 @@ pub fn windows()
     ensures long { AgainForLong }
     ensures had { TakenOrHad }
     ensures nothing { FromNothing }
+{}
+
+/// Sources with their last numbers alone are what they may be at a revision, and weigh 64 each.
+pub fn last_numbers()
+    ensures stay { CutStays }
+    ensures weigh { CutWeighs }
 {}
 
 /// A past from higher floors on, and with a change more.
