@@ -63,6 +63,8 @@ def delete(length):
     return {"delete": length}
 
 
+ROOMY = [*S[:6], "--cell", "512", *S[8:]]  # for sources with many numbers: a window of 16 weighs 184
+
 LONG = "Durable rich text. " * 1_000
 WIDE = {f"attribute{letter}": None for letter in "abcdefghijklmno"}  # 15 removals of ten bytes each: an entry of 236 bytes of 237
 FIVE = {f"attribute{letter}": None for letter in "abcde"}
@@ -154,7 +156,7 @@ SCRIPTS = [
     ),
     Script(
         "a journal that is full again and again",
-        S,
+        ROOMY,
         [],
         [
             ("a", [create("d", insert("z")), create("e", insert("w")), subscribe("d", 1), *TURNS]),
@@ -164,14 +166,14 @@ SCRIPTS = [
     ),
     Script(
         "milestones two revisions apart",
-        [*S[:2], "--slot", "4096", *S[4:]],
+        [*ROOMY[:2], "--slot", "4096", *ROOMY[4:]],
         ["--every", "2"],
         [("a", [create("d", insert("z")), create("e", insert("w")), subscribe("d", 1), *TURNS]), ("b", [since("d", 12), fetch("d", 13)])],
         {"d": (13, [insert("z")]), "e": (8, [insert("wy")])},
     ),
     Script(
         "a milestone after each revision",
-        S,
+        ROOMY,
         ["--every", "1"],
         [
             (
