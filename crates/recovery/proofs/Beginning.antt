@@ -4,19 +4,23 @@ use Rattle.std.specs.Prelude.{slice_get}
 use Rattle.std.proofs.lemmas.Bool.{cases_eq, cases_lt}
 use Rattle.std.proofs.lemmas.List.{length-map, length-replicate, drop-drop, take_all}
 use Rattle.std.proofs.lemmas.List.Elements.{All-nil}
-use Rattle.disk.specs.Device.{History, overwritten, SameOutside, IsWrite, IsSync, IsAtMostOneStep, MayLeave}
+use Rattle.std.proofs.lemmas.Option.{slice_get_within, get_or_from_slice_get}
+use Rattle.std.proofs.Math.Nat.{mul-le-mul_right}
+use Rattle.disk.specs.Device.{History, overwritten, SameOutside, IsWrite, IsSync, IsAtMostOneStep}
 use Rattle.disk.specs.Crash.{Leaves}
-use Rattle.disk.proofs.CallerLemmas.{same_at, byte_overwritten, overwritten_same_outside, goes_on_first_write, goes_on_sync, leaves_map}
+use Rattle.disk.proofs.CallerLemmas.{same_at, byte_overwritten, overwritten_same_outside, goes_on_first_write, goes_on_sync, goes_on_run, leaves_map}
 use Rattle.journal.specs.Area.{open_gate}
 use Rattle.journal.specs.BatchSpelling.{IsBatch}
-use Rattle.history.specs.Cell.{Cell, Pair, no_cells, cells_at}
+use Rattle.history.specs.Cell.{Cell, CellKeeps, Pair, no_cells, cells_at, record_of_cell}
 use Rattle.history.specs.Law.{first_cells, begun_with}
 use Rattle.history.proofs.CallerLemmas.{begins_with}
+use Rattle.milestone.specs.CellSpelling.{cell_body, IsCell}
+use Rattle.milestone.specs.LeftOutside.{IsLeftOutside}
 use Rattle.milestone.specs.OneCell.{HoldsPair}
-use Rattle.milestone.proofs.CallerLemmas.{agree_within}
+use Rattle.milestone.proofs.CallerLemmas.{agree_within, cell_fits}
 use Rattle.segments.specs.Table.{slot_place}
 use Rattle.recovery.specs.declared.shape.Shape.{Shape}
-use Rattle.recovery.specs.Shape.{is_in_range, cells_place, slots_place}
+use Rattle.recovery.specs.Shape.{is_in_range, layout_length, cells_place, slots_place}
 use Rattle.recovery.specs.Layout.{IsClosed, HoldsCells, IsLaidOut}
 use Rattle.recovery.specs.Found.{RunsWith, limits_of}
 use Rattle.recovery.specs.Formatting.{empty_table, IsUnformatted, MayBegin, IsBegunStore, IsUnformattedOrBegun, IsPrepared, IsPreparedWith}
@@ -45,7 +49,7 @@ cells_count start docs few =
     omega (arith, firsts, others, both, few)
 
 pub few_enough : (shape : Shape) (start : List Cell) → MayBegin shape start → length start ≤ shape.docs
-few_enough shape start begins = omega (arith, begins.state.count, length-map start Rattle.history.specs.Cell.record_of_cell)
+few_enough shape start begins = omega (arith, begins.state.count, length-map start record_of_cell)
 
 cells_held : (shape : Shape) (start : List Cell) (content : List ℕ) → MayBegin shape start → IsPreparedWith shape start content → HoldsCells content shape (first_cells start shape.docs)
 cells_held shape start content begins is = record {
@@ -197,8 +201,30 @@ one_put shape start number cell old new in_range inside there is same held = sub
     behind_cells : (s : ℕ) → slot_place (slots_place shape) shape.slot s < cells_place shape number + shape.cell → ⊥
     behind_cells s within = absurd (omega (arith, within, cells_before shape number inside))
 
--- and what a crash leaves meanwhile
-pub still_unformatted : {old mid new : History} {P : List ℕ → Type 0} → Leaves IsUnformatted old mid → Leaves P mid new → ((content : List ℕ) → P content → (before : List ℕ) × MayLeave mid.now before × ((IsUnformatted before) → IsUnformatted content))
-    → Leaves IsUnformatted mid new
-still_unformatted {old} {mid} {new} {P} so_far writes same =
-    leaves_map (λ content left. let was = same content left in was.2 (so_far.last was.0 was.1)) writes
+-- What a crash leaves meanwhile: writes behind the superblock's gate leave that closed.
+pub still_unformatted : {old mid new : History} {place size : ℕ} → Leaves IsUnformatted old mid → 1 ≤ place → Leaves (IsLeftOutside place size mid.now) mid new → Leaves IsUnformatted old new
+still_unformatted {old} {mid} {new} {place} {size} so_far behind writes =
+    goes_on_run so_far
+    (leaves_map {Q = IsUnformatted}
+    (λ content left is_open. so_far.last left.before left.left (sym (same_at place size left.before content left.outside 0 (λ within. absurd (omega (arith, within.0, behind)))) ∙ is_open))
+    writes)
+
+-- ---- a document and its cell
+
+pub cell_keeps : (shape : Shape) (start : List Cell) (number : ℕ) (cell : Cell) → MayBegin shape start → slice_get start number ≡ Some cell → CellKeeps (limits_of shape) cell
+cell_keeps shape start number cell begins there =
+    subst (CellKeeps (limits_of shape)) (get_or_from_slice_get start number cell cell there) (begins.keep number cell (slice_get_within start number cell there))
+
+pub fits_first : (shape : Shape) (number : ℕ) (cell : Cell) → is_in_range shape ≡ true → IsCell number cell → CellKeeps (limits_of shape) cell
+    → 5 + length (cell_body number cell) ≤ shape.cell
+fits_first shape number cell in_range is keeps = omega (arith, cell_fits number (limits_of shape) cell refl is keeps, (ranges_of shape in_range).cell_low)
+
+-- where its cells lie
+pub first_within : (shape : Shape) (number size : ℕ) → number < shape.docs → layout_length shape ≤ size → cells_place shape number + 2 * shape.cell ≤ size
+first_within shape number size below long = omega (arith, cells_before shape number below, long)
+
+pub first_bound : (shape : Shape) (number : ℕ) → is_in_range shape ≡ true → number < shape.docs → cells_place shape number + 2 * shape.cell < 2 ^ 62
+first_bound shape number in_range below =
+    let ranges = ranges_of shape in_range in
+    let most : number * (2 * shape.cell) ≤ 65536 * (2 * shape.cell) = mul-le-mul_right (2 * shape.cell) (omega (arith, below, ranges.docs)) in
+    omega (arith, most, ranges.cell)

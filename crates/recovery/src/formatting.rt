@@ -1,10 +1,15 @@
 //! Formatting a device.
-ghost use Rattle.std.specs.Prelude.{◌≡◌, ◌⊎◌, ◌↔◌, ◌+◌, ◌*◌, ◌<◌, ◌≤◌, ◌^◌, ℕ, [], length, true, IsTrue, Err, OnOk, OnErr, IfOk, IfErr, IsErrOf, slice_index};
-ghost use Rattle.disk.specs.Device.{Rose};
+ghost use Rattle.std.specs.Prelude.{◌≡◌, ◌⊎◌, ◌↔◌, ◌+◌, ◌*◌, ◌<◌, ◌≤◌, ◌^◌, ℕ, Some, [], length, true, IsTrue, Err, OnOk, OnErr, IfOk, IfErr, IsErrOf, slice_index};
+ghost use Rattle.disk.specs.Device.{Rose, SameOutside};
 ghost use Rattle.disk.specs.Crash.{LeavesIn, LeavesOnly, history_of};
 ghost use Rattle.disk.specs.Calls.{HasOnlyWritten, CountsFaults, CountsFaultsAs};
 ghost use Rattle.journal.specs.Area.{open_gate};
-ghost use Rattle.recovery.specs.Shape.{is_in_range, superblock};
+ghost use Rattle.history.specs.Cell.{CellKeeps, Pair};
+ghost use Rattle.milestone.specs.CellSpelling.{IsCell};
+ghost use Rattle.milestone.specs.LeftOutside.{IsLeftOutside};
+ghost use Rattle.milestone.specs.OneCell.{HoldsPair};
+ghost use Rattle.recovery.specs.Found.{limits_of};
+ghost use Rattle.recovery.specs.Shape.{is_in_range, layout_length, cells_place, superblock};
 ghost use Rattle.recovery.specs.Layout.{IsClosed, IsFormatted};
 ghost use Rattle.recovery.specs.Formatting.{Fits, IsUnformatted, IsEmptyStore, IsUnformattedOrEmpty, IsPrepared, MayBegin, IsBegunStore, IsUnformattedOrBegun, IsPreparedWith, IsOnlySynced, LeavesFromSync};
 
@@ -176,12 +181,40 @@ fn put_first<D: Disk>(
     ensures only_written { HasOnlyWritten ⟦<D as Disk>⟧ disk.old disk.new }
     ensures faults { CountsFaultsAs ⟦<D as Disk>⟧ Refusal.Fault result disk.old disk.new }
 {
-    let size = u64::from(shape.cell);
     for (number, milestone) in milestones.iter().enumerate() {
-        let place = SUPERBLOCK_LEN + number as u64 * (2 * size);
-        write_open(alloc, disk, place, size, number as u32, milestone)?;
+        put_in_first(alloc, disk, shape, number as u32, milestone)?;
     }
     Ok(())
+}
+
+// Puts one document into its first cell, and syncs nothing.
+fn put_in_first<D: Disk>(
+    alloc: Global,
+    disk: &mut D,
+    shape: &Shape,
+    number: u32,
+    milestone: &Milestone,
+) -> Result<(), Refusal>
+    requires in_range { is_in_range shape.now ≡ true }
+    requires within { layout_length shape.now ≤ length (D.seen disk.old) }
+    requires number { number < shape.now.docs }
+    requires is { IsCell number milestone.now }
+    requires keeps { CellKeeps (limits_of shape.now) milestone.now }
+
+    ensures any_moment { LeavesOnly ⟦<D as Disk>⟧ (IsLeftOutside (cells_place shape.now number) shape.now.cell
+        (history_of ⟦<D as Disk>⟧ disk.old).now) disk.old disk.new }
+    ensures held { OnOk result ((pair : Pair)
+        → HoldsPair (cells_place shape.now number) shape.now.cell number (D.seen disk.old) pair
+        → HoldsPair (cells_place shape.now number) shape.now.cell number (D.seen disk.new) (Some milestone.now, pair.1)) }
+    ensures outside { OnOk result (SameOutside (cells_place shape.now number) shape.now.cell (D.seen disk.old)
+        (D.seen disk.new)) }
+    ensures only { IfErr result (λ e. (e ≡ Refusal.NoMemory) ⊎ (e ≡ Refusal.Fault)) }
+    ensures only_written { HasOnlyWritten ⟦<D as Disk>⟧ disk.old disk.new }
+    ensures faults { CountsFaultsAs ⟦<D as Disk>⟧ Refusal.Fault result disk.old disk.new }
+{
+    let size = u64::from(shape.cell);
+    let place = SUPERBLOCK_LEN + u64::from(number) * (2 * size);
+    write_open(alloc, disk, place, size, number, milestone)
 }
 
 // Syncs what was prepared, opens the superblock's gate, and syncs.
