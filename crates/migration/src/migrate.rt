@@ -2,15 +2,14 @@
 ghost use Rattle.std.specs.Prelude.{◌≡◌, ◌⊎◌, ◌<◌, ◌≤◌, ◌^◌, List, [], true, length, Err, OnOk, OnErr, IfOk, IfErr};
 ghost use Rattle.disk.specs.Calls.{CountsFaultsAs};
 ghost use Rattle.disk.specs.Crash.{history_of};
-ghost use Rattle.history.specs.Cell.{Cell, Newer};
-ghost use Rattle.history.specs.Law.{begun_with};
+ghost use Rattle.history.specs.Cell.{Newer};
 ghost use Rattle.milestone.specs.CellSpelling.{One, Two};
 ghost use Rattle.revision.specs.State.{State as StateValue};
 ghost use Rattle.recovery.specs.Shape.{is_in_range, layout_length};
 ghost use Rattle.recovery.specs.Layout.{IsFormatted, IsOfFormat};
-ghost use Rattle.recovery.specs.Found.{FoundIn, FoundAs, limits_of};
+ghost use Rattle.recovery.specs.Found.{FoundIn};
 ghost use Rattle.recovery.specs.Formatting.{Fits, MayBegin, IsUnformatted, IsBegunStore, IsUnformattedOrBegun, IsOnlySynced, LeavesFromSync};
-ghost use Rattle.migration.specs.Migrated.{AreCut, IsFoundAsBegun, IsUnformattedOrFound};
+ghost use Rattle.migration.specs.Migrated.{AreCut, IsMigrated, IsUnformattedOrMigrated};
 
 use crate::cutting::cut_all;
 use disk::Disk;
@@ -42,14 +41,13 @@ pub fn migrate<A: Disk, B: Disk>(alloc: Global, old: &mut A, new: &mut B) -> Res
     // From the first sync of a device without a store on, a crash at any moment leaves that device without one, or with one of the old
     // shape that is found as the documents of the old one with their windows cut, and that goes on; at Ok the latter.
     ensures from_sync { A.honest old.new → IsUnformatted (B.seen new.old) → (state : StateValue)
-        → (is : FoundIn One (A.seen old.old) Newer state) → (start : List Cell) × AreCut state start
-        × LeavesFromSync (IsUnformattedOrFound is.shape start) (history_of ⟦<B as Disk>⟧ new.old)
+        → (is : FoundIn One (A.seen old.old) Newer state)
+        → LeavesFromSync (IsUnformattedOrMigrated is.shape state) (history_of ⟦<B as Disk>⟧ new.old)
         (history_of ⟦<B as Disk>⟧ new.new) }
     ensures found { OnOk result (A.honest old.new
         → (state : StateValue) × FoundIn One (A.seen old.old) Newer state) }
     ensures done { OnOk result (A.honest old.new → (state : StateValue)
-        → (is : FoundIn One (A.seen old.old) Newer state)
-        → (start : List Cell) × AreCut state start × IsFoundAsBegun is.shape start (B.seen new.new)) }
+        → (is : FoundIn One (A.seen old.old) Newer state) → IsMigrated is.shape state (B.seen new.new)) }
     ensures synced { OnOk result (B.unsynced new.new ≡ []) }
 
     // A new device that has a store is told of, and stays; so is one that is too short.
