@@ -9,7 +9,7 @@ use Rattle.recovery.specs.Formatting.{IsBegunStore, IsUnformattedOrBegun, IsOnly
 use Rattle.migration.specs.Migrated.{AreCut, IsMigrated, IsUnformattedOrMigrated}
 
 pub migrated : (shape : Shape) (state : State) (start : List Cell) (content : List ℕ) → AreCut state start → IsBegunStore shape start content → IsMigrated shape state content
-migrated shape state start content cut is = record { start = start; cut = cut; found = is.found }
+migrated shape state start content cut is = record { names = is.laid_out.names; start = start; cut = cut; found = is.found }
 
 begun_or : (shape : Shape) (state : State) (start : List Cell) → AreCut state start → (content : List ℕ) → IsUnformattedOrBegun shape start content → IsUnformattedOrMigrated shape state content
 begun_or shape state start cut content (inl closed) = inl closed

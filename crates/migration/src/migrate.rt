@@ -53,10 +53,14 @@ pub fn migrate<A: Disk, B: Disk>(alloc: Global, old: &mut A, new: &mut B) -> Res
     // A new device that has a store is told of, and stays; so is one that is too short.
     ensures already_formatted { result ≡ Err Refusal.AlreadyFormatted → B.honest new.new → IsFormatted (B.seen new.old) }
     ensures formatted { OnOk result (B.honest new.new → ¬ IsFormatted (B.seen new.old)) }
+    ensures too_short { result ≡ Err Refusal.BadShape → B.honest new.new → ¬ IsFormatted (B.seen new.old) }
     ensures kept { B.honest new.new → IsFormatted (B.seen new.old)
         → IsOnlySynced (history_of ⟦<B as Disk>⟧ new.old) (history_of ⟦<B as Disk>⟧ new.new) }
     ensures bad_shape { result ≡ Err Refusal.BadShape → A.honest old.new → (state : StateValue)
         → (is : FoundIn One (A.seen old.old) Newer state) → ¬ Fits is.shape (length (B.seen new.old)) }
+    // Neither is told of before the old store is found.
+    ensures old_first { IfErr result (λ e. (e ≡ Refusal.AlreadyFormatted) ⊎ (e ≡ Refusal.BadShape) → A.honest old.new
+        → (state : StateValue) × FoundIn One (A.seen old.old) Newer state) }
     ensures memory { result ≡ Err Refusal.NoMemory → IsUnformatted (B.seen new.old) → IsUnformatted (B.seen new.new) }
     ensures length { length (B.seen new.new) ≡ length (B.seen new.old) }
     ensures only { IfErr result (λ e. (e ≡ Refusal.NotFormatted) ⊎ ((e ≡ Refusal.NotOld) ⊎ ((e ≡ Refusal.Damaged)
@@ -115,7 +119,8 @@ impl Old {
             → IsOnlySynced (history_of ⟦<B as Disk>⟧ disk.old) (history_of ⟦<B as Disk>⟧ disk.new) }
         ensures already_formatted { result ≡ Err Refusal.AlreadyFormatted → B.honest disk.new
             → IsFormatted (B.seen disk.old) }
-        ensures formatted { OnOk result (B.honest disk.new → ¬ IsFormatted (B.seen disk.old)) }
+        ensures formatted { B.honest disk.new → IsFormatted (B.seen disk.old)
+            → (result ≡ Err Refusal.AlreadyFormatted) ⊎ (result ≡ Err Refusal.Fault) }
         ensures bad_shape { result ≡ Err Refusal.BadShape → ¬ Fits (shape_of self.now) (length (B.seen disk.old)) }
         ensures memory { result ≡ Err Refusal.NoMemory → IsUnformatted (B.seen disk.old) → IsUnformatted (B.seen disk.new) }
         ensures only { IfErr result (λ e. (e ≡ Refusal.BadShape) ⊎ ((e ≡ Refusal.AlreadyFormatted)
