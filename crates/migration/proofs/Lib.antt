@@ -1,2 +1,3 @@
 mod Begun
+pub mod Cut
 mod Moments
