@@ -3,7 +3,7 @@ use Rattle.std.specs.Prelude.{◌≡◌, ℕ, ◌≤◌, ◌<◌, ◌^◌, true,
 use Rattle.revision.specs.State.{weight_of, Limits, DocumentRecord, State, last_of_all, are_sources, grows, grown, adopts, adopted, all_continue, record_after_all}
 use Rattle.revision.specs.Command.{Taken}
 use Rattle.revision.specs.Sources.{Sources, count_of}
-use Rattle.revision.specs.Past.{StandInTurn, Past, Content, newest, deltas_of, content_at, sources_at}
+use Rattle.revision.specs.Past.{StandInTurn, Past, Content, is_content, newest, deltas_of, content_at, sources_at}
 
 -- the ranges of the limits
 pub record IsLimits (limits : Limits) : Type 0 where
@@ -22,6 +22,7 @@ pub record KeepsAt (limits : Limits) (past : Past) (revision : ℕ) : Type 0 whe
   pub weight : weight_of limits (content_at past revision).units (sources_at past revision) ≤ limits.weight
   pub count : count_of (sources_at past revision) ≤ limits.sources
   pub sources : are_sources revision (sources_at past revision).entries ≡ true
+  pub content : is_content (content_at past revision) ≡ true
 
 -- what a past keeps: its deltas stand in turn, it holds no more than it should, and the limits are kept at each revision
 pub record IsPast (limits : Limits) (past : Past) : Type 0 where

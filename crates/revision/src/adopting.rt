@@ -1,5 +1,6 @@
 //! A document is added with what stands in it, without the past before.
 ghost use Rattle.std.specs.Prelude.{◌≡◌, ◌↔◌, ◌⊎◌, ◌&&◌, false, nat_lt, nat_le, IfErr, OnOk, OnErr, IsErrOf};
+ghost use Rattle.revision.specs.Past.{is_content as spec_is_content};
 ghost use Rattle.revision.specs.Window.{ascend};
 ghost use Rattle.revision.specs.State.{adopts, adopted, are_sources as spec_are_sources, is_window as spec_is_window, weight_of};
 
@@ -17,9 +18,11 @@ use std::alloc::Global;
 const LAST: u64 = (1 << 53) - 1;
 
 impl State {
-    /// Adds a document at a revision with what stands in it and with its sources, of which no past is held.
+    /// Adds a document at a revision with what stands in it and with its sources, of which no past is held. One that isn't live is
+    /// deleted.
     ///
-    /// Refused with `Stranger` just where there are `docs` documents, one of this name is there, the revision isn't 1 to
+    /// Refused with `Stranger` just where there are `docs` documents, one of this name is there, something stands in it though it is
+    /// deleted, the revision isn't 1 to
     /// 2^53 - 1, there are more than `sources` sources, the last number of one of them isn't 1 to 2^53 - 1, its window has no number
     /// or more than there are up to the last, the revisions there don't ascend strictly from 1 on up to the document's, or the weight
     /// with them is above the limit: this is told before memory is taken. Refused
@@ -29,37 +32,55 @@ impl State {
         alloc: Global,
         name: Name,
         document: Document,
+        live: bool,
         revision: u64,
         sources: Sources,
     ) -> Result<(), Refusal>
-        ensures ok { OnOk result (self.new ≡ adopted self.old name (record { units = document }) revision sources) }
+        ensures ok { OnOk result (self.new
+            ≡ adopted self.old name (record { units = document; live = live }) revision sources) }
         ensures stranger { IsErrOf result Refusal.Stranger
-            ↔ (adopts self.old name (record { units = document }) revision sources ≡ false) }
+            ↔ (adopts self.old name (record { units = document; live = live }) revision sources ≡ false) }
         ensures only { IfErr result (λ e. (e ≡ Refusal.Stranger) ⊎ (e ≡ Refusal.NoMemory)) }
         ensures unchanged { OnErr result (self.new ≡ self.old) }
     {
-        if !self.may_adopt(&name, &document, revision, &sources) {
+        if !self.may_adopt(&name, &document, live, revision, &sources) {
             return Err(Refusal::Stranger);
         }
-        let made = DocState::adopted(alloc, name, document, revision, sources)?;
+        let made = DocState::adopted(alloc, name, document, live, revision, sources)?;
         self.documents.adopt(alloc, made)?;
         self.documents.accept();
         Ok(())
     }
 
     // whether a document may be added
-    fn may_adopt(&self, name: &Name, document: &Document, revision: u64, sources: &Sources) -> bool
-        ensures { result ≡ adopts self.now name.now (record { units = document.now }) revision sources.now }
+    fn may_adopt(
+        &self,
+        name: &Name,
+        document: &Document,
+        live: bool,
+        revision: u64,
+        sources: &Sources,
+    ) -> bool
+        ensures { result
+            ≡ adopts self.now name.now (record { units = document.now; live = live }) revision sources.now }
     {
         let limits = self.limits();
         (self.documents().len() as u64) < u64::from(limits.docs())
             && self.find(name).is_none()
+            && is_content(document, live)
             && 1 <= revision
             && revision <= LAST
             && sources.count() as u64 <= u64::from(limits.sources())
             && are_sources(revision, sources.entries())
             && is_light(limits, document, sources)
     }
+}
+
+// whether nothing stands in a document that is deleted
+fn is_content(document: &Document, live: bool) -> bool
+    ensures { result ≡ spec_is_content (record { units = document.now; live = live }) }
+{
+    live || document.len16() == 0
 }
 
 // whether each source has what it may have at a revision
