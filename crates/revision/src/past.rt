@@ -79,13 +79,7 @@ impl Model for Past {
 impl Past {
     /// A past that begins with a document, which is short, live or deleted, and its sources at a revision. Nothing stands in one that is
     /// deleted. It takes no memory.
-    pub fn new(
-        alloc: Global,
-        floor: u64,
-        document: Document,
-        live: bool,
-        sources: Sources,
-    ) -> Past
+    pub fn new(alloc: Global, floor: u64, document: Document, live: bool, sources: Sources) -> Past
         requires short { length document ≤ 2 ^ 29 }
         requires content { is_content (record { units = document; live = live }) ≡ true }
         requires revision { floor < 2 ^ 53 }

@@ -116,13 +116,7 @@ impl Taken {
     }
 
     /// The deletion of a document that is there, as an edit is made, without a delta. It is never refused and takes no memory.
-    pub fn deletion(
-        alloc: Global,
-        document: u32,
-        revision: u64,
-        source: Name,
-        number: u64,
-    ) -> Taken
+    pub fn deletion(alloc: Global, document: u32, revision: u64, source: Name, number: u64) -> Taken
         requires { IsTaken
             (record {
               document = document;

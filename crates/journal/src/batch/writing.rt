@@ -11,7 +11,7 @@ mod values;
 
 pub use operations::write_delta;
 pub(super) use pairs::put_text16;
-use revision::{Name, Taken};
+use revision::{Name, Step, Taken};
 use std::alloc::{AllocError, Global};
 
 /// How many bytes a batch takes in the journal, 2^64 - 1 where it would be more. It takes no memory.
@@ -58,14 +58,39 @@ fn put_entry(out: &mut Vec<u8>, taken: &Taken) -> Result<(), AllocError>
     ensures spelled { OnOk result (out.new.items ≡ out.old.items ++ batches.entry taken.now) }
     ensures taken { OnOk result (IsTaken taken.now) }
 {
-    out.push(if taken.name().is_some() { 1 } else { 2 })?;
+    out.push(tag(taken))?;
     put_number32(out, taken.document_number())?;
     put_number64(out, taken.revision())?;
     put_name(out, taken.source())?;
     put_number64(out, taken.number())?;
     put_created_name(out, taken.name())?;
-    write_delta(out, taken.delta())?;
+    put_step_delta(out, taken)?;
     Ok(())
+}
+
+fn tag(taken: &Taken) -> u8
+    ensures { result ≡ batches.entry_tag taken.now.name taken.now.step }
+{
+    if taken.name().is_some() {
+        return 1;
+    }
+    match taken.step() {
+        Step::Edits => 2,
+        Step::Deletes => 3,
+        Step::Revives => 4,
+    }
+}
+
+// the delta, which a deletion doesn't have
+#[tactic(auto, unfolding(crate::specs::BatchSpelling::step_delta))]
+fn put_step_delta(out: &mut Vec<u8>, taken: &Taken) -> Result<(), AllocError>
+    ensures { OnOk result (out.new.items ≡ out.old.items ++ batches.step_delta taken.now.step taken.now.delta) }
+{
+    match taken.step() {
+        Step::Edits => write_delta(out, taken.delta()),
+        Step::Deletes => Ok(()),
+        Step::Revives => write_delta(out, taken.delta()),
+    }
 }
 
 #[tactic(auto, unfolding(crate::specs::BatchSpelling::created_name))]
