@@ -17,6 +17,7 @@ use std::alloc::{AllocError, Global};
 
 /// The byte behind a cell's revision where the document is deleted, and where it is live.
 pub(crate) const DELETED: u8 = 0;
+
 pub(crate) const LIVE: u8 = 1;
 
 /// What stands behind the gate of a cell of the document of this number: the body's length in four bytes, and the body.

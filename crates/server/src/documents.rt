@@ -3,6 +3,7 @@ ghost use Rattle.std.specs.Prelude.{◌≡◌, ◌⊎◌, true, OnOk, OnErr, IfO
 ghost use Rattle.std.specs.String.{string_bytes};
 ghost use Rattle.std.specs.Io.KnownBytes.{Appends};
 ghost use Rattle.revision.specs.Pending.{record_of};
+ghost use Rattle.revision.specs.State.{revision_of};
 ghost use Rattle.session.specs.Output.{AppendsFront};
 ghost use Rattle.server.specs.Dump as spec;
 
@@ -13,7 +14,7 @@ use serving::Failure;
 use session::Output;
 use std::alloc::{AllocError, Global};
 
-/// Writes one line for each document, in order of creation: name, revision, floor and operations. Ends where a write
+/// Writes one line for each document, in order of creation: name, revision, floor and operations, or `deleted`. Ends where a write
 /// fails (`Stream`), or with `NoMemory`, and then a beginning of the lines is written.
 pub fn dump<O: Output>(alloc: Global, state: &State, output: &mut O) -> Result<(), Failure>
     ensures dumped { OnOk result (Appends (O.contents output.old) (O.contents output.new)
@@ -38,21 +39,20 @@ fn line_of(alloc: Global, document: &DocState) -> Result<String, Refusal>
     ensures ok { IfOk result (λ line. string_bytes line ≡ spec.document_line (record_of document.now)) }
     ensures only { IfErr result (λ e. e ≡ Refusal.NoMemory) }
 {
+    if !document.is_live() {
+        return Ok(line_with(alloc, document, "deleted")?);
+    }
     let delta = document.document().as_delta(alloc)?;
     let content = write_delta(alloc, &delta)?;
-    let name = document.name().as_str();
-    let line = line_with(alloc, name, document.revision(), document.floor(), &content)?;
-    Ok(line)
+    Ok(line_with(alloc, document, &content)?)
 }
 
-fn line_with(
-    alloc: Global,
-    name: &str,
-    revision: u64,
-    floor: u64,
-    content: &str,
-) -> Result<String, AllocError>
-    ensures { IfOk result (λ line. string_bytes line ≡ spec.line_of name.now revision floor content.now) }
+fn line_with(alloc: Global, document: &DocState, content: &str) -> Result<String, AllocError>
+    ensures { IfOk result (λ line. string_bytes line
+        ≡ spec.line_of document.now.name (revision_of (record_of document.now)) document.now.past.past.floor content.now) }
 {
+    let name = document.name().as_str();
+    let revision = document.revision();
+    let floor = document.floor();
     format!(in alloc; "{name} {revision} {floor} {content}\n")
 }

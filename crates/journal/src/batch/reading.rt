@@ -137,7 +137,10 @@ fn deletion(alloc: Global, bytes: &[u8]) -> Result<(Taken, &[u8]), Unread>
     let (revision, rest) = number_within(FIRST_REVISION + 1, rest)?;
     let (source, rest) = source_name(alloc, rest)?;
     let (number, rest) = number_within(0, rest)?;
-    Ok((Taken::deletion(alloc, document, revision, source, number), rest))
+    Ok((
+        Taken::deletion(alloc, document, revision, source, number),
+        rest,
+    ))
 }
 
 #[tactic(auto, unfolding(crate::specs::steps::BatchReading::revival_at))]
@@ -149,7 +152,10 @@ fn revival(alloc: Global, bytes: &[u8]) -> Result<(Taken, &[u8]), Unread>
     let (source, rest) = source_name(alloc, rest)?;
     let (number, rest) = number_within(0, rest)?;
     let (delta, rest) = delta(alloc, rest)?;
-    Ok((Taken::revival(document, revision, source, number, delta), rest))
+    Ok((
+        Taken::revival(document, revision, source, number, delta),
+        rest,
+    ))
 }
 
 #[tactic(auto, unfolding(crate::specs::steps::Reading::name_at))]
