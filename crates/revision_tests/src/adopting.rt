@@ -38,7 +38,7 @@ fn adopt(
     let mut sources = Sources::new(rt.alloc());
     let ann = Name::source(rt.alloc(), "ann").expect(rt, "a source");
     sources.put(ann, Window::of_one(2, 3)).expect(rt, "memory");
-    state.adopt(rt.alloc(), doc(rt, name), document, revision, sources)
+    state.adopt(rt.alloc(), doc(rt, name), document, true, revision, sources)
 }
 
 #[test]
@@ -48,4 +48,34 @@ fn an_adopted_document_goes_on(rt: HostRuntime) {
         assert_eq!(rt; adopt(&rt, &mut state, *name, *revision), *wanted);
     }
     after(&rt, state, ASKED);
+}
+
+/// What is asked of "d", adopted at revision 4 as deleted.
+const ASKED_OF_DELETED: &[Row] = &[
+    ("ann", "d", 2, X, Again(3)),
+    ("ann", "d", 3, X, Not(Refusal::Deleted)),
+    ("ann", "d", 3, What::Delete, Not(Refusal::Deleted)),
+    ("ann", "d", 3, What::Create(&[Step::Plain("n")]), Now(5)),
+];
+
+fn adopt_deleted(
+    rt: &(impl Abort + AllocGlobal),
+    state: &mut State,
+    steps: &[Step],
+) -> Result<(), Refusal> {
+    let document = Document::from_delta(rt.alloc(), &delta_of(rt, steps)).expect(rt, "a document");
+    let mut sources = Sources::new(rt.alloc());
+    let ann = Name::source(rt.alloc(), "ann").expect(rt, "a source");
+    sources.put(ann, Window::of_one(2, 3)).expect(rt, "memory");
+    state.adopt(rt.alloc(), doc(rt, "d"), document, false, 4, sources)
+}
+
+#[test]
+fn a_deleted_document_is_adopted_empty(rt: HostRuntime) {
+    let mut state = roomy(&rt, false);
+    let full = adopt_deleted(&rt, &mut state, &[Step::Plain("ab")]);
+    assert_eq!(rt; full, Err(Refusal::Stranger));
+    let empty = adopt_deleted(&rt, &mut state, &[]);
+    assert_eq!(rt; empty, Ok(()));
+    after(&rt, state, ASKED_OF_DELETED);
 }

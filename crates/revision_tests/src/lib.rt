@@ -18,6 +18,8 @@ mod copies;
 #[cfg(test)]
 mod creations;
 #[cfg(test)]
+mod deleting;
+#[cfg(test)]
 mod edits;
 #[cfg(test)]
 mod limits;
