@@ -207,17 +207,23 @@ fn forgotten(rt: &(impl Abort + AllocGlobal), state: State, batch: &[Taken]) -> 
     }
 }
 
-/// What doesn't follow: a deletion of a deleted document, an edit of one, and a creation of one that is there.
+/// What is taken of one state, edited or deleted by its second command, doesn't suit the mark of the other.
 #[test]
 fn steps_suit_the_mark(rt: HostRuntime) {
-    let turned = batch(&rt, &TURNED);
-    for (before, place) in [(1usize, 2usize), (2, 3), (0, 2), (0, 3)] {
-        let mut state = after(&rt, roomy(&rt, true), &[("a", "d", 1, Z, Now(1))]);
-        assert_eq!(rt;
-            state.absorb_all(rt.alloc(), &turned.as_slice()[..before]),
-            Ok(())
-        );
-        let stranger = state.absorb(rt.alloc(), &turned.as_slice()[place]);
-        assert_eq!(rt; stranger, Err(Refusal::Stranger));
-    }
+    let edited: [Row; 2] = [("a", "d", 1, Z, Now(1)), ("a", "d", 2, edit(1), Now(2))];
+    let deleted: [Row; 2] = [
+        ("a", "d", 1, Z, Now(1)),
+        ("a", "d", 2, What::Delete, Now(2)),
+    ];
+    strange(&rt, &edited, edit(2), &deleted);
+    strange(&rt, &edited, What::Delete, &deleted);
+    strange(&rt, &deleted, N, &edited);
+}
+
+fn strange(rt: &(impl Abort + AllocGlobal), here: &[Row], what: What, there: &[Row]) {
+    let mut state = after(rt, roomy(rt, true), here);
+    let third = taken(rt, &state, "d", 3, what);
+    let mut other = after(rt, roomy(rt, true), there);
+    assert_eq!(rt; other.absorb(rt.alloc(), &third), Err(Refusal::Stranger));
+    assert_eq!(rt; state.absorb(rt.alloc(), &third), Ok(()));
 }
