@@ -12,16 +12,23 @@ const N: What = What::Create(&[Step::Plain("n")]);
 
 const X: What = What::Edit(1, &[Step::Keep(1), Step::Plain("x")]);
 
-const fn edit(base: u64) -> What {
+/// A letter in front, as an edit of a revision.
+fn edit(base: u64) -> What {
     What::Edit(base, &[Step::Plain("y")])
 }
+
+const OF_1: What = What::Edit(1, &[Step::Plain("y")]);
+
+const OF_2: What = What::Edit(2, &[Step::Plain("y")]);
+
+const OF_4: What = What::Edit(4, &[Step::Plain("y")]);
 
 /// A text, a letter behind it, and its deletion; then what another source and the same one ask of it.
 const DELETED: [Row; 11] = [
     ("a", "d", 1, Z, Now(1)),
     ("a", "d", 2, X, Now(2)),
     ("a", "d", 3, What::Delete, Now(3)),
-    ("b", "d", 1, edit(2), Not(Refusal::Deleted)),
+    ("b", "d", 1, OF_2, Not(Refusal::Deleted)),
     ("b", "d", 1, What::Undo, Not(Refusal::Deleted)),
     ("b", "d", 1, What::Delete, Not(Refusal::Deleted)),
     ("b", "d", 2, What::Delete, Not(Refusal::Gap)),
@@ -34,8 +41,8 @@ const DELETED: [Row; 11] = [
 /// It is created again.
 const CREATED_AGAIN: [Row; 10] = [
     ("a", "d", 4, N, Now(4)),
-    ("b", "d", 1, edit(2), Not(Refusal::TooOld)),
-    ("b", "d", 1, edit(4), Now(5)),
+    ("b", "d", 1, OF_2, Not(Refusal::TooOld)),
+    ("b", "d", 1, OF_4, Now(5)),
     ("a", "d", 3, What::Delete, Again(3)),
     ("a", "d", 1, Z, Again(1)),
     ("a", "d", 5, What::Undo, Not(Refusal::TooOld)),
@@ -160,10 +167,10 @@ fn deleted_again_and_again(rt: HostRuntime) {
 
 /// Edits with a deletion and a creation again between them, as one batch.
 const TURNED: [Row; 4] = [
-    ("a", "d", 2, edit(1), Now(2)),
+    ("a", "d", 2, OF_1, Now(2)),
     ("a", "d", 3, What::Delete, Now(3)),
     ("a", "d", 4, N, Now(4)),
-    ("a", "d", 5, edit(4), Now(5)),
+    ("a", "d", 5, OF_4, Now(5)),
 ];
 
 // what is taken of each of these, in order, on a document that was created
