@@ -139,14 +139,14 @@ fn plan_existing(
     ensures memory { IsErrOf result Refusal.NoMemory
         → takes_command (create_existing state.now number (record_of found.now) command.now delta.now) ≡ true }
 {
-    let window = found.window(command.source());
+    let own = found.window(command.source());
     if found.is_live() {
-        return match window.revision_of(command.number()) {
+        return match own.revision_of(command.number()) {
             Some(rev) => Ok(Plan::Again { rev }),
             None => Err(Refusal::Exists),
         };
     }
-    match turn(&window, command.number()) {
+    match turn(&own, command.number()) {
         Ok(None) => plan_revival(alloc, state, number, found, command, delta),
         Ok(Some(rev)) => Ok(Plan::Again { rev }),
         Err(refusal) => Err(refusal),
@@ -318,8 +318,8 @@ fn plan_delete(
         (if_live (record_of found.now) (delete state.now number (record_of found.now) command.now))) ≡ true }
 {
     let source = command.source();
-    let window = found.window(source);
-    match turn(&window, command.number()) {
+    let own = found.window(source);
+    match turn(&own, command.number()) {
         Ok(None) => {}
         Ok(Some(rev)) => return Ok(Plan::Again { rev }),
         Err(refusal) => return Err(refusal),
@@ -328,7 +328,7 @@ fn plan_delete(
         return Err(Refusal::Deleted);
     }
     let limits = state.limits();
-    if !has_place(limits, found.sources(), window.number()) {
+    if !has_place(limits, found.sources(), own.number()) {
         return Err(Refusal::TooManySources);
     }
     let revision = found.revision();

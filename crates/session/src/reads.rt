@@ -55,10 +55,10 @@ fn newest_of(alloc: Global, name: &Name, found: &DocState) -> Result<String, All
     ensures { IfOk result (λ text. string_bytes text
         ≡ line_told (told name.now Newest (Some (0, record_of found.now)))) }
 {
-    if !found.is_live() {
-        return refusal_reply(alloc, Refusal::Deleted);
+    if found.is_live() {
+        return document_reply(alloc, name, found.document(), found.revision());
     }
-    document_reply(alloc, name, found.document(), found.revision())
+    refusal_reply(alloc, Refusal::Deleted)
 }
 
 fn read_at(alloc: Global, state: &State, shelf: &Shelf, name: &Name, rev: u64) -> Told

@@ -137,10 +137,8 @@ fn deletion(alloc: Global, bytes: &[u8]) -> Result<(Taken, &[u8]), Unread>
     let (revision, rest) = number_within(FIRST_REVISION + 1, rest)?;
     let (source, rest) = source_name(alloc, rest)?;
     let (number, rest) = number_within(0, rest)?;
-    Ok((
-        Taken::deletion(alloc, document, revision, source, number),
-        rest,
-    ))
+    let taken = Taken::deletion(alloc, document, revision, source, number);
+    Ok((taken, rest))
 }
 
 #[tactic(auto, unfolding(crate::specs::steps::BatchReading::revival_at))]
