@@ -15,6 +15,8 @@ mod creating;
 #[cfg(test)]
 mod damage;
 #[cfg(test)]
+mod deleting;
+#[cfg(test)]
 mod deltas;
 #[cfg(test)]
 mod devices;
