@@ -88,9 +88,9 @@ fn a_deletion_is_stopped_at_its_gate(rt: HostRuntime) {
 #[test]
 fn a_deletion_is_stopped_before_its_gate(rt: HostRuntime) {
     for call in 0..2u64 {
-        for left in LEFT {
+        for (left, _) in &LEFT {
             let bytes = with_two(&rt);
-            let plan = stop_at(&rt, &bytes, call, left);
+            let plan = stop_at(&rt, &bytes, call, *left);
             let left = left_by(&rt, &failed_commit(&rt, &bytes, &DELETION, plan));
             is_opened_as(&rt, &left, "d 2 zx\n");
         }

@@ -8,7 +8,8 @@ use std::sync::Wait;
 use std::thread::Threads;
 
 /// Behind the creation of `d` with z: x after it, and the first unit away.
-const EDITS: &str = "{\"do\":\"edit\",\"doc\":\"d\",\"n\":2,\"base\":1,\"ops\":[{\"retain\":1},{\"insert\":\"x\"}]}\n\
+const EDITS: &str =
+    "{\"do\":\"edit\",\"doc\":\"d\",\"n\":2,\"base\":1,\"ops\":[{\"retain\":1},{\"insert\":\"x\"}]}\n\
     {\"do\":\"edit\",\"doc\":\"d\",\"n\":3,\"base\":2,\"ops\":[{\"delete\":1}]}\n";
 
 const TAKEN: &str = "{\"doc\":\"d\",\"n\":1,\"ok\":\"taken\",\"rev\":1}\n\
