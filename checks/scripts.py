@@ -35,6 +35,13 @@ def undo(doc, n):
     return {"do": "undo", "doc": doc, "n": n}
 
 
+def deletion(doc, n):
+    return {"do": "delete", "doc": doc, "n": n}
+
+
+COMMANDS = ("create", "edit", "undo", "delete")
+
+
 def fetch(doc, *rev):
     return {"do": "fetch", "doc": doc, **({"rev": rev[0]} if rev else {})}
 
@@ -273,12 +280,12 @@ class Session:
 
 
 def dumped(store, pick):
-    """What `dump` prints of a store: of each document its revision and its operations."""
+    """What `dump` prints of a store: of each document its revision and its operations, None where it is deleted."""
     documents = {}
     for line in undisturbed("dump", store, "--pick", pick).decode().splitlines():
         name, rev, floor, content = line.split(" ", 3)
         agree(0 <= int(floor) <= int(rev), f"a floor of {floor} at revision {rev}")
-        documents[name] = int(rev), json.loads(content)["ops"]
+        documents[name] = int(rev), None if content == "deleted" else json.loads(content)["ops"]
     return documents
 
 
@@ -409,7 +416,7 @@ class Play:
     def documents(self, pending):
         """What the store may hold now: what was acknowledged, or that and the command that is pending."""
         wanted = self.script.wanted or self
-        is_command = pending is not None and pending["do"] in ("create", "edit", "undo")
+        is_command = pending is not None and pending["do"] in COMMANDS
         return wanted.states[self.taken : self.taken + (2 if is_command else 1)]
 
     def check_held(self, pending):
@@ -433,7 +440,7 @@ class Play:
 
     def check_failed(self, message):
         """After StoreFailed each command gets it, reads get it or an answer, and the session's end says so."""
-        command = message if message["do"] in ("create", "edit", "undo") else undo("nothing", 1)
+        command = message if message["do"] in COMMANDS else undo("nothing", 1)
         for _ in range(2):
             reply = self.session.ask(command)
             agree(reply.get("code") == 21, f"a command after StoreFailed: {reply}")
