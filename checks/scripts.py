@@ -119,6 +119,31 @@ SCRIPTS = [
         {"d": (4, [insert("Hei")]), "e": (2, [])},
     ),
     Script(
+        "a document that is deleted and created again",
+        ROOMY,
+        [],
+        [
+            (
+                "a",
+                [
+                    create("d", insert("Hi")),
+                    edit("d", 2, 1, retain(2), insert("!")),
+                    deletion("d", 3),
+                    fetch("d"),  # Deleted
+                    deletion("d", 4),  # Deleted
+                    create("d", insert("?")),  # again
+                    {**create("d", insert("n")), "n": 4},
+                    edit("d", 5, 2, insert("q")),  # TooOld
+                    edit("d", 5, 4, retain(1), insert("o")),
+                    create("e"),
+                    deletion("e", 2),
+                ],
+            ),
+            ("b", [fetch("d"), fetch("e"), edit("d", 1, 5, insert("("))]),  # Deleted
+        ],
+        {"d": (6, [insert("(no")]), "e": (2, None)},
+    ),
+    Script(
         "sessions in a store of the default shape",
         [],
         [],
@@ -398,7 +423,13 @@ class Play:
             if self.script.wanted is None:
                 docs = {doc for _, doc in self.last}
                 replies = {doc: self.session.ask(fetch(doc)) for doc in sorted(docs)}
-                self.states.append({doc: (it["rev"], it["ops"]) for doc, it in replies.items()})
+                self.states.append({doc: self.held(doc, it) for doc, it in replies.items()})
+
+    def held(self, doc, reply):
+        """What a fetch shows of a document: its revision and its operations, None where it is deleted."""
+        if reply.get("code") != 40:
+            return reply["rev"], reply["ops"]
+        return max(rev for (_, other), mine in self.last.items() if other == doc for _, rev in mine), None
 
     def begin_again(self):
         """Starts the program again. It knows the source's last commands that were acknowledged."""
@@ -447,7 +478,8 @@ class Play:
         for doc in self.documents(None)[0]:
             reply = self.session.ask(fetch(doc))
             held = [state.get(doc) for state in self.documents(message)]
-            agree(reply.get("code") == 21 or (reply["rev"], reply["ops"]) in held, f"a fetch after StoreFailed: {reply}")
+            is_held = any(it is not None and it[1] is None for it in held) if reply.get("code") == 40 else None
+            agree(reply.get("code") == 21 or is_held or self.held(doc, reply) in held, f"a fetch after StoreFailed: {reply}")
         ended = self.session.end()
         agree(ended == (1, STORE_FAILED), f"after StoreFailed the session ended with {ended}")
         self.check_held(message)
