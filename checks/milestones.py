@@ -6,7 +6,7 @@ usage: checks/milestones.py [SECONDS] [SESSIONS]     (default: 10 seconds, 8 ses
 Twice a new store that keeps 4,096 revisions is served, with milestones 16 and then 256 revisions apart. Each session is a source of
 its own: it puts a letter before the document of all and takes the next one away, as fast as it is answered. Then the program is
 killed. `dump` shows how far back the document's past is held by the newer milestone, which is the milestone's own revision: it has
-to be at most 2,000 revisions behind the newest one. So a busy document gets its milestones, however long composing one takes.
+to be at most 2,000 revisions behind the newest one. The journal takes all that is written, so each milestone is one of the composers'.
 
 Run ./demo first, which builds crates/richd/out/richd, or name another program in RICHD. The stores lie in a temporary folder (TMPDIR).
 """
@@ -30,6 +30,7 @@ sessions = int(sys.argv[2]) if len(sys.argv) > 2 else 8
 NAME = "all"
 LETTERS = 8_192
 BEHIND = 2_000  # revisions at most
+SLOT = 16_777_216  # some 280,000 edits fill one: no milestone comes of a full journal
 PATIENCE = 60  # seconds
 
 
@@ -65,7 +66,7 @@ def feed(session, until):
 
 def row(folder, every):
     store = os.path.join(folder, f"every{every}")
-    format_store(store, "--docs", "1", "--keep", "4096")
+    format_store(store, "--docs", "1", "--keep", "4096", "--slots", "2", "--slot", str(SLOT))
     with Server(store, "--every", every) as server:
         Session(server.address, "first").create()
         writers = [Session(server.address, f"s{k}") for k in range(sessions)]

@@ -108,7 +108,7 @@ pub struct Worker {
 }
 
 impl Worker {
-    /// The next job, `None` where the thread that writes has gone.
+    /// The next job, `None` once the thread that writes has gone and no job is left.
     pub(crate) fn next<R: Wait>(&mut self, rt: &R) -> Option<Job> {
         self.jobs.recv(rt)
     }

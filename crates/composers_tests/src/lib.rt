@@ -8,3 +8,5 @@ mod halves;
 mod made;
 #[cfg(test)]
 mod places;
+#[cfg(test)]
+mod workers;

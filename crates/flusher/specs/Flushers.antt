@@ -37,17 +37,17 @@ module _ {D : Type 0} {disk : Ghosts D} where
     pub with_room : has_room old batch ≡ true → (is_open : IsOpen old) → IsCommittedNow batch old is_open new
     pub behind : has_room old batch ≡ false → (is_open : IsOpen old) → IsCommittedBehind batch old is_open new
 
-  -- the batch that was to be committed, where there was one, is committed; and where there was none the store is left as it was
+  -- the batch that was to be committed, where there was one, is committed; and where there was none the store is left unchanged
   abbrev pub IsHeldCommitted : List (List Taken) → Store D disk → Store D disk → Type 0
   IsHeldCommitted [] old new = new ≡ old
   IsHeldCommitted (batch ∷ others) old new = IsCommittedTo batch old new
 
-  -- A batch was to be committed to a store, and isn't: where it had room the store is as it was, and else it is freed for it, or partly freed.
+  -- A batch was to be committed to a store, and isn't: where it had room the store is unchanged, and else it is freed for it, or partly freed.
   pub record IsLeftWithout (batch : List Taken) (old new : Store D disk) : Type 0 where
     pub with_room : has_room old batch ≡ true → IsUnchanged old new
     pub behind : has_room old batch ≡ false → (is_open : IsOpen old) → IsHalfFreed old is_open new ⊎ IsFreedNow old is_open new
 
-  -- the batch that was to be committed, where there was one, isn't; and where there was none the store is left as it was
+  -- the batch that was to be committed, where there was one, isn't; and where there was none the store is left unchanged
   abbrev pub IsGivenUp : List (List Taken) → Store D disk → Store D disk → Type 0
   IsGivenUp [] old new = new ≡ old
   IsGivenUp (batch ∷ others) old new = IsLeftWithout batch old new

@@ -141,6 +141,7 @@ impl<D: Disk, J: Site> Flusher<D, J> {
         ensures committed { OnOk result ((batch : List Taken) → waiting_of self.old ≡ batch ∷ []
             → (is_open : IsOpen (store_of self.old))
             → IsCommittedNow batch (store_of self.old) is_open (store_of self.new)) }
+        ensures still { waiting_of self.old ≡ [] → store_of self.new ≡ store_of self.old }
         ensures unchanged { IfErr result (λ e. e ≢ Refusal.Fault → IsUnchanged (store_of self.old) (store_of self.new)) }
 
         // When each refusal comes.
@@ -156,18 +157,18 @@ impl<D: Disk, J: Site> Flusher<D, J> {
     {
         match self.waiting.take() {
             None => Ok(()),
-            Some(run) => {
+            Some(held) => {
                 self.begun.is_start();
-                let ordered = run.goes_on(self.publisher.told());
+                let ordered = held.goes_on(self.publisher.told());
                 ordered.legal();
-                match self.store.commit(alloc, run.commands()) {
+                match self.store.commit(alloc, held.commands()) {
                     Ok(receipt) => {
-                        run.committed(&receipt);
+                        held.committed(&receipt);
                         self.publisher.accept(receipt, ordered);
                         Ok(())
                     }
                     Err(refusal) => {
-                        fill(&mut self.waiting, run);
+                        fill(&mut self.waiting, held);
                         Err(refusal)
                     }
                 }
@@ -203,7 +204,7 @@ impl<D: Disk, J: Site> Flusher<D, J> {
         ensures state { OnOk result (state_of (store_of self.new)
             ≡ fold (state_of (store_of self.old)) (commands_of (waiting_of self.old))) }
         // The cells and the slots are those of before, but for the batch, where it had room, and else those that freeing left; where no
-        // batch waits the store is as it was.
+        // batch waits the store is unchanged.
         ensures committed { OnOk result (IsHeldCommitted (waiting_of self.old) (store_of self.old) (store_of self.new)) }
         ensures memory { IsErrOf result Refusal.NoMemory
             → ((waiting_of self.new ≡ waiting_of self.old)
@@ -324,7 +325,7 @@ impl<D: Disk, J: Site> Flusher<D, J> {
         ensures same_state { OnErr result (state_of (store_of self.new) ≡ state_of (store_of self.old)) }
         // The cells and the slots are those of before, but for the batch, where it had room, and else those that freeing left.
         ensures committed { OnOk result (IsHeldCommitted (waiting_of self.old) (store_of self.old) (store_of self.new)) }
-        // Where it had room, all of the store is as it was, and else the oldest segment is freed, or partly freed.
+        // Where it had room, all of the store is unchanged, and else the oldest segment is freed, or partly freed.
         ensures given_up { IsErrOf result Refusal.NoMemory
             → IsGivenUp (waiting_of self.old) (store_of self.old) (store_of self.new) }
 

@@ -99,18 +99,21 @@ impl<D: Disk, J: Site> Flusher<D, J> {
         self.store.milestone_job(alloc, document, revision)
     }
 
-    /// Drops the copy of a document's job, as `Store::give_up_job` does: another one may be due. It takes no memory. What is held, and what is
-    /// published, stays.
-    pub fn give_up_job(&mut self, document: u32)
+    /// Drops the copy of a job, where this very job is still kept, as `Store::give_up_job` does: another one may be due. It takes no memory.
+    /// What is held, and what is published, stays.
+    pub fn give_up_job(&mut self, job: &Job)
         ensures goes { Goes (λ content. FoundAs content (state_of (store_of self.old))) (store_of self.old)
             (store_of self.new) }
-        ensures jobs { kept_jobs (store_of self.new) ≡ without_job document (kept_jobs (store_of self.old)) }
+        ensures kept { Contains (kept_jobs (store_of self.old)) job.now
+            → kept_jobs (store_of self.new) ≡ without_job job.now.document (kept_jobs (store_of self.old)) }
+        ensures other { (¬ Contains (kept_jobs (store_of self.old)) job.now)
+            → kept_jobs (store_of self.new) ≡ kept_jobs (store_of self.old) }
         ensures same { IsUnchangedButJobs (store_of self.old) (store_of self.new) }
         ensures told { told_of self.new ≡ told_of self.old }
         ensures committed { committed_of self.new ≡ committed_of self.old }
         ensures waiting { waiting_of self.new ≡ waiting_of self.old }
     {
-        self.store.give_up_job(document);
+        self.store.give_up_job(job);
     }
 
     /// Puts the milestone that came of a job, as `Store::put_milestone` does. What is held, and what is published, stays.

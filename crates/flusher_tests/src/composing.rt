@@ -20,7 +20,7 @@ use std::time::{Clock, Duration};
 use turns::{Composers, OpenHalves, Upkeep, channels, compose_workers, flush_turn};
 
 /// A device of 16,448 bytes, whose documents keep 64 revisions.
-const ROOMY: Shape = Shape {
+pub const ROOMY: Shape = Shape {
     slots: 2,
     slot: 4_096,
     docs: 2,
@@ -30,9 +30,10 @@ const ROOMY: Shape = Shape {
 };
 
 /// So many turns are made at most, a millisecond apart.
-const TURNS: u64 = 20_000;
+pub const TURNS: u64 = 20_000;
 
-fn started<J: Site>(
+// A flusher and a board of a store.
+pub fn started<J: Site>(
     rt: &(impl Abort + AllocGlobal),
     store: Store<MemDisk>,
     opened: Opened,

@@ -23,3 +23,5 @@ mod seats;
 mod shows;
 #[cfg(test)]
 mod threads;
+#[cfg(test)]
+mod upkeep;

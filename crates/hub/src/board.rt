@@ -149,7 +149,7 @@ impl<D, J: Site> Board<D, J> {
         self.board.untaken().is_empty()
     }
 
-    /// A seat more, of which nothing is counted yet. Refused with `NoSeat` just where none is left to give, and then nothing has changed. It takes no memory.
+    /// A seat more, of which nothing is counted yet. Refused with `NoSeat` exactly when none is left to give, and then nothing has changed. It takes no memory.
     pub fn seat(&mut self) -> Result<Seat<J>, Refusal>
         ensures ok { OnOk result (self.old ≡ record self.new { left = self.new.left + 1 }) }
         ensures new { IfOk result (λ seat. seat ≡ 0) }
@@ -213,7 +213,7 @@ impl<D, J: Site> Board<D, J> {
     }
 
     /// Takes off the longest run of the next commands whose batch has at most `cap` bytes, and gives a copy of it; it is empty where
-    /// there is none. Refused for want of memory alone, and then nothing has changed.
+    /// there is none. Refused as out of memory alone, and then nothing has changed.
     pub fn take(&mut self, alloc: Global, cap: u32) -> Result<Run<D, J>, Refusal>
         ensures longest { IfOk result (λ run. IsLongest cap (untaken self.old.board) (length run.commands)) }
         ensures run { IfOk result (λ run. run.commands ≡ takens (next_run self.old.board (length run.commands))) }
@@ -256,7 +256,7 @@ impl<D, J: Site> Board<D, J> {
         Ok(())
     }
 
-    /// Acknowledges a ticket: the token of what was published, just where the ticket's length is settled, which stays so once the store has failed. Else
+    /// Acknowledges a ticket: the token of what was published, exactly when the ticket's length is settled, which stays so once the store has failed. Else
     /// refused with `StoreFailed` where the store has failed, and `None` where it hasn't. It takes no memory.
     pub fn ack(&self, ticket: &Ticket<J>) -> Result<Option<Told<D, J>>, Refusal>
         ensures settled { (can_ack self.now.board ticket.now ≡ true) ↔ (result ≡ Ok (Some self.now.told)) }

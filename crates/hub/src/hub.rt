@@ -44,7 +44,7 @@ impl<D, J: Site> Hub<D, J> {
         (hub, writer, closer)
     }
 
-    /// Submits a command to the board, and wakes the flusher. The ticket is of this command, and the seat counts it just where the
+    /// Submits a command to the board, and wakes the flusher. The ticket is of this command, and the seat counts it exactly when the
     /// reply is that it was taken. Refused as `Board::submit` refuses it, and once the end was called, since nobody would write it; the
     /// seat is unchanged then. That the store had failed or the hub had ended is said by a token that the hub alone makes. A ticket, or
     /// another refusal, is what a board gives that some legal history from the run's start makes.
@@ -65,7 +65,7 @@ impl<D, J: Site> Hub<D, J> {
         answer
     }
 
-    /// Takes the next run off the board, as `Board::take` does: it fits `cap` bytes as one batch, or is empty. Refused for want of memory alone.
+    /// Takes the next run off the board, as `Board::take` does: it fits `cap` bytes as one batch, or is empty. Refused as out of memory alone.
     pub fn take<R: Wait>(
         &self,
         rt: &R,

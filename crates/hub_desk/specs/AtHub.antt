@@ -23,7 +23,7 @@ pub record Desk : Type 0 where
   pub stopped : Bool
 
 -- A command was submitted at a hub whose run began with this state: its ticket is of just this command, a board of the run gave it, and
--- the seat counts it just where it was taken.
+-- the seat counts it exactly when it was taken.
 pub record Submits (start : State) (old : Desk) (command : Command) (ticket : Ticket) (new : Desk) : Type 0 where
   pub of_command : ticket.command ≡ command
   pub given : GaveTicket start command ticket

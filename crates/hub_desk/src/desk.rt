@@ -144,8 +144,8 @@ impl<D, J: Site, R: Wait> HubDesk<'_, D, J, R> {
         self.hub.submit(self.rt, alloc, &mut self.seat, command)
     }
 
-    // Submits commands one after another, before any of them is waited for: the seat counts each by its answer. For want of memory
-    // for the list nothing is submitted.
+    // Submits commands one after another, before any of them is waited for: the seat counts each by its answer. Where memory runs out
+    // for the list, nothing is submitted.
     fn submit_all(
         &mut self,
         alloc: Global,

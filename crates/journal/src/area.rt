@@ -95,7 +95,7 @@ impl Area {
         self.next + 6 + len <= self.size
     }
 
-    /// Appends a record: two writes and two syncs. `NoRoom` comes just where it doesn't fit, with the closed gate behind it, and makes
+    /// Appends a record: two writes and two syncs. `NoRoom` comes exactly when it doesn't fit, with the closed gate behind it, and makes
     /// no call of the device; after a `Fault` the record may be there or not. It takes no memory.
     pub fn append<D: Disk>(&mut self, disk: &mut D, added: &Record) -> Result<(), AppendError>
         requires within { self.old.at + self.old.size ≤ length (D.seen disk.old) }

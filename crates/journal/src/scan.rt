@@ -137,7 +137,7 @@ pub struct Scan {
 
 impl Area {
     /// Reads an area of `size` bytes from `at` on: the bodies of the open records in order, and the place of the next
-    /// gate. `Damaged` comes just where the bytes hold no list of records. The device stays as it is.
+    /// gate. `Damaged` comes exactly when the bytes hold no list of records. The device stays as it is.
     ///
     /// Each byte is read once at most, in pieces of at most 65,536 bytes, up to the one with the first closed gate.
     /// Beside the bodies no more is held at a time than a piece and what was read before it of one record.

@@ -30,7 +30,7 @@ pub record Between (D : Type 0) (disk : Ghosts D) : Type 0 where
   pub tickets : List Ticket
   pub store : Store D disk
 
--- What an acknowledgement gives for a ticket, or for none: just where the ticket's length is settled, the board's token of all that
+-- What an acknowledgement gives for a ticket, or for none: exactly when the ticket's length is settled, the board's token of all that
 -- was published.
 abbrev pub AckGives : Board → Option Ticket → Option (List (List Taken)) → Type 0
 AckGives board None told = told ≡ None
@@ -48,7 +48,7 @@ turned board count =
     record board { board = settled_more (taken_more board.board count) count; told = with_run board.told (takens (next_run board.board count)) }
 
 module _ {D : Type 0} {disk : Ghosts D} where
-  -- the commands of a run are committed as one batch; of none the store is left as it was
+  -- the commands of a run are committed as one batch; of none the store is left unchanged
   abbrev pub IsRunCommitted : List Taken → Store D disk → Store D disk → Type 0
   IsRunCommitted [] old new = new ≡ old
   IsRunCommitted (first ∷ others) old new = IsCommittedTo (first ∷ others) old new
@@ -160,6 +160,6 @@ module _ {D J : Type 0} {disk : Ghosts D} where
     pub turns : slice_get calls (length answers) ≡ Some Turn
     pub refused : IsTurnRefused cap last.board last.store refusal after
 
-  -- Why a run stops at a call, and with which flusher: for want of memory, at a fault of the device, or where a turn is refused.
+  -- Why a run stops at a call, and with which flusher: out of memory, at a fault of the device, or where a turn is refused.
   abbrev pub Stops : ℕ → Between D disk → List Call → List (Answer D J) → Refusal → Flusher D J disk → Type 0
   Stops cap start calls answers refusal after = ((refusal ≡ NoMemory) ⊎ (refusal ≡ Fault)) ⊎ StopsAtTurn cap start calls answers refusal after

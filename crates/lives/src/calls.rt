@@ -32,6 +32,6 @@ pub enum Answer<D, J: Site> {
     Put,
     /// The oldest segment is retired.
     Retired,
-    /// The call was refused: what was ordered, written and settled is as it was.
+    /// The call was refused: what was ordered, written and settled is unchanged.
     Refused(Refusal),
 }

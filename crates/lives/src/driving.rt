@@ -39,7 +39,7 @@ pub struct Driven<D, J: Site> {
     pub stopped: Option<Refusal>,
 }
 
-// Submits a command, and keeps its ticket. Stops for want of memory alone; another refusal is an answer.
+// Submits a command, and keeps its ticket. Stops as out of memory alone; another refusal is an answer.
 fn submit_one<D: Disk, J: Site>(
     alloc: Global,
     board: &mut Board<D, J>,
@@ -88,7 +88,7 @@ fn ack_one<D, J: Site>(board: &Board<D, J>, tickets: &[Ticket<J>], at: usize) ->
     }
 }
 
-// What a refusal answers: itself, but for want of memory and a fault, at which a run stops.
+// What a refusal answers: itself, unless memory ran out or the device failed, at which a run stops.
 fn answered<D, J: Site>(refusal: Refusal) -> Result<Answer<D, J>, Refusal>
     ensures answer { IfOk result (λ reply. (reply ≡ Answer.Refused refusal) × (refusal ≢ Refusal.NoMemory)
         × (refusal ≢ Refusal.Fault)) }
@@ -103,7 +103,7 @@ fn answered<D, J: Site>(refusal: Refusal) -> Result<Answer<D, J>, Refusal>
     Ok(Answer::Refused(refusal))
 }
 
-// Puts a milestone. Stops for want of memory and at a fault; another refusal is an answer.
+// Puts a milestone. Stops as out of memory and at a fault; another refusal is an answer.
 fn put_one<D: Disk, J: Site>(
     alloc: Global,
     flusher: &mut Flusher<D, J>,
@@ -250,7 +250,7 @@ fn stopped_by(ended: Result<(), Refusal>) -> Option<Refusal>
 }
 
 /// One thread's run: makes the calls in order, each with its answer, over a flusher that has nothing under way and its board, where
-/// neither the store nor the board has failed. It makes room for each answer before its call. It stops for want of memory, at a fault
+/// neither the store nor the board has failed. It makes room for each answer before its call. It stops out of memory, at a fault
 /// of the device, and where a turn is refused; any other refusal is an answer. The call at which it stops gives no ticket and settles
 /// nothing.
 ///

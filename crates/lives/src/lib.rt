@@ -15,9 +15,9 @@
 //! - `acknowledged`: each ticket of which an acknowledgement gave a token asks for no more than is settled then. So a crash loses nothing
 //!   that was acknowledged.
 //! - `answered`, `whole`: each answer is what specs/Driving.antt says by `Gives` of its call, of the board, the tickets and the store; a
-//!   run that isn't stopped answers all. A run stops for want of memory, at a fault of the device, and where a turn is refused, by `Stops`
+//!   run that isn't stopped answers all. A run stops out of memory, at a fault of the device, and where a turn is refused, by `Stops`
 //!   of the same file; the call at which it stops gives no ticket and settles nothing, and leaves what `IsUnanswered` says.
-//! - `fails`: it stops with `Fault` just where the store has failed.
+//! - `fails`: it stops with `Fault` exactly when the store has failed.
 //!
 //! What a crash leaves is said of a store that is open as `IsOpen` of recovery says, which `Store::open` gives for an honest device. A
 //! turn that publishes a batch before its commit can't be written: a publish shows what was accepted by the receipt of its commit.

@@ -44,13 +44,13 @@ kept limits free document cell low none weight sources is to = record {
   sources = subst (λ n. are_sources n cell.sources.entries ≡ true) (sym to.revision)
       (subst (λ es. are_sources (newest document.past) es ≡ true) (sym to.sources) (cut_stays (newest document.past) (sources_at document.past (newest document.past)).entries at.sources));
   weight = omega (
-      arith,
-      at.weight,
-      weight,
-      ap (λ (c : Content). weight_of c.units) to.content,
-      ap (total_of (window_weight limits)) to.sources,
-      cut_weighs limits free (sources_at document.past (newest document.past)).entries low none,
-    );
+    arith,
+    at.weight,
+    weight,
+    ap (λ (c : Content). weight_of c.units) to.content,
+    ap (total_of (window_weight limits)) to.sources,
+    cut_weighs limits free (sources_at document.past (newest document.past)).entries low none,
+  );
 }
   where
     at : KeepsAt free document.past (newest document.past)

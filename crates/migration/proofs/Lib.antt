@@ -1,1 +1,3 @@
 mod Begun
+pub mod Cut
+mod Moments

@@ -7,6 +7,7 @@ use Rattle.history.specs.Cell.{Cell}
 use Rattle.history.specs.Law.{begun_with}
 use Rattle.milestone.specs.CellSpelling.{IsCell}
 use Rattle.recovery.specs.declared.shape.Shape.{Shape}
+use Rattle.recovery.specs.Layout.{Names}
 use Rattle.recovery.specs.Found.{FoundAs, limits_of}
 use Rattle.recovery.specs.Formatting.{IsUnformatted}
 use Rattle.migration.specs.declared.migrate.Old.{Old}
@@ -35,9 +36,13 @@ start_of old = old.start.items
 abbrev pub AreSpelled : List Cell → Type 0
 AreSpelled start = (number : ℕ) (cell : Cell) → slice_get start number ≡ Some cell → IsCell number cell
 
--- a content that is found as the store of this shape which began with these documents, and goes on
-abbrev pub IsFoundAsBegun : Shape → List Cell → List ℕ → Type 0
-IsFoundAsBegun shape start content = FoundAs content (begun_with (limits_of shape) start)
+-- A content names this shape, is found as the store of it which began with the documents of a state, cut, and goes on.
+pub record IsMigrated (shape : Shape) (state : State) (content : List ℕ) : Type 0 where
+  pub names : Names content shape
+  pub start : List Cell
+  pub cut : AreCut state start
+  pub found : FoundAs content (begun_with (limits_of shape) start)
 
-abbrev pub IsUnformattedOrFound : Shape → List Cell → List ℕ → Type 0
-IsUnformattedOrFound shape start content = IsUnformatted content ⊎ IsFoundAsBegun shape start content
+-- what a crash may leave of the new device
+abbrev pub IsUnformattedOrMigrated : Shape → State → List ℕ → Type 0
+IsUnformattedOrMigrated shape state content = IsUnformatted content ⊎ IsMigrated shape state content

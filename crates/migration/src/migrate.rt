@@ -2,15 +2,14 @@
 ghost use Rattle.std.specs.Prelude.{◌≡◌, ◌⊎◌, ◌<◌, ◌≤◌, ◌^◌, List, [], true, length, Err, OnOk, OnErr, IfOk, IfErr};
 ghost use Rattle.disk.specs.Calls.{CountsFaultsAs};
 ghost use Rattle.disk.specs.Crash.{history_of};
-ghost use Rattle.history.specs.Cell.{Cell, Newer};
-ghost use Rattle.history.specs.Law.{begun_with};
+ghost use Rattle.history.specs.Cell.{Newer};
 ghost use Rattle.milestone.specs.CellSpelling.{One, Two};
 ghost use Rattle.revision.specs.State.{State as StateValue};
 ghost use Rattle.recovery.specs.Shape.{is_in_range, layout_length};
 ghost use Rattle.recovery.specs.Layout.{IsFormatted, IsOfFormat};
-ghost use Rattle.recovery.specs.Found.{FoundIn, FoundAs, limits_of};
+ghost use Rattle.recovery.specs.Found.{FoundIn};
 ghost use Rattle.recovery.specs.Formatting.{Fits, MayBegin, IsUnformatted, IsBegunStore, IsUnformattedOrBegun, IsOnlySynced, LeavesFromSync};
-ghost use Rattle.migration.specs.Migrated.{AreCut, IsFoundAsBegun, IsUnformattedOrFound};
+ghost use Rattle.migration.specs.Migrated.{AreCut, IsMigrated, IsUnformattedOrMigrated};
 
 use crate::cutting::cut_all;
 use disk::Disk;
@@ -42,23 +41,26 @@ pub fn migrate<A: Disk, B: Disk>(alloc: Global, old: &mut A, new: &mut B) -> Res
     // From the first sync of a device without a store on, a crash at any moment leaves that device without one, or with one of the old
     // shape that is found as the documents of the old one with their windows cut, and that goes on; at Ok the latter.
     ensures from_sync { A.honest old.new → IsUnformatted (B.seen new.old) → (state : StateValue)
-        → (is : FoundIn One (A.seen old.old) Newer state) → (start : List Cell) × AreCut state start
-        × LeavesFromSync (IsUnformattedOrFound is.shape start) (history_of ⟦<B as Disk>⟧ new.old)
+        → (is : FoundIn One (A.seen old.old) Newer state)
+        → LeavesFromSync (IsUnformattedOrMigrated is.shape state) (history_of ⟦<B as Disk>⟧ new.old)
         (history_of ⟦<B as Disk>⟧ new.new) }
     ensures found { OnOk result (A.honest old.new
         → (state : StateValue) × FoundIn One (A.seen old.old) Newer state) }
     ensures done { OnOk result (A.honest old.new → (state : StateValue)
-        → (is : FoundIn One (A.seen old.old) Newer state)
-        → (start : List Cell) × AreCut state start × IsFoundAsBegun is.shape start (B.seen new.new)) }
+        → (is : FoundIn One (A.seen old.old) Newer state) → IsMigrated is.shape state (B.seen new.new)) }
     ensures synced { OnOk result (B.unsynced new.new ≡ []) }
 
     // A new device that has a store is told of, and stays; so is one that is too short.
     ensures already_formatted { result ≡ Err Refusal.AlreadyFormatted → B.honest new.new → IsFormatted (B.seen new.old) }
     ensures formatted { OnOk result (B.honest new.new → ¬ IsFormatted (B.seen new.old)) }
+    ensures too_short { result ≡ Err Refusal.BadShape → B.honest new.new → ¬ IsFormatted (B.seen new.old) }
     ensures kept { B.honest new.new → IsFormatted (B.seen new.old)
         → IsOnlySynced (history_of ⟦<B as Disk>⟧ new.old) (history_of ⟦<B as Disk>⟧ new.new) }
     ensures bad_shape { result ≡ Err Refusal.BadShape → A.honest old.new → (state : StateValue)
         → (is : FoundIn One (A.seen old.old) Newer state) → ¬ Fits is.shape (length (B.seen new.old)) }
+    // Neither is told of before the old store is found.
+    ensures old_first { IfErr result (λ e. (e ≡ Refusal.AlreadyFormatted) ⊎ (e ≡ Refusal.BadShape) → A.honest old.new
+        → (state : StateValue) × FoundIn One (A.seen old.old) Newer state) }
     ensures memory { result ≡ Err Refusal.NoMemory → IsUnformatted (B.seen new.old) → IsUnformatted (B.seen new.new) }
     ensures length { length (B.seen new.new) ≡ length (B.seen new.old) }
     ensures only { IfErr result (λ e. (e ≡ Refusal.NotFormatted) ⊎ ((e ≡ Refusal.NotOld) ⊎ ((e ≡ Refusal.Damaged)
@@ -117,7 +119,8 @@ impl Old {
             → IsOnlySynced (history_of ⟦<B as Disk>⟧ disk.old) (history_of ⟦<B as Disk>⟧ disk.new) }
         ensures already_formatted { result ≡ Err Refusal.AlreadyFormatted → B.honest disk.new
             → IsFormatted (B.seen disk.old) }
-        ensures formatted { OnOk result (B.honest disk.new → ¬ IsFormatted (B.seen disk.old)) }
+        ensures formatted { B.honest disk.new → IsFormatted (B.seen disk.old)
+            → (result ≡ Err Refusal.AlreadyFormatted) ⊎ (result ≡ Err Refusal.Fault) }
         ensures bad_shape { result ≡ Err Refusal.BadShape → ¬ Fits (shape_of self.now) (length (B.seen disk.old)) }
         ensures memory { result ≡ Err Refusal.NoMemory → IsUnformatted (B.seen disk.old) → IsUnformatted (B.seen disk.new) }
         ensures only { IfErr result (λ e. (e ≡ Refusal.BadShape) ⊎ ((e ≡ Refusal.AlreadyFormatted)

@@ -38,7 +38,7 @@ pub(crate) fn close<D: Disk>(disk: &mut D, gate: u64) -> Result<(), Fault>
 }
 
 /// What a cell holds in a format: one read of its gate and of the body's length, and where the gate is open one of the body. `Damaged`
-/// comes just where it holds nothing that a cell may hold.
+/// comes exactly when it holds nothing that a cell may hold.
 pub(crate) fn read_cell<D: Disk>(
     alloc: Global,
     disk: &mut D,

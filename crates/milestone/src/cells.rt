@@ -58,7 +58,7 @@ impl Cells {
     ghost use Rattle.milestone.specs.ReadCells.{pair_of, IsReadAs};
 
     /// Reads the two cells of the document of this number in a format. Each has `size` bytes, 256 to 16,777,216, and the first begins at
-    /// `place`. Of a closed cell the gate alone counts. `Damaged` comes just where they hold no pair: an open cell's body isn't
+    /// `place`. Of a closed cell the gate alone counts. `Damaged` comes exactly when they hold no pair: an open cell's body isn't
     /// spelled as a milestone of this document, or passes the cell's end. The device stays as it is.
     pub fn read_both<D: Disk>(
         alloc: Global,
@@ -198,7 +198,7 @@ impl Cells {
     }
 
     /// Puts a milestone where one cell is closed, and where both are open over the older one, which is closed first. `NoMemory`
-    /// comes before any call of the device, and leaves the cells as they were. After a `Fault` each of the two cells may be open
+    /// comes before any call of the device, and leaves the cells unchanged. After a `Fault` each of the two cells may be open
     /// or not, but for the newer one of two that were open, which stays.
     pub fn replace_older<D: Disk>(
         &mut self,

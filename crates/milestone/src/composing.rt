@@ -35,7 +35,7 @@ impl Model for Composed {
     ghost invariant = { λ c. c.milestone ≡ spec.cell_of_job c.job };
 }
 
-/// A job that wasn't done, as it was, and why.
+/// A job that wasn't done, unchanged, and why.
 #[derive(Drop)]
 pub struct Uncomposed {
     pub job: Job,
@@ -58,7 +58,7 @@ impl Composed {
     }
 }
 
-/// Does a job: composes its deltas into one, applies that to its units, and makes the milestone of it. Refused for want of memory alone, and then the job
+/// Does a job: composes its deltas into one, applies that to its units, and makes the milestone of it. Refused as out of memory alone, and then the job
 /// comes back.
 pub fn compose_job(alloc: Global, job: Job) -> Result<Composed, Uncomposed>
     ensures done { IfOk result (λ composed. composed ≡ job) }
@@ -72,8 +72,8 @@ pub fn compose_job(alloc: Global, job: Job) -> Result<Composed, Uncomposed>
 }
 
 /// Makes the milestone of a job of its two halves, each of which was composed by itself: applies the one delta of the first to the units
-/// of the job, and then that of the second. Refused as `Stranger` just where the two aren't the first and the second half of this job, in
-/// this order, else for want of memory alone; and then the job comes back.
+/// of the job, and then that of the second. Refused as `Stranger` exactly when the two aren't the first and the second half of this job, in
+/// this order, else as out of memory alone; and then the job comes back.
 pub fn join_parts(
     alloc: Global,
     job: Job,
@@ -110,7 +110,7 @@ fn are_halves(job: &Job, first: &PartDone, second: &PartDone) -> bool
     same_deltas(second.deltas(), other)
 }
 
-// The milestone that comes of a job. Refused for want of memory alone.
+// The milestone that comes of a job. Refused as out of memory alone.
 fn milestone_of(alloc: Global, job: &Job) -> Result<Milestone, Refusal>
     ensures milestone { IfOk result (λ milestone. milestone ≡ cell_of_job job.now) }
     ensures only { IsOkUnless result Refusal.NoMemory }
@@ -134,7 +134,7 @@ fn milestone_by_halves(
     milestone_with(alloc, job, document)
 }
 
-// The milestone of a job with its content. Refused for want of memory alone.
+// The milestone of a job with its content. Refused as out of memory alone.
 fn milestone_with(alloc: Global, job: &Job, document: Document) -> Result<Milestone, Refusal>
     requires { document ≡ applied (units_of_job job.now) job.now.deltas }
     ensures milestone { IfOk result (λ milestone. milestone ≡ cell_of_job job.now) }
@@ -146,7 +146,7 @@ fn milestone_with(alloc: Global, job: &Job, document: Document) -> Result<Milest
     Ok(Milestone::new(name, job.revision(), document, live, sources))
 }
 
-// What a job's deltas make of its units, by the one delta for all. Refused for want of memory alone.
+// What a job's deltas make of its units, by the one delta for all. Refused as out of memory alone.
 #[tactic(auto, using(crate::proofs::InTurn::job_part))]
 fn content_of(alloc: Global, job: &Job) -> Result<Document, Refusal>
     ensures content { IfOk result (λ document. document ≡ applied (units_of_job job.now) job.now.deltas) }
@@ -176,7 +176,7 @@ fn content_by_halves(
     Ok(document)
 }
 
-// What the base of a job makes of the empty document. Refused for want of memory alone.
+// What the base of a job makes of the empty document. Refused as out of memory alone.
 fn base_of_job(alloc: Global, job: &Job) -> Result<Document, Refusal>
     ensures units { IfOk result (λ document. document ≡ units_of_job job.now) }
     ensures only { IsOkUnless result Refusal.NoMemory }
@@ -187,7 +187,7 @@ fn base_of_job(alloc: Global, job: &Job) -> Result<Document, Refusal>
     }
 }
 
-// Applies a delta that the document accepts. Refused for want of memory alone.
+// Applies a delta that the document accepts. Refused as out of memory alone.
 fn apply_one(alloc: Global, document: &mut Document, one: &Delta) -> Result<(), Refusal>
     requires { IsAccepted document.old (counted one.now) }
     ensures made { OnOk result (document.new ≡ apply document.old (counted one.now)) }

@@ -139,7 +139,7 @@ impl Job {
         &self.sources
     }
 
-    /// An equal job. Refused for want of memory alone.
+    /// An equal job. Refused as out of memory alone.
     pub fn copy(&self, alloc: Global) -> Result<Job, Refusal>
         ensures same { IfOk result (λ job. job ≡ self.now) }
         ensures only { IsOkUnless result Refusal.NoMemory }
@@ -209,7 +209,7 @@ pub(crate) fn same_deltas(one: &[Delta], other: &[Delta]) -> bool
     one == other
 }
 
-/// Equal deltas. Refused for want of memory alone.
+/// Equal deltas. Refused as out of memory alone.
 pub(crate) fn copies(alloc: Global, deltas: &[Delta]) -> Result<Vec<Delta>, Refusal>
     ensures same { IfOk result (λ copies. copies.items ≡ deltas.now) }
     ensures only { IsOkUnless result Refusal.NoMemory }

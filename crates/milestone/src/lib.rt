@@ -4,7 +4,7 @@
 //! which stands apart from the store: units, and deltas that lead in turn from them to a content, which the maker gives as the
 //! document's at that revision (specs/Job.antt). The layer above makes a job. `compose_job` needs nothing of the store, so any thread
 //! may call it. Its answer holds the job, and `Job::is_same` tells whether it is the one that was given. The crate promises that the
-//! milestone is what the job's deltas make, and that nothing but want of memory refuses it.
+//! milestone is what the job's deltas make, and that nothing but memory refuses it.
 //!
 //! `Cells` are the two cells of a document as they are known in memory: they are read together, the older one is closed, and a
 //! milestone is put where one is closed. How a cell spells a milestone in a `Format` stands in specs/CellSpelling.antt; the second format is
@@ -22,7 +22,7 @@
 //! use milestone::{Job, Uncomposed, compose_job};
 //! use std::alloc::Global;
 //!
-//! /// How many units a document has at the revision of a job. Refused for want of memory alone, and then the job comes back.
+//! /// How many units a document has at the revision of a job. Refused as out of memory alone, and then the job comes back.
 //! pub fn length_of(alloc: Global, job: Job) -> Result<u64, Uncomposed>
 //!     ensures length { IfOk result (λ len. len ≡ length (applied (units_of_job job) job.deltas)) }
 //!     ensures back { IfErr result (λ back. back.job ≡ job) }

@@ -79,7 +79,7 @@ impl PartDone {
     }
 }
 
-/// A part that wasn't done, as it was, and why.
+/// A part that wasn't done, unchanged, and why.
 #[derive(Drop)]
 pub struct PartBack {
     pub part: Part,
@@ -88,7 +88,7 @@ pub struct PartBack {
 
 impl Job {
     /// The first half of its deltas, and the rest: of an odd number the second has one more. They share the deltas of the job, and need
-    /// nothing of it, so that each can be composed in a thread of its own. Refused for want of memory alone.
+    /// nothing of it, so that each can be composed in a thread of its own. Refused as out of memory alone.
     #[tactic(auto, using(crate::proofs::InTurn::first_part, crate::proofs::InTurn::second_part))]
     pub fn halves(&self, alloc: Global) -> Result<(Part, Part), Refusal>
         ensures first { IfOk result (λ parts. parts.0 ≡ first_half self.now.deltas) }
@@ -101,7 +101,7 @@ impl Job {
     }
 }
 
-/// Composes a part into one delta. Refused for want of memory alone, and then the part comes back.
+/// Composes a part into one delta. Refused as out of memory alone, and then the part comes back.
 pub fn compose_part(alloc: Global, part: Part) -> Result<PartDone, PartBack>
     ensures done { IfOk result (λ done. done ≡ part) }
     ensures back { IfErr result (λ back. back.part ≡ part) }
@@ -113,7 +113,7 @@ pub fn compose_part(alloc: Global, part: Part) -> Result<PartDone, PartBack>
     }
 }
 
-// A part of copies of these deltas. Refused for want of memory alone.
+// A part of copies of these deltas. Refused as out of memory alone.
 fn part_of(alloc: Global, deltas: &[Delta]) -> Result<Part, Refusal>
     requires { IsPart deltas.now }
     ensures part { IfOk result (λ part. part ≡ deltas.now) }
@@ -124,7 +124,7 @@ fn part_of(alloc: Global, deltas: &[Delta]) -> Result<Part, Refusal>
     })
 }
 
-/// The one delta for deltas that stand in turn on some units. Refused for want of memory alone.
+/// The one delta for deltas that stand in turn on some units. Refused as out of memory alone.
 pub(crate) fn one_for(alloc: Global, deltas: &[Delta]) -> Result<Delta, Refusal>
     requires { IsPart deltas.now }
     ensures composes { IfOk result (λ one. ComposesPart one deltas.now) }

@@ -25,7 +25,7 @@ jobs_after [] jobs = jobs
 jobs_after (step ∷ steps) jobs = jobs_after steps (jobs_behind step jobs)
 
 module _ {D : Type 0} {disk : Ghosts D} where
-  -- What a step leaves for which memory ran out: a commit leaves all as it was, and a milestone at most its job. Nothing spoke against the
+  -- What a step leaves for which memory ran out: a commit leaves all unchanged, and a milestone at most its job. Nothing spoke against the
   -- milestone: what does is told before. A retirement takes no memory.
   abbrev pub IsLeftByMemory : StoreStep → Store D disk → Store D disk → Type 0
   IsLeftByMemory (Commit batch) old new = IsUnchanged old new

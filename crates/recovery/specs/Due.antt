@@ -2,7 +2,7 @@
 use Rattle.std.specs.Prelude.{ℕ, ◌*◌, ◌/◌, nat_lt, ◌&&◌, not, max, if◌then◌else◌, Bool, Option, Some, None}
 use Rattle.revision.specs.State.{DocumentRecord, revision_of}
 
--- A job of this revision, 0 where none was handed out, is out: it can still be put to use, since the document holds its revision.
+-- A job of this revision, 0 where none was handed out, is out: the document still holds its revision.
 abbrev pub is_out : ℕ → ℕ → Bool
 is_out last floor = nat_lt 0 last && not (nat_lt last floor)
 

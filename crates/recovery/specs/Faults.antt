@@ -8,8 +8,8 @@ use Rattle.recovery.specs.declared.store.Store.{Store}
 use Rattle.recovery.specs.Open.{IsUnchanged, device_of, has_failed}
 
 module _ {D : Type 0} {disk : Ghosts D} where
-  -- A store that had failed answers `Fault`, and stays as it was. Any other one fails where it answers `Fault`, and nowhere else: then the
-  -- device's count of failed calls rises, and at Ok and at each other refusal it stays. The device has kept its word just where it had before.
+  -- A store that had failed answers `Fault`, and stays unchanged. Any other one fails where it answers `Fault`, and nowhere else: then the
+  -- device's count of failed calls rises, and at Ok and at each other refusal it stays. The device has kept its word exactly when it had before.
   pub record FailsAtFaults {A : Type 0} (result : Result A Refusal) (old new : Store D disk) : Type 0 where
     pub failed_before : has_failed old ≡ true → IsErrOf result Fault × IsUnchanged old new
     pub fault : IsErrOf result Fault → has_failed old ≡ false → Rose (disk.faults (device_of old)) (disk.faults (device_of new))

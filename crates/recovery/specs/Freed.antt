@@ -38,7 +38,7 @@ module _ {D : Type 0} {disk : Ghosts D} where
     pub now : (is_open : IsOpen old) → IsFreedNow old is_open new
     pub marks : (slot segment : ℕ) → IsOldest (known_numbers (ring_of old)) slot segment → known_marks new ≡ without_segment segment (known_marks old)
 
-  -- Room was not made, and why: too few slots are open, and the store is left as it was; memory ran out, and some milestones may be put; or the
+  -- Room was not made, and why: too few slots are open, and the store is left unchanged; memory ran out, and some milestones may be put; or the
   -- device failed. The segments stay.
   pub record IsUnfreed (refusal : Refusal) (old new : Store D disk) : Type 0 where
     pub only : (refusal ≡ StillNeeded) ⊎ ((refusal ≡ NoMemory) ⊎ (refusal ≡ Fault))

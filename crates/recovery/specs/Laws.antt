@@ -10,7 +10,7 @@ use Rattle.recovery.specs.Open.{IsOpen, IsUnchanged, device_of, state_of, has_fa
 use Rattle.recovery.specs.Goes.{Goes}
 
 module _ {D : Type 0} (disk : Ghosts D) where
-  -- a store that a call left as it was is open still
+  -- a store that a call left unchanged is open still
   abbrev pub OpenUnchanged : Type 0
   OpenUnchanged = (old new : Store D disk) → IsUnchanged old new → IsOpen old → IsOpen new
 

@@ -91,7 +91,7 @@ module _ {D : Type 0} {disk : Ghosts D} where
   abbrev pub fits_newest_segment : Store D disk → List Taken → Bool
   fits_newest_segment store batch = fits_newest store.ring (batch_width batch)
 
-  -- a call has left the store as it was
+  -- a call has left the store unchanged
   pub record IsUnchanged (old new : Store D disk) : Type 0 where
     pub device : new.device ≡ old.device
     pub shape : new.shape ≡ old.shape
@@ -148,7 +148,7 @@ module _ {D : Type 0} {disk : Ghosts D} where
   HasNone segment document store = greatest_marked segment document (known_marks store) ≡ 0
 
   -- After room was made in the journal: the store goes on, and the slot of the oldest segment is closed. The cells of each document that had no
-  -- entry there are as they were. Both cells of each other document hold it at its newest revision, and no job of it is kept.
+  -- entry there are unchanged. Both cells of each other document hold it at its newest revision, and no job of it is kept.
   pub record IsFreedNow (old : Store D disk) (is_open : IsOpen old) (new : Store D disk) : Type 0 where
     pub goes_on : IsOpen new
     pub retired : IsRetired is_open.table goes_on.table
@@ -156,7 +156,7 @@ module _ {D : Type 0} {disk : Ghosts D} where
     pub raised : (document : ℕ) → ¬ HasNone retired.segment.number document old → AreBothNewest (state_of old) document (cells_at goes_on.cells document)
     pub dropped : (document : ℕ) → ¬ HasNone retired.segment.number document old → jobs_for document (kept_jobs new) ≡ []
 
-  -- the cells of a document and the kept jobs of it are as they were
+  -- the cells of a document and the kept jobs of it are unchanged
   abbrev pub IsLeft : (old : Store D disk) → IsOpen old → (new : Store D disk) → IsOpen new → ℕ → Type 0
   IsLeft old is_open new goes_on document =
       (cells_at goes_on.cells document ≡ cells_at is_open.cells document) × (jobs_for document (kept_jobs new) ≡ jobs_for document (kept_jobs old))
@@ -167,7 +167,7 @@ module _ {D : Type 0} {disk : Ghosts D} where
       AreBothNewest (state_of old) document (cells_at goes_on.cells document) × (jobs_for document (kept_jobs new) ≡ [])
 
   -- Room was being made when it was given up, in the milestones of one document: the store goes on over the same slots. Each document that has no
-  -- entry in the oldest segment is left as it was, with its kept jobs. So is each other one, or it has both its milestones and no kept job;
+  -- entry in the oldest segment is left unchanged, with its kept jobs. So is each other one, or it has both its milestones and no kept job;
   -- the one document has some of them, and no kept job.
   pub record IsHalfFreed (old : Store D disk) (is_open : IsOpen old) (new : Store D disk) : Type 0 where
     pub goes_on : IsOpen new
@@ -194,7 +194,7 @@ module _ {D : Type 0} {disk : Ghosts D} where
   KeepsJobs segment old new = (document : ℕ) → HasNone segment document old → jobs_for document (kept_jobs new) ≡ jobs_for document (kept_jobs old)
 
   -- After a milestone was put: the store goes on over the same slots, and the cell that comes of the job is open in its document's pair,
-  -- in place of the older one where both were open. The other documents' cells are as they were.
+  -- in place of the older one where both were open. The other documents' cells are unchanged.
   pub record IsPutNow (cells : List Pair) (table : List (Option Segment)) (job : Job) (store : Store D disk) : Type 0 where
     pub goes_on : IsOpen store
     pub same_table : goes_on.table ≡ table

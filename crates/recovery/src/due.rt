@@ -14,8 +14,8 @@ use revision::DocState;
 impl<D: Disk> Store<D> {
     /// The revision to which a job of a document is due, so that a milestone stands at each multiple of `every` revisions at which there
     /// is time for one: the greatest such multiple up to the document's revision, or its floor where that is greater. `None` comes where
-    /// an open cell or the job that is kept reaches the multiple, where the job that is kept can still be put to use, since it isn't
-    /// below the floor, and where there is no document of this number. `milestone_job` gives the job.
+    /// an open cell or the job that is kept reaches the multiple, where the job that is kept isn't below the floor, and where there is no
+    /// document of this number. `milestone_job` gives the job.
     pub fn job_due(&self, document: u32, every: u64) -> Option<u64>
         requires some { 1 ≤ every }
         ensures due { result

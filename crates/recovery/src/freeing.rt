@@ -176,11 +176,11 @@ impl<D: Disk> Store<D> {
     {
         let newest = self.newest_of(document);
         if newest < revision {
-            self.give_up_job(document);
+            self.drop_job(document);
             return Err(Refusal::StillNeeded);
         }
         if let Err(refusal) = self.put_document(alloc, document, newest) {
-            self.give_up_job(document);
+            self.drop_job(document);
             return Err(or_needed(refusal));
         }
         Ok(())

@@ -46,7 +46,7 @@ impl Jobs {
         0
     }
 
-    /// Keeps a job, in place of the one that was kept of its document. Refused for want of memory alone.
+    /// Keeps a job, in place of the one that was kept of its document. Refused as out of memory alone.
     pub fn keep(&mut self, job: Job) -> Result<(), Refusal>
         ensures ok { OnOk result (jobs_of self.new ≡ with_job job (jobs_of self.old)) }
         ensures err { OnErr result (jobs_of self.new ≡ jobs_of self.old) }

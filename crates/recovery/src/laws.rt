@@ -40,7 +40,7 @@ pub fn one_fits()
     ensures { (state : State) (taken : Taken) → grows state taken ≡ true → FitsSlot state (taken ∷ []) }
 {}
 
-/// A store that a call left as it was is open still, and whatever a crash leaves under an open store is found as its state.
+/// A store that a call left unchanged is open still, and whatever a crash leaves under an open store is found as its state.
 pub fn open_now<D: Disk>()
     ensures unchanged { law.OpenUnchanged ⟦<D as Disk>⟧ }
     ensures found { law.FoundNow ⟦<D as Disk>⟧ }

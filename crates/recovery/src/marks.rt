@@ -139,7 +139,7 @@ fn set_place(places: &mut Vec<usize>, document: u32, place: usize) {
     }
 }
 
-// Adds places to the table so that it has one for the document of each command. Refused for want of memory alone.
+// Adds places to the table so that it has one for the document of each command. Refused as out of memory alone.
 fn cover_all(places: &mut Vec<usize>, batch: &[Taken]) -> Result<(), Refusal>
     ensures { IsOkUnless result Refusal.NoMemory }
 {
@@ -149,7 +149,7 @@ fn cover_all(places: &mut Vec<usize>, batch: &[Taken]) -> Result<(), Refusal>
     Ok(())
 }
 
-// Adds places to the table so that it has one for this document. Refused for want of memory alone.
+// Adds places to the table so that it has one for this document. Refused as out of memory alone.
 fn cover(places: &mut Vec<usize>, document: u32) -> Result<(), Refusal>
     ensures { IsOkUnless result Refusal.NoMemory }
 {

@@ -1,5 +1,5 @@
 //! Handing out the jobs of milestones.
-ghost use Rattle.std.specs.Prelude.{List, ◌≡◌, ◌≢◌, ◌⊎◌, ◌≤◌, true, false, Some, None, slice_get, OnOk, OnErr, IfOk, IfErr, IfSome, IsErrOf, IsOkUnless};
+ghost use Rattle.std.specs.Prelude.{List, ◌≡◌, ◌≢◌, ◌⊎◌, ◌≤◌, true, false, Some, None, slice_get, Contains, OnOk, OnErr, IfOk, IfErr, IfSome, IsErrOf, IsOkUnless};
 ghost use Rattle.refusal.specs.declared.Refusal.{Refusal as Why};
 ghost use Rattle.delta.specs.Element.{Element};
 ghost use Rattle.delta.specs.Operation.{Operation};
@@ -27,12 +27,12 @@ use std::alloc::Global;
 impl<D: Disk> Store<D> {
     /// What a milestone of a document at a revision is made of: what the document held at the nearest revision that is at hand, the edits
     /// after that up to the revision, and the document's sources there; to the newest revision it is what the document holds, and no edit.
-    /// The edits are copied, and none of them is applied, so that a job can be composed in another thread. The store keeps a copy of it,
-    /// of each document the last one.
+    /// The edits after it are copied and not applied, so that a job can be composed in another thread; where no document is kept above the
+    /// floor, those up to the floor are applied here. The store keeps a copy of the job, of each document the last one.
     ///
     /// `NoDocument` comes where there is none of this number, `Future` where it hasn't reached the revision, and `TooOld` where
-    /// the revision is 0, below the floor, or below that of an open cell of the document. Want of memory is told in place of no
-    /// other refusal. After a refusal the store is as it was.
+    /// the revision is 0, below the floor, or below that of an open cell of the document. `NoMemory` comes in place of no
+    /// other refusal. After a refusal the store is unchanged.
     pub fn milestone_job(
         &mut self,
         alloc: Global,
@@ -83,9 +83,22 @@ impl<D: Disk> Store<D> {
         Ok(job)
     }
 
-    /// Drops the copy of the job that was handed out of a document, where one is kept: what comes of that job isn't put any more, and
+    /// Drops the copy of a job, where this very job is still the one that is kept of its document: what comes of it isn't put any more, and
     /// another one may be due. It takes no memory.
-    pub fn give_up_job(&mut self, document: u32)
+    pub fn give_up_job(&mut self, job: &Job)
+        ensures kept { Contains (kept_jobs self.old) job.now
+            → kept_jobs self.new ≡ without_job job.now.document (kept_jobs self.old) }
+        ensures other { (¬ Contains (kept_jobs self.old) job.now) → kept_jobs self.new ≡ kept_jobs self.old }
+        ensures same { IsUnchangedButJobs self.old self.new }
+        ensures open { IsOpen self.old → IsOpen self.new }
+    {
+        if self.jobs.is_kept(job) {
+            self.drop_job(job.document_number());
+        }
+    }
+
+    // Drops the copy of the job of a document, where one is kept. It takes no memory.
+    pub(crate) fn drop_job(&mut self, document: u32)
         ensures jobs { kept_jobs self.new ≡ without_job document (kept_jobs self.old) }
         ensures same { IsUnchangedButJobs self.old self.new }
         ensures open { IsOpen self.old → IsOpen self.new }
@@ -122,7 +135,7 @@ impl<D: Disk> Store<D> {
     }
 }
 
-// Why a document is given no job to a revision, above the open cells of which this is the highest.
+// Why a document is given no job to a revision; `highest` is the highest revision of its open cells.
 fn why_none(found: &DocState, highest: u64, revision: u64) -> Option<Refusal>
     ensures is { result ≡ no_job_of (record_of found.now) highest revision }
     ensures only { IfSome result (λ e. (e ≡ Refusal.Future) ⊎ (e ≡ Refusal.TooOld)) }
@@ -146,7 +159,7 @@ pub(crate) fn highest_of(cells: &[Cells], document: u32) -> u64
     }
 }
 
-// The job of a document to a revision that it holds. Refused for want of memory alone.
+// The job of a document to a revision that it holds. Refused as out of memory alone.
 fn job_of(alloc: Global, document: u32, found: &DocState, revision: u64) -> Result<Job, Refusal>
     requires first { 1 ≤ revision }
     requires held { found.now.past.past.floor ≤ revision }

@@ -21,7 +21,7 @@ use std::alloc::Global;
 
 impl<D: Disk> Store<D> {
     /// Puts the milestone that comes of a job into a cell of its document: over the older one where both are open, which is closed
-    /// first. `Stranger` comes just where the job isn't the one that the store keeps of its document, and makes no call of the
+    /// first. `Stranger` comes exactly when the job isn't the one that the store keeps of its document, and makes no call of the
     /// device; nor does `NoMemory`. Once it is Ok, the cell is open, and the kept copy of the job is dropped. After a `Fault` the
     /// store has failed. The documents stay.
     pub fn put_milestone(&mut self, alloc: Global, composed: &Composed) -> Result<(), Refusal>
@@ -76,7 +76,7 @@ impl<D: Disk> Store<D> {
         }
     }
     /// Puts a milestone of a document at a revision: hands out its job, composes it here, and puts what came of it. The refusals are
-    /// those of `milestone_job`, which come just where it tells them, and `NoMemory` and `Fault` while it is composed and put.
+    /// those of `milestone_job`, which come exactly when it returns them, and `NoMemory` and `Fault` while it is composed and put.
     /// The documents stay. Where memory runs out, the job may stay kept, in place of one that was handed out before.
     pub fn put_document(
         &mut self,
@@ -98,7 +98,7 @@ impl<D: Disk> Store<D> {
         ensures only { IfErr result (λ e. ((e ≡ Refusal.NoDocument) ⊎ ((e ≡ Refusal.Future) ⊎ (e ≡ Refusal.TooOld)))
             ⊎ ((e ≡ Refusal.NoMemory) ⊎ (e ≡ Refusal.Fault))) }
 
-        // A refusal for the document or its revision leaves all as it was; one for want of memory leaves the device, and may leave a
+        // A refusal for the document or its revision leaves all unchanged; `NoMemory` leaves the device, and may leave a
         // kept job of the document.
         ensures untouched { IfErr result (λ e. e ≢ Refusal.NoMemory → e ≢ Refusal.Fault
             → IsUnchanged self.old self.new) }
@@ -108,7 +108,7 @@ impl<D: Disk> Store<D> {
         ensures job { OnErr result (MayKeepJob document revision self.old self.new) }
         ensures dropped { OnOk result (kept_jobs self.new ≡ without_job document (kept_jobs self.old)) }
 
-        // What each answer leaves: the segments, what is known of them, and the kept jobs of other documents are as they were.
+        // What each answer leaves: the segments, what is known of them, and the kept jobs of other documents are unchanged.
         ensures state { state_of self.new ≡ state_of self.old }
         ensures ring { ring_of self.new ≡ ring_of self.old }
         ensures marks { known_marks self.new ≡ known_marks self.old }

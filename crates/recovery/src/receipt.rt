@@ -42,7 +42,7 @@ impl<D> Receipt<D> {
         self.batch.as_slice()
     }
 
-    /// Another receipt of the same batch. Refused for want of memory alone.
+    /// Another receipt of the same batch. Refused as out of memory alone.
     pub fn copy(&self, alloc: Global) -> Result<Receipt<D>, Refusal>
         ensures same { IfOk result (λ receipt. receipt ≡ self.now) }
         ensures only { IsOkUnless result Refusal.NoMemory }
@@ -51,7 +51,7 @@ impl<D> Receipt<D> {
     }
 }
 
-// Equal commands in the same order. Refused for want of memory alone.
+// Equal commands in the same order. Refused as out of memory alone.
 fn copies(alloc: Global, batch: &[Taken]) -> Result<Vec<Taken>, Refusal>
     ensures same { IfOk result (λ copies. copies.items ≡ batch.now) }
     ensures only { IsOkUnless result Refusal.NoMemory }

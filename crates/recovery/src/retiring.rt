@@ -18,7 +18,7 @@ use milestone::Cells;
 use refusal::Refusal;
 
 impl<D: Disk> Store<D> {
-    /// Retires the oldest segment: closes its slot, which is free from then on. `StillNeeded` comes just where fewer than two slots
+    /// Retires the oldest segment: closes its slot, which is free from then on. `StillNeeded` comes exactly when fewer than two slots
     /// are open, or the oldest segment has an entry of a document without an open cell, or with an open cell below that entry's
     /// revision; it makes no call of the device. After a `Fault` the slot may be open or not, and the store has failed. It takes no
     /// memory, and the documents stay.

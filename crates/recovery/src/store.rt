@@ -71,9 +71,10 @@ impl<D: Disk> Store<D> {
     ghost use Rattle.recovery.specs.Open.{FitsSlot, IsOpen, IsUnchanged, IsCommittedNow, IsWithOrWithout, device_of, state_of, has_failed, has_room, kept_jobs, known_cells, known_marks, fits_newest_segment};
 
     /// Opens a formatted device, by the newer or the older cell of each document: syncs it, then reads, and writes nothing.
-    /// `NotFormatted` comes just where the superblock's gate is closed or the device has less than 64 bytes, `OldFormat` just
-    /// where the device has the first format, `Damaged` just where any other formatted device's content stands for no state by
-    /// that pick, `Fault` just where a call of the device failed, and `NoMemory`. The device comes back with the refusal, and its content is as it was on every path.
+    /// `NotFormatted` comes exactly when the superblock's gate is closed or the device has less than 64 bytes, `OldFormat` exactly
+    /// when the device has the first format, `Damaged` exactly when any other formatted device's content represents no state by
+    /// that pick, `Fault` exactly when a call of the device failed, and `NoMemory`. The device comes back with the refusal, and
+    /// its content is unchanged on every path.
     pub fn open(alloc: Global, disk: D, pick: Pick) -> Result<Store<D>, OpenFault<D>>
         // What is read stands, by this pick, for the state that the store holds, and for no other.
         ensures found { IfOk result (λ store. D.honest (device_of store) → Found (D.seen disk) pick (state_of store)) }
@@ -176,9 +177,9 @@ impl<D: Disk> Store<D> {
     }
 
     /// Writes a batch, and answers with its receipt once it is on the disk: two syncs, and two more where a slot is opened for it.
-    /// First comes `JournalFull`, just where the batch has more bytes than the newest segment has left and no slot is free. Next
+    /// First comes `JournalFull`, exactly when the batch has more bytes than the newest segment has left and no slot is free. Next
     /// comes `Stranger`, where it doesn't continue the state: of its first command that is told before memory is taken, and of a
-    /// later one unless memory runs out before. `NoMemory` comes before any call of the device, and leaves all as it was. After `Fault`
+    /// later one unless memory runs out before. `NoMemory` comes before any call of the device, and leaves all unchanged. After `Fault`
     /// the store has failed: every later call answers `Fault`, until the device is opened again. The documents change only once
     /// the batch is on the disk, and no refusal changes them.
     pub fn commit(&mut self, alloc: Global, batch: &[Taken]) -> Result<Receipt<D>, Refusal>
@@ -225,13 +226,13 @@ impl<D: Disk> Store<D> {
             → LeavesOnly ⟦<D as Disk>⟧ (λ content. FoundAs content (state_of self.old)) (device_of self.old)
             (device_of self.new) }
         // Once it is Ok, the device is synced and stands for the state with the batch: the cells are those of before, and so are the
-        // slots but for the batch, which a slot is opened for just where it doesn't fit the newest segment.
+        // slots but for the batch, which a slot is opened for exactly when it doesn't fit the newest segment.
         ensures committed { OnOk result ((is_open : IsOpen self.old)
             → IsCommittedNow batch.now self.old is_open self.new) }
         ensures done { OnOk result (IsOpen self.old → IsOpen self.new) }
         ensures kept { IfErr result (λ e. e ≢ Refusal.Fault → IsOpen self.old → IsOpen self.new) }
 
-        // Where memory ran out all is as it was: no call of the device was made.
+        // Where memory ran out all is unchanged: no call of the device was made.
         ensures given_up { IsErrOf result Refusal.NoMemory → IsUnchanged self.old self.new }
 
         // Four calls of the device at most for the record, of these two syncs, and as many for a slot that is opened for it. A call that
@@ -299,7 +300,7 @@ impl<D: Disk> Store<D> {
     }
 }
 
-// The receipt of a batch that is still to be committed, and room for its marks. Refused for want of memory alone. The marks stay.
+// The receipt of a batch that is still to be committed, and room for its marks. Refused as out of memory alone. The marks stay.
 fn make_receipt<D: Disk>(
     alloc: Global,
     marks: &mut Marks,

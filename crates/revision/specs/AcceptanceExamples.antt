@@ -120,27 +120,33 @@ fourth_leaves_a_gap : reply_after small edited (ask ann 4 (Edit 1 [])) ≡ Refus
 unfolding insert
 fourth_leaves_a_gap = refl
 
--- one source's numbers 1 to so many and one more: each is an edit of the revision before it
-abbrev numbered : ℕ → List Command
-numbered zero = created
-numbered (suc n) = numbered n ++ ask ann (n + 2) (Edit (n + 1) []) ∷ []
+-- a document at revision 17 with a source that has taken 17 numbers, so its window has the last 16
+abbrev last_sixteen : List ℕ
+last_sixteen = 2 ∷ 3 ∷ 4 ∷ 5 ∷ 6 ∷ 7 ∷ 8 ∷ 9 ∷ 10 ∷ 11 ∷ 12 ∷ 13 ∷ 14 ∷ 15 ∷ 16 ∷ 17 ∷ []
 
--- after 17 numbers the second one is the lowest of the window; after 18 it is too old
-second_of_17 : reply_after roomy (numbered 16) (ask ann 2 (Edit 1 [])) ≡ AgainAt 2
+abbrev after_17 : State
+after_17 = adopted roomy (100 ∷ []) (record { units = [] }) 17 (insert empty (ann ∷ []) (record { number = 17; revisions = last_sixteen }))
+
+-- the second number is the lowest of the window; after 18 numbers it is too old
+second_of_17 : reply_after after_17 [] (ask ann 2 (Edit 1 [])) ≡ AgainAt 2
 unfolding insert
 second_of_17 = refl
 
-first_of_17 : reply_after roomy (numbered 16) (ask ann 1 (Edit 1 [])) ≡ Refused OldNumber
+first_of_17 : reply_after after_17 [] (ask ann 1 (Edit 1 [])) ≡ Refused OldNumber
 unfolding insert
 first_of_17 = refl
 
-creation_after_17 : reply_after roomy (numbered 16) (ask ann 1 (Create [])) ≡ Refused Exists
+creation_after_17 : reply_after after_17 [] (ask ann 1 (Create [])) ≡ Refused Exists
 unfolding insert
 creation_after_17 = refl
 
-second_of_18 : reply_after roomy (numbered 17) (ask ann 2 (Edit 1 [])) ≡ Refused OldNumber
+second_of_18 : reply_after after_17 (ask ann 18 (Edit 17 []) ∷ []) (ask ann 2 (Edit 1 [])) ≡ Refused OldNumber
 unfolding insert
 second_of_18 = refl
+
+third_of_18 : reply_after after_17 (ask ann 18 (Edit 17 []) ∷ []) (ask ann 3 (Edit 1 [])) ≡ AgainAt 3
+unfolding insert
+third_of_18 = refl
 
 -- keep 2, revision 4, floor 2: base 5 is yet to come, base 1 is too old, base 2 is taken as 5 and the floor becomes 3
 abbrev four : List Command

@@ -35,6 +35,6 @@ RetiredBodies =
     (before after : List (Option Segment)) → NumbersDiffer (numbers_of before) → (retired : IsRetired before after)
     → bodies_of before ≡ retired.segment.bodies ++ bodies_of after
 
--- a body finds no room just where it doesn't fit the newest segment and no slot is free
+-- a body finds no room exactly when it doesn't fit the newest segment and no slot is free
 abbrev pub FullRing : Type 0
 FullRing = (ring : Ring) (len : ℕ) → has_room_for ring len ≡ false ↔ (fits_newest ring len ≡ false) × IsFull (known_numbers ring)

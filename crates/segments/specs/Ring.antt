@@ -61,7 +61,7 @@ pub record SamePlaces (old new : Ring) : Type 0 where
   pub size : size_of new ≡ size_of old
   pub count : length (known_numbers new) ≡ length (known_numbers old)
 
--- the ring is as it was, or knows that the next slot is open
+-- the ring is unchanged, or knows that the next slot is open
 abbrev pub IsSameOrOpened : Ring → Ring → Type 0
 IsSameOrOpened old new =
     (new ≡ old) ⊎ ((slot : ℕ) × (number : ℕ) × IsNext (known_numbers old) slot number × (known_numbers new ≡ set (known_numbers old) slot (Some number)))

@@ -20,7 +20,7 @@ pub fn opened_differs()
     ensures { law.OpenedDiffers }
 {}
 
-/// A body finds no room just where it doesn't fit the newest segment and no slot is free.
+/// A body finds no room exactly when it doesn't fit the newest segment and no slot is free.
 pub fn full_ring()
     ensures { law.FullRing }
 {}

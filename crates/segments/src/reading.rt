@@ -27,7 +27,7 @@ pub struct RecoveredSegment {
     pub bodies: Vec<Vec<u8>>,
 }
 
-// What a slot holds: one read of its head, and where its gate is open one of its area. `Damaged` comes just where it holds
+// What a slot holds: one read of its head, and where its gate is open one of its area. `Damaged` comes exactly when it holds
 // nothing that a slot may hold.
 fn read_slot<D: Disk>(
     alloc: Global,

@@ -51,7 +51,7 @@ impl Ring {
     ghost use Rattle.segments.specs.Recovered.{IsReadAs};
     ghost use Rattle.segments.specs.Room.{has_room_for};
 
-    /// Reads `count` slots of `size` bytes, 256 to 16,777,216, the first of which lies at `at`. `Damaged` comes just where
+    /// Reads `count` slots of `size` bytes, 256 to 16,777,216, the first of which lies at `at`. `Damaged` comes exactly when
     /// they hold no table: a record of an open slot's area has the length 0 or passes its end, a segment's number is 0, or
     /// two segments have one number. The device stays as it is.
     pub fn read<D: Disk>(
@@ -92,8 +92,8 @@ impl Ring {
     }
 
     /// Opens the next slot: the lowest one whose gate is closed, under the number one above the newest segment's, 1 where
-    /// none is open. `JournalFull` comes just where no slot is free, and makes no call of the device. After a `Fault`
-    /// the slot may be open or not, and the ring is as it was.
+    /// none is open. `JournalFull` comes exactly when no slot is free, and makes no call of the device. After a `Fault`
+    /// the slot may be open or not, and the ring is unchanged.
     pub fn open_slot<D: Disk>(&mut self, disk: &mut D) -> Result<(), Refusal>
         requires within { end_of self.old ≤ length (D.seen disk.old) }
 
@@ -253,7 +253,7 @@ impl Ring {
         }
     }
 
-    /// Retires the oldest segment: its slot is closed, and free from then on. `StillNeeded` comes just where fewer than
+    /// Retires the oldest segment: its slot is closed, and free from then on. `StillNeeded` comes exactly when fewer than
     /// two slots are open, and makes no call of the device. After a `Fault` the slot may be open or not, and the ring is
     /// as it was.
     pub fn retire_oldest<D: Disk>(&mut self, disk: &mut D) -> Result<(), Refusal>

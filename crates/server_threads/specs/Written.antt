@@ -19,7 +19,7 @@ module _ {D J : Type 0} {disk : Ghosts D} where
     pub nothing : OnOk answer ((committed_of new ≡ []) × (waiting_of new ≡ []))
     pub fails : has_failed (store_of old) ≡ false → (has_failed (store_of new) ≡ true ↔ IsErrOf answer Fault)
 
-  -- and one that wasn't begun left the flusher as it was
+  -- and one that wasn't begun left the flusher unchanged
   pub record HasRun (start : State) (old new : Flusher D J disk) (answer : Result (Unit {0}) Refusal) (begun : Bool) : Type 0 where
     pub wrote : HasWritten start old new answer
     pub unbegun : begun ≡ false → new ≡ old

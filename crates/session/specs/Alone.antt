@@ -29,7 +29,7 @@ answered (TakenAt revision) = Ok (Taken revision)
 answered (AgainAt revision) = Ok (Again revision)
 answered (Refused refusal) = Err refusal
 
--- A state alone answers a command by the rule, or memory ran out and it is as it was; and it shows itself.
+-- A state alone answers a command by the rule, or memory ran out and it is unchanged; and it shows itself.
 abbrev pub Alone : State → Exchange → State → Type 0
 Alone old (Answered command result) new =
     ((result ≡ answered (decide old command).0) × (new ≡ (decide old command).1)) ⊎ ((result ≡ Err NoMemory) × (new ≡ old))
@@ -123,7 +123,7 @@ after_call c (Fed piece) = conversation_after c piece
 after_call c Told = after_news c
 after_call c Missed = c
 
--- The news were told, or they were missed though there are some: then nothing was written, and the conversation is as it was.
+-- The news were told, or they were missed though there are some: then nothing was written, and the conversation is unchanged.
 pub record HearsAlone (told : Bool) (old new : Conversation) (out out' : Option (List ℕ)) : Type 0 where
   pub text : List ℕ
   pub written : Appends out out' text

@@ -28,7 +28,7 @@ CallsJoined =
 abbrev pub WritesJoined : Type 0
 WritesJoined = (a b c : Option (List ℕ)) (front back : List ℕ) → Appends a b front → Appends b c back → Appends a c (front ++ back)
 
--- a state that took a command where a call succeeded, and else stayed as it was, is later
+-- a state that took a command where a call succeeded, and else stayed unchanged, is later
 abbrev pub LaterBy : (A E : Type 0) → Type 0
 LaterBy A E =
     (old new : State) (taken : Taken) (result : Result A E) → grows old taken ≡ true → OnOk result (new ≡ grown old taken)

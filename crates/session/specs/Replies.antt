@@ -49,7 +49,7 @@ pub data IsReplied (peer : Peer) (line : List ℕ) : List Exchange → Peer → 
       → IsReplied peer line (Shown shown ∷ [])
       (record peer { subscriptions = subscribed peer.subscriptions doc revision (may_follow_shown doc revision shown) })
       (subscribed_line doc revision (may_follow_shown doc revision shown))
-  -- or for want of memory it isn't
+  -- or out of memory it isn't
   NotSubscribed : (doc : List ℕ) (revision : ℕ) (shown : Option State) → request_of peer.source line ≡ Ok (Subscribe doc revision)
       → IsReplied peer line (Shown shown ∷ []) peer (refusal_line NoMemory)
   -- the document is followed no longer, whether it was or not
@@ -57,7 +57,7 @@ pub data IsReplied (peer : Peer) (line : List ℕ) : List Exchange → Peer → 
       → IsReplied peer line [] (record peer { subscriptions = without_subscription peer.subscriptions doc }) (line_of (unsubscribed_reply doc))
   -- the first refusal that holds
   Refused : (refusal : Refusal) → request_of peer.source line ≡ Err refusal → IsReplied peer line [] peer (refusal_line refusal)
-  -- for want of memory the line is not taken
+  -- out of memory the line is not taken
   NotTaken : IsReplied peer line [] peer (refusal_line NoMemory)
 
 -- What comes of one byte of the input.

@@ -19,7 +19,7 @@ pub trait Desk {
     /// At the first of two states of the desk this passes between it and the session, and it goes on to the second.
     ghost does: { Self → Exchange → Self → Type 0 };
 
-    /// The state that the desk has reached. No call takes it back: each call leaves it as it was, or with
+    /// The state that the desk has reached. No call takes it back: each call leaves it unchanged, or with
     /// further commands that continue it.
     ghost reached: { Self → state.State };
 

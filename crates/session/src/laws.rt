@@ -39,7 +39,7 @@ pub fn whole_line()
         → (new ≡ record old { line = Some []; peer = new.peer }) × IsReplied old.peer line asked new.peer text }
 {}
 
-/// A longer line gets the one reply `LineTooLong`. Nothing is asked, and the session is as it was before the line.
+/// A longer line gets the one reply `LineTooLong`. Nothing is asked, and the session is the one before the line.
 pub fn long_line()
     ensures { (line : List ℕ) (old new : Session) (asked : List Exchange) (text : List ℕ)
         → old.line ≡ Some [] → HasNoEnd line → 65536 < length line → Replies old (line ++ 10 ∷ []) asked new text
@@ -125,7 +125,7 @@ pub fn asked_joined<D: Desk>()
     ensures sent_ahead { law.OneMoreAsked D.does }
 {}
 
-/// A state that took a command where a call succeeded, and else stayed as it was, is later than it was.
+/// A state that took a command where a call succeeded, and else stayed unchanged, is later than it was.
 pub fn later_by<A, E>()
     ensures { law.LaterBy A E }
 {}

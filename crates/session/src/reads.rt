@@ -81,7 +81,7 @@ fn read_at(alloc: Global, state: &State, shelf: &Shelf, name: &Name, rev: u64) -
     }
 }
 
-// The reply where a document isn't shown: none for want of memory, else the refusal.
+// The reply where a document isn't shown: none where memory ran out, else the refusal.
 fn reply_of_unshown(alloc: Global, refusal: Refusal) -> Result<String, AllocError>
     ensures { IfOk result (λ text. (refusal ≢ Refusal.NoMemory) × (string_bytes text ≡ refusal_line refusal)) }
 {

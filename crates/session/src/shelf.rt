@@ -98,8 +98,8 @@ impl Shelf {
     }
 
     /// Shows what stood in a document at a revision, and gives the look to be noted. Refused with `NoDocument`, `Deleted` where it is
-    /// deleted now, `Future` where the revision is above the newest one, `TooOld` where it is below the floor, and for want of memory where the document can't be
-    /// made.
+    /// deleted now, `Future` where the revision is above the newest one, `TooOld` where it is below the floor, and out of memory where the
+    /// document can't be made.
     pub fn show<R, F: Drop + FnOnce(&Document) -> R>(
         &self,
         alloc: Global,

@@ -110,7 +110,7 @@ impl StateDesk {
         session.on_news(alloc, out, self)
     }
 
-    // Adds what is taken of a command, which continues the state. Refused for want of memory alone.
+    // Adds what is taken of a command, which continues the state. Refused as out of memory alone.
     fn add(&mut self, alloc: Global, taken: Taken) -> Result<Reply, Refusal>
         requires { grows self.old taken ≡ true }
         ensures told { IfOk result (λ told. told ≡ reply.Taken taken.revision) }

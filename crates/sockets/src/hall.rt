@@ -51,7 +51,7 @@ pub struct Hall {
 }
 
 impl Hall {
-    /// A hall without threads. Refused for want of memory alone.
+    /// A hall without threads. Refused as out of memory alone.
     pub fn new(alloc: Global, threads: usize) -> Result<Hall, AllocError> {
         Ok(Hall {
             places: Mutex::new(Places {

@@ -70,7 +70,7 @@ pub fn append_byte<D: Disk>(
     ring.append(disk, &record)
 }
 
-/// How many units a document has at the revision of a job. Refused for want of memory alone, and then the job comes back.
+/// How many units a document has at the revision of a job. Refused as out of memory alone, and then the job comes back.
 pub fn length_of(alloc: Global, job: Job) -> Result<u64, Uncomposed>
     ensures length { IfOk result (λ len. len ≡ length (applied (units_of_job job) job.deltas)) }
     ensures back { IfErr result (λ back. back.job ≡ job) }

@@ -176,13 +176,23 @@ fn a_job_is_due_at_each_multiple(rt: HostRuntime) {
 fn a_job_is_given_up(rt: HostRuntime) {
     let mut store = edited(&rt);
     let made = by_halves(&rt, job(&rt, &mut store, 3));
-    store.give_up_job(0);
+    store.give_up_job(made.job());
     assert!(rt; store.job_due(0, 3) == Some(6));
     is_answer(
         &rt,
         store.put_milestone(rt.alloc(), &made),
         Err(Refusal::Stranger),
     );
+}
+
+// A job that another one has replaced is given up without it.
+#[test]
+fn a_job_in_its_place_is_not_given_up(rt: HostRuntime) {
+    let mut store = edited(&rt);
+    let replaced = by_halves(&rt, job(&rt, &mut store, 3));
+    let made = by_halves(&rt, job(&rt, &mut store, 6));
+    store.give_up_job(replaced.job());
+    is_answer(&rt, store.put_milestone(rt.alloc(), &made), Ok(()));
 }
 
 /// A device whose documents keep two revisions.

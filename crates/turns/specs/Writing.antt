@@ -1,5 +1,5 @@
 -- What the flusher's thread does from one moment to a later one, with no word of the board, which other threads move meanwhile.
-use Rattle.std.specs.Prelude.{◌≡◌, ◌⊎◌, ◌↔◌, ℕ, true, false, List, [], ◌∷◌, ◌++◌, length, Result, IfErr, IsErrOf}
+use Rattle.std.specs.Prelude.{◌≡◌, ◌⊎◌, ◌↔◌, ℕ, true, false, List, [], ◌∷◌, ◌++◌, length, Result, Ok, IfErr, IsErrOf}
 use mathlib.Core.List.{IsPrefix}
 use Rattle.disk.specs.declared.device.Disk.{Ghosts}
 use Rattle.disk.specs.Crash.{MayLeaveNow}
@@ -18,7 +18,7 @@ use Rattle.flusher.specs.Flushers.{IsUsedUp}
 use Rattle.flusher.specs.Holding.{store_of, told_of, committed_of, waiting_of}
 
 module _ {D : Type 0} {disk : Ghosts D} where
-  -- Milestones were put and segments retired, and nothing else: the state is as it was, and a crash at any moment leaves it.
+  -- Milestones were put and segments retired, and nothing else: the state is unchanged, and a crash at any moment leaves it.
   pub record IsKeptUp (old new : Store D disk) : Type 0 where
     pub goes : Goes (λ content. FoundAs content (state_of old)) old new
     pub state : state_of new ≡ state_of old
@@ -76,6 +76,10 @@ module _ {D J : Type 0} {disk : Ghosts D} where
     pub keeps : KeepsUp old new
     pub fails : has_failed (store_of old) ≡ false → (has_failed (store_of new) ≡ true ↔ IsErrOf result Fault)
     pub only : IfErr result (λ e. e ≡ Fault)
+
+  -- a step that nothing refuses
+  abbrev pub IsUnrefused : Flusher D J disk → Flusher D J disk → Type 0
+  IsUnrefused old new = IsUpkeep {A = Unit {0}} (Ok tt) old new
 
   -- Just one batch was published.
   pub record IsOneMore (old new : Flusher D J disk) : Type 0 where

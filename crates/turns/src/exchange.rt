@@ -1,6 +1,6 @@
 //! The composers, as the thread that writes has them.
-ghost use Rattle.std.specs.Prelude.{◌≤◌, Ok};
-ghost use Rattle.turns.specs.Writing.{IsUpkeep};
+ghost use Rattle.std.specs.Prelude.{◌≡◌, ◌≤◌, false, Some, IfOk};
+ghost use Rattle.turns.specs.Writing.{IsUpkeep, IsUnrefused};
 
 use crate::queue::Queue;
 use composers::{Composers, Done};
@@ -17,7 +17,7 @@ use std::sync::Wait;
 const MOST_PUT: u32 = 64;
 
 /// How often a milestone is due, the ends of the channels to the composers, the documents that are looked at next, one job at most that found
-/// no place in the channel, and one at most that is done and found no memory to be put.
+/// no place in the channel, and one at most that is done and for whose putting memory ran out.
 #[derive(Drop)]
 pub(crate) struct Exchange {
     every: u32,
@@ -101,8 +101,8 @@ impl Exchange {
         Ok(())
     }
 
-    // Puts what was done next, and tells whether there may be more. A job that came back for want of memory is given up, and its document
-    // looked at again. Refused with `Fault` alone.
+    // Puts what was done next, and tells whether there may be more. A job that came back undone is given up, and its document looked at
+    // again. Refused with `Fault` alone.
     fn put_next<D: Disk, J: Site, R: Wait>(
         &mut self,
         rt: &R,
@@ -117,15 +117,14 @@ impl Exchange {
         match done {
             Ok(composed) => self.put(alloc, flusher, composed),
             Err(back) => {
-                let document = back.job.document_number();
-                flusher.give_up_job(document);
-                self.queue.add(document);
+                flusher.give_up_job(&back.job);
+                self.queue.add(back.job.document_number());
                 Ok(true)
             }
         }
     }
 
-    // What is done next: what found no memory to be put, or what comes.
+    // What is done next: what is still to be put, or what comes.
     fn next_done<R: Wait>(&mut self, rt: &R) -> Option<Done> {
         match self.unput.take() {
             Some(composed) => Some(Ok(composed)),
@@ -142,7 +141,8 @@ impl Exchange {
         flusher: &mut Flusher<D, J>,
         composed: Composed,
     ) -> Result<bool, Refusal>
-        ensures { IsUpkeep result flusher.old flusher.new }
+        ensures upkeep { IsUpkeep result flusher.old flusher.new }
+        ensures kept { IfOk result (λ more. more ≡ false → self.new.unput ≡ Some composed) }
     {
         self.queue.add(composed.job().document_number());
         match flusher.put_milestone(alloc, &composed) {
@@ -167,7 +167,7 @@ impl Exchange {
         alloc: Global,
         flusher: &mut Flusher<D, J>,
     )
-        ensures { IsUpkeep (Ok tt) flusher.old flusher.new }
+        ensures { IsUnrefused flusher.old flusher.new }
     {
         if !self.send_again(rt) {
             return;
@@ -187,7 +187,7 @@ impl Exchange {
         alloc: Global,
         flusher: &mut Flusher<D, J>,
     ) -> bool
-        ensures { IsUpkeep (Ok tt) flusher.old flusher.new }
+        ensures { IsUnrefused flusher.old flusher.new }
     {
         let Some(document) = self.queue.next() else {
             return false;
@@ -211,7 +211,9 @@ impl Exchange {
     }
 
     // Sends a job to the composers, and tells whether there was a place. Else it is kept.
-    fn send<R: Wait>(&mut self, rt: &R, job: Job) -> bool {
+    fn send<R: Wait>(&mut self, rt: &R, job: Job) -> bool
+        ensures kept { result ≡ false → self.new.unsent ≡ Some job }
+    {
         match self.composers.hand_out(rt, job) {
             Ok(()) => true,
             Err(back) => {
@@ -230,7 +232,7 @@ fn job_of<D: Disk, J: Site>(
     every: u32,
 ) -> Result<Option<Job>, Refusal>
     requires { 1 ≤ every }
-    ensures { IsUpkeep (Ok tt) flusher.old flusher.new }
+    ensures { IsUnrefused flusher.old flusher.new }
 {
     match flusher.job_due(document, u64::from(every)) {
         None => Ok(None),

@@ -12,7 +12,7 @@
 //! that is taken is given to the flusher, and each batch that is written is settled, or the hub is told of a failure; a run that doesn't
 //! follow what is published ends with such a failure too. What a turn answers
 //! with, and what `flush_all` does, are tokens that the hub alone makes: that it settled, that it was told of a failure, that it was ended
-//! and nothing is left to take. A refusal without such a token is want of memory, after which the next turn goes on.
+//! and nothing is left to take. A refusal without such a token is `NoMemory`, after which the next turn continues.
 //!
 //! A caller, with its contract, which `flusher_tests` proves:
 //!

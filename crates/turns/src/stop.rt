@@ -7,7 +7,7 @@ use refusal::Refusal;
 use std::marker::Model;
 use std::sync::Wait;
 
-/// What stopped a turn: that memory was wanted, or a failure, of which the hub was told. Contracts see it as its refusal.
+/// What stopped a turn: that memory ran out, or a failure, of which the hub was told. Contracts see it as its refusal.
 #[derive(Drop)]
 pub struct Stop<J: Site> {
     failed: Option<Failed<J>>,
@@ -27,7 +27,7 @@ impl<J: Site> Model for Stop<J> {
 }
 
 impl<J: Site> Stop<J> {
-    /// The hub's token of the failure; `None` where memory was wanted.
+    /// The hub's token of the failure; `None` where memory ran out.
     pub fn into_failed(self) -> Option<Failed<J>>
         ensures some { IfSome result (λ failed. (failed ≡ self) × (failed ≢ Refusal.NoMemory)) }
         ensures none { IfNone result (self ≡ Refusal.NoMemory) }
@@ -36,7 +36,7 @@ impl<J: Site> Stop<J> {
     }
 }
 
-// Stops for a refusal. Each but for want of memory fails the board.
+// Stops for a refusal. Each but `NoMemory` fails the board.
 pub(crate) fn stopped<D, J: Site, R: Wait>(
     rt: &R,
     hub: &Hub<D, J>,

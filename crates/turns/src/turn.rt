@@ -22,12 +22,12 @@ use std::sync::Wait;
 use std::thread;
 
 /// Puts the milestones that composers have given back, hands out the jobs that are due, as `upkeep` knows them, and retires the oldest
-/// segment while nothing needs it; where nothing has come, or no place is free, it goes on. Then takes the longest run of the next commands
+/// segment while nothing needs it; it waits neither for a place nor for a message. Then takes the longest run of the next commands
 /// that makes one batch, writes it while the board is unlocked, and settles it. It answers with the hub's token of that, or with the one
 /// that nothing was to be taken.
 ///
-/// Refused with `NoMemory` where memory was wanted for a batch, and then the next turn goes on with the same batch, or with its
-/// publishing; where it was wanted for a milestone, the next turn looks for it again. Each other refusal fails the board, and has the
+/// Refused with `NoMemory` where memory ran out for a batch, and then the next turn continues with the same batch, or with its
+/// publishing. A milestone for which it runs out stops no turn: the next one tries again. Each other refusal fails the board, and has the
 /// hub's token of that: the device failed, the journal is full and can't be freed, or what the board took off doesn't follow what is published,
 /// which is seen before anything of it is written, or isn't what the board has to settle next.
 pub fn flush_turn<D: Disk, J: Site, R: Wait, G: Gate>(
@@ -203,7 +203,7 @@ fn write_held<D: Disk, J: Site, R: Wait, G: Gate>(
 }
 
 /// Makes turns until the hub is ended and all that was ordered is settled, or until a turn fails the board. After a turn it waits where
-/// nothing is to be taken, and where memory is wanted it lets other threads run and tries again. A document's job is due where it passes a multiple of
+/// nothing is to be taken, and where memory ran out it lets other threads run and tries again. A document's job is due where it passes a multiple of
 /// `every` revisions; 0 hands out none. At its end it lets go of its ends of the composers' channels, so that they end. It answers with the
 /// hub's token of its end, or with the one that the hub was told of a failure.
 ///
@@ -240,7 +240,7 @@ pub fn flush_all<D: Disk, J: Site, R: Wait, G: Gate>(
     unreachable!()
 }
 
-// Makes a turn. Where memory is wanted it lets other threads run. Refused where the turn fails the board.
+// Makes a turn. Where memory ran out it lets other threads run. Refused where the turn fails the board.
 fn turn_on<D: Disk, J: Site, R: Wait, G: Gate>(
     rt: &R,
     alloc: Global,

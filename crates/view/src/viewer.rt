@@ -61,7 +61,7 @@ impl<D, J: Site> Viewer<D, J> {
     /// Lends the state that is published to a function, and gives its answer. The state is what some list of published batches makes of
     /// the start of the run, and the list begins with all that this viewer has seen before or was told of; each of their commands continued what those
     /// before had made. Refused with `StoreFailed`
-    /// alone, where the view has ended; nothing is lent then, and the viewer is as it was. It waits for nobody, and takes no memory.
+    /// alone, where the view has ended; nothing is lent then, and the viewer is unchanged. It waits for nobody, and takes no memory.
     pub fn read<A, F: FnOnce(&State) -> A + Drop>(&mut self, f: F) -> Result<A, Refusal>
         requires { F.IsAlwaysCallable f }
         ensures kept { IsPrefix self.old self.new }
@@ -94,7 +94,7 @@ impl<D, J: Site> Viewer<D, J> {
     }
 
     /// What stood in a document at a revision, by the state that `read` lends. Refused as `State::at` refuses it on that state, which is
-    /// `NoDocument`, `Future` where the revision is above the newest one, `TooOld` where it is below the floor, or for want of memory; or
+    /// `NoDocument`, `Future` where the revision is above the newest one, `TooOld` where it is below the floor, or out of memory; or
     /// with `StoreFailed`, as `read` is.
     pub fn at(&mut self, alloc: Global, name: &Name, revision: u64) -> Result<Document, Refusal>
         ensures kept { IsPrefix self.old self.new }

@@ -35,14 +35,14 @@ module _ {D : Type 0} {disk : Ghosts D} where
     pub ring : ring_of new ≡ ring_of old
     pub marks : known_marks new ≡ known_marks old
 
-  -- The store goes on over the same slots, and P says what has become of the cells of one document. Those of the others are as they were.
+  -- The store goes on over the same slots, and P says what has become of the cells of one document. Those of the others are unchanged.
   pub record IsPutOf (document : ℕ) (P : Pair → Type 0) (old : Store D disk) (is_open : IsOpen old) (new : Store D disk) : Type 0 where
     pub goes_on : IsOpen new
     pub same_table : goes_on.table ≡ is_open.table
     pub others : (number : ℕ) → number ≢ document → cells_at goes_on.cells number ≡ cells_at is_open.cells number
     pub own : P (cells_at goes_on.cells document)
 
-  -- Milestones of one document were given up: the store goes on over the same slots, and the cells of the others are as they were.
+  -- Milestones of one document were given up: the store goes on over the same slots, and the cells of the others are unchanged.
   pub record IsHalfPut (document : ℕ) (old : Store D disk) (is_open : IsOpen old) (new : Store D disk) : Type 0 where
     pub goes_on : IsOpen new
     pub same_table : goes_on.table ≡ is_open.table

@@ -31,7 +31,7 @@ pub(super) struct ReadDocuments {
     pub(super) cells: Vec<Cells>,
 }
 
-/// Reads the cells of each document number, and from the one that is picked on the number's entries. `Damaged` comes just where
+/// Reads the cells of each document number, and from the one that is picked on the number's entries. `Damaged` comes exactly when
 /// the cells hold no pairs, or these and the entries stand for no state.
 pub(super) fn read_documents<D: Disk>(
     alloc: Global,

@@ -28,7 +28,7 @@ pub(super) struct Gathered {
 }
 
 /// The commands that the bodies of all segments spell, one list for each document number below `docs`, and the marks of the
-/// segments. Each body is read once. `Damaged` comes just where a body spells no batch, or a command is of another number.
+/// segments. Each body is read once. `Damaged` comes exactly when a body spells no batch, or a command is of another number.
 pub(super) fn gather(
     alloc: Global,
     docs: u32,
@@ -132,7 +132,7 @@ fn add_bodies(
     Ok(())
 }
 
-// Marks the commands of a batch that a segment holds. Refused for want of memory alone.
+// Marks the commands of a batch that a segment holds. Refused as out of memory alone.
 fn mark_batch(marks: &mut Marks, number: u64, batch: &[Taken]) -> Result<(), Refusal>
     ensures noted { OnOk result (IsNoted number batch.now (marks_of marks.old) (marks_of marks.new)) }
     ensures only { IsOkUnless result Refusal.NoMemory }

@@ -36,7 +36,7 @@ pub(super) fn pick_one(
 }
 
 /// Adds the document of a number, where it has a cell or an entry: the cell's document, and behind that the entries of higher
-/// revisions. `Damaged` comes just where the document isn't the next one, or can't be added so, unless memory runs out first.
+/// revisions. `Damaged` comes exactly when the document isn't the next one, or can't be added so, unless memory runs out first.
 pub(super) fn read_document(
     alloc: Global,
     state: &mut State,

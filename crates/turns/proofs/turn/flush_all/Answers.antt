@@ -34,3 +34,12 @@ loop-preserved g c =
       works = λ works. works_after c.in_default.field-0 (has_failed (store_of c.loop.flusher)) (has_failed (store_of c.turn_on.new.flusher)) c.in_default.ensures.fails (i.works works);
       writes = writes_on g.J.Site.start c.args.flusher.now c.loop.flusher c.turn_on.new.flusher i.writes i.works c.turn_on.ensures.writes;
     }
+
+-- a turn was made, and work waits
+pub loop-preserved-in_default-wait_work : goal.loop-preserved-in_default-wait_work
+loop-preserved-in_default-wait_work g c =
+    let i = c.loop.invariant in
+    record {
+      works = λ works. works_after c.in_default.field-0 (has_failed (store_of c.loop.flusher)) (has_failed (store_of c.turn_on.new.flusher)) c.in_default.ensures.fails (i.works works);
+      writes = writes_on g.J.Site.start c.args.flusher.now c.loop.flusher c.turn_on.new.flusher i.writes i.works c.turn_on.ensures.writes;
+    }

@@ -1,6 +1,5 @@
-use Rattle.std.proofs.Common.{Ok}
-use Rattle.turns.specs.Writing.{IsUpkeep}
+use Rattle.turns.specs.Writing.{IsUnrefused}
 use Rattle.turns.proofs.upkeep.retire_all.Given as goal
 
 abbrev pub invariant-loop : goal.invariant-loop
-invariant-loop g l = IsUpkeep (Ok tt) l.fn.flusher l.flusher
+invariant-loop g l = IsUnrefused l.fn.flusher l.flusher

@@ -1,3 +1,4 @@
+use Rattle.std.proofs.Common.{true}
 use Rattle.turns.proofs.Writing.{keeps_call, upkeep_done}
 use Rattle.turns.proofs.upkeep.retire_one.Goals as goal
 

@@ -28,17 +28,17 @@ returns-in-None-clause-state g c =
 
 pub returns-in-Ok-clause-goes : goal.returns-in-Ok-clause-goes
 returns-in-Ok-clause-goes g c =
-    let held : c.args.self.now.waiting ≡ Some c.in-Some.run = cc in
-    let same : c.commands.result.now ≡ c.in-Some.run.commands = cc in
+    let held : c.args.self.now.waiting ≡ Some c.in-Some.held = cc in
+    let same : c.commands.result.now ≡ c.in-Some.held.commands = cc in
     let e = c.commit.ensures in
     goes_batch _ _ c.commands.result.now _ (ap held_in held ∙ ap (λ (b : List Taken). b ∷ []) (sym same))
     (goes_call c.commit.result e.faults.failed_before e.faults.fails e.any_moment e.done e.kept)
 
 pub returns-in-Ok-clause-ok : goal.returns-in-Ok-clause-ok
 returns-in-Ok-clause-ok g c =
-    let held : c.args.self.now.waiting ≡ Some c.in-Some.run = cc in
-    let same : c.commands.result.now ≡ c.in-Some.run.commands = cc in
-    let alone = (c.args.self.now.fits c.in-Some.run held).alone in (
+    let held : c.args.self.now.waiting ≡ Some c.in-Some.held = cc in
+    let same : c.commands.result.now ≡ c.in-Some.held.commands = cc in
+    let alone = (c.args.self.now.fits c.in-Some.held held).alone in (
       ap (λ (p : Published). p.unpublished) c.accept.ensures ∙ ap (λ (b : List Taken). b ∷ []) (c.in-Ok.ensures.receipt ∙ same) ∙ sym (ap held_in held)
           ∙ sym (ap (λ (l : List (List Taken)). l ++ held_in c.args.self.now.waiting) alone),
       ap held_in c.in-Some.ensures.after,
@@ -46,14 +46,14 @@ returns-in-Ok-clause-ok g c =
 
 pub returns-in-Ok-clause-state : goal.returns-in-Ok-clause-state
 returns-in-Ok-clause-state g c =
-    let held : c.args.self.now.waiting ≡ Some c.in-Some.run = cc in
-    let same : c.commands.result.now ≡ c.in-Some.run.commands = cc in
+    let held : c.args.self.now.waiting ≡ Some c.in-Some.held = cc in
+    let same : c.commands.result.now ≡ c.in-Some.held.commands = cc in
     c.in-Ok.ensures.state ∙ ap (fold c.args.self.now.store.state) (same ∙ sym (ap commands_of (ap held_in held) ∙ append-nil _))
 
 pub goes_on-ordered-requires : goal.goes_on-ordered-requires
 goes_on-ordered-requires g c =
-    let held : c.args.self.now.waiting ≡ Some c.in-Some.run = cc in
-    c.args.self.now.placed c.in-Some.run held ∙ ap (λ (l : List (List Taken)). length (commands_of l)) (sym c.told.ensures)
+    let held : c.args.self.now.waiting ≡ Some c.in-Some.held = cc in
+    c.args.self.now.placed c.in-Some.held held ∙ ap (λ (l : List (List Taken)). length (commands_of l)) (sym c.told.ensures)
 
 -- what is committed
 pub returns-in-None-clause-committed : goal.returns-in-None-clause-committed
@@ -63,10 +63,20 @@ returns-in-None-clause-committed g c batch held is_open =
 
 pub returns-in-Ok-clause-committed : goal.returns-in-Ok-clause-committed
 returns-in-Ok-clause-committed g c batch waits is_open =
-    let held : c.args.self.now.waiting ≡ Some c.in-Some.run = cc in
-    let same : c.commands.result.now ≡ c.in-Some.run.commands = cc in
+    let held : c.args.self.now.waiting ≡ Some c.in-Some.held = cc in
+    let same : c.commands.result.now ≡ c.in-Some.held.commands = cc in
     let one : c.commands.result.now ≡ batch = same_batch (held_in c.args.self.now.waiting) c.commands.result.now batch (ap held_in held ∙ ap (λ (b : List Taken). b ∷ []) (sym same)) waits in
     subst (λ (b : List Taken). IsCommittedNow b c.args.self.now.store is_open c.commit.new.self) one (c.in-Ok.ensures.committed is_open)
+
+pub returns-in-Ok-clause-still : goal.returns-in-Ok-clause-still
+returns-in-Ok-clause-still g c waits =
+    let held : c.args.self.now.waiting ≡ Some c.in-Some.held = cc in
+    absurd (no_batch c.in-Some.held.commands (held_in c.args.self.now.waiting) waits (ap held_in held))
+
+pub returns-in-Err-clause-still : goal.returns-in-Err-clause-still
+returns-in-Err-clause-still g c waits =
+    let held : c.args.self.now.waiting ≡ Some c.in-Some.held = cc in
+    absurd (no_batch c.in-Some.held.commands (held_in c.args.self.now.waiting) waits (ap held_in held))
 
 pub returns-in-Err-clause-unchanged : goal.returns-in-Err-clause-unchanged
 returns-in-Err-clause-unchanged g c =
@@ -82,15 +92,15 @@ returns-in-None-clause-full g c batch held works =
 
 pub returns-in-Ok-clause-full : goal.returns-in-Ok-clause-full
 returns-in-Ok-clause-full g c batch waits works =
-    let held : c.args.self.now.waiting ≡ Some c.in-Some.run = cc in
-    let same : c.commands.result.now ≡ c.in-Some.run.commands = cc in
+    let held : c.args.self.now.waiting ≡ Some c.in-Some.held = cc in
+    let same : c.commands.result.now ≡ c.in-Some.held.commands = cc in
     let one : c.commands.result.now ≡ batch = same_batch (held_in c.args.self.now.waiting) c.commands.result.now batch (ap held_in held ∙ ap (λ (b : List Taken). b ∷ []) (sym same)) waits in
     (λ told. absurd (no_error tt JournalFull told), λ none. absurd (false≢true (sym none ∙ ap (has_room c.args.self.now.store) (sym one) ∙ c.in-Ok.ensures.room)))
 
 pub returns-in-Err-clause-full : goal.returns-in-Err-clause-full
 returns-in-Err-clause-full g c batch waits works =
-    let held : c.args.self.now.waiting ≡ Some c.in-Some.run = cc in
-    let same : c.commands.result.now ≡ c.in-Some.run.commands = cc in
+    let held : c.args.self.now.waiting ≡ Some c.in-Some.held = cc in
+    let same : c.commands.result.now ≡ c.in-Some.held.commands = cc in
     let one : c.commands.result.now ≡ batch = same_batch (held_in c.args.self.now.waiting) c.commands.result.now batch (ap held_in held ∙ ap (λ (b : List Taken). b ∷ []) (sym same)) waits in
     let full = rw c.in-Err.is at (c.commit.ensures.full works) in (
       λ told. ap (has_room c.args.self.now.store) (sym one) ∙ full.0 (same_refusal c.in-Err.refusal JournalFull told),
@@ -100,39 +110,39 @@ returns-in-Err-clause-full g c batch waits works =
 -- it never is a stranger's
 pub returns-in-Err-clause-only : goal.returns-in-Err-clause-only
 returns-in-Err-clause-only g c =
-    let held : c.args.self.now.waiting ≡ Some c.in-Some.run = cc in
-    let same : c.commands.result.now ≡ c.in-Some.run.commands = cc in
+    let held : c.args.self.now.waiting ≡ Some c.in-Some.held = cc in
+    let same : c.commands.result.now ≡ c.in-Some.held.commands = cc in
     not_stranger c.args.self.now.store.state c.commands.result.now c.in-Err.refusal
     (held_continues g.J.Site.start c.args.self.now.begun c.args.self.now.store.state c.args.self.now.publisher.told c.told.result.now c.args.self.now.publisher.unpublished
-    c.in-Some.run.commands c.commands.result.now c.goes_on-ordered.result c.is_start.ensures c.told.ensures same c.legal.ensures c.goes_on-ordered.ensures.next
-    c.args.self.now.kept (c.args.self.now.fits c.in-Some.run held).alone)
+    c.in-Some.held.commands c.commands.result.now c.goes_on-ordered.result c.is_start.ensures c.told.ensures same c.legal.ensures c.goes_on-ordered.ensures.next
+    c.args.self.now.kept (c.args.self.now.fits c.in-Some.held held).alone)
     (λ is. c.in-Err.ensures.stranger (ap (λ (r : Refusal). Err r) is)) c.in-Err.ensures.only
 
 pub accept-requires-clause-next : goal.accept-requires-clause-next
 accept-requires-clause-next g c =
-    let held : c.args.self.now.waiting ≡ Some c.in-Some.run = cc in
-    let same : c.commands.result.now ≡ c.in-Some.run.commands = cc in
-    next_by c.args.self.now.publisher.told c.told.result.now c.in-Some.run.commands c.in-Ok.receipt (takens c.goes_on-ordered.result) c.told.ensures
-    (c.in-Ok.ensures.receipt ∙ same) (c.args.self.now.fits c.in-Some.run held).some c.goes_on-ordered.ensures.few c.goes_on-ordered.ensures.next
+    let held : c.args.self.now.waiting ≡ Some c.in-Some.held = cc in
+    let same : c.commands.result.now ≡ c.in-Some.held.commands = cc in
+    next_by c.args.self.now.publisher.told c.told.result.now c.in-Some.held.commands c.in-Ok.receipt (takens c.goes_on-ordered.result) c.told.ensures
+    (c.in-Ok.ensures.receipt ∙ same) (c.args.self.now.fits c.in-Some.held held).some c.goes_on-ordered.ensures.few c.goes_on-ordered.ensures.next
 
 pub returns-in-Err-clause-goes : goal.returns-in-Err-clause-goes
 returns-in-Err-clause-goes g c =
-    let held : c.args.self.now.waiting ≡ Some c.in-Some.run = cc in
-    let same : c.commands.result.now ≡ c.in-Some.run.commands = cc in
+    let held : c.args.self.now.waiting ≡ Some c.in-Some.held = cc in
+    let same : c.commands.result.now ≡ c.in-Some.held.commands = cc in
     let e = c.commit.ensures in
     goes_batch _ _ c.commands.result.now _ (ap held_in held ∙ ap (λ (b : List Taken). b ∷ []) (sym same))
     (goes_call c.commit.result e.faults.failed_before e.faults.fails e.any_moment e.done e.kept)
 
 pub returns-in-Err-clause-held : goal.returns-in-Err-clause-held
 returns-in-Err-clause-held g c =
-    let held : c.args.self.now.waiting ≡ Some c.in-Some.run = cc in
+    let held : c.args.self.now.waiting ≡ Some c.in-Some.held = cc in
     (refl, ap held_in c.fill.ensures.some ∙ sym (ap held_in held))
 
 pub invariant_of-self-in-Ok : goal.invariant_of-self-in-Ok
 invariant_of-self-in-Ok g c =
-    let held : c.args.self.now.waiting ≡ Some c.in-Some.run = cc in
+    let held : c.args.self.now.waiting ≡ Some c.in-Some.held = cc in
     record {
-      kept = kept_more _ _ _ _ _ _ c.commands.result.now c.args.self.now.kept (c.args.self.now.fits c.in-Some.run held).alone c.accept.ensures c.in-Ok.ensures.receipt c.in-Ok.ensures.state;
+      kept = kept_more _ _ _ _ _ _ c.commands.result.now c.args.self.now.kept (c.args.self.now.fits c.in-Some.held held).alone c.accept.ensures c.in-Ok.ensures.receipt c.in-Ok.ensures.state;
       few = omega (arith, ap (λ (p : Published). length p.unpublished) c.accept.ensures);
       fits = λ x is. absurd (let none : ⊥ = cc in none);
       placed = λ x is. absurd (let none : ⊥ = cc in none);

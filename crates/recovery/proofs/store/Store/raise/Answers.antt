@@ -16,24 +16,24 @@ use Rattle.recovery.proofs.store.Store.raise.Goals as goal
 
 -- the document hasn't come so far, and its job is dropped
 pub returns-then-newest-revision-clause-calls : goal.returns-then-newest-revision-clause-calls
-returns-then-newest-revision-clause-calls g c = few_none c.args.self.now c.give_up_job.new.self c.give_up_job.ensures.same.device 6
+returns-then-newest-revision-clause-calls g c = few_none c.args.self.now c.drop_job.new.self c.drop_job.ensures.same.device 6
 
 pub returns-then-newest-revision-clause-keeps : goal.returns-then-newest-revision-clause-keeps
 returns-then-newest-revision-clause-keeps g c =
-    let same = c.give_up_job.ensures.same in
+    let same = c.drop_job.ensures.same in
     record { state = same.state; ring = same.ring; marks = same.marks }
 
 pub returns-then-newest-revision-clause-faults : goal.returns-then-newest-revision-clause-faults
 returns-then-newest-revision-clause-faults g c =
     let store = c.args.self.now in
-    faults_but_jobs (Err StillNeeded) store store c.give_up_job.new.self c.requires.working c.give_up_job.ensures.same
+    faults_but_jobs (Err StillNeeded) store store c.drop_job.new.self c.requires.working c.drop_job.ensures.same
     (faults_none store (Err StillNeeded) c.requires.working (λ told. let same : StillNeeded ≡ Fault = ap (refusal_or Fault) told in cc))
 
 pub returns-then-newest-revision-clause-goes : goal.returns-then-newest-revision-clause-goes
-returns-then-newest-revision-clause-goes g c = goes_but_jobs c.args.self.now c.give_up_job.new.self c.give_up_job.ensures.same c.give_up_job.ensures.open
+returns-then-newest-revision-clause-goes g c = goes_but_jobs c.args.self.now c.drop_job.new.self c.drop_job.ensures.same c.drop_job.ensures.open
 
 pub returns-then-newest-revision-clause-unwritten : goal.returns-then-newest-revision-clause-unwritten
-returns-then-newest-revision-clause-unwritten g c other = c.give_up_job.ensures.same.device
+returns-then-newest-revision-clause-unwritten g c other = c.drop_job.ensures.same.device
 
 -- in an open store nothing speaks against the milestone
 pub returns-in-Err-clause-needed : goal.returns-in-Err-clause-needed
@@ -53,32 +53,32 @@ pub returns-in-Err-clause-faults : goal.returns-in-Err-clause-faults
 returns-in-Err-clause-faults g c =
     let there : c.in-Err.refusal ≡ Fault → c.or_needed.result ≡ Fault = search rules in
     let back : c.or_needed.result ≡ Fault → c.in-Err.refusal ≡ Fault = search rules in
-    faults_but_jobs (Err c.or_needed.result) c.args.self.now c.put_document.new.self c.give_up_job-in-Err.new.self c.requires.working c.give_up_job-in-Err.ensures.same
+    faults_but_jobs (Err c.or_needed.result) c.args.self.now c.put_document.new.self c.drop_job-in-Err.new.self c.requires.working c.drop_job-in-Err.ensures.same
     (faults_as c.in-Err.refusal c.or_needed.result back there c.in-Err.ensures.faults)
 
 pub returns-in-Err-clause-goes : goal.returns-in-Err-clause-goes
 returns-in-Err-clause-goes g c =
     goes_same c.put_document.ensures.state
     (goes_by (Err c.in-Err.refusal) c.in-Err.ensures.faults c.put_document.ensures.any_moment tt c.in-Err.ensures.kept)
-    (goes_but_jobs c.put_document.new.self c.give_up_job-in-Err.new.self c.give_up_job-in-Err.ensures.same c.give_up_job-in-Err.ensures.open)
+    (goes_but_jobs c.put_document.new.self c.drop_job-in-Err.new.self c.drop_job-in-Err.ensures.same c.drop_job-in-Err.ensures.open)
 
 pub returns-in-Err-clause-dropped : goal.returns-in-Err-clause-dropped
-returns-in-Err-clause-dropped g c = c.give_up_job-in-Err.ensures.jobs ∙ c.put_document.ensures.others
+returns-in-Err-clause-dropped g c = c.drop_job-in-Err.ensures.jobs ∙ c.put_document.ensures.others
 
 pub returns-in-Err-clause-calls : goal.returns-in-Err-clause-calls
 returns-in-Err-clause-calls g c =
-    subst (λ d. length (g.D.Disk.past d) ≤ length (g.D.Disk.past (device_of c.args.self.now)) + 6) (sym c.give_up_job-in-Err.ensures.same.device) c.put_document.ensures.calls
+    subst (λ d. length (g.D.Disk.past d) ≤ length (g.D.Disk.past (device_of c.args.self.now)) + 6) (sym c.drop_job-in-Err.ensures.same.device) c.put_document.ensures.calls
 
 pub returns-in-Err-clause-keeps : goal.returns-in-Err-clause-keeps
 returns-in-Err-clause-keeps g c =
-    let same = c.give_up_job-in-Err.ensures.same in
+    let same = c.drop_job-in-Err.ensures.same in
     let e = c.put_document.ensures in
     record { state = same.state ∙ e.state; ring = same.ring ∙ e.ring; marks = same.marks ∙ e.marks }
 
 -- a refusal but for the device's leaves the device as it was
 pub returns-in-Err-clause-unwritten : goal.returns-in-Err-clause-unwritten
 returns-in-Err-clause-unwritten g c other =
-    c.give_up_job-in-Err.ensures.same.device ∙ ⊎_elim (λ away. c.in-Err.ensures.unwritten away) (λ fault. absurd (other fault)) c.or_needed.ensures.only
+    c.drop_job-in-Err.ensures.same.device ∙ ⊎_elim (λ away. c.in-Err.ensures.unwritten away) (λ fault. absurd (other fault)) c.or_needed.ensures.only
 
 -- the milestone is put
 pub returns-clause-put : goal.returns-clause-put

@@ -1,3 +1,4 @@
+use Rattle.std.proofs.Common.{true, false}
 use Rattle.turns.proofs.Writing.{keeps_call, upkeep_none, upkeep_still}
 use Rattle.turns.proofs.exchange.Exchange.put_next.Goals as goal
 

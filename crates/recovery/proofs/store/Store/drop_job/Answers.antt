@@ -3,7 +3,7 @@ use Rattle.milestone.specs.Job.{Job}
 use Rattle.recovery.specs.Found.{limits_of}
 use Rattle.recovery.specs.Jobs.{jobs_of, without_job, AllKeep, CanAllBePut, KeepsLimits}
 use Rattle.recovery.proofs.KeptJobs.{all_passing, kept_without}
-use Rattle.recovery.proofs.store.Store.give_up_job.Goals as goal
+use Rattle.recovery.proofs.store.Store.drop_job.Goals as goal
 use Rattle.std.specs.Prelude.{◌==◌, not}
 
 pub invariant_of-self-clause-composable : goal.invariant_of-self-clause-composable
