@@ -17,7 +17,7 @@ longer_by past Revives change = rebased past (content_after (newest_content past
 -- what a command makes of a document that may be there
 abbrev pub whole_by_name : Option DocumentRecord → Taken → Option (List ℕ) → Option DocumentRecord
 whole_by_name None taken None = None
-whole_by_name None taken (Some name) = Some (record { name = name; past = longer empty_past (change_of taken) })
+whole_by_name None taken (Some name) = Some (record { name = name; past = longer_by empty_past taken.step (change_of taken) })
 whole_by_name (Some found) taken name = Some (record found { past = longer_by found.past taken.step (change_of taken) })
 
 abbrev pub whole_after : Option DocumentRecord → Taken → Option DocumentRecord

@@ -5,7 +5,7 @@ ghost use Rattle.delta.specs.Element.{Element};
 ghost use Rattle.delta.specs.Operation.{Operation};
 ghost use Rattle.delta.specs.Gaps.{End};
 ghost use Rattle.delta.specs.Normal.{nf};
-ghost use Rattle.revision.specs.Past.{sources_at};
+ghost use Rattle.revision.specs.Past.{is_content, content_at, sources_at};
 ghost use Rattle.revision.specs.Pending.{record_of};
 ghost use Rattle.revision.specs.Replay.{IsReplay};
 ghost use Rattle.revision.specs.State.{are_sources, revision_of};

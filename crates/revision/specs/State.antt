@@ -9,7 +9,7 @@ use Rattle.revision.specs.Command.{Taken, Step, Edits, Deletes, Revives, edits, 
 use Rattle.revision.specs.Window.{longest, Window, ascend}
 use Rattle.revision.specs.Sources.{Sources, window_of, count_of, total_of, with_taken}
 use Rattle.revision.specs.Parting.{parts_pair}
-use Rattle.revision.specs.Past.{Content, Change, Next, Past, is_content, suits, units_after, empty_past, newest, content_at, sources_at, with_change, with_step}
+use Rattle.revision.specs.Past.{Content, Change, Next, Past, is_content, suits, units_after, empty_past, newest, content_at, sources_at, with_step}
 
 -- How much a state may hold: documents, sources of a document, a document's weight, the bytes of a command's entry in the journal,
 -- and how many revisions below the newest one are held; and what each number of a window weighs.
@@ -143,7 +143,7 @@ next_of taken = record { step = taken.step; change = change_of taken }
 -- the document after a command
 abbrev pub record_by_name : ℕ → Option DocumentRecord → Taken → Option (List ℕ) → Option DocumentRecord
 record_by_name keep None taken None = None
-record_by_name keep None taken (Some name) = Some (record { name = name; past = with_change keep empty_past (change_of taken) })
+record_by_name keep None taken (Some name) = Some (record { name = name; past = with_step keep empty_past taken.step (change_of taken) })
 record_by_name keep (Some found) taken name = Some (record found { past = with_step keep found.past taken.step (change_of taken) })
 
 abbrev pub record_after : ℕ → Option DocumentRecord → Taken → Option DocumentRecord
