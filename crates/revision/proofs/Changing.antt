@@ -85,8 +85,8 @@ module _ (past : Past) (change : Change) where
       ∙ ap (with_taken change.source change.number (newest past + 1)) (sym (sources-newest past))))
 
   -- at the revisions before it holds what it held
-  pub units-before : (revision : ℕ) → past.floor ≤ revision → revision ≤ newest past → (content_at (longer past change) revision).units ≡ (content_at past revision).units
-  units-before revision above there = ap (λ (p : Past). p.content.units) (sym (from-more past revision above (change ∷ []) there))
+  pub content-before : (revision : ℕ) → past.floor ≤ revision → revision ≤ newest past → content_at (longer past change) revision ≡ content_at past revision
+  content-before revision above there = ap (λ (p : Past). p.content) (sym (from-more past revision above (change ∷ []) there))
 
   pub sources-before : (revision : ℕ) → past.floor ≤ revision → revision ≤ newest past → sources_at (longer past change) revision ≡ sources_at past revision
   sources-before revision above there = ap (λ (p : Past). p.sources) (sym (from-more past revision above (change ∷ []) there))

@@ -1,4 +1,5 @@
 mod Floors
+mod Turning
 mod Parts
 mod Halves
 mod Weights

@@ -227,7 +227,7 @@ nexts_by (first ∷ others) (delta ∷ deltas) = next_by first.source first.numb
 
 -- A delta that is kept leads from what stands in the document to what does after the step.
 pub record LeadsTo (content : Content) (step : Step) (delta : List Operation) : Type 0 where
-  pub suits : suits content.live step ≡ true
+  pub suited : suits content.live step ≡ true
   pub units : apply content.units (counted delta) ≡ units_after content.units step delta
 
 abbrev pub LeadInTurn : Content → List Taker → List (List Operation) → Type 0

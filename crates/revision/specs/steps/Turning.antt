@@ -4,17 +4,17 @@ use Rattle.revision.specs.Command.{Step, Edits, Deletes, Revives}
 use Rattle.revision.specs.Past.{live_after}
 use Rattle.revision.specs.declared.taker.Taker.{Taker}
 
--- the place of a change behind the one before it, counted from 1: of what comes later where there is one, else its own unless it edits
-abbrev pub turn_or : Step → ℕ → ℕ
-turn_or Edits zero = 0
-turn_or Deletes zero = 1
-turn_or Revives zero = 1
-turn_or step (suc later) = suc (suc later)
+-- the place of a change, counted from 1, by that of what comes later, counted from there: its own where nothing does, unless it edits
+abbrev pub turn_or : ℕ → Step → ℕ
+turn_or (suc later) step = suc (suc later)
+turn_or zero Edits = 0
+turn_or zero Deletes = 1
+turn_or zero Revives = 1
 
 -- how many of the changes there are up to the last that deletes the document or creates it again, 0 where there is none
 abbrev pub steps_up_to_turn : List Taker → ℕ
 steps_up_to_turn [] = 0
-steps_up_to_turn (first ∷ others) = turn_or first.step (steps_up_to_turn others)
+steps_up_to_turn (first ∷ others) = turn_or (steps_up_to_turn others) first.step
 
 -- whether the document is live after changes
 abbrev pub live_after_takers : Bool → List Taker → Bool
