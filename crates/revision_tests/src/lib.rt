@@ -20,6 +20,8 @@ mod creations;
 #[cfg(test)]
 mod deleting;
 #[cfg(test)]
+mod drawn;
+#[cfg(test)]
 mod edits;
 #[cfg(test)]
 mod limits;
@@ -27,5 +29,7 @@ mod limits;
 mod names;
 #[cfg(test)]
 mod past;
+#[cfg(test)]
+mod plain;
 #[cfg(test)]
 mod steps;
