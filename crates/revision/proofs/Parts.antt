@@ -40,13 +40,15 @@ changes-more [] (d ∷ deltas) taker delta same = absurd (omega (arith, same))
 changes-more (t ∷ takers) [] taker delta same = absurd (omega (arith, same))
 changes-more (t ∷ takers) (d ∷ deltas) taker delta same = ap (λ l. record { source = t.source; number = t.number; delta = d } ∷ l) (changes-more takers deltas taker delta (omega (arith, same)))
 
-pub changes-drop : (n : ℕ) (takers : List Taker) (deltas : List (List Operation)) → length takers ≡ length deltas
-    → changes_by (drop n takers) (drop n deltas) ≡ drop n (changes_by takers deltas)
-changes-drop zero takers deltas same = refl
-changes-drop (suc n) [] [] same = refl
-changes-drop (suc n) [] (delta ∷ deltas) same = absurd (omega (arith, same))
-changes-drop (suc n) (taker ∷ takers) [] same = absurd (omega (arith, same))
-changes-drop (suc n) (taker ∷ takers) (delta ∷ deltas) same = changes-drop n takers deltas (omega (arith, same))
+pub changes-drop : (n : ℕ) (takers : List Taker) (deltas : List (List Operation)) → changes_by (drop n takers) (drop n deltas) ≡ drop n (changes_by takers deltas)
+changes-drop zero takers deltas = refl
+changes-drop (suc n) [] deltas = refl
+changes-drop (suc n) (taker ∷ takers) [] = none (drop n takers)
+  where
+    none : (left : List Taker) → changes_by left [] ≡ []
+    none [] = refl
+    none (t ∷ left) = refl
+changes-drop (suc n) (taker ∷ takers) (delta ∷ deltas) = changes-drop n takers deltas
 
 pub changes-take : (n : ℕ) (takers : List Taker) (deltas : List (List Operation)) → changes_by (take n takers) (take n deltas) ≡ take n (changes_by takers deltas)
 changes-take zero takers deltas = refl
@@ -248,7 +250,7 @@ module _ (parts : Parts) (is : AreParts parts) where
       let there : parts.floor ≤ newest whole = omega (arith, newest_is, is.floor) in
       let here : newest_content whole ≡ taken_content parts = whole-content in
       let joined : whole.changes ++ changes_by takers deltas ≡ all =
-      ap (λ l. whole.changes ++ l) (changes-drop parts.count parts.takers parts.deltas is.same) ∙ take-append-drop parts.count all in
+      ap (λ l. whole.changes ++ l) (changes-drop parts.count parts.takers parts.deltas) ∙ take-append-drop parts.count all in
       let grown : with_steps keep (seen parts).past (seen parts).next ≡ from_floor (moved whole takers deltas) (floor_after keep (newest whole) parts.floor takers) =
       ap (with_steps keep (seen parts).past) seen-next
       ∙ steps-from keep whole parts.floor takers deltas is.start there rest_same (subst (λ (c : Content). LeadInTurn c takers deltas) (sym here) is.lead) in
