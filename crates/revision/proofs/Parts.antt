@@ -9,13 +9,13 @@ use Rattle.document.specs.Outcome.{IsAccepted}
 use Rattle.compose.specs.Many.{applied}
 use Rattle.revision.specs.declared.taker.Taker.{Taker}
 use Rattle.revision.specs.Command.{Step, Edits, Deletes, Revives}
-use Rattle.revision.specs.Past.{Past, Content, Change, Next, Prepared, Parts, AreParts, LeadsTo, LeadInTurn, is_content, suits, units_after, content_after_all, taken_content, next_by, nexts_by, newest, newest_content, deltas_of, deltas_in, content_at, deltas_above, from_floor, with_steps, changes_by, whole_past, seen, prepared_content, prepared_units, prepared_revision, without_last}
+use Rattle.revision.specs.Past.{Past, Content, Change, Next, Prepared, Parts, AreParts, StandInTurn, LeadsTo, LeadInTurn, is_content, suits, units_after, content_after_all, taken_content, next_by, nexts_by, newest, newest_content, deltas_of, deltas_in, content_at, deltas_above, from_floor, with_steps, changes_by, whole_past, seen, prepared_content, prepared_units, prepared_revision, without_last}
 use Rattle.revision.specs.Past.{way_back_late}
 use Rattle.revision.specs.Late.{HasRoom, all_inserted}
 use Rattle.revision.proofs.Room.{room_for_undo}
 use Rattle.revision.proofs.Kept.{stand-more, short-more, short-take, room-since, stand-between, short-between, short-first, short-inserts}
 use Rattle.revision.proofs.KeptDocuments.{kept-prepared, kept-accepted, kept-cut}
-use Rattle.revision.proofs.Replays.{stand-take}
+use Rattle.revision.proofs.Replays.{stand-take, stand-drop, drop-here}
 use Rattle.revision.specs.steps.Turning.{turn_or, steps_up_to_turn, live_after_takers}
 use Rattle.revision.proofs.Floors.{newest-from, content-from, deltas-from}
 use Rattle.revision.proofs.Turning.{nexts-length, nexts-more, nexts-take, nexts-drop, nexts-units, nexts-live, nexts-content, lead-more, lead-take, moved, floor_after, turned_floor, steps-from, floor-is}
@@ -362,13 +362,6 @@ module _ (parts : Parts) (is : AreParts parts) where
         kept = kept-cut parts.start parts.count left parts.units parts.deltas parts.kept within is.kept;
       }
 
-  -- the delta of the last that is prepared leads to what stands after it
-  pub last_delta : (before : List Next) (last : Next) → (seen parts).next ≡ before ++ last ∷ [] → (delta : List Operation)
-      → delta ≡ get_or parts.deltas (length parts.deltas - 1) delta
-      → IsAccepted (prepared_units (record (seen parts) { next = before })) (counted delta)
-      × (apply (prepared_units (record (seen parts) { next = before })) (counted delta) ≡ prepared_units (seen parts))
-  last_delta before last e delta read = ?
-
   -- all of it
   pub forget_is : seen (record parts { takers = take parts.count parts.takers; deltas = take parts.count parts.deltas }) ≡ record (seen parts) { next = [] }
   forget_is =
@@ -390,3 +383,28 @@ module _ (parts : Parts) (is : AreParts parts) where
   none_dropped none =
       let next : List Next = (seen parts).next in
       ap (λ l. record (seen parts) { next = l }) (sym (take_all (length next - 1) next (omega (arith, prepared-length, none))))
+
+module _ (parts : Parts) (is : AreParts parts) where
+  -- the delta of the last that is prepared leads to what stands after it
+  pub last_delta : (before : List Next) (last : Next) → (seen parts).next ≡ before ++ last ∷ [] → (delta : List Operation)
+      → delta ≡ get_or parts.deltas (length parts.deltas - 1) delta
+      → IsAccepted (prepared_units (record (seen parts) { next = before })) (counted delta)
+      × (apply (prepared_units (record (seen parts) { next = before })) (counted delta) ≡ prepared_units (seen parts))
+  last_delta before last e delta read =
+      let n : ℕ = length parts.deltas - 1 in
+      let long : length (seen parts).next ≡ length before + 1 = ap length e ∙ length-append before (last ∷ []) in
+      let some : parts.count ≤ n = omega (arith, long, prepared-length parts is) in
+      let there : n < length parts.deltas = omega (arith, long, prepared-length parts is) in
+      let left : n - parts.count ≡ length before = omega (arith, long, prepared-length parts is) in
+      let first : take (n - parts.count) (seen parts).next ≡ before =
+      ap₂ (λ (m : ℕ) (l : List Next). take m l) left e ∙ (take-append-le (length before) before (last ∷ []) (omega arith) ∙ take_all (length before) before (omega arith)) in
+      let cut : Parts = record parts { takers = take n parts.takers; deltas = take n parts.deltas } in
+      let same : seen cut ≡ record (seen parts) { next = before } = cut_is parts is n some ∙ ap (λ (l : List Next). record (seen parts) { next = l }) first in
+      let units : prepared_units (record (seen parts) { next = before }) ≡ applied parts.units (take n parts.deltas) =
+      sym (ap prepared_units same) ∙ prepared-units cut (cut_are parts is n some (omega arith)) in
+      let one : drop n parts.deltas ≡ delta ∷ [] =
+      drop-here parts.deltas n delta there read ∙ ap (λ l. delta ∷ l) (drop_all (n + 1) parts.deltas (omega arith)) in
+      let stand = subst (StandInTurn (applied parts.units (take n parts.deltas))) one (stand-drop n parts.units parts.deltas is.stand) in
+      let leads : apply (applied parts.units (take n parts.deltas)) (counted delta) ≡ applied parts.units parts.deltas =
+      ap (applied (applied parts.units (take n parts.deltas))) (sym one) ∙ applied-split n parts.units parts.deltas in
+      (subst (λ u. IsAccepted u (counted delta)) (sym units) stand.0, ap (λ u. apply u (counted delta)) units ∙ (leads ∙ sym (prepared-units parts is)))

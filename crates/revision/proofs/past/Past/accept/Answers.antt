@@ -1,5 +1,5 @@
 use Rattle.std.proofs.Common.{[], ◌≡◌, ℕ, ◌+◌, ◌-◌, max, length, sym, ap, subst, ◌∙◌, arith}
-use Rattle.revision.specs.Past.{Parts, Prepared, AreParts, seen, with_changes}
+use Rattle.revision.specs.Past.{Parts, Prepared, AreParts, seen, with_steps}
 use Rattle.revision.specs.steps.PastView.{parts_of}
 use Rattle.revision.proofs.Parts.{accept_is, accept_are, nothing_prepared}
 use Rattle.revision.proofs.past.Past.accept.Goals as goal
@@ -9,7 +9,7 @@ returns-then-self-len c =
     let parts : Parts = parts_of c.self.inside in
     sym c.self.view_is
     ∙ (nothing_prepared parts c.self.invariant c.args.keep (omega (arith, c.if-self-len.true, c.len-2.ensures))
-    ∙ ap (λ (p : Prepared). record { past = with_changes c.args.keep p.past p.next; next = [] }) c.self.view_is)
+    ∙ ap (λ (p : Prepared). record { past = with_steps c.args.keep p.past p.next; next = [] }) c.self.view_is)
 
 pub returns-then-least-self : goal.returns-then-least-self
 returns-then-least-self c =
@@ -19,7 +19,7 @@ returns-then-least-self c =
     omega (arith, c.saturating_sub-least.ensures, c.from.ensures, c.len.ensures, c.if-least-self.true) in
     ap (λ (n : ℕ). seen (record parts { count = n; floor = c.saturating_sub-least.result })) all
     ∙ (accept_is parts c.self.invariant c.args.keep c.saturating_sub-least.result (omega (arith, c.if-self-len.false, c.len-2.ensures, c.self.invariant.count)) floor_is
-    ∙ ap (λ (p : Prepared). record { past = with_changes c.args.keep p.past p.next; next = [] }) c.self.view_is)
+    ∙ ap (λ (p : Prepared). record { past = with_steps c.args.keep p.past p.next; next = [] }) c.self.view_is)
 
 pub returns-else-least-self : goal.returns-else-least-self
 returns-else-least-self c =
@@ -29,7 +29,7 @@ returns-else-least-self c =
     omega (arith, c.saturating_sub-least.ensures, c.from.ensures, c.len.ensures, c.if-least-self.false) in
     ap (λ (n : ℕ). seen (record parts { count = n })) all
     ∙ (accept_is parts c.self.invariant c.args.keep parts.floor (omega (arith, c.if-self-len.false, c.len-2.ensures, c.self.invariant.count)) floor_is
-    ∙ ap (λ (p : Prepared). record { past = with_changes c.args.keep p.past p.next; next = [] }) c.self.view_is)
+    ∙ ap (λ (p : Prepared). record { past = with_steps c.args.keep p.past p.next; next = [] }) c.self.view_is)
 
 pub invariant_of-self : goal.invariant_of-self
 invariant_of-self c =
