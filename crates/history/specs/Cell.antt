@@ -4,7 +4,7 @@ use Rattle.revision.specs.Past.{Content, is_content, content_at, sources_at}
 use Rattle.revision.specs.Sources.{Sources, count_of}
 pub use Rattle.history.specs.declared.pick.Pick.{Pick}
 pub use Rattle.history.specs.declared.pick.Pick.TheVariants.{Newer, Older}
-use Rattle.revision.specs.State.{Limits, DocumentRecord, last_of_all, weight_of, are_sources, record_at}
+use Rattle.revision.specs.State.{Limits, DocumentRecord, last_of_all, weight_of, is_mark_at, are_sources, record_at}
 
 -- a document at a revision, with its sources there
 pub record Cell : Type 0 where
@@ -84,4 +84,5 @@ pub record CellKeeps (limits : Limits) (cell : Cell) : Type 0 where
   pub count : count_of cell.sources ≤ limits.sources
   pub sources : are_sources cell.revision cell.sources.entries ≡ true
   pub content : is_content cell.content ≡ true
+  pub mark : is_mark_at cell.content.live cell.revision ≡ true
   pub weight : weight_of limits cell.content.units cell.sources ≤ limits.weight

@@ -18,7 +18,7 @@ use Rattle.revision.specs.Window.{Window, nothing_taken, taken_as, taken_next}
 use Rattle.revision.specs.Sources.{Sources, window_of, count_of, with_taken}
 use Rattle.revision.specs.Parting.{parts_pair}
 use Rattle.revision.specs.Past.{StandInTurn, deltas_of, Content, is_content, suits, units_after, content_after, Change, Past, empty_past, newest, newest_content, newest_sources, content_at, sources_at, with_change, rebased, with_step}
-use Rattle.revision.specs.State.{Limits, DocumentRecord, State, grows, grown, all_grow, fold, revision_of, units_of, sources_of, is_live, find, last_of_all, reaches_past, weight_of, weight_after, has_place, stands_on, stands, stays_light, keeps, comes_next, begins, follows, continues_by_name, change_of, record_by_name, record_after, has_room, set_document, is_window, are_sources, adopts, record_at}
+use Rattle.revision.specs.State.{Limits, DocumentRecord, State, grows, grown, all_grow, fold, revision_of, units_of, sources_of, is_live, find, last_of_all, reaches_past, weight_of, weight_after, has_place, stands_on, stands, stays_light, keeps, comes_next, begins, follows, continues_by_name, change_of, record_by_name, record_after, has_room, set_document, is_window, is_mark_at, are_sources, adopts, record_at}
 use Rattle.revision.specs.Invariants.{IsLimits, KeepsAt, IsPast, IsRecord, IsState, EmptyIsState, GrowingKeeps, AdoptingKeeps, ContinuingKeeps}
 use Rattle.revision.proofs.Room.{weight-some}
 use Rattle.revision.proofs.Told.{parts_told}
@@ -47,6 +47,13 @@ six a b c d e f h =
     let fifth = and_parts (a && b && c && d) e last.0 in
     let first = four a b c d fifth.0 in
     (first.0, first.1, first.2, first.3, fifth.1, last.1)
+
+pub seven : (a b c d e f g : Bool) → (a && b && c && d && e && f && g) ≡ true
+    → (a ≡ true) × (b ≡ true) × (c ≡ true) × (d ≡ true) × (e ≡ true) × (f ≡ true) × (g ≡ true)
+seven a b c d e f g h =
+    let last = and_parts (a && b && c && d && e && f) g h in
+    let first = six a b c d e f last.0 in
+    (first.0, first.1, first.2, first.3, first.4, first.5, last.1)
 
 -- what sources have at a revision they may have at later ones
 sources-later : (revision later : ℕ) (entries : List (List ℕ × Window)) → revision ≤ later → are_sources revision entries ≡ true → are_sources later entries ≡ true
@@ -165,6 +172,7 @@ keeps-same limits a b revision content sources kept = record {
   count = subst (λ s. count_of s ≤ limits.sources) (sym sources) kept.count;
   sources = subst (λ (s : Sources). are_sources revision s.entries ≡ true) (sym sources) kept.sources;
   content = subst (λ (c : Content). is_content c ≡ true) (sym content) kept.content;
+  mark = subst (λ (c : Content). is_mark_at c.live revision ≡ true) (sym content) kept.mark;
 }
 
 -- An edit of a live document that keeps the limits, with its source's next number, makes of a past one that keeps them.
@@ -196,6 +204,7 @@ module _ (limits : Limits) (past : Past) (taken : Taken) (is : IsLimits limits)
         sources = subst (λ (s : Sources). are_sources (newest past + 1) s.entries ≡ true) (sym sources)
             (sources-noted (newest past) (newest past + 1) taken.number taken.source before (omega arith) following bound here.sources);
         content = ap (λ b. b || (length (content_at (with_change limits.keep past (change_of taken)) (newest past + 1)).units == 0)) live;
+        mark = ap (λ b. b || nat_le 2 (newest past + 1)) live;
       }
 
   keeps-each : (revision : ℕ) → (with_change limits.keep past (change_of taken)).floor ≤ revision → revision ≤ newest (with_change limits.keep past (change_of taken))
@@ -228,17 +237,19 @@ module _ (limits : Limits) (past : Past) (taken : Taken) (is : IsLimits limits)
       }
 
 -- a document that is adopted keeps the limits
-adopted-past : (limits : Limits) (content : Content) (revision : ℕ) (sources : Sources) → is_content content ≡ true → 1 ≤ revision → revision ≤ last_of_all
+adopted-past : (limits : Limits) (content : Content) (revision : ℕ) (sources : Sources) → is_content content ≡ true → is_mark_at content.live revision ≡ true → 1 ≤ revision → revision ≤ last_of_all
     → count_of sources ≤ limits.sources → are_sources revision sources.entries ≡ true → weight_of limits content.units sources ≤ limits.weight
     → IsPast limits (record { floor = revision; content = content; sources = sources; changes = [] })
-adopted-past limits content revision sources may some bound count are light =
+adopted-past limits content revision sources may mark some bound count are light =
     let past : Past = record { floor = revision; content = content; sources = sources; changes = [] } in
+    let none : newest past ≡ revision = omega arith in
     let here : KeepsAt limits past (newest past) = record {
       weight = subst (λ u. weight_of limits u (sources_at past (newest past)) ≤ limits.weight) (sym (units-newest past))
           (subst (λ s. weight_of limits content.units s ≤ limits.weight) (sym (sources-newest past)) light);
       count = subst (λ s. count_of s ≤ limits.sources) (sym (sources-newest past)) count;
       sources = subst (λ (s : Sources). are_sources (newest past) s.entries ≡ true) (sym (sources-newest past)) (sources-later revision (newest past) sources.entries (omega arith) are);
       content = subst (λ u. is_content (record { units = u; live = content.live }) ≡ true) (sym (units-newest past)) may;
+      mark = subst (λ r. is_mark_at content.live r ≡ true) (sym none) mark;
     } in
     record {
       stand = tt;
@@ -260,11 +271,16 @@ begun-past limits taken is h =
     (free limits is) edit refl parts.3)
   where
     nothing : (revision : ℕ) → 0 ≤ revision → revision ≤ newest empty_past → KeepsAt limits empty_past revision
-    nothing zero above there = record { weight = omega arith; count = omega arith; sources = refl; content = refl }
+    nothing zero above there = record { weight = omega arith; count = omega arith; sources = refl; content = refl; mark = refl }
     nothing (suc revision) above there = absurd (omega (arith, there))
 
     free : (limits : Limits) → IsLimits limits → has_place limits taken.source (sources_at empty_past (newest empty_past)) ≡ true
     free limits is = lt-ltb 0 limits.sources (omega (arith, is.some_source))
+
+-- from revision 2 on a document may be deleted
+is_later : (live : Bool) (revision : ℕ) → 2 ≤ revision → is_mark_at live revision ≡ true
+is_later true revision le = refl
+is_later false revision le = le-leb 2 revision le
 
 -- the past that a deletion or a creation again makes
 turned-past : (limits : Limits) (past : Past) (taken : Taken) (content : Content) → IsPast limits past
@@ -276,7 +292,8 @@ turned-past limits past taken content is next bound may light =
     let here = is.each (newest past) (omega arith) (omega arith) in
     let revision : taken.revision ≡ newest past + 1 = eqb-true _ _ parts.0 in
     let number : taken.number ≡ (window_of taken.source (newest_sources past)).number + 1 = eqb-true _ _ parts.2 in
-    adopted-past limits content (newest past + 1) (with_taken taken.source taken.number (newest past + 1) (newest_sources past)) may (omega arith) bound
+    let later : is_mark_at content.live (newest past + 1) ≡ true = is_later content.live (newest past + 1) (omega (arith, is.first)) in
+    adopted-past limits content (newest past + 1) (with_taken taken.source taken.number (newest past + 1) (newest_sources past)) may later (omega arith) bound
     (count-noted limits taken.source taken.number (newest past + 1) (newest_sources past) parts.4 here.count)
     (sources-noted (newest past) (newest past + 1) taken.number taken.source (newest_sources past) (omega arith) number (leb-true _ _ parts.3) here.sources)
     (subst (λ r. weight_of limits content.units (with_taken taken.source taken.number r (newest_sources past)) ≤ limits.weight) revision light)
@@ -438,17 +455,17 @@ adopted-light state name content revision sources h = leb-true _ _ (and_parts _ 
 
 pub adopting_keeps : AdoptingKeeps
 adopting_keeps state name content revision sources is h =
-    let light = and_parts (nat_lt (length state.documents) state.limits.docs && is_none (find name 0 state.documents) && is_content content && nat_le 1 revision
+    let light = and_parts (nat_lt (length state.documents) state.limits.docs && is_none (find name 0 state.documents) && is_content content && is_mark_at content.live revision && nat_le 1 revision
     && nat_le revision last_of_all && nat_le (count_of sources) state.limits.sources && are_sources revision sources.entries)
     (nat_le (weight_of state.limits content.units sources) state.limits.weight) h in
-    let last = and_parts (nat_lt (length state.documents) state.limits.docs && is_none (find name 0 state.documents) && is_content content && nat_le 1 revision
+    let last = and_parts (nat_lt (length state.documents) state.limits.docs && is_none (find name 0 state.documents) && is_content content && is_mark_at content.live revision && nat_le 1 revision
     && nat_le revision last_of_all && nat_le (count_of sources) state.limits.sources) (are_sources revision sources.entries) light.0 in
-    let parts = six (nat_lt (length state.documents) state.limits.docs) (is_none (find name 0 state.documents)) (is_content content) (nat_le 1 revision)
+    let parts = seven (nat_lt (length state.documents) state.limits.docs) (is_none (find name 0 state.documents)) (is_content content) (is_mark_at content.live revision) (nat_le 1 revision)
     (nat_le revision last_of_all) (nat_le (count_of sources) state.limits.sources) last.0 in
     let new : DocumentRecord = record_at name content revision sources in
     subst (λ l. IsState (record state { documents = l })) (set-end new state.documents)
     (added-is-state state new is (ltb-true _ _ parts.0) parts.1
-    (adopted-past state.limits content revision sources parts.2 (leb-true _ _ parts.3) (leb-true _ _ parts.4) (leb-true _ _ parts.5) last.1 (leb-true _ _ light.1)))
+    (adopted-past state.limits content revision sources parts.2 parts.3 (leb-true _ _ parts.4) (leb-true _ _ parts.5) (leb-true _ _ parts.6) last.1 (leb-true _ _ light.1)))
 
 -- one document
 record_kept : (limits : Limits) (found : Option DocumentRecord) (taken : Taken) (name : Option (List ℕ)) → IsLimits limits → IsRecord limits found

@@ -271,6 +271,19 @@ too_late_an_entry : adopts small (100 ∷ []) no_units 6 sevens ≡ false
 unfolding insert
 too_late_an_entry = refl
 
+-- a document that is deleted is adopted without units, as revision 2 or above
+abbrev gone : List Element → Content
+gone units = record { units = units; live = false }
+
+adopted_as_deleted : adopts small (100 ∷ []) (gone []) 2 empty ≡ true
+adopted_as_deleted = refl
+
+deleted_with_units : adopts small (100 ∷ []) (gone (text (122 ∷ []))) 2 empty ≡ false
+deleted_with_units = refl
+
+deleted_by_its_creation : adopts small (100 ∷ []) (gone []) 1 empty ≡ false
+deleted_by_its_creation = refl
+
 same_name : adopts after_adoption (100 ∷ []) no_units 7 empty ≡ false
 unfolding insert
 same_name = refl

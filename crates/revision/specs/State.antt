@@ -209,12 +209,16 @@ abbrev pub are_sources : ℕ → List (List ℕ × Window) → Bool
 are_sources revision [] = true
 are_sources revision (first ∷ others) = is_window revision first.1 && are_sources revision others
 
+-- a document is deleted as revision 2 or above, since a creation makes the first one
+abbrev pub is_mark_at : Bool → ℕ → Bool
+is_mark_at live revision = live || nat_le 2 revision
+
 -- A document may be added at a revision, without the past before it, with its sources: the limits are kept, its name is new, and
 -- the content, the revision and the sources are such as can be.
 abbrev pub adopts : State → List ℕ → Content → ℕ → Sources → Bool
 adopts state name content revision sources =
     nat_lt (length state.documents) state.limits.docs && is_none (find name 0 state.documents)
-    && is_content content && nat_le 1 revision && nat_le revision last_of_all
+    && is_content content && is_mark_at content.live revision && nat_le 1 revision && nat_le revision last_of_all
     && nat_le (count_of sources) state.limits.sources && are_sources revision sources.entries
     && nat_le (weight_of state.limits content.units sources) state.limits.weight
 

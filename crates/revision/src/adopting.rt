@@ -22,11 +22,10 @@ impl State {
     /// deleted.
     ///
     /// Refused with `Stranger` just where there are `docs` documents, one of this name is there, something stands in it though it is
-    /// deleted, the revision isn't 1 to
-    /// 2^53 - 1, there are more than `sources` sources, the last number of one of them isn't 1 to 2^53 - 1, its window has no number
-    /// or more than there are up to the last, the revisions there don't ascend strictly from 1 on up to the document's, or the weight
-    /// with them is above the limit: this is told before memory is taken. Refused
-    /// else for want of memory alone (`NoMemory`). A refusal leaves the state unchanged, and what was given is dropped.
+    /// deleted, the revision isn't 1 to 2^53 - 1, or is 1 though it is deleted, there are more than `sources` sources, the last number
+    /// of one of them isn't 1 to 2^53 - 1, its window has no number or more than there are up to the last, the revisions there don't
+    /// ascend strictly from 1 on up to the document's, or the weight with them is above the limit: this is told before memory is taken.
+    /// Refused else for want of memory alone (`NoMemory`). A refusal leaves the state unchanged, and what was given is dropped.
     pub fn adopt(
         &mut self,
         alloc: Global,
@@ -68,6 +67,7 @@ impl State {
         (self.documents().len() as u64) < u64::from(limits.docs())
             && self.find(name).is_none()
             && is_content(document, live)
+            && (live || revision >= 2)
             && 1 <= revision
             && revision <= LAST
             && sources.count() as u64 <= u64::from(limits.sources())

@@ -62,20 +62,25 @@ fn adopt_deleted(
     rt: &(impl Abort + AllocGlobal),
     state: &mut State,
     steps: &[Step],
+    revision: u64,
+    window: Window,
 ) -> Result<(), Refusal> {
     let document = Document::from_delta(rt.alloc(), &delta_of(rt, steps)).expect(rt, "a document");
     let mut sources = Sources::new(rt.alloc());
     let ann = Name::source(rt.alloc(), "ann").expect(rt, "a source");
-    sources.put(ann, Window::of_one(2, 3)).expect(rt, "memory");
-    state.adopt(rt.alloc(), doc(rt, "d"), document, false, 4, sources)
+    sources.put(ann, window).expect(rt, "memory");
+    state.adopt(rt.alloc(), doc(rt, "d"), document, false, revision, sources)
 }
 
 #[test]
 fn a_deleted_document_is_adopted_empty(rt: HostRuntime) {
     let mut state = roomy(&rt, false);
-    let full = adopt_deleted(&rt, &mut state, &[Step::Plain("ab")]);
+    let full = adopt_deleted(&rt, &mut state, &[Step::Plain("ab")], 4, Window::of_one(2, 3));
     assert_eq!(rt; full, Err(Refusal::Stranger));
-    let empty = adopt_deleted(&rt, &mut state, &[]);
+    // A creation makes the first revision.
+    let first = adopt_deleted(&rt, &mut state, &[], 1, Window::of_one(1, 1));
+    assert_eq!(rt; first, Err(Refusal::Stranger));
+    let empty = adopt_deleted(&rt, &mut state, &[], 4, Window::of_one(2, 3));
     assert_eq!(rt; empty, Ok(()));
     after(&rt, state, ASKED_OF_DELETED);
 }

@@ -4,7 +4,8 @@ use crate::milestones::is_put;
 use crate::running::is_run_of;
 use crate::stopping::LEFT;
 use crate::stores::{
-    are_bytes, device_of, differ_by, is_opened_as, open_by, open_store, part, with_bytes_at,
+    are_bytes, device_of, differ_by, is_opened_as, open_by, open_store, part, small_device,
+    with_bytes_at,
 };
 use crate::third_batch::{GATE, failed_commit, left_by, stop_at, with_two};
 use disk::Left;
@@ -119,4 +120,23 @@ fn a_deleted_document_has_a_milestone(rt: HostRuntime) {
     // A cell of a deleted document has no text.
     let full = with_bytes_at(&rt, revived.bytes(), 320 + 5 + 15, &[0]);
     is_opened_as(&rt, &full, "error 32 Damaged");
+}
+
+/// A cell of a document that is deleted as revision 2, of which the source has a number 1.
+const SECOND: [u8; 49] = [
+    0xa5, 44, 0, 0, 0, // the gate, and the length of the body
+    0, 0, 0, 0, 1, 0, b'd', // document 0, its name
+    2, 0, 0, 0, 0, 0, 0, 0, 0, // revision 2, deleted
+    0, 0, 0, 0, // no operation
+    1, 0, 0, 0, 1, 0, b'a', // one source
+    1, 0, 0, 0, 0, 0, 0, 0, 1, 1, 0, 0, 0, 0, 0, 0, 0, // its window
+];
+
+// A document is deleted as revision 2 or above, since a creation makes the first one.
+#[test]
+fn a_document_is_not_deleted_by_its_creation(rt: HostRuntime) {
+    let second = with_bytes_at(&rt, small_device(&rt).bytes(), 64, &SECOND);
+    is_opened_as(&rt, &second, "d 2 deleted\n");
+    let first = with_bytes_at(&rt, &second, 64 + 5 + 7, &[1]);
+    is_opened_as(&rt, &first, "error 32 Damaged");
 }
