@@ -90,9 +90,11 @@ pub lead-more : (content : Content) (takers : List Taker) (deltas : List (List O
 lead-more content [] [] taker delta same lead next = (next, tt)
 lead-more content [] (d ∷ deltas) taker delta same lead next = absurd (omega (arith, same))
 lead-more content (t ∷ takers) [] taker delta same lead next = absurd (omega (arith, same))
-lead-more content (t ∷ takers) (d ∷ deltas) taker delta same lead next =
-    (lead.0, lead-more (content_after content t.step d) takers deltas taker delta (omega (arith, same)) lead.1
-    (subst (λ (c : Content). LeadsTo (content_after_all c (nexts_by takers deltas)) taker.step delta) (own-same content t.step d) next))
+lead-more content (t ∷ takers) (d ∷ deltas) taker delta same lead next = (
+  lead.0,
+  lead-more (content_after content t.step d) takers deltas taker delta (omega (arith, same)) lead.1
+      (subst (λ (c : Content). LeadsTo (content_after_all c (nexts_by takers deltas)) taker.step delta) (own-same content t.step d) next),
+)
 
 pub lead-take : (n : ℕ) (content : Content) (takers : List Taker) (deltas : List (List Operation)) → LeadInTurn content takers deltas
     → LeadInTurn content (take n takers) (take n deltas)

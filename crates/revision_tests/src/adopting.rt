@@ -75,7 +75,13 @@ fn adopt_deleted(
 #[test]
 fn a_deleted_document_is_adopted_empty(rt: HostRuntime) {
     let mut state = roomy(&rt, false);
-    let full = adopt_deleted(&rt, &mut state, &[Step::Plain("ab")], 4, Window::of_one(2, 3));
+    let full = adopt_deleted(
+        &rt,
+        &mut state,
+        &[Step::Plain("ab")],
+        4,
+        Window::of_one(2, 3),
+    );
     assert_eq!(rt; full, Err(Refusal::Stranger));
     // A creation makes the first revision.
     let first = adopt_deleted(&rt, &mut state, &[], 1, Window::of_one(1, 1));
