@@ -9,7 +9,7 @@ use Rattle.delta.specs.Operation.{Operation}
 use Rattle.delta.specs.Places.{IsDefined}
 use Rattle.document.specs.Places.{Cuts}
 use Rattle.document.specs.Weight as document
-use Rattle.revision.specs.Acceptance.{Answer, answer, reply_and_state, TakenAt, take_on, take_within, Takes, Repeats, Refuses, change, create_new, revive, delete, next_revision, creation}
+use Rattle.revision.specs.Acceptance.{Answer, answer, reply_and_state, TakenAt, take_on, take_within, Takes, Repeats, Refuses, change, create_new, create_next, delete_next, next_revision, creation}
 use Rattle.revision.specs.Command.{Action, Create, Edit, Undo, Delete, Command, Step, Edits, Deletes, Revives, Taken, name_width, step_width, width_of}
 use Rattle.revision.specs.Parting.{parts_pair}
 use Rattle.revision.specs.Planned.{IsAsked, IsDeletion, Gives, PlanGrows, IsDecided, rests_on_delta, may_want_memory}
@@ -22,9 +22,9 @@ use Rattle.std.proofs.lemmas.Bool.{false≢true, and_parts, leb-true, ltb-true, 
 use Rattle.attributes.specs.Map.{get, empty}
 use Rattle.revision.specs.Window.{Window, nothing_taken, last_revision}
 use Rattle.revision.specs.Sources.{Sources, window_of, with_taken}
-use Rattle.revision.specs.Past.{newest, units_after}
+use Rattle.revision.specs.Past.{Past, newest, units_after}
 use Rattle.revision.specs.Width.{delta_width}
-use Rattle.revision.specs.State.{Limits, DocumentRecord, State, grows, grown, find, revision_of, units_of, sources_of, is_window, are_sources, last_of_all, reaches_past, weight_of_sources, weight_after}
+use Rattle.revision.specs.State.{Limits, DocumentRecord, State, grows, grown, find, revision_of, units_of, sources_of, is_window, are_sources, last_of_all, is_mark_at, reaches_past, weight_of_sources, weight_after}
 use Rattle.revision.specs.Invariants.{IsPast, IsState}
 use Rattle.revision.proofs.Taking.{found_at, taken_grows}
 use Rattle.revision.proofs.Windows.{last-within}
@@ -40,6 +40,12 @@ pub last_within : (limits : Limits) (found : DocumentRecord) (source : List ℕ)
 last_within limits found source past =
     let are : are_sources (newest found.past) (sources_of found).entries ≡ true = (past.each (newest found.past) (omega arith) (omega arith)).sources in
     window_within (newest found.past) (get (sources_of found) source) (λ window is. sources-found (newest found.past) source (sources_of found).entries window are is)
+
+-- a document that is deleted has two revisions at least
+pub deleted_later : (limits : Limits) (past : Past) → IsPast limits past → past.content.live ≡ false → 2 ≤ newest past
+deleted_later limits past is deleted =
+    let here = (is.each (newest past) (omega arith) (omega arith)).mark in
+    leb-true 2 (newest past) (subst (λ live. is_mark_at live (newest past) ≡ true) deleted here)
 
 -- the past of a document that is found
 pub found_past : (state : State) (name : List ℕ) (number : ℕ) (found : DocumentRecord) → IsState state → find name 0 state.documents ≡ Some (number, found)
@@ -151,26 +157,26 @@ module _ (state : State) (command : Command) (delta : List Operation) (limits : 
       ∙ (ap (λ u. take_on state.limits u sources asked) same_units ∙ ap (λ s. take_on state.limits [] s asked) same_sources) in
       rw (first, room) (sym same ∙ taken)
 
-  pub revival_answers : (number : ℕ) (found : DocumentRecord) → units ≡ [] → sources ≡ sources_of found → (answer : Answer)
-      → has_place state.limits command.source (sources_of found) ≡ true → (revision_of found == last_of_all) ≡ false
-      → take_on limits units sources (next_revision number found command Revives delta) ≡ answer → revive state number found command delta ≡ answer
-  revival_answers number found same_units same_sources answer place fresh taken =
+  pub next_answers : (number : ℕ) (found : DocumentRecord) → units ≡ [] → sources ≡ sources_of found → (answer : Answer)
+      → (revision_of found == last_of_all) ≡ false
+      → take_on limits units sources (next_revision number found command Revives delta) ≡ answer → create_next state number found command delta ≡ answer
+  next_answers number found same_units same_sources answer fresh taken =
       let asked = next_revision number found command Revives delta in
       let same : take_on limits units sources asked ≡ take_on state.limits [] (sources_of found) asked =
       ap (λ l. take_on l units sources asked) same_limits
       ∙ (ap (λ u. take_on state.limits u sources asked) same_units ∙ ap (λ s. take_on state.limits [] s asked) same_sources) in
-      rw (place, fresh) (sym same ∙ taken)
+      rw fresh (sym same ∙ taken)
 
 -- what is answered to a deletion, where the tests before have passed
 pub deletion_answers : (state : State) (command : Command) (limits : Limits) (sources : Sources) → limits ≡ state.limits
     → (number : ℕ) (found : DocumentRecord) → sources ≡ sources_of found → (answer : Answer)
-    → has_place state.limits command.source (sources_of found) ≡ true → (revision_of found == last_of_all) ≡ false
-    → take_within limits (units_of found) sources (next_revision number found command Deletes []) ≡ answer → delete state number found command ≡ answer
-deletion_answers state command limits sources same_limits number found same_sources answer place fresh taken =
+    → (revision_of found == last_of_all) ≡ false
+    → take_within limits (units_of found) sources (next_revision number found command Deletes []) ≡ answer → delete_next state number found command ≡ answer
+deletion_answers state command limits sources same_limits number found same_sources answer fresh taken =
     let asked = next_revision number found command Deletes [] in
     let same : take_within limits (units_of found) sources asked ≡ take_within state.limits (units_of found) (sources_of found) asked =
     ap (λ l. take_within l (units_of found) sources asked) same_limits ∙ ap (λ s. take_within state.limits (units_of found) s asked) same_sources in
-    rw (place, fresh) (sym same ∙ taken)
+    rw fresh (sym same ∙ taken)
 
 -- what is answered to a deletion where it is asked whether it is taken
 module _ (limits : Limits) (units : List Element) (sources : Sources) (asked : Taken) (source : List ℕ) (is : IsDeletion asked source) (beside : ℕ)

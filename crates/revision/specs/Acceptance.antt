@@ -51,6 +51,10 @@ by_number window number next =
 abbrev pub if_live : DocumentRecord → Answer → Answer
 if_live found next = if is_live found then next else Refuses Deleted
 
+-- no revision comes after the last that there is
+abbrev pub if_unspent : DocumentRecord → Answer → Answer
+if_unspent found next = if revision_of found == last_of_all then Refuses RevisionsSpent else next
+
 -- what is added where a document is created
 abbrev pub creation : State → Command → List Operation → Taken
 creation state command delta = record {
@@ -81,12 +85,16 @@ next_revision number found command step delta = record {
   delta = delta;
 }
 
--- a creation of a document that is deleted: it is created again, as its next revision, on the empty document
+-- the next revision by a delta on the empty document
+abbrev pub create_next : State → ℕ → DocumentRecord → Command → List Operation → Answer
+create_next state number found command delta =
+    if_unspent found (take_on state.limits [] (sources_of found) (next_revision number found command Revives delta))
+
+-- a creation of a document that is deleted: it is created again, as its next revision, for which its source has to have a place
 abbrev pub revive : State → ℕ → DocumentRecord → Command → List Operation → Answer
 revive state number found command delta =
     if not (has_place state.limits command.source (sources_of found)) then Refuses TooManySources
-    else if revision_of found == last_of_all then Refuses RevisionsSpent
-    else take_on state.limits [] (sources_of found) (next_revision number found command Revives delta)
+    else create_next state number found command delta
 
 -- A creation of a document that is there: one of the source's last numbers sent again; or one document too many of that name, unless that
 -- is deleted.
@@ -98,8 +106,7 @@ create_existing state number found command delta =
 
 abbrev pub change : State → ℕ → DocumentRecord → Command → List Operation → Answer
 change state number found command delta =
-    if revision_of found == last_of_all then Refuses RevisionsSpent
-    else take_on state.limits (units_of found) (sources_of found) (next_revision number found command Edits delta)
+    if_unspent found (take_on state.limits (units_of found) (sources_of found) (next_revision number found command Edits delta))
 
 -- an edit: late past what was taken since its base, which has to be a revision that is held
 abbrev pub edit : State → ℕ → DocumentRecord → Command → ℕ → List Operation → Answer
@@ -117,12 +124,16 @@ undo state number found command =
     else if nat_le (last_revision window) found.past.floor then Refuses TooOld
     else change state number found command (undo_of found.past.floor found.past.content.units (deltas_of found.past) (last_revision window))
 
--- a deletion, for which only its source has to have a place, and the limits have to be kept
+-- the next revision by a deletion, which has to keep the limits
+abbrev pub delete_next : State → ℕ → DocumentRecord → Command → Answer
+delete_next state number found command =
+    if_unspent found (take_within state.limits (units_of found) (sources_of found) (next_revision number found command Deletes []))
+
+-- a deletion, for which its source has to have a place
 abbrev pub delete : State → ℕ → DocumentRecord → Command → Answer
 delete state number found command =
     if not (has_place state.limits command.source (sources_of found)) then Refuses TooManySources
-    else if revision_of found == last_of_all then Refuses RevisionsSpent
-    else take_within state.limits (units_of found) (sources_of found) (next_revision number found command Deletes [])
+    else delete_next state number found command
 
 -- the first case that holds
 abbrev pub answer_to : State → Command → Action → Option (ℕ × DocumentRecord) → Answer

@@ -1,12 +1,12 @@
 //! Which commands are taken.
 ghost use Rattle.std.specs.Prelude.{◌≡◌, ◌≢◌, ◌⊎◌, ◌<◌, ◌≤◌, ◌^◌, ◌+◌, ℕ, List, true, length, Some, IfOk, OnOk, IfErr, IsErrOf, IsOkUnless};
 ghost use Rattle.delta.specs.Element.{Element};
-ghost use Rattle.revision.specs.Acceptance.{answer, by_number, take_on, if_live, take_within, create_existing, create_new, revive, edit, undo, delete, change, Takes, Refuses};
+ghost use Rattle.revision.specs.Acceptance.{answer, by_number, take_on, if_live, take_within, create_existing, create_new, create_next as spec_create_next, revive, edit, undo, delete, delete_next as spec_delete_next, change, Takes, Refuses};
 ghost use Rattle.revision.specs.Command.{Taken as Change, IsShortDelta};
 ghost use Rattle.revision.specs.Invariants.{IsPast};
 ghost use Rattle.revision.specs.Pending.{record_of};
 ghost use Rattle.revision.specs.Sources.{window_of};
-ghost use Rattle.revision.specs.State.{revision_of, sources_of, is_live, last_of_all, has_place as spec_has_place};
+ghost use Rattle.revision.specs.State.{revision_of, sources_of, last_of_all, has_place as spec_has_place};
 ghost use Rattle.revision.specs.Planned.{Gives, IsTurn, IsAsked, IsDeletion, IsDecided, PlanGrows, takes_command, rests_on_delta, may_want_memory};
 
 use crate::command::{Action, Command};
@@ -153,7 +153,7 @@ fn plan_existing(
     }
 }
 
-// a creation of a document that is deleted, of which the number is the source's next one
+// a creation of a document that is deleted, as revision 2 or above, of which the number is the source's next one
 fn plan_revival(
     alloc: Global,
     state: &State,
@@ -163,22 +163,40 @@ fn plan_revival(
     delta: &Delta,
 ) -> Result<Plan, Refusal>
     requires past { IsPast state.now.limits (record_of found.now).past }
-    requires deleted { is_live (record_of found.now) ≡ false }
+    requires later { 2 ≤ revision_of (record_of found.now) }
     ensures due { Gives result (revive state.now number (record_of found.now) command.now delta.now) }
     ensures memory { IsErrOf result Refusal.NoMemory
         → takes_command (revive state.now number (record_of found.now) command.now delta.now) ≡ true }
 {
-    let source = command.source();
-    let limits = state.limits();
-    let last = found.window(source).number();
-    if !has_place(limits, found.sources(), last) {
+    let last = found.window(command.source()).number();
+    if !has_place(state.limits(), found.sources(), last) {
         return Err(Refusal::TooManySources);
     }
-    let revision = found.revision();
-    if revision == LAST {
+    if found.revision() == LAST {
         return Err(Refusal::RevisionsSpent);
     }
+    create_next(alloc, state, number, found, command, delta)
+}
+
+// the next revision of a document by this delta on the empty one; the newest one isn't the last that there is
+fn create_next(
+    alloc: Global,
+    state: &State,
+    number: u32,
+    found: &DocState,
+    command: &Command,
+    delta: &Delta,
+) -> Result<Plan, Refusal>
+    requires later { 2 ≤ revision_of (record_of found.now) }
+    requires unspent { revision_of (record_of found.now) ≢ last_of_all }
+    ensures due { Gives result (spec_create_next state.now number (record_of found.now) command.now delta.now) }
+    ensures memory { IsErrOf result Refusal.NoMemory
+        → takes_command (spec_create_next state.now number (record_of found.now) command.now delta.now) ≡ true }
+{
+    let revision = found.revision();
+    let source = command.source();
     let width = edit_width(source, delta);
+    let limits = state.limits();
     let document = Document::empty(alloc);
     if let Err(refusal) = admit(limits, &document, found.sources(), source, delta, width) {
         return Err(refusal);
@@ -317,8 +335,7 @@ fn plan_delete(
         (by_number (window_of command.now.source (sources_of (record_of found.now))) command.now.number
         (if_live (record_of found.now) (delete state.now number (record_of found.now) command.now))) ≡ true }
 {
-    let source = command.source();
-    let own = found.window(source);
+    let own = found.window(command.source());
     match turn(&own, command.number()) {
         Ok(None) => {}
         Ok(Some(rev)) => return Ok(Plan::Again { rev }),
@@ -327,14 +344,32 @@ fn plan_delete(
     if !found.is_live() {
         return Err(Refusal::Deleted);
     }
-    let limits = state.limits();
-    if !has_place(limits, found.sources(), own.number()) {
+    if !has_place(state.limits(), found.sources(), own.number()) {
         return Err(Refusal::TooManySources);
     }
-    let revision = found.revision();
-    if revision == LAST {
+    if found.revision() == LAST {
         return Err(Refusal::RevisionsSpent);
     }
+    delete_next(alloc, state, number, found, command)
+}
+
+// the next revision of a document by a deletion; the newest one isn't the last that there is
+fn delete_next(
+    alloc: Global,
+    state: &State,
+    number: u32,
+    found: &DocState,
+    command: &Command,
+) -> Result<Plan, Refusal>
+    requires past { IsPast state.now.limits (record_of found.now).past }
+    requires unspent { revision_of (record_of found.now) ≢ last_of_all }
+    ensures due { Gives result (spec_delete_next state.now number (record_of found.now) command.now) }
+    ensures memory { IsErrOf result Refusal.NoMemory
+        → takes_command (spec_delete_next state.now number (record_of found.now) command.now) ≡ true }
+{
+    let revision = found.revision();
+    let source = command.source();
+    let limits = state.limits();
     if let Err(refusal) = admit_deletion(limits, found.sources(), source) {
         return Err(refusal);
     }
