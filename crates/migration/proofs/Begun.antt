@@ -1,19 +1,19 @@
 -- A store of the second format may begin with the documents of one of the first format, whose sources have their last numbers alone.
-use Rattle.std.proofs.Common.{◌≡◌, ℕ, zero, suc, ◌+◌, ◌-◌, ◌≤◌, ◌<◌, true, List, [], ◌∷◌, length, map, Option, Some, None, refl, sym, ◌∙◌, ap, subst, arith}
+use Rattle.std.proofs.Common.{◌≡◌, ℕ, zero, suc, ◌≤◌, ◌<◌, true, List, [], ◌∷◌, length, map, Option, Some, refl, sym, ◌∙◌, ap, subst, arith}
 use Rattle.std.specs.Prelude.{slice_get, get_or}
 use Rattle.std.proofs.lemmas.Bool.{and_from, le-leb, lt-ltb}
 use Rattle.std.proofs.lemmas.List.{length-map}
 use Rattle.std.proofs.lemmas.Option.{slice_get_within, slice_get-get_or}
 use Rattle.document.specs.Weight.{weight_of}
 use Rattle.revision.specs.Window.{Window}
-use Rattle.revision.specs.Past.{Past, Content, newest, content_at, sources_at}
-use Rattle.revision.specs.Sources.{Sources, cut, count_of, total_of}
-use Rattle.revision.specs.State.{Limits, DocumentRecord, State, last_of_all, are_sources, window_weight, record_at, adopts}
+use Rattle.revision.specs.Past.{Content, newest, sources_at}
+use Rattle.revision.specs.Sources.{cut, count_of, total_of}
+use Rattle.revision.specs.State.{Limits, DocumentRecord, State, last_of_all, are_sources, window_weight, adopts}
 use Rattle.revision.specs.Invariants.{IsLimits, IsPast, IsState, KeepsAt}
 use Rattle.revision.proofs.CallerLemmas.{cut_stays, cut_weighs, empty_is_state, adopting_keeps}
 use Rattle.history.specs.Cell.{Cell, CellKeeps, record_of_cell}
 use Rattle.history.specs.Law.{begun_with}
-use Rattle.milestone.specs.CellSpelling.{One, Two}
+use Rattle.milestone.specs.CellSpelling.{One}
 use Rattle.recovery.specs.declared.shape.Shape.{Shape}
 use Rattle.recovery.specs.Found.{limits_in, limits_of}
 use Rattle.recovery.specs.Formatting.{MayBegin}

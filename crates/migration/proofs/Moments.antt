@@ -1,11 +1,11 @@
 -- What a crash leaves of the new device, told by the old store's state.
-use Rattle.std.proofs.Common.{◌≡◌, ◌×◌, inl, inr, ℕ, List, [], refl}
+use Rattle.std.proofs.Common.{inl, inr, ℕ, List, refl}
 use Rattle.disk.specs.Device.{History, NoStep}
 use Rattle.disk.proofs.CallerLemmas.{leaves_map}
 use Rattle.history.specs.Cell.{Cell}
 use Rattle.revision.specs.State.{State}
 use Rattle.recovery.specs.declared.shape.Shape.{Shape}
-use Rattle.recovery.specs.Formatting.{IsBegunStore, IsUnformattedOrBegun, IsOnlySynced, LeavesFromSync}
+use Rattle.recovery.specs.Formatting.{IsBegunStore, IsUnformattedOrBegun, LeavesFromSync}
 use Rattle.migration.specs.Migrated.{AreCut, IsMigrated, IsUnformattedOrMigrated}
 
 pub migrated : (shape : Shape) (state : State) (start : List Cell) (content : List ℕ) → AreCut state start → IsBegunStore shape start content → IsMigrated shape state content

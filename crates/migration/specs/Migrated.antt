@@ -1,5 +1,5 @@
 -- The documents of a store of the first format, as a store of the second one begins with them.
-use Rattle.std.specs.Prelude.{◌≡◌, ◌⊎◌, ℕ, List, [], ◌∷◌, Some, length, map, slice_get}
+use Rattle.std.specs.Prelude.{◌≡◌, ◌⊎◌, ℕ, List, Some, length, map, slice_get}
 use Rattle.revision.specs.Sources.{cut}
 use Rattle.revision.specs.Past.{newest, content_at, sources_at}
 use Rattle.revision.specs.State.{DocumentRecord, State}

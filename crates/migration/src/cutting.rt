@@ -1,5 +1,5 @@
 //! A document as a store of the second format begins with it.
-ghost use Rattle.std.specs.Prelude.{◌≡◌, ◌≤◌, ◌<◌, ◌^◌, ℕ, IfOk, IsOkUnless};
+ghost use Rattle.std.specs.Prelude.{◌≤◌, ◌<◌, ◌^◌, ℕ, IfOk, IsOkUnless};
 ghost use Rattle.revision.specs.Pending.{record_of};
 ghost use Rattle.revision.specs.State.{Limits};
 ghost use Rattle.revision.specs.Invariants.{IsState, IsPast};

@@ -1,5 +1,5 @@
 //! Reading a store of the first format, and putting it on a new device.
-ghost use Rattle.std.specs.Prelude.{◌≡◌, ◌⊎◌, ◌<◌, ◌≤◌, ◌^◌, List, [], true, length, Err, OnOk, OnErr, IfOk, IfErr};
+ghost use Rattle.std.specs.Prelude.{◌≡◌, ◌⊎◌, ◌<◌, ◌^◌, [], true, length, Err, OnOk, IfOk, IfErr};
 ghost use Rattle.disk.specs.Calls.{CountsFaultsAs};
 ghost use Rattle.disk.specs.Crash.{history_of};
 ghost use Rattle.history.specs.Cell.{Newer};

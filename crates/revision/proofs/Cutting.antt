@@ -1,16 +1,16 @@
 -- Sources with their last numbers alone.
-use Rattle.std.proofs.Common.{◌≡◌, ℕ, zero, suc, ◌+◌, ◌-◌, ◌*◌, ◌≤◌, ◌<◌, Bool, true, List, [], ◌∷◌, length, map, T, Option, Some, None, refl, sym, ◌∙◌, ap, ap₂, subst, arith}
-use Rattle.std.specs.Prelude.{◌&&◌, nat_lt, nat_le, unwrap_or}
+use Rattle.std.proofs.Common.{◌≡◌, ℕ, ◌+◌, ◌-◌, ◌*◌, Bool, true, List, [], ◌∷◌, length, map, T, refl, sym, ◌∙◌, ap, ap₂, subst, arith}
+use Rattle.std.specs.Prelude.{◌&&◌}
 use Rattle.std.specs.Ordering.{is_lt}
 use Rattle.std.specs.FinMap.Entries.{is_sorted, below_all}
 use Rattle.std.proofs.lemmas.Bool.{and_parts, and_from, le-leb, lt-ltb}
 use Rattle.attributes.specs.Map.{by_bytes}
 use Rattle.revision.specs.Name.{is_source_name}
-use Rattle.revision.specs.Window.{Window, revision_in, last_revision}
-use Rattle.revision.specs.Sources.{are_named, cut, total_of}
-use Rattle.revision.specs.State.{Limits, is_window, are_sources, window_weight}
+use Rattle.revision.specs.Window.{Window, last_revision}
+use Rattle.revision.specs.Sources.{are_named, cut}
+use Rattle.revision.specs.State.{is_window, are_sources, window_weight}
 use Rattle.revision.specs.Retries.{CutStays, CutWeighs}
-use Rattle.revision.proofs.Windows.{again_in_window, window-parts, window-from, last-within, last-above}
+use Rattle.revision.proofs.Windows.{window-parts, window-from, last-within, last-above}
 
 pub named-cut : (es : List (List ℕ × Window)) → are_named (map cut es) ≡ are_named es
 named-cut [] = refl

@@ -2,10 +2,10 @@
 ghost use Rattle.std.specs.Prelude.{◌≡◌, IfOk, IfErr};
 ghost use Rattle.flusher.specs.Holding.{store_of};
 ghost use Rattle.server_threads.specs.Served.{IsStarted};
-ghost use Rattle.server_threads.specs.Written.{HasWritten};
+ghost use Rattle.server_threads.specs.Written.{HasRun, HasWritten};
 
 use crate::writing::{Shared, Writing};
-use crate::written::WrittenBy;
+use crate::written::{Written, WrittenBy};
 use disk::Disk;
 use flusher::Flusher;
 use hub::{Closer, Writer};
@@ -138,7 +138,14 @@ fn hold_in<
 {
     let rt = writing.shared.rt;
     let has_thread = writing.has_thread;
-    match scope.spawn_with(written_by, move || writing.run()) {
+    let spawned = scope.spawn_with(
+        written_by,
+        move || -> Written<'s, D, J, R>
+            requires { IsStarted writing.flusher }
+            ensures { HasRun J.start writing.entry.flusher result.flusher result.answer result.is_begun }
+        { writing.run() },
+    );
+    match spawned {
         Ok(thread) => {
             let held = hold_all(holding);
             let (flusher, written) = thread.join(rt).into_parts();

@@ -157,12 +157,9 @@ fn and_with_milestones_that_lie_elsewhere(rt: HostRuntime) {
 /// How far milestones lie apart.
 const APART: [(&str, u64); 3] = [("1", 1), ("4", 4), ("65536", 65_536)];
 
-/// So many runs are made at most until one leaves a milestone.
-const RUNS: u32 = 100;
-
-/// By a pick the document is at revision 10. Its floor, which it gives, is that of the milestone with which its reading begins, which stands
-/// at a multiple, or 0 without one.
-fn floor_of<
+/// By a pick the document is at revision 10. Its floor is that of the milestone with which its reading begins, which stands at a multiple,
+/// or 0 without one.
+fn has_floor<
     R: Files<File = File>
         + AllocGlobal
         + Net<Listener = TcpListener, Stream = TcpStream>
@@ -170,17 +167,16 @@ fn floor_of<
         + Wait
         + Sync
         + Abort,
->(rt: &R, path: &str, pick: &str, apart: u64) -> u64 {
+>(rt: &R, path: &str, pick: &str, apart: u64) {
     let dumped = dumped(rt, path, pick);
+    let mut found = false;
     for floor in 0..=10_u64 {
         if floor.checked_rem(apart) == Some(0) {
             let wanted = format!(in rt.alloc(); "\nd 10 {floor} ").expect(rt, "memory");
-            if dumped.as_str().contains(wanted.as_str()) {
-                return floor;
-            }
+            found = found || dumped.as_str().contains(wanted.as_str());
         }
     }
-    panic!(rt; "{dumped}")
+    assert!(rt; found, "{dumped}");
 }
 
 /// A store of two slots of the usual size.
@@ -197,8 +193,7 @@ fn format_wide<
     runs(rt, &words, &mut io::empty(), (0, "", ""));
 }
 
-/// Ten revisions with milestones that lie so far apart, as far as they are put by then. It gives the revision of the newer one, 0 where
-/// there is none.
+/// Ten revisions with milestones that lie so far apart, as far as they are put by then.
 fn lie_apart<
     R: Files<File = File>
         + AllocGlobal
@@ -207,30 +202,22 @@ fn lie_apart<
         + Wait
         + Sync
         + Abort,
->(rt: &R, path: &str, every: &str, apart: u64) -> u64 {
+>(rt: &R, path: &str, every: &str, apart: u64) {
     let words = ["richd", "serve", path, "--every", every];
     is_served(rt, &words, "a", CREATES, CREATED);
     are_taken(rt, &words, 1, 10);
-    floor_of(rt, path, "older", apart);
+    has_floor(rt, path, "newer", apart);
+    has_floor(rt, path, "older", apart);
     // without a pick the newer milestones are read
     prints(rt, path, dumped(rt, path, "newer").as_str());
-    floor_of(rt, path, "newer", apart)
 }
 
-// The composers have the time in which the edits are written; where that wasn't enough for one milestone, it is done again.
 #[test]
 fn milestones_lie_so_far_apart(rt: HostRuntime) {
     let path = path(&rt, "apart").expect(&rt, "a path");
     for (every, apart) in &APART {
-        let mut newer = 0;
-        for _ in 0..RUNS {
-            format_wide(&rt, path.as_str());
-            newer = lie_apart(&rt, path.as_str(), *every, *apart);
-            remove(&rt, path.as_str());
-            if newer > 0 || *apart > 10 {
-                break;
-            }
-        }
-        assert_eq!(rt; newer > 0, *apart <= 10);
+        format_wide(&rt, path.as_str());
+        lie_apart(&rt, path.as_str(), *every, *apart);
+        remove(&rt, path.as_str());
     }
 }

@@ -1,8 +1,10 @@
 use super::{greeted, is_told, served};
-use disk::{Disk, MemDisk};
+use disk::{Disk, FileDisk, MemDisk};
 use recovery::{Pick, Shape, Store, format_device};
+use std::fs::{self, File};
 use std::net::{Net, SocketAddr, TcpListener, TcpStream};
 use std::process::Abort;
+use std::rt::Files;
 use std::sync::Wait;
 use std::thread::Threads;
 use std::time::Clock;
@@ -24,9 +26,6 @@ const SHAPE: Shape = Shape {
 
 /// How far milestones lie apart.
 const EVERY: u32 = 16;
-
-/// So many runs are made at most until one leaves a milestone.
-const RUNS: u32 = 20;
 
 /// A line that creates a document, or puts a letter before what it has.
 fn line(rt: &(impl Abort + AllocGlobal), document: char, number: u64) -> String {
@@ -64,27 +63,22 @@ fn write_in_turn<R: Abort + AllocGlobal + Net<Stream = TcpStream>>(rt: &R, addre
     }
 }
 
-/// By a pick all is there. A document's floor is the milestone with which it was opened, at a multiple, or 0 where there is none. It tells
-/// whether one of them has a milestone.
-fn lie_apart(rt: &(impl Abort + AllocGlobal), bytes: &[u8], pick: Pick) -> bool {
+/// By a pick all is there. A document's floor is the milestone with which it was opened, at a multiple, or 0 where there is none.
+fn lie_apart(rt: &(impl Abort + AllocGlobal), bytes: &[u8], pick: Pick) {
     let copy = bytes.to_vec(rt.alloc()).expect(rt, "memory");
     let store = match Store::open(rt.alloc(), MemDisk::holding(rt.alloc(), copy), pick) {
         Ok(store) => store,
         Err(fault) => panic!(rt; "{}", fault.refusal),
     };
-    let mut is_put = false;
     assert_eq!(rt; store.state().documents().len(), 4);
     for document in store.state().documents() {
         assert_eq!(rt; document.revision(), LAST);
         assert_eq!(rt; document.document().len16(), LAST);
         assert_eq!(rt; document.floor() % u64::from(EVERY), 0);
-        is_put = is_put || document.floor() > 0;
     }
-    is_put
 }
 
-/// Four documents are written over a connection; then each milestone stands at a multiple, and both picks show the same. It tells whether
-/// one of the newer milestones is put.
+/// Four documents are written over a connection; then each milestone stands at a multiple, and both picks show the same.
 fn are_written<
     R: Threads
         + Wait
@@ -93,28 +87,58 @@ fn are_written<
         + AllocGlobal
         + Net<Listener = TcpListener, Stream = TcpStream>
         + Sync,
->(rt: &R, store: Store<MemDisk>) -> bool {
+>(rt: &R, store: Store<MemDisk>) {
     let (store, ended) = served(rt, store, EVERY, |address| write_in_turn(rt, address));
     assert_eq!(rt; ended, Ok(()));
     let disk = store.close();
+    lie_apart(rt, disk.bytes(), Pick::Newer);
     lie_apart(rt, disk.bytes(), Pick::Older);
-    lie_apart(rt, disk.bytes(), Pick::Newer)
 }
 
-/// A new store.
-fn new_store(rt: &(impl Abort + AllocGlobal)) -> Store<MemDisk> {
-    let mut disk = MemDisk::new(rt.alloc(), SHAPE.device_len() as usize).expect(rt, "memory");
-    assert_eq!(rt; format_device(rt.alloc(), &mut disk, SHAPE), Ok(()));
-    super::opened(rt, disk)
-}
-
-// The composers have the time in which the documents are written; where that wasn't enough for one milestone, it is done again.
 #[test]
 fn milestones_lie_at_multiples(rt: HostRuntime) {
-    for _ in 0..RUNS {
-        if are_written(&rt, new_store(&rt)) {
+    let mut disk = MemDisk::new(rt.alloc(), SHAPE.device_len() as usize).expect(&rt, "memory");
+    assert_eq!(&rt; format_device(rt.alloc(), &mut disk, SHAPE), Ok(()));
+    are_written(&rt, super::opened(&rt, disk));
+}
+
+/// The place of the first document's first cell, at whose begin the gate stands, and the gate where it is open.
+const GATE: usize = 64;
+
+const OPEN: u8 = 0xa5;
+
+/// So many edits are made at most. The journal has room for them.
+const MOST: u64 = 2_000;
+
+/// A session that writes a document until that has a milestone in the file.
+fn write_until_put<R: Files<File = File> + Abort + AllocGlobal + Net<Stream = TcpStream>>(
+    rt: &R,
+    address: SocketAddr,
+    path: &str,
+) {
+    let stream = greeted(rt, address, "ann");
+    for number in 1..=MOST {
+        is_taken(rt, &stream, 'a', number);
+        let bytes = fs::read(rt, path).expect(rt, "the file");
+        if bytes.get(GATE) == Some(&OPEN) {
             return;
         }
     }
-    panic!(rt; "no milestone in {RUNS} runs");
+    panic!(rt; "no milestone is put");
+}
+
+#[test]
+fn a_milestone_is_put_beside_edits(rt: HostRuntime) {
+    let path = "apart.store";
+    let mut disk = FileDisk::create(&rt, path, SHAPE.device_len()).expect(&rt, "a file");
+    assert_eq!(&rt; format_device(rt.alloc(), &mut disk, SHAPE), Ok(()));
+    let store = super::opened(&rt, disk);
+    let (_store, ended) = served(
+        &rt,
+        store,
+        EVERY,
+        |address| write_until_put(&rt, address, path),
+    );
+    assert_eq!(&rt; ended, Ok(()));
+    assert!(&rt; fs::remove_file(&rt, path).is_ok());
 }

@@ -1,4 +1,4 @@
-use Rattle.std.proofs.Common.{◌≡◌, ◌∙◌, ℕ, List, sym, subst, rules}
+use Rattle.std.proofs.Common.{◌∙◌, ℕ, List, sym, subst, rules}
 use Rattle.std.proofs.lemmas.Result.{err_from_is_err_and}
 use Rattle.history.specs.Cell.{Newer}
 use Rattle.milestone.specs.CellSpelling.{One}

@@ -25,10 +25,10 @@ returns-clause-fails g c =
     let old = has_failed (store_of c.args.flusher.now) in
     let new = has_failed (store_of c.flush_turn.new.flusher) in
     elim c.match-flush_turn.branch [
-      in-Err+in_default-into_failed w ↦
+      | in-Err+in_default-into_failed w ↦
           let memory : w.in-Err.stop ≡ NoMemory = w.in_default-into_failed.ensures.none in
           fails_ok tt old new (works_refused w.in-Err.stop old new w.in-Err.ensures.fails (memory_not_fault w.in-Err.stop memory))
-    | in_default+in-Ok+in-Settled-1 w ↦ fails_ok tt old new (works_after w.in_default.field-0 old new w.in_default.ensures.fails)
-    | in_default+in-Ok+in-Nothing-1 w ↦ fails_ok tt old new (works_after w.in_default.field-0 old new w.in_default.ensures.fails)
-    | in_default+in-Err-1 w ↦ fails_ok tt old new (works_after w.in_default.field-0 old new w.in_default.ensures.fails)
+      | in_default+in-Ok+in-Settled-1 w ↦ fails_ok tt old new (works_after w.in_default.field-0 old new w.in_default.ensures.fails)
+      | in_default+in-Ok+in-Nothing-1 w ↦ fails_ok tt old new (works_after w.in_default.field-0 old new w.in_default.ensures.fails)
+      | in_default+in-Err-1 w ↦ fails_ok tt old new (works_after w.in_default.field-0 old new w.in_default.ensures.fails)
     ]
