@@ -38,7 +38,13 @@ fn cut_document(alloc: Global, document: &DocState) -> Result<Milestone, Refusal
     let name = document.name().copy(alloc)?;
     let content = document.document().copy(alloc)?;
     let sources = document.sources().with_last_numbers(alloc)?;
-    let cut = Milestone::new(name, document.revision(), content, document.is_live(), sources);
+    let cut = Milestone::new(
+        name,
+        document.revision(),
+        content,
+        document.is_live(),
+        sources,
+    );
     let _ = cut.content(alloc)?;
     Ok(cut)
 }
