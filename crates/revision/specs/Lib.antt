@@ -10,6 +10,7 @@ pub mod Late
 pub mod Past
 pub mod Replay
 pub mod Pending
+pub mod Made
 pub mod Parting
 pub mod Sources
 pub mod Documents

@@ -8,4 +8,5 @@ pub mod Preparing
 pub mod Index
 pub mod ChangedAt
 pub mod DocumentsView
+pub mod MadeSteps
 pub mod NameAt

@@ -13,9 +13,11 @@ ghost use Rattle.attributes.specs.Map.{get};
 ghost use Rattle.revision.specs.Name.{is_source_name};
 ghost use Rattle.revision.specs.Sources.{last_of, with_last};
 ghost use Rattle.revision.specs.State.{revision_of, units_of, sources_of, begins as spec_begins, comes_next as spec_comes_next, follows, keeps as spec_keeps, stays_light as spec_stays_light, change_of};
-ghost use Rattle.revision.specs.Pending.{record_of, with_prepared};
+ghost use Rattle.revision.specs.Pending.{record_of, with_prepared, prepared_sources};
+ghost use Rattle.revision.specs.Made.{MayFollow, MayFollowAll, of_number, changes_in, with_further, with_commands};
 
 use crate::limits::Limits;
+use crate::made::Made;
 use crate::name::Name;
 use crate::past::{Past, Replay};
 use crate::source_table::SourceTable;
@@ -138,6 +140,49 @@ impl DocState {
             }
         }
         Ok(())
+    }
+
+    /// Prepares all commands of a batch that are of this document, in their order, where what stands in it after them is given: no document
+    /// is made, and nothing is weighed. Each of them has to follow those before it. Refused for want of memory alone, and then nothing is
+    /// prepared any more. What is read stays as it is.
+    pub(crate) fn prepare_made(
+        &mut self,
+        alloc: Global,
+        batch: &[Taken],
+        made: &Made,
+    ) -> Result<(), Refusal>
+        requires follow { MayFollowAll self.old.past (of_number made.now.document batch.now) }
+        requires after { made.now.units
+            ≡ prepared_units (with_further (changes_in made.now.document batch.now) self.old.past) }
+        ensures ok { OnOk result (self.new ≡ with_commands batch.now made.now.document self.old) }
+        ensures held { record_of self.new ≡ record_of self.old }
+        ensures only { IsOkUnless result Refusal.NoMemory }
+        ensures forgotten { OnErr result (self.new ≡ record self.old { past = record self.old.past { next = [] } }) }
+    {
+        let Ok(after) = made.document().copy(alloc) else {
+            self.forget();
+            return Err(Refusal::NoMemory);
+        };
+        self.past.keep(alloc, &self.document);
+        let noted = note_all(
+            alloc,
+            &mut self.past,
+            &mut self.sources,
+            made.number(),
+            batch,
+        );
+        match noted {
+            Ok(()) => {
+                self.next = Some(after);
+                Ok(())
+            }
+            Err(refusal) => {
+                self.past.forget();
+                self.sources.forget();
+                self.next = None;
+                Err(refusal)
+            }
+        }
     }
 
     // what stands in it after what is prepared
@@ -513,4 +558,49 @@ fn note_on(
         past.take_back();
     }
     noted
+}
+
+// Prepares all commands of a batch that are of the document of a number, in the past and in the table of sources, each searched for once.
+// Refused for want of memory alone; then some of them are prepared.
+fn note_all(
+    alloc: Global,
+    past: &mut Past,
+    sources: &mut SourceTable,
+    number: u32,
+    batch: &[Taken],
+) -> Result<(), Refusal>
+    requires follow { MayFollowAll past.old (of_number number batch.now) }
+    requires sources { sources.old.prepared ≡ prepared_sources past.old }
+    ensures past { OnOk result (past.new ≡ with_further (changes_in number batch.now) past.old) }
+    ensures sources { OnOk result (sources.new ≡ record sources.old { prepared = prepared_sources past.new }) }
+    ensures past_held { past.new.past ≡ past.old.past }
+    ensures sources_held { sources.new.accepted ≡ sources.old.accepted }
+    ensures only { IsOkUnless result Refusal.NoMemory }
+{
+    for taken in batch {
+        if taken.document_number() == number {
+            note_next(alloc, past, sources, taken)?;
+        }
+    }
+    Ok(())
+}
+
+// Prepares a change in the past and in the table of sources, where its source is searched for once. Refused for want of memory alone, and
+// then both are unchanged.
+fn note_next(
+    alloc: Global,
+    past: &mut Past,
+    sources: &mut SourceTable,
+    taken: &Taken,
+) -> Result<(), Refusal>
+    requires follows { MayFollow past.old taken.now }
+    requires sources { sources.old.prepared ≡ prepared_sources past.old }
+    ensures past { OnOk result (past.new ≡ with_further (change_of taken.now ∷ []) past.old) }
+    ensures sources { OnOk result (sources.new ≡ record sources.old { prepared = prepared_sources past.new }) }
+    ensures past_unchanged { OnErr result (past.new ≡ past.old) }
+    ensures sources_unchanged { OnErr result (sources.new ≡ sources.old) }
+    ensures only { IsOkUnless result Refusal.NoMemory }
+{
+    let near = sources.prepared().look_up(taken.source()).place;
+    note(alloc, past, sources, taken.copy(alloc)?, near)
 }

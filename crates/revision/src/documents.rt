@@ -1,9 +1,11 @@
 //! Documents with what is prepared to follow.
 ghost use Rattle.std.specs.Prelude.{◌≡◌, ◌↔◌, ◌⊎◌, ◌≤◌, ◌<◌, ◌∷◌, ◌++◌, [], true, false, None, Some, ℕ, List, length, map, take, slice_get, bytes_eq, ◌==◌, ◌&&◌, nat_lt, is_none, is_some, cond, option_map, IfOk, IfErr, OnOk, OnErr, IsErrOf, IsOkUnless};
 ghost use Rattle.std.specs.BTreeMap.{get_by_text};
-ghost use Rattle.revision.specs.steps.ChangedAt.{changed_at, changed_at_all};
+ghost use Rattle.revision.specs.steps.ChangedAt.{changed_at, changed_at_all, IsAmong};
 ghost use Rattle.revision.specs.Documents.{unprepared};
-ghost use Rattle.revision.specs.steps.DocumentsView.{names_of};
+ghost use Rattle.revision.specs.steps.DocumentsView.{names_of, UntouchedRest};
+ghost use Rattle.revision.specs.steps.MadeSteps.{with_each, AllFollow, AllStand};
+ghost use Rattle.revision.specs.Made.{AreMade, AreOnce, numbers_of};
 ghost use Rattle.revision.specs.steps.Index.{IsIndex, NoneTwice};
 ghost use Rattle.revision.specs.Invariants.{IsLimits};
 ghost use Rattle.revision.specs.Pending.{record_of, with_prepared};
@@ -12,6 +14,7 @@ ghost use Rattle.revision.specs.State.{begins as spec_begins, has_room, change_o
 
 use crate::doc_state::{DocState, begins};
 use crate::limits::Limits;
+use crate::made::Made;
 use crate::name::Name;
 use crate::names::Names;
 use crate::taken::Taken;
@@ -310,6 +313,24 @@ impl Documents {
         Ok(())
     }
 
+    /// Prepares commands in order, where the documents that they change are given as they stand after them: it makes no document and
+    /// weighs nothing. Refused for want of memory alone; what is held stays as it is.
+    pub(crate) fn prepare_made(
+        &mut self,
+        alloc: Global,
+        batch: &[Taken],
+        made: &[Made],
+    ) -> Result<(), Refusal>
+        requires grow { all_grow self.old.after batch.now ≡ true }
+        requires made { AreMade (fold self.old.after batch.now) batch.now made.now }
+        ensures before { self.new.before ≡ self.old.before }
+        ensures ok { OnOk result (self.new.after ≡ fold self.old.after batch.now) }
+        ensures only { IsOkUnless result Refusal.NoMemory }
+    {
+        touch_all(&mut self.touched, made)?;
+        note_made(alloc, &mut self.documents, batch, made)
+    }
+
     /// Accepts what was prepared. It takes no memory, isn't refused, and goes through what was touched alone.
     pub(crate) fn accept(&mut self)
         ensures { self.new ≡ unprepared self.old.after }
@@ -359,6 +380,41 @@ fn change(
 {
     let number = taken.document_number() as usize;
     documents[number].prepare_next(alloc, limits, taken, near)?;
+    Ok(())
+}
+
+// Adds the numbers of documents to those that are touched. Refused for want of memory alone; then some may be added.
+fn touch_all(touched: &mut Vec<u32>, made: &[Made]) -> Result<(), Refusal>
+    ensures ok { OnOk result (touched.new.items ≡ touched.old.items ++ numbers_of made.now) }
+    ensures still { (i : ℕ) → IsAmong i touched.old.items → IsAmong i touched.new.items }
+    ensures only { IsOkUnless result Refusal.NoMemory }
+{
+    for one in made {
+        touched.push(one.number())?;
+    }
+    Ok(())
+}
+
+// Prepares commands document by document, where the documents are given as they stand after them. Refused for want of memory alone.
+fn note_made(
+    alloc: Global,
+    documents: &mut Vec<DocState>,
+    batch: &[Taken],
+    made: &[Made],
+) -> Result<(), Refusal>
+    requires follow { AllFollow documents.old.items batch.now (numbers_of made.now) }
+    requires after { AllStand documents.old.items batch.now made.now }
+    requires once { AreOnce (numbers_of made.now) }
+    ensures ok { OnOk result (documents.new.items ≡ with_each batch.now (numbers_of made.now) documents.old.items) }
+    ensures held { map record_of documents.new.items ≡ map record_of documents.old.items }
+    ensures rest { (touched : List ℕ) → UntouchedRest touched documents.old.items
+        → UntouchedRest (touched ++ numbers_of made.now) documents.new.items }
+    ensures only { IsOkUnless result Refusal.NoMemory }
+{
+    for one in made {
+        let number = one.number() as usize;
+        documents[number].prepare_made(alloc, batch, one)?;
+    }
     Ok(())
 }
 

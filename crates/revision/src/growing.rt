@@ -1,7 +1,10 @@
 //! What was taken is added to the state.
-ghost use Rattle.std.specs.Prelude.{◌≡◌, ◌↔◌, ◌⊎◌, true, false, IfOk, IfErr, OnOk, OnErr, IsErrOf};
+ghost use Rattle.std.specs.Prelude.{◌≡◌, ◌↔◌, ◌⊎◌, [], true, false, IfOk, IfErr, OnOk, OnErr, IsErrOf};
 ghost use Rattle.revision.specs.State.{grows, grown, fold, all_grow, first_grows};
+ghost use Rattle.revision.specs.Made.{MayBeMade};
 
+use crate::documents::Documents;
+use crate::made::Made;
 use crate::state::{PreparedState, State, Unprepared};
 use crate::taken::Taken;
 use refusal::Refusal;
@@ -12,8 +15,18 @@ impl State {
     /// those before it make, unless memory runs out before that one is looked at (`NoMemory`). The first command is looked at
     /// before any memory is taken, so for it alone the order is sure: where it doesn't continue the state, the refusal is
     /// `Stranger`. The state then comes back as it was.
+    ///
+    /// The documents that the commands change may be given, as they stand after them; the commands then have to continue the state. They
+    /// are taken over: no document is made, and none is weighed.
     #[tactic(auto, using(crate::proofs::Keeping::all_keep))]
-    pub fn prepare(self, alloc: Global, batch: &[Taken]) -> Result<PreparedState, Unprepared>
+    pub fn prepare(
+        self,
+        alloc: Global,
+        batch: &[Taken],
+        made: &[Made],
+    ) -> Result<PreparedState, Unprepared>
+        requires made { MayBeMade (fold self batch.now) batch.now made.now }
+        requires known { (made.now ≡ []) ⊎ (all_grow self batch.now ≡ true) }
         ensures before { IfOk result (λ prepared. prepared.before ≡ self) }
         ensures after { IfOk result (λ prepared. prepared.after ≡ fold self batch.now) }
         ensures grow { OnOk result (all_grow self batch.now ≡ true) }
@@ -26,7 +39,7 @@ impl State {
             ⊎ (unprepared.refusal ≡ Refusal.NoMemory)) }
     {
         let mut documents = self.documents;
-        match documents.prepare_all(alloc, batch) {
+        match prepare_by(&mut documents, alloc, batch, made) {
             Ok(()) => Ok(PreparedState { documents }),
             Err(refusal) => {
                 documents.forget();
@@ -72,6 +85,31 @@ impl State {
         prepared
     }
 
+    /// Adds commands in order, all of them or none, as `absorb_all` does, where the documents that they change may be given, as for `prepare`.
+    #[tactic(auto, using(crate::proofs::Keeping::all_keep))]
+    pub fn absorb_made(
+        &mut self,
+        alloc: Global,
+        batch: &[Taken],
+        made: &[Made],
+    ) -> Result<(), Refusal>
+        requires made { MayBeMade (fold self.old batch.now) batch.now made.now }
+        requires known { (made.now ≡ []) ⊎ (all_grow self.old batch.now ≡ true) }
+        ensures ok { OnOk result (self.new ≡ fold self.old batch.now) }
+        ensures grow { OnOk result (all_grow self.old batch.now ≡ true) }
+        ensures stranger { IsErrOf result Refusal.Stranger → all_grow self.old batch.now ≡ false }
+        ensures memory { IsErrOf result Refusal.NoMemory → first_grows self.old batch.now ≡ true }
+        ensures only { IfErr result (λ e. (e ≡ Refusal.Stranger) ⊎ (e ≡ Refusal.NoMemory)) }
+        ensures unchanged { OnErr result (self.new ≡ self.old) }
+    {
+        let prepared = prepare_by(&mut self.documents, alloc, batch, made);
+        match prepared {
+            Ok(()) => self.documents.accept(),
+            Err(_) => self.documents.forget(),
+        }
+        prepared
+    }
+
     /// Adds commands in order, all of them or none, as `absorb_all` does. The commands are given away: the deltas of those that change
     /// a document that is there are moved, and not copied. Refused, the state is unchanged, and the commands are dropped.
     #[tactic(auto, using(crate::proofs::Keeping::all_keep))]
@@ -91,4 +129,26 @@ impl State {
         }
         prepared
     }
+}
+
+// Prepares commands in order, with the documents after them, where they are given.
+fn prepare_by(
+    documents: &mut Documents,
+    alloc: Global,
+    batch: &[Taken],
+    made: &[Made],
+) -> Result<(), Refusal>
+    requires made { MayBeMade (fold documents.old.after batch.now) batch.now made.now }
+    requires known { (made.now ≡ []) ⊎ (all_grow documents.old.after batch.now ≡ true) }
+    ensures before { documents.new.before ≡ documents.old.before }
+    ensures ok { OnOk result (documents.new.after ≡ fold documents.old.after batch.now) }
+    ensures grow { OnOk result (all_grow documents.old.after batch.now ≡ true) }
+    ensures stranger { IsErrOf result Refusal.Stranger → all_grow documents.old.after batch.now ≡ false }
+    ensures memory { IsErrOf result Refusal.NoMemory → first_grows documents.old.after batch.now ≡ true }
+    ensures only { IfErr result (λ e. (e ≡ Refusal.Stranger) ⊎ (e ≡ Refusal.NoMemory)) }
+{
+    if made.is_empty() {
+        return documents.prepare_all(alloc, batch);
+    }
+    documents.prepare_made(alloc, batch, made)
 }
