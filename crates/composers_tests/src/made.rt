@@ -51,7 +51,7 @@ fn is_committed(
     requires short { length batch.now < 2 ^ 32 }
     requires fits { FitsSlot (state_of store.old) batch.now }
 {
-    store.commit(rt.alloc(), batch).is_ok()
+    store.commit(rt.alloc(), batch, &[]).is_ok()
 }
 
 fn committed(rt: &(impl Abort + AllocGlobal), store: &mut Store<MemDisk>, taken: Taken) {

@@ -160,10 +160,17 @@ impl<D: Disk, J: Site> Flusher<D, J> {
                 self.begun.is_start();
                 let ordered = run.goes_on(self.publisher.told());
                 ordered.legal();
-                match self.store.commit(alloc, run.commands()) {
+                let made = match run.made(self.publisher.told()).share() {
+                    Ok(made) => made,
+                    Err(refusal) => {
+                        fill(&mut self.waiting, run);
+                        return Err(refusal);
+                    }
+                };
+                match self.store.commit(alloc, run.commands(), made.as_slice()) {
                     Ok(receipt) => {
                         run.committed(&receipt);
-                        self.publisher.accept(receipt, ordered);
+                        self.publisher.accept(receipt, ordered, made);
                         Ok(())
                     }
                     Err(refusal) => {
@@ -360,10 +367,20 @@ impl<D: Disk, J: Site> Flusher<D, J> {
                 self.begun.is_start();
                 let ordered = batch.goes_on(self.publisher.told());
                 ordered.legal();
-                match self.store.commit_freeing(alloc, batch.commands()) {
+                let made = match batch.made(self.publisher.told()).share() {
+                    Ok(made) => made,
+                    Err(refusal) => {
+                        fill(&mut self.waiting, batch);
+                        return Err(refusal);
+                    }
+                };
+                match self
+                    .store
+                    .commit_freeing(alloc, batch.commands(), made.as_slice())
+                {
                     Ok(receipt) => {
                         batch.committed(&receipt);
-                        self.publisher.accept(receipt, ordered);
+                        self.publisher.accept(receipt, ordered, made);
                         Ok(())
                     }
                     Err(refusal) => {

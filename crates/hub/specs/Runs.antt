@@ -1,6 +1,8 @@
 -- Which commands of the order make a batch.
 use Rattle.std.specs.Prelude.{◌≡◌, ◌⊎◌, ◌<◌, ◌≤◌, ◌+◌, ◌^◌, ℕ, true, List, drop, length, take}
 use Rattle.revision.specs.Command.{Taken}
+use Rattle.revision.specs.Made.{Made, MayBeMade}
+use Rattle.revision.specs.State.{State, fold}
 use Rattle.journal.specs.BatchSpelling.{batch_width}
 use Rattle.world.specs.Board.{Board, can_settle}
 use Rattle.world.specs.World.{Entry, takens}
@@ -23,6 +25,10 @@ pub record IsPart (commands : List Taken) (place : ℕ) (order : List Entry) : T
   pub within : place + length commands ≤ length order
   pub few : place + length commands < 2 ^ 64
   pub part : commands ≡ take (length commands) (drop place (takens order))
+
+-- The documents that they change, as they stand after them in a legal history from this state; or none.
+abbrev pub MayBeMadeThere : State → List Taken → ℕ → List Entry → List Made → Type 0
+MayBeMadeThere start commands place order made = MayBeMade (fold start (take (place + length commands) (takens order))) commands made
 
 -- the commands that are not taken off yet
 abbrev pub untaken : Board Entry → List Taken

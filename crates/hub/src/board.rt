@@ -1,5 +1,5 @@
 //! The board.
-ghost use Rattle.std.specs.Prelude.{◌≡◌, ◌⊎◌, ◌↔◌, ◌≤◌, ◌<◌, ◌+◌, ◌-◌, ◌^◌, ◌++◌, ◌∷◌, true, false, List, [], Some, None, Ok, length, IfOk, IfErr, IfSome, OnOk, OnErr, IsTrue, IsOk, IsErrOf};
+ghost use Rattle.std.specs.Prelude.{◌≡◌, ◌⊎◌, ◌↔◌, ◌≤◌, ◌<◌, ◌+◌, ◌-◌, ◌^◌, ◌++◌, ◌∷◌, true, false, List, [], Some, None, Ok, length, IfOk, IfErr, IfSome, OnOk, OnErr, IsTrue, IsOk, IsErrOf, IsOkUnless};
 ghost use mathlib.Core.List.{IsPrefix};
 ghost use Rattle.revision.specs.Acceptance.{answer, Refuses};
 ghost use Rattle.revision.specs.Planned.{may_want_memory};
@@ -9,7 +9,7 @@ ghost use Rattle.world.specs.Board.{begun_board, submitted, ticket_of, next_run,
 ghost use Rattle.world.specs.World.{Entry as Kept, entry_of, takens};
 ghost use Rattle.hub.specs.Legal.{IsHistory, IsOfRun, IsWithin, counted};
 ghost use Rattle.hub.specs.Placed.{IsPlaced, StandsFirst, WasSubmitted};
-ghost use Rattle.hub.specs.Runs.{IsLongest, untaken, MaySettle};
+ghost use Rattle.hub.specs.Runs.{IsLongest, untaken, MaySettle, MayBeMadeThere};
 
 use crate::run::{Run, copied, is_beginning, longest};
 use crate::seat::{PLACES, Seat, Tally, Ticket, count};
@@ -17,7 +17,7 @@ use disk::Disk;
 use published::{Order, Ordered, Site, Told};
 use recovery::{Receipt, Store};
 use refusal::Refusal;
-use revision::{Command, Reply, State};
+use revision::{Command, MadeDocuments, Reply, State, Taken};
 use std::alloc::Global;
 use std::marker::Model;
 use std::sync::ledger::{Blank, Book, Share};
@@ -213,7 +213,7 @@ impl<D, J: Site> Board<D, J> {
     }
 
     /// Takes off the longest run of the next commands whose batch has at most `cap` bytes, and gives a copy of it; it is empty where
-    /// there is none. Refused for want of memory alone, and then nothing has changed.
+    /// there is none. Where nothing is left then, the run has the documents that it changes, shared with the board's own. Refused for want of memory alone, and then nothing has changed.
     pub fn take(&mut self, alloc: Global, cap: u32) -> Result<Run<D, J>, Refusal>
         ensures longest { IfOk result (λ run. IsLongest cap (untaken self.old.board) (length run.commands)) }
         ensures run { IfOk result (λ run. run.commands ≡ takens (next_run self.old.board (length run.commands))) }
@@ -227,9 +227,29 @@ impl<D, J: Site> Board<D, J> {
         let untaken = self.board.untaken();
         let count = longest(untaken, cap);
         let commands = copied(alloc, &untaken[..count])?;
-        let run = Run::by_board(self, commands, cap);
+        let made = self.made(alloc, commands.as_slice(), count == untaken.len())?;
+        let run = Run::by_board(self, commands, made, cap);
         self.board.take(count);
         Ok(run)
+    }
+
+    // The documents that the next commands change, as they stand after them: those of the board, where these commands are all that are left,
+    // else none.
+    fn made(
+        &self,
+        alloc: Global,
+        commands: &[Taken],
+        are_all: bool,
+    ) -> Result<MadeDocuments, Refusal>
+        requires run { commands.now ≡ takens (next_run self.now.board (length commands.now)) }
+        requires all { are_all ≡ true → self.now.board.taken + length commands.now ≡ length self.now.board.order }
+        ensures made { IfOk result (λ made. MayBeMadeThere J.start commands.now self.now.board.taken self.now.board.order made) }
+        ensures only { IsOkUnless result Refusal.NoMemory }
+    {
+        if !are_all {
+            return MadeDocuments::none(alloc);
+        }
+        self.state().made(alloc, commands)
     }
 
     /// Settles a batch that was committed, by its receipt and the token of its publish. Refused with `Stranger` exactly where the batch isn't the

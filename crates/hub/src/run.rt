@@ -4,7 +4,9 @@ ghost use mathlib.Core.List.{IsPrefix};
 ghost use Rattle.recovery.specs.Found.{commands_of};
 ghost use Rattle.world.specs.Board.{next_run};
 ghost use Rattle.world.specs.World.{takens};
-ghost use Rattle.hub.specs.Runs.{IsLongest, untaken};
+ghost use Rattle.hub.specs.Runs.{IsLongest, untaken, MayBeMadeThere};
+ghost use Rattle.revision.specs.Made.{MayBeMade};
+ghost use Rattle.revision.specs.State.{fold};
 
 use crate::board::Board;
 use crate::tokens::Nothing;
@@ -12,7 +14,7 @@ use disk::Disk;
 use published::{Ordered, Site, Told};
 use recovery::{Receipt, Store};
 use refusal::Refusal;
-use revision::Taken;
+use revision::{MadeDocuments, Taken};
 use std::alloc::Global;
 use std::marker::{Model, PhantomData};
 use world::Entry;
@@ -24,6 +26,7 @@ use world::Entry;
 /// the order, and knows its place there.
 pub struct Run<D, J: Site> {
     commands: Vec<Taken>,
+    made: MadeDocuments,
     cap: u32,
     place: usize,
     order: Ordered<J>,
@@ -37,12 +40,19 @@ impl<D, J: Site> Model for Run<D, J> {
 
     ghost view = { λ r. record { commands = r.commands.items; cap = r.cap; place = r.place } };
 
-    ghost invariant = { λ r. spec.IsPart r.commands.items r.place r.order };
+    ghost invariant = { λ r. spec.IsPart r.commands.items r.place r.order
+        × spec.MayBeMadeThere J.start r.commands.items r.place r.order r.made };
 }
 
 impl<D, J: Site> Run<D, J> {
-    // The run that a board has to take off next, for a batch of so many bytes.
-    pub(crate) fn by_board(board: &Board<D, J>, commands: Vec<Taken>, cap: u32) -> Run<D, J>
+    // The run that a board has to take off next, for a batch of so many bytes, with the documents that it changes, or with none of them.
+    pub(crate) fn by_board(
+        board: &Board<D, J>,
+        commands: Vec<Taken>,
+        made: MadeDocuments,
+        cap: u32,
+    ) -> Run<D, J>
+        requires made { MayBeMadeThere J.start commands.items board.now.board.taken board.now.board.order made }
         requires longest { IsLongest cap (untaken board.now.board) (length commands.items) }
         requires run { commands.items ≡ takens (next_run board.now.board (length commands.items)) }
         ensures { result ≡ record { commands = commands.items; cap = cap; place = board.now.board.taken } }
@@ -50,6 +60,7 @@ impl<D, J: Site> Run<D, J> {
         let _count = board.ordered();
         Run {
             commands,
+            made,
             cap,
             place: board.taken(),
             order: board.order(),
@@ -74,12 +85,22 @@ impl<D, J: Site> Run<D, J> {
         self.order.copy()
     }
 
+    /// The documents that it changes, each once, as they stand after it, or none of them; where it goes on with what a token names.
+    pub fn made(&self, told: &Told<D, J>) -> &MadeDocuments
+        requires { self.now.place ≡ length (commands_of told.now) }
+        ensures { MayBeMade (fold (fold J.start (commands_of told.now)) self.now.commands) self.now.commands result.now }
+    {
+        told.begins_order(&self.order);
+        &self.made
+    }
+
     /// Ends a run that doesn't follow what a token names: the order has more commands before its own, or fewer. It is never written.
     pub fn apart(self, told: &Told<D, J>)
         requires { self.place ≢ length (commands_of told.now) }
     {
         let Run {
             commands: _commands,
+            made: _made,
             cap: _,
             place: _,
             order: _order,
@@ -108,6 +129,7 @@ impl<D, J: Site> Run<D, J> {
     {
         let Run {
             commands: _commands,
+            made: _made,
             cap: _,
             place: _,
             order: _order,
@@ -123,6 +145,7 @@ impl<D, J: Site> Run<D, J> {
     {
         let Run {
             commands: _commands,
+            made: _made,
             cap,
             place: _,
             order: _order,
@@ -139,6 +162,7 @@ impl<D, J: Site> Run<D, J> {
     {
         let Run {
             commands: _commands,
+            made: _made,
             cap: _,
             place: _,
             order: _order,

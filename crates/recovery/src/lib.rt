@@ -30,7 +30,7 @@
 //!         → LeavesOnly ⟦<D as Disk>⟧ (IsWithOrWithout (state_of store.old) (taken ∷ [])) (device_of store.old) (device_of store.new) }
 //!     ensures done { OnOk result (IsOpen store.old → IsOpen store.new) }
 //! {
-//!     store.commit(alloc, &[taken])
+//!     store.commit(alloc, &[taken], &[])
 //! }
 //! ```
 #![tactic(auto)]

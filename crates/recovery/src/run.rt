@@ -129,7 +129,7 @@ impl<D: Disk> Store<D> {
     {
         match step {
             StoreStep::Commit(batch) => {
-                if let Err(refusal) = self.commit(alloc, batch) {
+                if let Err(refusal) = self.commit(alloc, batch, &[]) {
                     return Err(refusal);
                 }
                 Ok(())

@@ -15,6 +15,7 @@ ghost use Rattle.recovery.specs.Shape.{is_in_range, layout_length};
 ghost use Rattle.recovery.specs.Cells.{AreCellsOf};
 ghost use Rattle.recovery.specs.Found.{limits_of};
 ghost use Rattle.recovery.specs.Jobs.{jobs_of, AllKeep};
+ghost use Rattle.revision.specs.Made.{MayBeMade};
 
 use crate::jobs::Jobs;
 use crate::marks::Marks;
@@ -26,7 +27,7 @@ use history::Pick;
 use journal::{Record, batch_len};
 use milestone::Cells;
 use refusal::Refusal;
-use revision::{State, Taken};
+use revision::{Made, State, Taken};
 use segments::Ring;
 use std::alloc::Global;
 use std::mem::replace;
@@ -177,10 +178,19 @@ impl<D: Disk> Store<D> {
     /// later one unless memory runs out before. `NoMemory` comes before any call of the device, and leaves all as it was. After `Fault`
     /// the store has failed: every later call answers `Fault`, until the device is opened again. The documents change only once
     /// the batch is on the disk, and no refusal changes them.
-    pub fn commit(&mut self, alloc: Global, batch: &[Taken]) -> Result<Receipt<D>, Refusal>
+    ///
+    /// The documents that the batch changes may be given, as they stand after it, where it continues the state: then they are taken over.
+    pub fn commit(
+        &mut self,
+        alloc: Global,
+        batch: &[Taken],
+        made: &[Made],
+    ) -> Result<Receipt<D>, Refusal>
         requires some { 1 ≤ length batch.now }
         requires short { length batch.now < 2 ^ 32 }
         requires fits { FitsSlot (state_of self.old) batch.now }
+        requires made { MayBeMade (fold (state_of self.old) batch.now) batch.now made.now }
+        requires known { (made.now ≡ []) ⊎ (all_grow (state_of self.old) batch.now ≡ true) }
 
         // What an Ok hands out names just this batch.
         ensures receipt { IfOk result (λ receipt. receipt ≡ batch.now) }
@@ -251,7 +261,7 @@ impl<D: Disk> Store<D> {
             return Err(Refusal::JournalFull);
         }
         let empty = State::new(alloc, self.state.limits());
-        let prepared = match replace(&mut self.state, empty).prepare(alloc, batch) {
+        let prepared = match replace(&mut self.state, empty).prepare(alloc, batch, made) {
             Ok(prepared) => prepared,
             Err(unprepared) => {
                 self.state = unprepared.state;

@@ -126,5 +126,5 @@ pub fn commit_one<D: Disk>(
         (device_of store.new) }
     ensures done { OnOk result (IsOpen store.old → IsOpen store.new) }
 {
-    store.commit(alloc, &[taken])
+    store.commit(alloc, &[taken], &[])
 }

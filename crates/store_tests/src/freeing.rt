@@ -24,7 +24,7 @@ pub fn commit_freeing<D: Disk>(
     let batch = found.expect(rt, "a batch");
     assert!(rt; 1 <= batch.len() && batch.len() <= 9);
     assert!(rt; store.fits(&batch));
-    match store.commit_freeing(rt.alloc(), &batch) {
+    match store.commit_freeing(rt.alloc(), &batch, &[]) {
         Ok(_) => Ok(()),
         Err(refusal) => Err(refusal),
     }

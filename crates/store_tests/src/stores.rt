@@ -261,7 +261,7 @@ fn commit<D: Disk>(
     requires short { length batch.now < 2 ^ 32 }
     requires fits { FitsSlot (state_of store.old) batch.now }
 {
-    store.commit(rt.alloc(), batch)
+    store.commit(rt.alloc(), batch, &[])
 }
 
 // Commits what was taken of a command.

@@ -3,6 +3,8 @@ ghost use Rattle.std.specs.Prelude.{◌≡◌, ◌∷◌, ◌++◌, [], drop, le
 ghost use mathlib.Core.List.{IsPrefix};
 ghost use Rattle.recovery.specs.Found.{commands_of};
 ghost use Rattle.world.specs.World.{takens};
+ghost use Rattle.revision.specs.Made.{MayBeMade};
+ghost use Rattle.revision.specs.State.{fold};
 ghost use Rattle.view.specs.Published.{Published};
 ghost use Rattle.view.specs.Stages.{AreShown, IsNext, news_of as to_show};
 
@@ -13,9 +15,9 @@ use left_right::writer::Writer;
 use published::{Log, Opened, Order, Ordered, Site, Told};
 use recovery::Receipt;
 use refusal::Refusal;
-use revision::{State, Taken};
+use revision::{MadeDocuments, State, Taken};
 use std::alloc::Global;
-use std::marker::Model;
+use std::marker::{Model, PhantomData};
 use std::sync::Wait;
 
 /// So many viewers there may be at once.
@@ -27,10 +29,10 @@ const VIEWERS: usize = 64;
 pub enum Stage<D, J: Site> {
     /// There is none.
     Idle,
-    /// It was given, with the order that has it next.
-    Held(Receipt<D>, Ordered<J>),
+    /// It was given, with the order that has it next, and with the documents that it changes, or none of them.
+    Held(Receipt<D>, Ordered<J>, MadeDocuments),
     /// It is in the log.
-    Logged(Receipt<D>, Told<D, J>),
+    Logged(Receipt<D>, Told<D, J>, MadeDocuments),
     /// The writer of the view has it, and doesn't show it yet.
     Queued(Receipt<D>, Told<D, J>),
 }
@@ -38,7 +40,7 @@ pub enum Stage<D, J: Site> {
 /// What publishes committed batches to viewers: it alone puts them into the run's log. Contracts see it as the batches that are
 /// published, and the one that was given to be published next. It isn't `Drop`: end it by `end`.
 pub struct Publisher<D, J: Site> {
-    writer: Writer<Shown, News, (), InLog<J>>,
+    writer: Writer<Shown<J>, News<J>, (), InLog<J>>,
     log: Log<D, J>,
     told: Told<D, J>,
     stage: Stage<D, J>,
@@ -55,7 +57,8 @@ impl<D, J: Site> Model for Publisher<D, J> {
     ghost view = { λ p. record { told = p.told; unpublished = spec.held_in p.stage } };
 
     ghost invariant = { λ p. spec.AreShown J.book J.start p.told p.writer.desk.shown.value
-        × (drop p.writer.behind p.writer.log.items ≡ spec.waiting J.book J.start p.stage) × spec.IsLogged p.log p.told p.stage };
+        × (drop p.writer.behind p.writer.log.items ≡ spec.waiting J.book J.start p.stage) × spec.IsLogged p.log p.told p.stage
+        × spec.IsGiven J.start p.told p.stage };
 }
 
 impl<D, J: Site> Publisher<D, J> {
@@ -78,11 +81,13 @@ impl<D, J: Site> Publisher<D, J> {
             alloc,
             state: state.copy(alloc)?,
             mark: told.mark(),
+            of: PhantomData,
         };
         let second = Shown {
             alloc,
             state: state.copy(alloc)?,
             mark: told.mark(),
+            of: PhantomData,
         };
         let writer = Writer::new(alloc, first, second, VIEWERS)?;
         let start = told.copy();
@@ -98,13 +103,15 @@ impl<D, J: Site> Publisher<D, J> {
         ))
     }
 
-    /// Takes a batch that was committed, to be published next: the next part of the order, of which it has a token. It takes no memory.
-    pub fn accept(&mut self, receipt: Receipt<D>, ordered: Ordered<J>)
+    /// Takes a batch that was committed, to be published next: the next part of the order, of which it has a token. The documents that it
+    /// changes may be given, as they stand after it; readers are then shown them, and no document is made again. It takes no memory.
+    pub fn accept(&mut self, receipt: Receipt<D>, ordered: Ordered<J>, made: MadeDocuments)
         requires none { self.old.unpublished ≡ [] }
         requires next { IsNext (commands_of self.old.told) receipt (takens ordered) }
+        requires made { MayBeMade (fold (fold J.start (commands_of self.old.told)) receipt) receipt made }
         ensures { self.new ≡ record self.old { unpublished = receipt ∷ [] } }
     {
-        self.stage = Stage::Held(receipt, ordered);
+        self.stage = Stage::Held(receipt, ordered, made);
     }
 
     /// Whether a batch was given that isn't published yet.
@@ -113,8 +120,8 @@ impl<D, J: Site> Publisher<D, J> {
     {
         match &self.stage {
             Stage::Idle => false,
-            Stage::Held(_, _) => true,
-            Stage::Logged(_, _) => true,
+            Stage::Held(_, _, _) => true,
+            Stage::Logged(_, _, _) => true,
             Stage::Queued(_, _) => true,
         }
     }
@@ -132,8 +139,8 @@ impl<D, J: Site> Publisher<D, J> {
     {
         match &self.stage {
             Stage::Idle => self.told.ordered(),
-            Stage::Held(_, ordered) => ordered.copy(),
-            Stage::Logged(_, next) => next.ordered(),
+            Stage::Held(_, ordered, _) => ordered.copy(),
+            Stage::Logged(_, next, _) => next.ordered(),
             Stage::Queued(_, next) => next.ordered(),
         }
     }
@@ -223,11 +230,13 @@ fn published<D, J: Site, R: Wait>(
             };
             (idle, Ok(None))
         }
-        Stage::Held(receipt, ordered) => {
+        Stage::Held(receipt, ordered, made) => {
             let next = told.add(&mut log, &receipt, &ordered);
-            queued(rt, alloc, writer, log, told, receipt, next)
+            queued(rt, alloc, writer, log, told, receipt, next, made)
         }
-        Stage::Logged(receipt, next) => queued(rt, alloc, writer, log, told, receipt, next),
+        Stage::Logged(receipt, next, made) => {
+            queued(rt, alloc, writer, log, told, receipt, next, made)
+        }
         Stage::Queued(receipt, next) => shown(rt, writer, log, told, receipt, next),
     }
 }
@@ -236,17 +245,19 @@ fn published<D, J: Site, R: Wait>(
 fn queued<D, J: Site, R: Wait>(
     rt: &R,
     alloc: Global,
-    mut writer: Writer<Shown, News, (), InLog<J>>,
+    mut writer: Writer<Shown<J>, News<J>, (), InLog<J>>,
     log: Log<D, J>,
     told: Told<D, J>,
     receipt: Receipt<D>,
     next: Told<D, J>,
+    made: MadeDocuments,
 ) -> (
     Publisher<D, J>,
     Result<Option<(Receipt<D>, Told<D, J>)>, Refusal>,
 )
     requires shown { AreShown J.book J.start told writer.desk.shown.value }
     requires waiting { drop writer.behind writer.log.items ≡ [] }
+    requires made { MayBeMade (fold (fold J.start (commands_of told)) receipt) receipt made }
     requires next { next ≡ told ++ receipt ∷ [] }
     requires log { log ≡ next }
     ensures done { IfOk result.1 (λ published. IfSome published (λ p. (p.0 ≡ receipt) × (p.1 ≡ next)
@@ -255,7 +266,7 @@ fn queued<D, J: Site, R: Wait>(
     ensures unchanged { OnErr result.1 (result.0 ≡ record { told = told; unpublished = receipt ∷ [] }) }
     ensures only { IsOkUnless result.1 Refusal.NoMemory }
 {
-    let appended = match news_of(alloc, &receipt, &next) {
+    let appended = match news_of(alloc, &receipt, &told, &next, &made) {
         Ok(news) => writer.append(news).is_ok(),
         Err(_) => false,
     };
@@ -264,7 +275,7 @@ fn queued<D, J: Site, R: Wait>(
             writer,
             log,
             told,
-            stage: Stage::Logged(receipt, next),
+            stage: Stage::Logged(receipt, next, made),
         };
         return (logged, Err(Refusal::NoMemory));
     }
@@ -274,7 +285,7 @@ fn queued<D, J: Site, R: Wait>(
 // shows the batch that the writer has
 fn shown<D, J: Site, R: Wait>(
     rt: &R,
-    writer: Writer<Shown, News, (), InLog<J>>,
+    writer: Writer<Shown<J>, News<J>, (), InLog<J>>,
     log: Log<D, J>,
     told: Told<D, J>,
     receipt: Receipt<D>,
@@ -321,14 +332,22 @@ fn shown<D, J: Site, R: Wait>(
 fn news_of<D, J: Site>(
     alloc: Global,
     receipt: &Receipt<D>,
+    told: &Told<D, J>,
     next: &Told<D, J>,
-) -> Result<News, Refusal>
+    made: &MadeDocuments,
+) -> Result<News<J>, Refusal>
+    requires next { next.now ≡ told.now ++ receipt.now ∷ [] }
+    requires made { MayBeMade (fold (fold J.start (commands_of told.now)) receipt.now) receipt.now made.now }
     ensures news { IfOk result (λ news. news ≡ to_show J.book J.start receipt.now next.now) }
     ensures only { IsOkUnless result Refusal.NoMemory }
 {
+    next.grows();
     Ok(News {
         batch: copies(alloc, receipt.batch())?,
+        made: made.share()?,
+        before: told.mark(),
         mark: next.mark(),
+        of: PhantomData,
     })
 }
 
