@@ -160,16 +160,10 @@ impl<D: Disk, J: Site> Flusher<D, J> {
                 self.begun.is_start();
                 let ordered = run.goes_on(self.publisher.told());
                 ordered.legal();
-                let made = match run.made(self.publisher.told()).share() {
-                    Ok(made) => made,
-                    Err(refusal) => {
-                        fill(&mut self.waiting, run);
-                        return Err(refusal);
-                    }
-                };
+                let made = run.made(self.publisher.told());
                 match self.store.commit(alloc, run.commands(), made.as_slice()) {
                     Ok(receipt) => {
-                        run.committed(&receipt);
+                        let made = run.into_made(&receipt, self.publisher.told());
                         self.publisher.accept(receipt, ordered, made);
                         Ok(())
                     }
@@ -367,19 +361,13 @@ impl<D: Disk, J: Site> Flusher<D, J> {
                 self.begun.is_start();
                 let ordered = batch.goes_on(self.publisher.told());
                 ordered.legal();
-                let made = match batch.made(self.publisher.told()).share() {
-                    Ok(made) => made,
-                    Err(refusal) => {
-                        fill(&mut self.waiting, batch);
-                        return Err(refusal);
-                    }
-                };
+                let made = batch.made(self.publisher.told());
                 match self
                     .store
                     .commit_freeing(alloc, batch.commands(), made.as_slice())
                 {
                     Ok(receipt) => {
-                        batch.committed(&receipt);
+                        let made = batch.into_made(&receipt, self.publisher.told());
                         self.publisher.accept(receipt, ordered, made);
                         Ok(())
                     }

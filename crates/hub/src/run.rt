@@ -138,6 +138,25 @@ impl<D, J: Site> Run<D, J> {
         let _ = receipt;
     }
 
+    /// Ends a run that was committed, as `committed` does, and gives the documents that it changes, as `made` does.
+    pub fn into_made(self, receipt: &Receipt<D>, told: &Told<D, J>) -> MadeDocuments
+        requires committed { receipt.now ≡ self.commands }
+        requires next { self.place ≡ length (commands_of told.now) }
+        ensures { MayBeMade (fold (fold J.start (commands_of told.now)) receipt.now) receipt.now result }
+    {
+        let Run {
+            commands: _commands,
+            made,
+            cap: _,
+            place: _,
+            order,
+            of: _,
+        } = self;
+        told.begins_order(&order);
+        let _ = receipt;
+        made
+    }
+
     /// Ends a run that has no command, and gives the token that there was none to take off for so many bytes.
     pub fn nothing(self) -> Nothing<J>
         requires { length self.commands ≡ 0 }

@@ -77,12 +77,7 @@ impl State {
         ensures only { IfErr result (λ e. (e ≡ Refusal.Stranger) ⊎ (e ≡ Refusal.NoMemory)) }
         ensures unchanged { OnErr result (self.new ≡ self.old) }
     {
-        let prepared = self.documents.prepare_all(alloc, batch);
-        match prepared {
-            Ok(()) => self.documents.accept(),
-            Err(_) => self.documents.forget(),
-        }
-        prepared
+        self.absorb_made(alloc, batch, &[])
     }
 
     /// Adds commands in order, all of them or none, as `absorb_all` does, where the documents that they change may be given, as for `prepare`.

@@ -98,7 +98,7 @@ fn a_prepared_batch_is_accepted_or_forgotten(rt: HostRuntime) {
 }
 
 fn prepared(rt: &(impl Abort + AllocGlobal), state: State, batch: &[Taken]) -> PreparedState {
-    match state.prepare(rt.alloc(), batch) {
+    match state.prepare(rt.alloc(), batch, &[]) {
         Ok(prepared) => prepared,
         Err(_) => rt.abort(),
     }
@@ -106,11 +106,62 @@ fn prepared(rt: &(impl Abort + AllocGlobal), state: State, batch: &[Taken]) -> P
 
 // the state after a batch isn't prepared
 fn unprepared(rt: &(impl Abort + AllocGlobal), state: State, batch: &[Taken]) -> State {
-    match state.prepare(rt.alloc(), batch) {
+    match state.prepare(rt.alloc(), batch, &[]) {
         Ok(_) => rt.abort(),
         Err(unprepared) => {
             assert_eq!(rt; unprepared.refusal, Refusal::Stranger);
             unprepared.state
         }
+    }
+}
+
+// two edits of one document
+fn edits(rt: &(impl Abort + AllocGlobal)) -> [Taken; 2] {
+    let first = taken_by(rt, D, &("a", "d", 2, Y, Now(2)));
+    let second = taken_by(rt, EDITED, &("a", "d", 3, Y, Now(3)));
+    [first, second]
+}
+
+#[test]
+fn documents_that_are_given_are_taken_over(rt: HostRuntime) {
+    let (state, later) = taken_over(&rt, after(&rt, small(&rt), D), &edits(&rt), 1);
+    holds(&rt, &state, "d 3 0\n");
+    holds(&rt, &later, "d 3 0\n");
+    let (state, _) = taken_over(&rt, state, &[], 0);
+    holds(&rt, &state, "d 3 0\n");
+    let (state, _) = taken_over(&rt, small(&rt), &pair(&rt, true), 0);
+    holds(&rt, &state, "d 2 0\n");
+}
+
+// A state after a batch, with the documents that another one after it gives, of which there are so many; and that one.
+fn taken_over(
+    rt: &(impl Abort + AllocGlobal),
+    state: State,
+    batch: &[Taken],
+    count: usize,
+) -> (State, State) {
+    let mut later = state.copy(rt.alloc()).expect(rt, "memory");
+    if later.absorb_all(rt.alloc(), batch).is_err() {
+        rt.abort();
+    }
+    let made = later.made(rt.alloc(), batch).expect(rt, "memory");
+    assert_eq!(rt; made.as_slice().len(), count);
+    match state.prepare(rt.alloc(), batch, made.as_slice()) {
+        Ok(prepared) => {
+            let state = prepared.accept();
+            are_alike(rt, &state, &later);
+            (state, later)
+        }
+        Err(_) => rt.abort(),
+    }
+}
+
+// the first documents of two states have equal sources and lengths
+fn are_alike(rt: &(impl Abort + AllocGlobal), one: &State, other: &State) {
+    if let [one] = one.documents()
+        && let [other] = other.documents()
+    {
+        assert!(rt; one.sources() == other.sources());
+        assert_eq!(rt; one.document().len16(), other.document().len16());
     }
 }

@@ -67,8 +67,8 @@ impl<J: Site> Writing<J> {
         let ordered = run.goes_on(publisher.told());
         match commit(alloc, &mut self.store, run.commands()) {
             Ok(receipt) => {
-                run.committed(&receipt);
-                publisher.accept(receipt, ordered);
+                let made = run.into_made(&receipt, publisher.told());
+                publisher.accept(receipt, ordered, made);
             }
             Err(refusal) => panic!(rt; "{refusal}"),
         }
