@@ -1,12 +1,10 @@
 -- Documents that are given beside commands, as they stand after them.
-use Rattle.std.specs.Prelude.{◌≡◌, ◌⊎◌, ◌+◌, ◌<◌, ◌≤◌, ◌^◌, ℕ, ◌==◌, if◌then◌else◌, Contains, Option, Some, None, List, [], ◌∷◌, ◌++◌, length, map, slice_get}
+use Rattle.std.specs.Prelude.{◌≡◌, ◌⊎◌, ℕ, ◌==◌, if◌then◌else◌, None, Some, List, [], ◌∷◌, ◌++◌, map, slice_get}
 use Rattle.delta.specs.Element.{Element}
-use Rattle.delta.specs.Gaps.{counted, apply}
-use Rattle.document.specs.Outcome.{IsAccepted}
 use Rattle.revision.specs.Command.{Taken}
-use Rattle.revision.specs.Past.{Change, Prepared, prepared_units, prepared_revision}
-use Rattle.revision.specs.Pending.{PendingDocument}
+use Rattle.revision.specs.Past.{Change}
 use Rattle.revision.specs.State.{State, change_of, units_of}
+use Rattle.revision.specs.steps.ChangedAt.{IsAmong}
 
 -- a document by its number, with what stands in it
 pub record Made : Type 0 where
@@ -24,12 +22,12 @@ StandIn state (first ∷ others) = (slice_get (map units_of state.documents) fir
 -- each command changes one of the documents of these numbers, and creates none
 abbrev pub AreCovered : List ℕ → List Taken → Type 0
 AreCovered numbers [] = Unit {0}
-AreCovered numbers (first ∷ others) = (first.name ≡ None) × Contains numbers first.document × AreCovered numbers others
+AreCovered numbers (first ∷ others) = (first.name ≡ None) × (IsAmong first.document numbers × AreCovered numbers others)
 
 -- no number stands there twice
 abbrev pub AreOnce : List ℕ → Type 0
 AreOnce [] = Unit {0}
-AreOnce (first ∷ others) = (¬ Contains others first) × AreOnce others
+AreOnce (first ∷ others) = (IsAmong first others → ⊥) × AreOnce others
 
 -- The documents that these commands change, each once, as they stand in this state, which is the one after the commands.
 pub record AreMade (state : State) (batch : List Taken) (made : List Made) : Type 0 where
@@ -41,31 +39,10 @@ pub record AreMade (state : State) (batch : List Taken) (made : List Made) : Typ
 abbrev pub MayBeMade : State → List Taken → List Made → Type 0
 MayBeMade state batch made = (made ≡ []) ⊎ AreMade state batch made
 
--- the commands of the document of a number
+-- the commands of the document of a number, and the changes that they make
 abbrev pub of_number : ℕ → List Taken → List Taken
 of_number number [] = []
 of_number number (first ∷ others) = if first.document == number then first ∷ of_number number others else of_number number others
 
--- the changes that they make
 abbrev pub changes_in : ℕ → List Taken → List Change
 changes_in number batch = map change_of (of_number number batch)
-
--- a past with further changes prepared
-abbrev pub with_further : List Change → Prepared → Prepared
-with_further changes prepared = record prepared { next = prepared.next ++ changes }
-
--- the document of a number with its commands of a batch prepared
-abbrev pub with_commands : List Taken → ℕ → PendingDocument → PendingDocument
-with_commands batch number d = record d { past = with_further (changes_in number batch) d.past }
-
--- A change may be prepared next: the document after what is prepared takes it and stays short, and it is the next revision.
-pub record MayFollow (prepared : Prepared) (taken : Taken) : Type 0 where
-  pub accepted : IsAccepted (prepared_units prepared) (counted taken.delta)
-  pub short : length (apply (prepared_units prepared) (counted taken.delta)) ≤ 2 ^ 29
-  pub revision : taken.revision ≡ prepared_revision prepared + 1
-  pub bound : prepared_revision prepared + 1 < 2 ^ 53
-
--- so may these, one after another
-abbrev pub MayFollowAll : Prepared → List Taken → Type 0
-MayFollowAll prepared [] = Unit {0}
-MayFollowAll prepared (first ∷ others) = MayFollow prepared first × MayFollowAll (with_further (change_of first ∷ []) prepared) others

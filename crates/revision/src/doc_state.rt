@@ -5,7 +5,7 @@ ghost use Rattle.delta.specs.Gaps.{counted, apply};
 ghost use Rattle.revision.specs.Floors.{raised};
 ghost use Rattle.revision.specs.Late.{late as late_edit, HasCommandRoom};
 ghost use Rattle.compose.specs.Many.{applied};
-ghost use Rattle.revision.specs.Past.{empty_past, StandInTurn, newest, content_at, sources_at, deltas_of, deltas_above, undo_of, with_changes, prepared_units, prepared_revision};
+ghost use Rattle.revision.specs.Past.{empty_past, StandInTurn, newest, newest_units, content_at, sources_at, deltas_of, deltas_above, undo_of, with_changes, prepared_units, prepared_revision};
 ghost use Rattle.document.specs.Outcome.{IsAccepted};
 ghost use Rattle.revision.specs.Replay.{IsReplay};
 ghost use Rattle.revision.specs.Invariants.{IsLimits};
@@ -14,7 +14,8 @@ ghost use Rattle.revision.specs.Name.{is_source_name};
 ghost use Rattle.revision.specs.Sources.{last_of, with_last};
 ghost use Rattle.revision.specs.State.{revision_of, units_of, sources_of, begins as spec_begins, comes_next as spec_comes_next, follows, keeps as spec_keeps, stays_light as spec_stays_light, change_of};
 ghost use Rattle.revision.specs.Pending.{record_of, with_prepared, prepared_sources};
-ghost use Rattle.revision.specs.Made.{MayFollow, MayFollowAll, of_number, changes_in, with_further, with_commands};
+ghost use Rattle.revision.specs.Made.{of_number, changes_in};
+ghost use Rattle.revision.specs.steps.MadeSteps.{FollowAll, past_with, with_further, with_commands};
 
 use crate::limits::Limits;
 use crate::made::Made;
@@ -148,14 +149,17 @@ impl DocState {
     pub(crate) fn prepare_made(
         &mut self,
         alloc: Global,
+        limits: Limits,
         batch: &[Taken],
         made: &Made,
     ) -> Result<(), Refusal>
-        requires follow { MayFollowAll self.old.past (of_number made.now.document batch.now) }
+        requires limits { IsLimits limits }
+        requires follow { FollowAll limits (past_with limits.keep self.old.past) (of_number made.now.document batch.now) }
         requires after { made.now.units
-            ≡ prepared_units (with_further (changes_in made.now.document batch.now) self.old.past) }
+            ≡ newest_units
+            (with_changes limits.keep (past_with limits.keep self.old.past)
+            (changes_in made.now.document batch.now)) }
         ensures ok { OnOk result (self.new ≡ with_commands batch.now made.now.document self.old) }
-        ensures held { record_of self.new ≡ record_of self.old }
         ensures only { IsOkUnless result Refusal.NoMemory }
         ensures forgotten { OnErr result (self.new ≡ record self.old { past = record self.old.past { next = [] } }) }
     {
@@ -166,6 +170,7 @@ impl DocState {
         self.past.keep(alloc, &self.document);
         let noted = note_all(
             alloc,
+            limits,
             &mut self.past,
             &mut self.sources,
             made.number(),
@@ -564,22 +569,24 @@ fn note_on(
 // Refused for want of memory alone; then some of them are prepared.
 fn note_all(
     alloc: Global,
+    limits: Limits,
     past: &mut Past,
     sources: &mut SourceTable,
     number: u32,
     batch: &[Taken],
 ) -> Result<(), Refusal>
-    requires follow { MayFollowAll past.old (of_number number batch.now) }
+    requires limits { IsLimits limits }
+    requires follow { FollowAll limits (past_with limits.keep past.old) (of_number number batch.now) }
     requires sources { sources.old.prepared ≡ prepared_sources past.old }
     ensures past { OnOk result (past.new ≡ with_further (changes_in number batch.now) past.old) }
-    ensures sources { OnOk result (sources.new ≡ record sources.old { prepared = prepared_sources past.new }) }
+    ensures sources { OnOk result (sources.new.prepared ≡ prepared_sources past.new) }
     ensures past_held { past.new.past ≡ past.old.past }
     ensures sources_held { sources.new.accepted ≡ sources.old.accepted }
     ensures only { IsOkUnless result Refusal.NoMemory }
 {
     for taken in batch {
         if taken.document_number() == number {
-            note_next(alloc, past, sources, taken)?;
+            note_next(alloc, limits, past, sources, taken)?;
         }
     }
     Ok(())
@@ -589,18 +596,25 @@ fn note_all(
 // then both are unchanged.
 fn note_next(
     alloc: Global,
+    limits: Limits,
     past: &mut Past,
     sources: &mut SourceTable,
     taken: &Taken,
 ) -> Result<(), Refusal>
-    requires follows { MayFollow past.old taken.now }
+    requires limits { IsLimits limits }
+    requires follows { follows limits (record { name = []; past = past_with limits.keep past.old }) taken.now ≡ true }
     requires sources { sources.old.prepared ≡ prepared_sources past.old }
     ensures past { OnOk result (past.new ≡ with_further (change_of taken.now ∷ []) past.old) }
-    ensures sources { OnOk result (sources.new ≡ record sources.old { prepared = prepared_sources past.new }) }
+    ensures sources { OnOk result (sources.new.prepared ≡ prepared_sources past.new) }
+    ensures sources_held { sources.new.accepted ≡ sources.old.accepted }
     ensures past_unchanged { OnErr result (past.new ≡ past.old) }
     ensures sources_unchanged { OnErr result (sources.new ≡ sources.old) }
     ensures only { IsOkUnless result Refusal.NoMemory }
 {
+    // its revision is below the bound
+    let _ = taken.delta();
+    let _ = limits;
     let near = sources.prepared().look_up(taken.source()).place;
-    note(alloc, past, sources, taken.copy(alloc)?, near)
+    note(alloc, past, sources, taken.copy(alloc)?, near)?;
+    Ok(())
 }

@@ -1,11 +1,11 @@
 //! Documents with what is prepared to follow.
 ghost use Rattle.std.specs.Prelude.{◌≡◌, ◌↔◌, ◌⊎◌, ◌≤◌, ◌<◌, ◌∷◌, ◌++◌, [], true, false, None, Some, ℕ, List, length, map, take, slice_get, bytes_eq, ◌==◌, ◌&&◌, nat_lt, is_none, is_some, cond, option_map, IfOk, IfErr, OnOk, OnErr, IsErrOf, IsOkUnless};
 ghost use Rattle.std.specs.BTreeMap.{get_by_text};
-ghost use Rattle.revision.specs.steps.ChangedAt.{changed_at, changed_at_all, IsAmong};
+ghost use Rattle.revision.specs.steps.ChangedAt.{changed_at, changed_at_all};
 ghost use Rattle.revision.specs.Documents.{unprepared};
-ghost use Rattle.revision.specs.steps.DocumentsView.{names_of, UntouchedRest};
-ghost use Rattle.revision.specs.steps.MadeSteps.{with_each, AllFollow, AllStand};
-ghost use Rattle.revision.specs.Made.{AreMade, AreOnce, numbers_of};
+ghost use Rattle.revision.specs.steps.DocumentsView.{names_of};
+ghost use Rattle.revision.specs.steps.MadeSteps.{MayTakeOver, with_commands, with_document};
+ghost use Rattle.revision.specs.Made.{AreMade};
 ghost use Rattle.revision.specs.steps.Index.{IsIndex, NoneTwice};
 ghost use Rattle.revision.specs.Invariants.{IsLimits};
 ghost use Rattle.revision.specs.Pending.{record_of, with_prepared};
@@ -327,8 +327,23 @@ impl Documents {
         ensures ok { OnOk result (self.new.after ≡ fold self.old.after batch.now) }
         ensures only { IsOkUnless result Refusal.NoMemory }
     {
-        touch_all(&mut self.touched, made)?;
-        note_made(alloc, &mut self.documents, batch, made)
+        for one in made {
+            self.take_over(alloc, batch, one)?;
+        }
+        Ok(())
+    }
+
+    // Prepares all commands of a batch that are of one document, which is given as it stands after them. Refused for want of memory alone; what
+    // is held stays as it is.
+    fn take_over(&mut self, alloc: Global, batch: &[Taken], made: &Made) -> Result<(), Refusal>
+        requires may { MayTakeOver self.old.after batch.now made.now }
+        ensures before { self.new.before ≡ self.old.before }
+        ensures ok { OnOk result (self.new.after ≡ with_document batch.now made.now.document self.old.after) }
+        ensures only { IsOkUnless result Refusal.NoMemory }
+    {
+        self.touched.push(made.number())?;
+        take_over(alloc, &mut self.documents, self.limits, batch, made)?;
+        Ok(())
     }
 
     /// Accepts what was prepared. It takes no memory, isn't refused, and goes through what was touched alone.
@@ -383,38 +398,25 @@ fn change(
     Ok(())
 }
 
-// Adds the numbers of documents to those that are touched. Refused for want of memory alone; then some may be added.
-fn touch_all(touched: &mut Vec<u32>, made: &[Made]) -> Result<(), Refusal>
-    ensures ok { OnOk result (touched.new.items ≡ touched.old.items ++ numbers_of made.now) }
-    ensures still { (i : ℕ) → IsAmong i touched.old.items → IsAmong i touched.new.items }
-    ensures only { IsOkUnless result Refusal.NoMemory }
-{
-    for one in made {
-        touched.push(one.number())?;
-    }
-    Ok(())
-}
-
-// Prepares commands document by document, where the documents are given as they stand after them. Refused for want of memory alone.
-fn note_made(
+// Prepares all commands of a batch that are of one document, which is given as it stands after them. Refused for want of memory alone, and then
+// nothing of that document is prepared.
+fn take_over(
     alloc: Global,
     documents: &mut Vec<DocState>,
+    limits: Limits,
     batch: &[Taken],
-    made: &[Made],
+    made: &Made,
 ) -> Result<(), Refusal>
-    requires follow { AllFollow documents.old.items batch.now (numbers_of made.now) }
-    requires after { AllStand documents.old.items batch.now made.now }
-    requires once { AreOnce (numbers_of made.now) }
-    ensures ok { OnOk result (documents.new.items ≡ with_each batch.now (numbers_of made.now) documents.old.items) }
-    ensures held { map record_of documents.new.items ≡ map record_of documents.old.items }
-    ensures rest { (touched : List ℕ) → UntouchedRest touched documents.old.items
-        → UntouchedRest (touched ++ numbers_of made.now) documents.new.items }
+    requires limits { IsLimits limits }
+    requires may { MayTakeOver
+        (record { limits = limits; documents = map (with_prepared limits.keep) documents.old.items }) batch.now made.now }
+    ensures ok { OnOk result (documents.new.items
+        ≡ changed_at (with_commands batch.now made.now.document) made.now.document documents.old.items) }
     ensures only { IsOkUnless result Refusal.NoMemory }
+    ensures forgotten { OnErr result (documents.new.items ≡ changed_at forgotten made.now.document documents.old.items) }
 {
-    for one in made {
-        let number = one.number() as usize;
-        documents[number].prepare_made(alloc, batch, one)?;
-    }
+    let number = made.number() as usize;
+    documents[number].prepare_made(alloc, limits, batch, made)?;
     Ok(())
 }
 

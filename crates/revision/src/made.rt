@@ -1,6 +1,8 @@
 //! Documents that are given beside commands, so that no other state makes them again.
-ghost use Rattle.std.specs.Prelude.{◌≡◌, ◌⊎◌, ◌++◌, ◌∷◌, [], Contains, length, true, IfOk, IsOkUnless, IsTrue, OnOk, OnErr, ◌↔◌};
-ghost use Rattle.revision.specs.Made.{MayBeMade, AreMade, AreCovered, AreOnce, StandIn, numbers_of};
+ghost use Rattle.std.specs.Prelude.{◌≡◌, ◌↔◌, ◌∷◌, [], List, IfOk, IsOkUnless, IsTrue};
+ghost use Rattle.revision.specs.Command.{Taken as TakenValue};
+ghost use Rattle.revision.specs.Made.{MayBeMade, AreCovered, AreOnce, StandIn, numbers_of};
+ghost use Rattle.revision.specs.steps.ChangedAt.{IsAmong};
 
 use crate::state::State;
 use crate::taken::Taken;
@@ -130,7 +132,7 @@ impl State {
         ensures stand { StandIn self.now list.new.items }
         ensures once { AreOnce (numbers_of list.new.items) }
         ensures there { IfOk result (λ there. IsTrue there → AreCovered (numbers_of list.new.items) (taken.now ∷ [])) }
-        ensures before { (batch : List Taken) → AreCovered (numbers_of list.old.items) batch
+        ensures before { (batch : List TakenValue) → AreCovered (numbers_of list.old.items) batch
             → AreCovered (numbers_of list.new.items) batch }
         ensures only { IsOkUnless result Refusal.NoMemory }
     {
@@ -157,7 +159,7 @@ impl State {
 
 // Whether the document of a number is one of these.
 fn is_among(number: u32, list: &[Made]) -> bool
-    ensures { IsTrue result ↔ Contains (numbers_of list.now) number }
+    ensures { IsTrue result ↔ IsAmong number (numbers_of list.now) }
 {
     for one in list {
         if one.document == number {
