@@ -5,6 +5,7 @@ mod ChangedAt
 mod Untouched
 mod Indexed
 mod OneMore
+mod TakenOver
 mod Noted
 mod Outcomes
 mod Named
