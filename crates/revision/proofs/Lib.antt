@@ -6,6 +6,7 @@ mod Untouched
 mod Indexed
 mod OneMore
 mod TakenOver
+mod Further
 mod Noted
 mod Outcomes
 mod Named

@@ -265,3 +265,12 @@ pub still_may : (state : State) (batch : List Taken) (number : ℕ) (made : List
 still_may state batch number [] apart may = tt
 still_may state batch number (first ∷ others) apart may =
     (still-one state batch number first (λ e. apart (inl e)) may.0, still_may state batch number others (λ among. apart (inr among)) may.1)
+
+-- the next one of those that may be taken over
+pub may_next : (state : State) (batch : List Taken) (made others : List Made) (one : Made) → made ≡ one ∷ others → MayTakeAllOver state batch made
+    → MayTakeOver state batch one × MayTakeAllOver state batch others
+may_next state batch made others one is may = subst (MayTakeAllOver state batch) is may
+
+pub once_next : (made others : List Made) (one : Made) → made ≡ one ∷ others → AreOnce (numbers_of made)
+    → (IsAmong one.document (numbers_of others) → ⊥) × AreOnce (numbers_of others)
+once_next made others one is once = subst (λ (m : List Made). AreOnce (numbers_of m)) is once

@@ -585,11 +585,35 @@ fn note_all(
     ensures only { IsOkUnless result Refusal.NoMemory }
 {
     for taken in batch {
-        if taken.document_number() == number {
-            note_next(alloc, limits, past, sources, taken)?;
-        }
+        note_own(alloc, limits, past, sources, number, taken)?;
     }
     Ok(())
+}
+
+// Prepares a command in the past and in the table of sources, where it is of the document of a number. Refused for want of memory alone, and
+// then both are unchanged.
+fn note_own(
+    alloc: Global,
+    limits: Limits,
+    past: &mut Past,
+    sources: &mut SourceTable,
+    number: u32,
+    taken: &Taken,
+) -> Result<(), Refusal>
+    requires limits { IsLimits limits }
+    requires follow { FollowAll limits (past_with limits.keep past.old) (of_number number (taken.now ∷ [])) }
+    requires sources { sources.old.prepared ≡ prepared_sources past.old }
+    ensures past { OnOk result (past.new ≡ with_further (changes_in number (taken.now ∷ [])) past.old) }
+    ensures sources { OnOk result (sources.new.prepared ≡ prepared_sources past.new) }
+    ensures sources_held { sources.new.accepted ≡ sources.old.accepted }
+    ensures past_unchanged { OnErr result (past.new ≡ past.old) }
+    ensures sources_unchanged { OnErr result (sources.new ≡ sources.old) }
+    ensures only { IsOkUnless result Refusal.NoMemory }
+{
+    if taken.document_number() != number {
+        return Ok(());
+    }
+    note_next(alloc, limits, past, sources, taken)
 }
 
 // Prepares a change in the past and in the table of sources, where its source is searched for once. Refused for want of memory alone, and

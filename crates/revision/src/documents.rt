@@ -336,7 +336,7 @@ impl Documents {
     // Prepares all commands of a batch that are of one document, which is given as it stands after them. Refused for want of memory alone; what
     // is held stays as it is.
     fn take_over(&mut self, alloc: Global, batch: &[Taken], made: &Made) -> Result<(), Refusal>
-        requires may { MayTakeOver self.old.after batch.now made.now }
+        requires { MayTakeOver self.old.after batch.now made.now }
         ensures before { self.new.before ≡ self.old.before }
         ensures ok { OnOk result (self.new.after ≡ with_document batch.now made.now.document self.old.after) }
         ensures only { IsOkUnless result Refusal.NoMemory }

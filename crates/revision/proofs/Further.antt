@@ -1,0 +1,96 @@
+-- Further changes that are prepared, and what is kept beside the past then.
+use Rattle.std.proofs.Common.{◌≡◌, ℕ, ◌+◌, Bool, true, false, List, [], ◌∷◌, ◌++◌, length, map, Option, Some, None, refl, sym, ap, ap₂, subst, ◌∙◌, append_assoc, append-nil}
+use Rattle.std.specs.Prelude.{◌==◌, if◌then◌else◌}
+use Rattle.std.proofs.lemmas.List.{map-append}
+use Rattle.delta.specs.Element.{Element}
+use Rattle.revision.specs.Command.{Taken}
+use Rattle.revision.specs.Made.{of_number, changes_in}
+use Rattle.revision.specs.Past.{Past, Prepared, Change, newest_units, with_change, with_changes, prepared_units}
+use Rattle.revision.specs.Pending.{ComesOf, prepared_sources}
+use Rattle.revision.specs.Sources.{Table}
+use Rattle.revision.specs.State.{Limits, change_of, follows}
+use Rattle.revision.specs.steps.MadeSteps.{FollowAll, past_with, with_further}
+use Rattle.revision.proofs.Following.{units-with_changes}
+
+pub with_changes-append : (keep : ℕ) (past : Past) (first others : List Change) → with_changes keep past (first ++ others) ≡ with_changes keep (with_changes keep past first) others
+with_changes-append keep past [] others = refl
+with_changes-append keep past (change ∷ first) others = with_changes-append keep (with_change keep past change) first others
+
+pub past-further : (keep : ℕ) (prepared : Prepared) (changes : List Change)
+    → past_with keep (with_further changes prepared) ≡ with_changes keep (past_with keep prepared) changes
+past-further keep prepared changes = with_changes-append keep prepared.past prepared.next changes
+
+-- the units after them
+pub units-further : (keep : ℕ) (prepared : Prepared) (changes : List Change)
+    → newest_units (with_changes keep (past_with keep prepared) changes) ≡ prepared_units (with_further changes prepared)
+units-further keep prepared changes =
+    ap newest_units (sym (past-further keep prepared changes)) ∙ units-with_changes keep prepared.past (prepared.next ++ changes)
+
+pub further_comes : (keep : ℕ) (past noted : Prepared) (units after : List Element) (next : Option (List Element)) (sources new : Table) (changes : List Change)
+    → ComesOf past units next sources → noted ≡ with_further changes past → after ≡ newest_units (with_changes keep (past_with keep past) changes)
+    → new.prepared ≡ prepared_sources noted → new.accepted ≡ sources.accepted → ComesOf noted units (Some after) new
+further_comes keep past noted units after next sources new changes comes is units_are prepared held = record {
+  newest = comes.newest ∙ ap newest_units (sym (ap (λ (p : Prepared). p.past) is));
+  after = units_are ∙ units-further keep past changes ∙ ap prepared_units (sym is);
+  held = held ∙ comes.held ∙ ap (λ (p : Prepared). prepared_sources (record { past = p.past; next = [] })) (sym is);
+  prepared = prepared;
+}
+
+-- what is kept beside a past of which nothing is prepared any more
+pub forgotten_comes : (past noted : Prepared) (units : List Element) (next : Option (List Element)) (sources new : Table)
+    → ComesOf past units next sources → noted.past ≡ past.past → new.accepted ≡ sources.accepted
+    → ComesOf (record { past = noted.past; next = [] }) units None (record { accepted = new.accepted; prepared = new.accepted })
+forgotten_comes past noted units next sources new comes same held =
+    let sources_are = held ∙ comes.held ∙ ap (λ (p : Past). prepared_sources (record { past = p; next = [] })) (sym same) in
+    record {
+      newest = comes.newest ∙ ap newest_units (sym same);
+      after = refl;
+      held = sources_are;
+      prepared = sources_are;
+    }
+
+-- the commands of a number, the first one and the others
+pub of-first : (number : ℕ) (first : Taken) (others : List Taken) → of_number number (first ∷ others) ≡ of_number number (first ∷ []) ++ of_number number others
+of-first number first others = by_bool (first.document == number) where
+  by_bool : (b : Bool) → (if b then first ∷ of_number number others else of_number number others)
+      ≡ (if b then first ∷ [] else []) ++ of_number number others
+  by_bool true = refl
+  by_bool false = refl
+
+pub changes-first : (number : ℕ) (first : Taken) (others : List Taken) → changes_in number (first ∷ others) ≡ changes_in number (first ∷ []) ++ changes_in number others
+changes-first number first others = ap (map change_of) (of-first number first others) ∙ map-append change_of (of_number number (first ∷ [])) (of_number number others)
+
+-- changes that follow one after another, in two parts
+pub follow-parts : (limits : Limits) (past : Past) (first others : List Taken) → FollowAll limits past (first ++ others)
+    → FollowAll limits past first × FollowAll limits (with_changes limits.keep past (map change_of first)) others
+follow-parts limits past [] others follow = (tt, follow)
+follow-parts limits past (one ∷ first) others follow =
+    let later = follow-parts limits (with_change limits.keep past (change_of one)) first others follow.1 in
+    ((follow.0, later.0), later.1)
+
+-- one of a batch, and those that are left
+module _ (limits : Limits) (past noted : Prepared) (number : ℕ) (batch others : List Taken) (taken : Taken) (is : batch ≡ taken ∷ others) where
+  pub follow_first : FollowAll limits (past_with limits.keep past) (of_number number batch)
+      → FollowAll limits (past_with limits.keep past) (of_number number (taken ∷ []))
+  follow_first follow =
+      (follow-parts limits (past_with limits.keep past) (of_number number (taken ∷ [])) (of_number number others)
+      (subst (FollowAll limits (past_with limits.keep past)) (ap (of_number number) is ∙ of-first number taken others) follow)).0
+
+  pub follow_others : FollowAll limits (past_with limits.keep past) (of_number number batch) → noted ≡ with_further (changes_in number (taken ∷ [])) past
+      → FollowAll limits (past_with limits.keep noted) (of_number number others)
+  follow_others follow noted_is =
+      subst (λ (p : Past). FollowAll limits p (of_number number others))
+      (sym (ap (past_with limits.keep) noted_is ∙ past-further limits.keep past (changes_in number (taken ∷ []))))
+      (follow-parts limits (past_with limits.keep past) (of_number number (taken ∷ [])) (of_number number others)
+      (subst (FollowAll limits (past_with limits.keep past)) (ap (of_number number) is ∙ of-first number taken others) follow)).1
+
+  pub further_others : noted ≡ with_further (changes_in number (taken ∷ [])) past
+      → with_further (changes_in number others) noted ≡ with_further (changes_in number batch) past
+  further_others noted_is =
+      ap (with_further (changes_in number others)) noted_is
+      ∙ ap (λ (l : List Change). record past { next = l }) (append_assoc past.next (changes_in number (taken ∷ [])) (changes_in number others))
+      ∙ ap (λ (l : List Change). with_further l past) (sym (changes-first number taken others))
+      ∙ ap (λ (l : List Taken). with_further (changes_in number l) past) (sym is)
+
+pub further-none : (past : Prepared) → with_further [] past ≡ past
+further-none past = ap (λ (l : List Change). record past { next = l }) (append-nil past.next)
