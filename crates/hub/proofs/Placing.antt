@@ -1,17 +1,19 @@
 -- Where the command of a ticket stands in the order.
 use Rattle.std.proofs.Common.{◌≡◌, ℕ, ◌+◌, ◌-◌, ◌≤◌, ◌<◌, ◌^◌, List, [], ◌∷◌, ◌++◌, length, take, drop, get_or, map, refl, sym, ap, subst, ◌∙◌, arith, length-append, length-drop}
 use Rattle.std.specs.Prelude.{Option, Some, None, zero, suc}
-use Rattle.std.proofs.lemmas.List.{append-nil}
+use Rattle.std.proofs.lemmas.List.{append-nil, take_all}
+use Rattle.std.proofs.Math.Seq.{take-append_seam}
 use mathlib.Core.List.{IsPrefix}
 use Rattle.revision.specs.Command.{Taken, Command}
-use Rattle.revision.specs.State.{State, fold}
+use Rattle.revision.specs.State.{State, grown, fold}
 use Rattle.revision.specs.Acceptance.{Answer, Takes, Repeats, Refuses, Reply, TakenAt, AgainAt, Refused, answer}
 use Rattle.world.specs.Board.{Board, Ticket, submitted, submitted_by, ticket_by, ticket_of}
 use Rattle.world.specs.World.{Entry, entry_of, takens}
 use Rattle.published.specs.Order.{HasNumber}
 use Rattle.hub.specs.Legal.{IsHistory}
 use Rattle.hub.specs.Placed.{PlacedBy, IsPlaced, WasSubmitted}
-use Rattle.hub.specs.Runs.{IsPart}
+use Rattle.hub.specs.Runs.{IsPart, MayBeMadeThere}
+use Rattle.revision.specs.Made.{Made, MayBeMade}
 use Rattle.hub.proofs.Histories.{counts}
 
 -- A command was taken: it is put behind the order.
@@ -178,3 +180,36 @@ pub goes_on_by : (told commands named : List Taken) (place at : ℕ) (order copy
 goes_on_by told commands named place at order copy same is there long part begin =
     subst (λ o. IsPrefix (told ++ named) (takens o)) (sym same)
     (subst (λ l. IsPrefix (told ++ l) (takens order)) is (part-behind told commands (takens order) place (there ∙ long) begin part.part))
+
+fold-append : (state : State) (first others : List Taken) → fold state (first ++ others) ≡ fold (fold state first) others
+fold-append state [] others = refl
+fold-append state (one ∷ first) others = fold-append (grown state one) first others
+
+-- The documents that a run changes, where it goes on with what is published: as they stand after it.
+pub made_by : (start : State) (told commands named : List Taken) (place at : ℕ) (order : List Entry) (made : List Made) → commands ≡ named → place ≡ at
+    → at ≡ length told → IsPart commands place order → MayBeMadeThere start commands place order made → IsPrefix told (takens order)
+    → MayBeMade (fold (fold start told) named) named made
+made_by start told commands named place at order made is there long part may begin =
+    subst (λ (l : List Taken). MayBeMade (fold (fold start told) l) l made) is
+    (subst (λ (s : State). MayBeMade s commands made) same may)
+  where
+    both : IsPrefix (told ++ commands) (takens order)
+    both = part-behind told commands (takens order) place (there ∙ long) begin part.part
+
+    so_many : place + length commands ≡ length (told ++ commands)
+    so_many = omega (arith, there, long, length-append told commands)
+
+    first : take (place + length commands) (takens order) ≡ told ++ commands
+    first = ap (λ n. take n (takens order)) so_many ∙ ap (take (length (told ++ commands))) (sym both.1) ∙ take-append_seam (told ++ commands) both.0
+
+    same : fold start (take (place + length commands) (takens order)) ≡ fold (fold start told) commands
+    same = ap (fold start) first ∙ fold-append start told commands
+
+-- The documents of a board, where a run is all that is left of its order.
+pub made_whole : (start : State) (board : Board Entry) (commands : List Taken) (made : List Made) → board.start ≡ start → IsHistory board
+    → board.taken + length commands ≡ length board.order → MayBeMade board.state commands made → MayBeMadeThere start commands board.taken board.order made
+made_whole start board commands made begun history all may =
+    subst (λ (s : State). MayBeMade s commands made)
+    (history.state ∙ ap (λ (s : State). fold s (takens board.order)) begun
+    ∙ ap (fold start) (sym (take_all (board.taken + length commands) (takens board.order) (omega (arith, all, takens-long board.order)))))
+    may

@@ -6,11 +6,12 @@ use Rattle.published.specs.Books.{Books}
 use Rattle.revision.specs.Command.{Taken}
 use Rattle.revision.specs.State as state
 use Rattle.recovery.specs.Found.{commands_of}
-use Rattle.view.specs.News.{News}
-use Rattle.view.specs.Shown.{basis_of, after, IsShown}
+use Rattle.view.specs.News.{News, GoesOn}
+use Rattle.revision.specs.Made.{Made, MayBeMade}
+use mathlib.Core.List.{IsPrefix}
+use Rattle.view.specs.Shown.{basis_of, after, IsShown, Seen}
 use Rattle.view.specs.Stages.{news_of, AreShown}
 use Rattle.published.specs.Batches.{Mark}
-use Rattle.view.specs.declared.shown.Shown.{Shown}
 use Rattle.view.specs.declared.shown.Basis.{Basis}
 
 -- commands in turn make what the later ones make of what the first have made
@@ -31,7 +32,7 @@ grow_join s (x ∷ xs) ys first later =
     ap₂ (λ a b. a && b) parts.0 (grow_join (state.grown s x) xs ys parts.1 later)
 
 -- what shows these batches and takes in one more shows them all
-pub shows_more : (book : Books) (start : state.State) (told next : List (List Taken)) (batch : List Taken) (old new : Shown) (waiting : List News)
+pub shows_more : (book : Books) (start : state.State) (told next : List (List Taken)) (batch : List Taken) (old new : Seen) (waiting : List News)
     → AreShown book start told old → waiting ≡ news_of book start batch next ∷ [] → next ≡ told ++ batch ∷ []
     → basis_of new ≡ fold after (basis_of old) waiting → IsShown book start new
 shows_more book start told next batch old new waiting shows waits more goes =
@@ -60,3 +61,38 @@ pub absorbs : (before made : state.State) (batch : List Taken) (mark other : Mar
     → basis made other true ≡ basis (state.fold before batch) mark (true && state.all_grow before batch)
 absorbs before made batch mark other is grew same =
     ap₂ (λ (s : state.State) (rest : Mark × Bool). basis s rest.0 rest.1) is (ap₂ (λ (m : Mark) (b : Bool). (m, b)) same (sym grew))
+
+-- a copy that shows what was published before goes on by a batch
+module _ (book : Books) (start : state.State) (shown : Seen) (batch : List Taken) (made : List Made) (before mark : Mark) (is : IsShown book start shown)
+    (goes : GoesOn book start batch made before mark) (same : shown.mark.batches ≡ before.batches) where
+  here : shown.state ≡ state.fold start (commands_of before.batches)
+  here = is.made ∙ ap (λ (l : List (List Taken)). state.fold start (commands_of l)) same
+
+  pub made_here : MayBeMade (state.fold shown.state batch) batch made
+  made_here = subst (λ (s : state.State). MayBeMade (state.fold s batch) batch made) (sym here) goes.made
+
+  pub grows_here : state.all_grow shown.state batch ≡ true
+  grows_here = ap (λ (s : state.State). state.all_grow s batch) here ∙ goes.grows
+
+  pub shows_after : (new : state.State) (other : Mark) → new ≡ state.fold shown.state batch → other ≡ mark → IsShown book start (record { state = new; mark = other })
+  shows_after new other new_is other_is =
+      let commands : commands_of mark.batches ≡ commands_of before.batches ++ batch = ap commands_of goes.next ∙ commands_more before.batches batch in
+      let first : state.all_grow start (commands_of before.batches) ≡ true = ap (λ (l : List (List Taken)). state.all_grow start (commands_of l)) (sym same) ∙ is.grew in
+      subst (λ (m : Mark). IsShown book start (record { state = new; mark = m })) (sym other_is) (record {
+        log = goes.log_after;
+        begun = goes.begun_after;
+        made = new_is ∙ ap (λ (s : state.State). state.fold s batch) here ∙ sym (ap (state.fold start) commands ∙ fold_join start (commands_of before.batches) batch);
+        grew = ap (state.all_grow start) commands ∙ grow_join start (commands_of before.batches) batch first goes.grows;
+      })
+
+-- each batch continues what those before it make
+pub grows_last : (start : state.State) (told next : List (List Taken)) (batch : List Taken) → next ≡ told ++ batch ∷ [] → state.all_grow start (commands_of next) ≡ true
+    → state.all_grow (state.fold start (commands_of told)) batch ≡ true
+grows_last start told next batch is grow =
+    behind (commands_of told) start (ap (state.all_grow start) (sym (commands_more told batch)) ∙ ap (λ (l : List (List Taken)). state.all_grow start (commands_of l)) (sym is) ∙ grow)
+  where
+    behind : (first : List Taken) (s : state.State) → state.all_grow s (first ++ batch) ≡ true → state.all_grow (state.fold s first) batch ≡ true
+    behind [] s all = all
+    behind (x ∷ xs) s all =
+        let parts : (state.grows s x ≡ true) × (state.all_grow (state.grown s x) (xs ++ batch) ≡ true) = search (and_parts, all) in
+        behind xs (state.grown s x) parts.1
