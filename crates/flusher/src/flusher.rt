@@ -246,7 +246,7 @@ impl<D: Disk, J: Site> Flusher<D, J> {
             return Err(refusal);
         }
         gate.pass(Moment::AfterCommit);
-        match self.publisher.publish(rt, alloc) {
+        match self.publisher.publish(rt) {
             Ok(published) => Ok(to_settle(published)),
             Err(refusal) => Err(refusal),
         }

@@ -2,7 +2,7 @@
 ghost use Rattle.std.specs.Prelude.{◌≡◌, IfOk, IsOkUnless};
 
 use refusal::Refusal;
-use revision::Taken;
+use revision::{Batch, Taken};
 use std::alloc::Global;
 use std::marker::{Model, PhantomData};
 
@@ -10,7 +10,7 @@ use std::marker::{Model, PhantomData};
 /// contracts is the batch.
 #[derive(Drop)]
 pub struct Receipt<D> {
-    batch: Vec<Taken>,
+    batch: Batch,
     store: PhantomData<D>,
 }
 
@@ -20,7 +20,7 @@ impl<D> Model for Receipt<D> {
 
     ghost Value = { List Taken };
 
-    ghost view = { λ r. r.batch.items };
+    ghost view = { λ r. r.batch };
 }
 
 impl<D> Receipt<D> {
@@ -30,7 +30,7 @@ impl<D> Receipt<D> {
         ensures only { IsOkUnless result Refusal.NoMemory }
     {
         Ok(Receipt {
-            batch: copies(alloc, batch)?,
+            batch: Batch::of(alloc, copies(alloc, batch)?)?,
             store: PhantomData,
         })
     }
@@ -42,12 +42,23 @@ impl<D> Receipt<D> {
         self.batch.as_slice()
     }
 
-    /// Another receipt of the same batch. Refused for want of memory alone.
-    pub fn copy(&self, alloc: Global) -> Result<Receipt<D>, Refusal>
+    /// The batch, which is shared and not copied. Refused as NoMemory, where it can have no more owners.
+    pub fn shared(&self) -> Result<Batch, Refusal>
+        ensures same { IfOk result (λ batch. batch ≡ self.now) }
+        ensures only { IsOkUnless result Refusal.NoMemory }
+    {
+        self.batch.share()
+    }
+
+    /// Another receipt of the same batch, which is shared and not copied. Refused as NoMemory, where it can have no more owners.
+    pub fn copy(&self) -> Result<Receipt<D>, Refusal>
         ensures same { IfOk result (λ receipt. receipt ≡ self.now) }
         ensures only { IsOkUnless result Refusal.NoMemory }
     {
-        Receipt::of(alloc, self.batch())
+        Ok(Receipt {
+            batch: self.batch.share()?,
+            store: PhantomData,
+        })
     }
 }
 

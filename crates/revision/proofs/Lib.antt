@@ -7,6 +7,7 @@ mod Indexed
 mod OneMore
 mod TakenOver
 mod Further
+mod Gathered
 mod Noted
 mod Outcomes
 mod Named

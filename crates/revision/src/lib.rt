@@ -35,6 +35,7 @@
 #![tactic(auto)]
 
 mod adopting;
+mod batch;
 mod command;
 mod copying;
 mod doc_state;
@@ -57,6 +58,7 @@ mod taken;
 mod taker;
 mod widths;
 
+pub use batch::Batch;
 pub use command::{Action, Command};
 pub use doc_state::DocState;
 pub use limits::Limits;

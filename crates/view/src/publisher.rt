@@ -15,7 +15,7 @@ use left_right::writer::Writer;
 use published::{Log, Opened, Order, Ordered, Site, Told};
 use recovery::Receipt;
 use refusal::Refusal;
-use revision::{MadeDocuments, State, Taken};
+use revision::{MadeDocuments, State};
 use std::alloc::Global;
 use std::marker::{Model, PhantomData};
 use std::sync::Wait;
@@ -167,11 +167,7 @@ impl<D, J: Site> Publisher<D, J> {
     ///
     /// Refused with `NoMemory` alone. Then nothing is published, the batch stays given, and the next call continues with it; it is put into
     /// the log once.
-    pub fn publish<R: Wait>(
-        &mut self,
-        rt: &R,
-        alloc: Global,
-    ) -> Result<Option<(Receipt<D>, Told<D, J>)>, Refusal>
+    pub fn publish<R: Wait>(&mut self, rt: &R) -> Result<Option<(Receipt<D>, Told<D, J>)>, Refusal>
         ensures batch { IfOk result (λ published. IfSome published (λ p. self.old.unpublished ≡ p.0 ∷ [])) }
         ensures told { IfOk result (λ published. IfSome published (λ p. p.1 ≡ self.old.told ++ p.0 ∷ [])) }
         ensures shown { IfOk result (λ published. IfSome published
@@ -181,7 +177,7 @@ impl<D, J: Site> Publisher<D, J> {
         ensures unchanged { OnErr result (self.new ≡ self.old) }
         ensures only { IsOkUnless result Refusal.NoMemory }
     {
-        replace_with(self, (rt, alloc), published::<D, J, R>)
+        replace_with(self, rt, published::<D, J, R>)
     }
 
     /// Ends the view: readers can't enter it any more. It waits for those that are reading.
@@ -199,7 +195,7 @@ impl<D, J: Site> Publisher<D, J> {
 // goes on from where the publishing of the batch has come to
 fn published<D, J: Site, R: Wait>(
     publisher: Publisher<D, J>,
-    with: (&R, Global),
+    rt: &R,
 ) -> (
     Publisher<D, J>,
     Result<Option<(Receipt<D>, Told<D, J>)>, Refusal>,
@@ -213,7 +209,6 @@ fn published<D, J: Site, R: Wait>(
     ensures unchanged { OnErr result.1 (result.0 ≡ publisher) }
     ensures only { IsOkUnless result.1 Refusal.NoMemory }
 {
-    let (rt, alloc) = with;
     let Publisher {
         writer,
         mut log,
@@ -232,11 +227,9 @@ fn published<D, J: Site, R: Wait>(
         }
         Stage::Held(receipt, ordered, made) => {
             let next = told.add(&mut log, &receipt, &ordered);
-            queued(rt, alloc, writer, log, told, receipt, next, made)
+            queued(rt, writer, log, told, receipt, next, made)
         }
-        Stage::Logged(receipt, next, made) => {
-            queued(rt, alloc, writer, log, told, receipt, next, made)
-        }
+        Stage::Logged(receipt, next, made) => { queued(rt, writer, log, told, receipt, next, made) }
         Stage::Queued(receipt, next) => shown(rt, writer, log, told, receipt, next),
     }
 }
@@ -244,7 +237,6 @@ fn published<D, J: Site, R: Wait>(
 // gives the batch to the writer, and shows it
 fn queued<D, J: Site, R: Wait>(
     rt: &R,
-    alloc: Global,
     mut writer: Writer<Shown<J>, News<J>, (), InLog<J>>,
     log: Log<D, J>,
     told: Told<D, J>,
@@ -266,7 +258,7 @@ fn queued<D, J: Site, R: Wait>(
     ensures unchanged { OnErr result.1 (result.0 ≡ record { told = told; unpublished = receipt ∷ [] }) }
     ensures only { IsOkUnless result.1 Refusal.NoMemory }
 {
-    let appended = match news_of(alloc, &receipt, &told, &next, &made) {
+    let appended = match news_of(&receipt, &told, &next, &made) {
         Ok(news) => writer.append(news).is_ok(),
         Err(_) => false,
     };
@@ -328,9 +320,8 @@ fn shown<D, J: Site, R: Wait>(
     }
 }
 
-// the batch of the receipt, copied, as it is to be shown with what is then published
+// the batch of the receipt, shared, as it is to be shown with what is then published
 fn news_of<D, J: Site>(
-    alloc: Global,
     receipt: &Receipt<D>,
     told: &Told<D, J>,
     next: &Told<D, J>,
@@ -343,22 +334,10 @@ fn news_of<D, J: Site>(
 {
     next.grows();
     Ok(News {
-        batch: copies(alloc, receipt.batch())?,
+        batch: receipt.shared()?,
         made: made.share()?,
         before: told.mark(),
         mark: next.mark(),
         of: PhantomData,
     })
-}
-
-// equal commands in the same order, or `NoMemory`
-fn copies(alloc: Global, batch: &[Taken]) -> Result<Vec<Taken>, Refusal>
-    ensures same { IfOk result (λ copies. copies.items ≡ batch.now) }
-    ensures only { IsOkUnless result Refusal.NoMemory }
-{
-    let mut copies = Vec::with_capacity(alloc, batch.len())?;
-    for taken in batch {
-        copies.push(taken.copy(alloc)?)?;
-    }
-    Ok(copies)
 }

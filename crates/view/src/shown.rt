@@ -7,7 +7,7 @@ ghost use Rattle.recovery.specs.Found.{commands_of};
 use crossbeam_utils::rule::{Outcome, Protocol};
 use left_right::Absorb;
 use published::{Mark, Site, Told};
-use revision::{MadeDocuments, State, Taken};
+use revision::{Batch, MadeDocuments, State};
 use std::alloc::{AllocError, Global};
 use std::marker::{Model, PhantomData};
 
@@ -34,7 +34,7 @@ impl<J: Site> Model for Shown<J> {
 /// what is published with it.
 #[derive(Drop)]
 pub struct News<J: Site> {
-    pub(crate) batch: Vec<Taken>,
+    pub(crate) batch: Batch,
     pub(crate) made: MadeDocuments,
     pub(crate) before: Mark,
     pub(crate) mark: Mark,
@@ -46,9 +46,9 @@ impl<J: Site> Model for News<J> {
 
     ghost Value = { spec.News };
 
-    ghost view = { λ n. record { batch = n.batch.items; mark = n.mark } };
+    ghost view = { λ n. record { batch = n.batch; mark = n.mark } };
 
-    ghost invariant = { λ n. spec.GoesOn J.book J.start n.batch.items n.made n.before n.mark };
+    ghost invariant = { λ n. spec.GoesOn J.book J.start n.batch n.made n.before n.mark };
 }
 
 /// What the two copies have in common, and whether each batch continued the state. No value of it is made.

@@ -34,7 +34,7 @@ fn published<J: Site, R: Abort + AllocGlobal + Wait>(
 ) -> Told<MemDisk, J>
     ensures { publisher.new.unpublished ≡ [] }
 {
-    match publisher.publish(rt, rt.alloc()) {
+    match publisher.publish(rt) {
         Ok(Some((receipt, told))) => {
             assert_eq!(rt; receipt.batch().len(), 1);
             assert_eq!(rt; told.len(), length);
@@ -152,7 +152,7 @@ fn nothing_is_published<J: Site, R: Abort + AllocGlobal + Wait>(
 )
     ensures { publisher.new.unpublished ≡ [] }
 {
-    match publisher.publish(rt, rt.alloc()) {
+    match publisher.publish(rt) {
         Ok(None) => {}
         _ => panic!(rt; "something is published"),
     }

@@ -29,7 +29,7 @@ fn publish_one<J: Site, R: Abort + AllocGlobal + Wait>(
     ensures { publisher.new.unpublished ≡ [] }
 {
     writing.give(rt, publisher, number, 1);
-    match publisher.publish(rt, rt.alloc()) {
+    match publisher.publish(rt) {
         Ok(Some((_receipt, told))) => assert_eq!(rt; told.len(), number),
         Ok(None) => panic!(rt; "nothing was given"),
         Err(_) => panic!(rt; "it isn't published"),
