@@ -1,15 +1,16 @@
 -- Further changes that are prepared, and what is kept beside the past then.
-use Rattle.std.proofs.Common.{◌≡◌, ℕ, ◌+◌, Bool, true, false, List, [], ◌∷◌, ◌++◌, length, map, Option, Some, None, refl, sym, ap, ap₂, subst, ◌∙◌, append_assoc, append-nil}
+use Rattle.std.proofs.Common.{◌≡◌, ℕ, zero, suc, ◌+◌, Bool, true, false, List, [], ◌∷◌, ◌++◌, length, map, Option, Some, None, refl, sym, ap, ap₂, subst, ◌∙◌, append_assoc, append-nil}
 use Rattle.std.specs.Prelude.{◌==◌, if◌then◌else◌}
 use Rattle.std.proofs.lemmas.List.{map-append}
 use Rattle.delta.specs.Element.{Element}
 use Rattle.revision.specs.Command.{Taken}
 use Rattle.revision.specs.Made.{of_number, changes_in}
 use Rattle.revision.specs.Past.{Past, Prepared, Change, newest_units, with_change, with_changes, prepared_units}
-use Rattle.revision.specs.Pending.{ComesOf, prepared_sources}
+use Rattle.revision.specs.Pending.{PendingDocument, ComesOf, prepared_sources, with_prepared}
 use Rattle.revision.specs.Sources.{Table}
-use Rattle.revision.specs.State.{Limits, change_of, follows}
-use Rattle.revision.specs.steps.MadeSteps.{FollowAll, past_with, with_further}
+use Rattle.revision.specs.State.{Limits, DocumentRecord, change_of, follows}
+use Rattle.revision.specs.steps.ChangedAt.{changed_at}
+use Rattle.revision.specs.steps.MadeSteps.{FollowAll, past_with, with_further, with_commands}
 use Rattle.revision.proofs.Following.{units-with_changes}
 
 pub with_changes-append : (keep : ℕ) (past : Past) (first others : List Change) → with_changes keep past (first ++ others) ≡ with_changes keep (with_changes keep past first) others
@@ -94,3 +95,15 @@ module _ (limits : Limits) (past noted : Prepared) (number : ℕ) (batch others 
 
 pub further-none : (past : Prepared) → with_further [] past ≡ past
 further-none past = ap (λ (l : List Change). record past { next = l }) (append-nil past.next)
+
+-- a document with its commands prepared, as it will be
+pub commands-shown : (keep : ℕ) (batch : List Taken) (i : ℕ) (documents : List PendingDocument)
+    → map (with_prepared keep) (changed_at (with_commands batch i) i documents)
+    ≡ changed_at (λ (found : DocumentRecord). record found { past = with_changes keep found.past (changes_in i batch) }) i (map (with_prepared keep) documents)
+commands-shown keep batch i documents = at i documents where
+  at : (j : ℕ) (ds : List PendingDocument) → map (with_prepared keep) (changed_at (with_commands batch i) j ds)
+      ≡ changed_at (λ (found : DocumentRecord). record found { past = with_changes keep found.past (changes_in i batch) }) j (map (with_prepared keep) ds)
+  at j [] = refl
+  at zero (d ∷ ds) =
+      ap (λ (past : Past). record { name = d.name; past = past } ∷ map (with_prepared keep) ds) (past-further keep d.past (changes_in i batch))
+  at (suc j) (d ∷ ds) = ap (λ l. with_prepared keep d ∷ l) (at j ds)
