@@ -125,10 +125,10 @@ fn edits(rt: &(impl Abort + AllocGlobal)) -> [Taken; 2] {
 #[test]
 fn documents_that_are_given_are_taken_over(rt: HostRuntime) {
     let (state, later) = taken_over(&rt, after(&rt, small(&rt), D), &edits(&rt), 1);
-    holds(&rt, &state, "d 3 0\n");
-    holds(&rt, &later, "d 3 0\n");
+    holds(&rt, &state, "d 3 1\n");
+    holds(&rt, &later, "d 3 1\n");
     let (state, _) = taken_over(&rt, state, &[], 0);
-    holds(&rt, &state, "d 3 0\n");
+    holds(&rt, &state, "d 3 1\n");
     let (state, _) = taken_over(&rt, small(&rt), &pair(&rt, true), 0);
     holds(&rt, &state, "d 2 0\n");
 }

@@ -2,7 +2,6 @@
 use crate::asking::Answer::{Not, Now};
 use crate::asking::{Row, What, after, asked, doc, holds, is_made, made, roomy, taken_as};
 use crate::steps::{Step, inserted};
-use document::Document;
 use refusal::Refusal;
 use revision::State;
 use std::process::Abort;
@@ -65,12 +64,12 @@ fn a_past_begins_at_its_floor(rt: HostRuntime) {
     taken_as(&rt, &state, 5, &[Step::Drop(1)]);
 }
 
-// a replay leads from the empty document to what these steps make, and its sources are those of that revision
+// a replay leads from its own document to what these steps make, and its sources are those of that revision
 fn replayed(rt: &(impl Abort + AllocGlobal), state: &State, revision: u64, steps: &[Step]) {
     let (_, found) = state.find(&doc(rt, "d")).expect(rt, "d");
     assert!(rt; found.floor() <= revision && revision <= found.revision());
     let replay = found.replay_to(rt.alloc(), revision).expect(rt, "memory");
-    let mut document = Document::empty(rt.alloc());
+    let mut document = replay.document.copy(rt.alloc()).expect(rt, "memory");
     for delta in &replay.deltas {
         assert!(rt; document.apply(rt.alloc(), delta).is_ok());
     }
