@@ -1,6 +1,7 @@
 -- Further changes that are prepared, and what is kept beside the past then.
-use Rattle.std.proofs.Common.{◌≡◌, ℕ, zero, suc, ◌+◌, Bool, true, false, List, [], ◌∷◌, ◌++◌, length, map, Option, Some, None, refl, sym, ap, ap₂, subst, ◌∙◌, append_assoc, append-nil}
-use Rattle.std.specs.Prelude.{◌==◌, if◌then◌else◌}
+use Rattle.std.proofs.Common.{◌≡◌, ℕ, zero, suc, ◌+◌, ◌<◌, get_or, Bool, true, false, List, [], ◌∷◌, ◌++◌, length, map, Option, Some, None, refl, sym, ap, ap₂, subst, ◌∙◌, append_assoc, append-nil}
+use Rattle.std.specs.Prelude.{◌==◌, if◌then◌else◌, slice_get, option_map}
+use Rattle.std.proofs.lemmas.Option.{same_Some, slice_get-map, slice_get_read}
 use Rattle.std.proofs.lemmas.List.{map-append}
 use Rattle.delta.specs.Element.{Element}
 use Rattle.revision.specs.Command.{Taken}
@@ -107,3 +108,10 @@ commands-shown keep batch i documents = at i documents where
   at zero (d ∷ ds) =
       ap (λ (past : Past). record { name = d.name; past = past } ∷ map (with_prepared keep) ds) (past-further keep d.past (changes_in i batch))
   at (suc j) (d ∷ ds) = ap (λ l. with_prepared keep d ∷ l) (at j ds)
+
+-- the document that stands at a place
+pub found_here : (keep : ℕ) (documents : List PendingDocument) (i : ℕ) (d : PendingDocument) (found : DocumentRecord) → i < length documents → d ≡ get_or documents i d
+    → slice_get (map (with_prepared keep) documents) i ≡ Some found → found ≡ with_prepared keep d
+found_here keep documents i d found inside is there =
+    same_Some found (with_prepared keep d)
+    (sym there ∙ slice_get-map (with_prepared keep) documents i ∙ ap (option_map (with_prepared keep)) (slice_get_read documents (length documents) i d refl inside is))

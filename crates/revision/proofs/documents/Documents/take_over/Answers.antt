@@ -3,7 +3,7 @@ use Rattle.revision.specs.steps.ChangedAt.{IsAmong}
 use Rattle.revision.specs.Documents.{PreparedState}
 use Rattle.revision.specs.steps.DocumentsView.{names_of}
 use Rattle.revision.specs.steps.Index.{number_of}
-use Rattle.revision.specs.steps.MadeSteps.{MayTakeOver, with_commands}
+use Rattle.revision.specs.steps.MadeSteps.{MayTakeOver, with_commands, with_document}
 use Rattle.revision.specs.Pending.{PendingDocument, record_of, with_prepared}
 use Rattle.revision.specs.steps.Preparing.{forgotten}
 use Rattle.revision.specs.State.{DocumentRecord}
@@ -86,4 +86,4 @@ returns-clause-ok c =
     let keep = c.self.inside.limits.keep in
     ap (λ (a : List DocumentRecord). record { limits = c.self.inside.limits; documents = a })
     (ap (map (with_prepared keep)) c.in_ok-take_over.ensures.ok ∙ commands-shown keep c.args.batch.now c.args.made.now.document c.self.inside.documents.items)
-    ∙ ap (λ (p : PreparedState). ?) c.self.view_is
+    ∙ ap (λ (p : PreparedState). with_document c.args.batch.now c.args.made.now.document p.after) c.self.view_is
