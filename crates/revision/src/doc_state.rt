@@ -211,6 +211,11 @@ impl DocState {
         )
     }
 
+    /// Where a source stands or would stand among those after what is prepared. It takes no memory.
+    pub(crate) fn place_of(&self, source: &Name) -> usize {
+        self.sources.prepared().look_up(source).place
+    }
+
     /// Accepts what was prepared: each change is the next revision, and the floor rises to `keep` below the newest one where it
     /// is lower. It takes no memory, and isn't refused.
     pub(crate) fn accept(&mut self, limits: Limits)

@@ -128,6 +128,18 @@ impl Documents {
         Ok(())
     }
 
+    /// Prepares a command that continues what was prepared: nothing is weighed. Refused for want of memory alone, and then all is as it is.
+    pub(crate) fn prepare_planned(&mut self, alloc: Global, taken: &Taken) -> Result<(), Refusal>
+        requires { grows self.old.after taken.now ≡ true }
+        ensures ok { OnOk result (self.new ≡ record self.old { after = grown self.old.after taken.now }) }
+        ensures only { IsOkUnless result Refusal.NoMemory }
+        ensures unchanged { OnErr result (self.new ≡ self.old) }
+    {
+        let near = place_near(self.documents.as_slice(), taken);
+        self.prepare_next(alloc, taken, near)?;
+        Ok(())
+    }
+
     // Where a command's source stands or would stand in the document, if the command continues what was prepared. It takes no memory.
     fn place_for(&self, alloc: Global, taken: &Taken) -> Option<usize>
         ensures { is_some result ≡ grows self.now.after taken.now }
@@ -362,6 +374,14 @@ impl Documents {
         drop_creations(&mut self.documents, &mut self.names, self.count);
         forget_each(&mut self.documents, self.touched.as_slice());
         self.touched.clear();
+    }
+}
+
+// where the source of a command stands or would stand in its document, 0 where that isn't there
+fn place_near(documents: &[DocState], taken: &Taken) -> usize {
+    match documents.get(taken.document_number() as usize) {
+        Some(document) => document.place_of(taken.source()),
+        None => 0,
     }
 }
 

@@ -1,5 +1,5 @@
 //! What was taken is added to the state.
-ghost use Rattle.std.specs.Prelude.{◌≡◌, ◌↔◌, ◌⊎◌, [], true, false, IfOk, IfErr, OnOk, OnErr, IsErrOf};
+ghost use Rattle.std.specs.Prelude.{◌≡◌, ◌↔◌, ◌⊎◌, [], true, false, IfOk, IfErr, OnOk, OnErr, IsErrOf, IsOkUnless};
 ghost use Rattle.revision.specs.State.{grows, grown, fold, all_grow, first_grows};
 ghost use Rattle.revision.specs.Made.{MayBeMade};
 
@@ -61,6 +61,19 @@ impl State {
         ensures unchanged { OnErr result (self.new ≡ self.old) }
     {
         self.documents.prepare(alloc, taken)?;
+        self.documents.accept();
+        Ok(())
+    }
+
+    /// Adds a command that continues the state, as one does that the state has planned: nothing is weighed again. Refused for want of memory
+    /// alone, and then the state is unchanged.
+    pub fn absorb_planned(&mut self, alloc: Global, taken: &Taken) -> Result<(), Refusal>
+        requires { grows self.old taken.now ≡ true }
+        ensures ok { OnOk result (self.new ≡ grown self.old taken.now) }
+        ensures only { IsOkUnless result Refusal.NoMemory }
+        ensures unchanged { OnErr result (self.new ≡ self.old) }
+    {
+        self.documents.prepare_planned(alloc, taken)?;
         self.documents.accept();
         Ok(())
     }

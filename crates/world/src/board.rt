@@ -112,7 +112,7 @@ impl Board {
         let rev = taken.revision();
         self.order.reserve(1)?;
         self.unsettled.reserve(1)?;
-        if let Err(refusal) = self.state.absorb(alloc, &taken) {
+        if let Err(refusal) = self.state.absorb_planned(alloc, &taken) {
             return Err(refusal);
         }
         let entry = Entry::new(command, taken);

@@ -19,5 +19,8 @@ note-requires-clause-short c =
 pub note-requires-clause-revision : goal.note-requires-clause-revision
 note-requires-clause-revision c =
     let taken = c.args.taken.now in
-    omega (arith, next_revision c.args.limits (record { name = []; past = c.args.past.now }) taken c.requires.limits c.requires.follows,
-    taken_bound taken.name taken.revision taken.number c.delta.ensures.taken.kind)
+    omega (
+      arith,
+      next_revision c.args.limits (record { name = []; past = c.args.past.now }) taken c.requires.limits c.requires.follows,
+      taken_bound taken.name taken.revision taken.number c.delta.ensures.taken.kind,
+    )
