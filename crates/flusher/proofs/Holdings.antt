@@ -9,6 +9,7 @@ use Rattle.refusal.specs.declared.Refusal.{Refusal}
 use Rattle.refusal.specs.declared.Refusal.TheVariants.{JournalFull, Stranger, StillNeeded, NoMemory, Fault}
 use Rattle.disk.specs.declared.device.Disk.{Ghosts}
 use Rattle.revision.specs.Command.{Taken}
+use Rattle.revision.specs.Made.{Made, MayBeMade}
 use Rattle.revision.specs.State.{State, fold, grown, grows, all_grow}
 use Rattle.recovery.specs.declared.store.Store.{Store}
 use Rattle.recovery.specs.Faults.{FailsAtFaults}
@@ -179,6 +180,23 @@ held_continues start begin state told named committed run batch order begun same
 
     goes_on : IsPrefix (commands_of told ++ run) (takens order)
     goes_on = subst (λ (l : List (List Taken)). IsPrefix (commands_of l ++ run) (takens order)) same next
+
+-- The documents that are handed on with it are those after it, on what the store holds.
+pub held_made : (start begin state : State) (told named committed : List (List Taken)) (run batch : List Taken) (made : List Made) → begin ≡ start → named ≡ told → batch ≡ run
+    → state ≡ fold begin (commands_of (told ++ committed)) → committed ≡ [] → MayBeMade (fold (fold start (commands_of named)) run) run made
+    → MayBeMade (fold state batch) batch made
+held_made start begin state told named committed run batch made begun same alike kept none may =
+    subst (λ (b : List Taken). MayBeMade (fold state b) b made) (sym alike) (subst (λ (s : State). MayBeMade (fold s run) run made) (sym there) may)
+  where
+    there : state ≡ fold start (commands_of named)
+    there = kept ∙ ap (λ (s : State). fold s (commands_of (told ++ committed))) begun
+        ∙ ap (λ (l : List (List Taken)). fold start (commands_of (told ++ l))) none ∙ ap (λ (l : List (List Taken)). fold start (commands_of l)) (append-nil told)
+        ∙ ap (λ (l : List (List Taken)). fold start (commands_of l)) (sym same)
+
+-- and, for a publisher, on what is published
+pub made_on : (start : State) (told named : List (List Taken)) (receipt : List Taken) (made : List Made) → named ≡ told
+    → MayBeMade (fold (fold start (commands_of named)) receipt) receipt made → MayBeMade (fold (fold start (commands_of told)) receipt) receipt made
+made_on start told named receipt made same may = subst (λ (l : List (List Taken)). MayBeMade (fold (fold start (commands_of l)) receipt) receipt made) same may
 
 -- So its commit isn't refused as a stranger's.
 pub not_stranger : (state : State) (batch : List Taken) (refusal : Refusal) → all_grow state batch ≡ true → (refusal ≡ Stranger → all_grow state batch ≡ false)

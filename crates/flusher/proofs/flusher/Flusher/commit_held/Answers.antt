@@ -9,7 +9,7 @@ use Rattle.recovery.proofs.CallerLemmas.{goes_call}
 use Rattle.refusal.specs.declared.Refusal.{Refusal}
 use Rattle.refusal.specs.declared.Refusal.TheVariants.{JournalFull, Fault}
 use Rattle.view.specs.Published.{Published}
-use Rattle.flusher.proofs.Holdings.{held_in, goes_not, goes_batch, kept_more, next_by, no_batch, no_error, held_continues, not_stranger, unchanged_without, same_batch, same_refusal}
+use Rattle.flusher.proofs.Holdings.{held_in, goes_not, goes_batch, kept_more, next_by, no_batch, no_error, held_continues, held_made, made_on, not_stranger, unchanged_without, same_batch, same_refusal}
 use Rattle.flusher.proofs.flusher.Flusher.commit_held.Goals as goal
 
 pub returns-in-None-clause-goes : goal.returns-in-None-clause-goes
@@ -153,3 +153,34 @@ pub returns-in-Err-clause-failed_before : goal.returns-in-Err-clause-failed_befo
 returns-in-Err-clause-failed_before g c failed batch held =
     let both = c.commit.ensures.faults.failed_before failed in
     (same_refusal c.in-Err.refusal Fault (rw c.in-Err.is at both.0), both.1)
+
+-- the documents that are handed on
+pub made-made-requires : goal.made-made-requires
+made-made-requires g c =
+    let held : c.args.self.now.waiting ≡ Some c.in-Some.run = cc in
+    c.args.self.now.placed c.in-Some.run held ∙ ap (λ (l : List (List Taken)). length (commands_of l)) (sym c.told-2.ensures)
+
+pub commit-requires-clause-made : goal.commit-requires-clause-made
+commit-requires-clause-made g c =
+    let held : c.args.self.now.waiting ≡ Some c.in-Some.run = cc in
+    let same : c.commands.result.now ≡ c.in-Some.run.commands = cc in
+    held_made g.J.Site.start c.args.self.now.begun c.args.self.now.store.state c.args.self.now.publisher.told c.told-2.result.now c.args.self.now.publisher.unpublished
+    c.in-Some.run.commands c.commands.result.now c.as_slice.result.now c.is_start.ensures c.told-2.ensures same c.args.self.now.kept (c.args.self.now.fits c.in-Some.run held).alone
+    (rw c.as_slice.ensures c.made-made.ensures)
+
+pub commit-requires-clause-known : goal.commit-requires-clause-known
+commit-requires-clause-known g c =
+    let held : c.args.self.now.waiting ≡ Some c.in-Some.run = cc in
+    let same : c.commands.result.now ≡ c.in-Some.run.commands = cc in
+    inr (held_continues g.J.Site.start c.args.self.now.begun c.args.self.now.store.state c.args.self.now.publisher.told c.told.result.now c.args.self.now.publisher.unpublished
+    c.in-Some.run.commands c.commands.result.now c.goes_on-ordered.result c.is_start.ensures c.told.ensures same c.legal.ensures c.goes_on-ordered.ensures.next
+    c.args.self.now.kept (c.args.self.now.fits c.in-Some.run held).alone)
+
+pub into_made-made-requires-clause-next : goal.into_made-made-requires-clause-next
+into_made-made-requires-clause-next g c =
+    let held : c.args.self.now.waiting ≡ Some c.in-Some.run = cc in
+    c.args.self.now.placed c.in-Some.run held ∙ ap (λ (l : List (List Taken)). length (commands_of l)) (sym c.told-3.ensures)
+
+pub accept-requires-clause-made : goal.accept-requires-clause-made
+accept-requires-clause-made g c =
+    made_on g.J.Site.start c.args.self.now.publisher.told c.told-3.result.now c.in-Ok.receipt c.into_made-made.result c.told-3.ensures c.into_made-made.ensures
