@@ -8,6 +8,7 @@ mod OneMore
 mod TakenOver
 mod Further
 mod Gathered
+mod Known
 mod Noted
 mod Outcomes
 mod Named
