@@ -7,7 +7,7 @@ use Rattle.delta.specs.Element.{Element}
 use Rattle.revision.specs.Command.{Taken}
 use Rattle.revision.specs.Made.{of_number, changes_in}
 use Rattle.revision.specs.Past.{Past, Prepared, Change, newest_units, with_change, with_changes, prepared_units}
-use Rattle.revision.specs.Pending.{PendingDocument, ComesOf, prepared_sources, with_prepared}
+use Rattle.revision.specs.Pending.{PendingDocument, ComesOf, newest_sources, prepared_sources, with_prepared}
 use Rattle.revision.specs.Sources.{Table}
 use Rattle.revision.specs.State.{Limits, DocumentRecord, change_of, follows}
 use Rattle.revision.specs.steps.ChangedAt.{changed_at}
@@ -34,7 +34,7 @@ pub further_comes : (keep : ℕ) (past noted : Prepared) (units after : List Ele
 further_comes keep past noted units after next sources new changes comes is units_are prepared held = record {
   newest = comes.newest ∙ ap newest_units (sym (ap (λ (p : Prepared). p.past) is));
   after = units_are ∙ units-further keep past changes ∙ ap prepared_units (sym is);
-  held = held ∙ comes.held ∙ ap (λ (p : Prepared). prepared_sources (record { past = p.past; next = [] })) (sym is);
+  held = held ∙ comes.held ∙ ap (λ (p : Prepared). newest_sources p.past) (sym is);
   prepared = prepared;
 }
 
@@ -43,7 +43,7 @@ pub forgotten_comes : (past noted : Prepared) (units : List Element) (next : Opt
     → ComesOf past units next sources → noted.past ≡ past.past → new.accepted ≡ sources.accepted
     → ComesOf (record { past = noted.past; next = [] }) units None (record { accepted = new.accepted; prepared = new.accepted })
 forgotten_comes past noted units next sources new comes same held =
-    let sources_are = held ∙ comes.held ∙ ap (λ (p : Past). prepared_sources (record { past = p; next = [] })) (sym same) in
+    let sources_are = held ∙ comes.held ∙ ap newest_sources (sym same) in
     record {
       newest = comes.newest ∙ ap newest_units (sym same);
       after = refl;

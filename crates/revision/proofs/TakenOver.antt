@@ -84,24 +84,24 @@ get-in-order keep number [] documents = same (slice_get documents number) where
   same None = refl
   same (Some found) = refl
 get-in-order keep number (first ∷ others) documents =
-    get-in-order keep number others (changed_at (one_more keep first) first.document documents) ∙ by_number (first.document == number) refl
+    get-in-order keep number others (changed_at (one_more keep first) first.document documents) ∙ at_number (first.document == number) refl
   where
     step : (found : Option DocumentRecord) → option_map (all_more keep (changes_in number others)) (option_map (one_more keep first) found)
         ≡ option_map (all_more keep (change_of first ∷ changes_in number others)) found
     step None = refl
     step (Some found) = refl
 
-    by_number : (b : Bool) → (first.document == number) ≡ b
+    at_number : (b : Bool) → (first.document == number) ≡ b
         → option_map (all_more keep (changes_in number others)) (slice_get (changed_at (one_more keep first) first.document documents) number)
         ≡ option_map (all_more keep (changes_in number (first ∷ others))) (slice_get documents number)
-    by_number true e =
+    at_number true e =
         let is : first.document ≡ number = eqb-true first.document number e in
         ap (option_map (all_more keep (changes_in number others)))
         (subst (λ n. slice_get (changed_at (one_more keep first) n documents) number ≡ option_map (one_more keep first) (slice_get documents number)) (sym is)
         (get-changed (one_more keep first) number documents))
         ∙ step (slice_get documents number)
         ∙ ap (λ (l : List Taken). option_map (all_more keep (map change_of l)) (slice_get documents number)) (sym (of-here number first others e))
-    by_number false e =
+    at_number false e =
         ap (option_map (all_more keep (changes_in number others)))
         (get-beside (one_more keep first) first.document documents number (eqb-false first.document number e))
         ∙ ap (λ (l : List Taken). option_map (all_more keep (map change_of l)) (slice_get documents number)) (sym (of-elsewhere number first others e))
@@ -146,9 +146,9 @@ none-of numbers (first ∷ others) number covered apart = by_bool (first.documen
   by_bool true e = absurd (apart (subst (λ n. IsAmong n numbers) (eqb-true first.document number e) covered.1.0))
   by_bool false e = of-elsewhere number first others e ∙ none-of numbers others number covered.1.1 apart
 
-is-among? : (number : ℕ) (numbers : List ℕ) → IsAmong number numbers ⊎ (IsAmong number numbers → ⊥)
-is-among? number [] = inr (λ among. among)
-is-among? number (first ∷ others) = by_bool (number == first) refl (is-among? number others) where
+among-or-not : (number : ℕ) (numbers : List ℕ) → IsAmong number numbers ⊎ (IsAmong number numbers → ⊥)
+among-or-not number [] = inr (λ among. among)
+among-or-not number (first ∷ others) = by_bool (number == first) refl (among-or-not number others) where
   by_bool : (b : Bool) → (number == first) ≡ b → IsAmong number others ⊎ (IsAmong number others → ⊥)
       → IsAmong number (first ∷ others) ⊎ (IsAmong number (first ∷ others) → ⊥)
   by_bool true e later = inl (inl (eqb-true number first e))
@@ -163,7 +163,7 @@ order-by-number : (keep : ℕ) (numbers : List ℕ) (batch : List Taken) (docume
     → by_number keep batch numbers documents ≡ in_order keep batch documents
 order-by-number keep numbers batch documents covered once =
     same-at-each (by_number keep batch numbers documents) (in_order keep batch documents)
-    (λ number. at number (is-among? number numbers) ∙ sym (get-in-order keep number batch documents))
+    (λ number. at number (among-or-not number numbers) ∙ sym (get-in-order keep number batch documents))
   where
     same : (found : Option DocumentRecord) → found ≡ option_map (all_more keep []) found
     same None = refl
@@ -192,10 +192,7 @@ follow_own limits numbers (first ∷ others) documents number found covered grow
   parts : (grows (state_of limits documents) first ≡ true) × (all_grow (grown (state_of limits documents) first) others ≡ true)
   parts = and_parts (grows (state_of limits documents) first) (all_grow (grown (state_of limits documents) first) others) grow
 
-  next : List DocumentRecord
-  next = changed_at (one_more limits.keep first) first.document documents
-
-  later : all_grow (state_of limits next) others ≡ true
+  later : all_grow (state_of limits (changed_at (one_more limits.keep first) first.document documents)) others ≡ true
   later = subst (λ (s : State). all_grow s others ≡ true) (grown-one limits documents first covered.0) parts.1
 
   by_bool : (b : Bool) → (first.document == number) ≡ b → FollowAll limits found.past (of_number number (first ∷ others))
@@ -204,30 +201,27 @@ follow_own limits numbers (first ∷ others) documents number found covered grow
       let here : slice_get documents first.document ≡ Some found = subst (λ n. slice_get documents n ≡ Some found) (sym is) there in
       let comes : follows limits found first ≡ true =
       ap (λ (o : Option DocumentRecord). continues_by_name limits o first None) (sym here) ∙ sym (changed_as (state_of limits documents) first covered.0) ∙ parts.0 in
-      let there_next : slice_get next number ≡ Some (one_more limits.keep first found) =
+      let there_next : slice_get (changed_at (one_more limits.keep first) first.document documents) number ≡ Some (one_more limits.keep first found) =
       subst (λ n. slice_get (changed_at (one_more limits.keep first) n documents) number ≡ Some (one_more limits.keep first found)) (sym is)
       (get-changed (one_more limits.keep first) number documents ∙ ap (option_map (one_more limits.keep first)) there) in
       subst (FollowAll limits found.past) (sym (of-here number first others e))
-      (comes, follow_own limits numbers others next number (one_more limits.keep first found) covered.1.1 later there_next)
+      (comes, follow_own limits numbers others (changed_at (one_more limits.keep first) first.document documents) number (one_more limits.keep first found) covered.1.1 later there_next)
   by_bool false e =
-      let there_next : slice_get next number ≡ Some found =
+      let there_next : slice_get (changed_at (one_more limits.keep first) first.document documents) number ≡ Some found =
       get-beside (one_more limits.keep first) first.document documents number (eqb-false first.document number e) ∙ there in
       subst (FollowAll limits found.past) (sym (of-elsewhere number first others e))
-      (follow_own limits numbers others next number found covered.1.1 later there_next)
+      (follow_own limits numbers others (changed_at (one_more limits.keep first) first.document documents) number found covered.1.1 later there_next)
 
 -- a document that is given
 may_one : (state : State) (numbers : List ℕ) (batch : List Taken) (made : Made) → AreCovered numbers batch → all_grow state batch ≡ true
     → slice_get (map units_of (fold state batch).documents) made.document ≡ Some made.units → MayTakeOver state batch made
 may_one state numbers batch made covered grow stands = by_found (slice_get state.documents made.document) refl where
-  keep : ℕ
-  keep = state.limits.keep
-
   after : (found : Option DocumentRecord) → slice_get state.documents made.document ≡ found
-      → option_map units_of (option_map (all_more keep (changes_in made.document batch)) found) ≡ Some made.units
+      → option_map units_of (option_map (all_more state.limits.keep (changes_in made.document batch)) found) ≡ Some made.units
   after found there =
-      ap (λ (o : Option DocumentRecord). option_map units_of (option_map (all_more keep (changes_in made.document batch)) o)) (sym there)
-      ∙ ap (option_map units_of) (sym (get-in-order keep made.document batch state.documents))
-      ∙ sym (slice_get-map units_of (in_order keep batch state.documents) made.document)
+      ap (λ (o : Option DocumentRecord). option_map units_of (option_map (all_more state.limits.keep (changes_in made.document batch)) o)) (sym there)
+      ∙ ap (option_map units_of) (sym (get-in-order state.limits.keep made.document batch state.documents))
+      ∙ sym (slice_get-map units_of (in_order state.limits.keep batch state.documents) made.document)
       ∙ ap (λ (s : State). slice_get (map units_of s.documents) made.document) (sym (fold-in-order state.limits numbers batch state.documents covered))
       ∙ stands
 
