@@ -213,3 +213,9 @@ made_whole start board commands made begun history all may =
     (history.state ∙ ap (λ (s : State). fold s (takens board.order)) begun
     ∙ ap (fold start) (sym (take_all (board.taken + length commands) (takens board.order) (omega (arith, all, takens-long board.order)))))
     may
+
+-- where a run is all that isn't taken off
+pub whole_count : (order : List Entry) (commands : List Taken) (taken count all : ℕ) → taken ≤ length order → all ≡ length (drop taken order)
+    → commands ≡ takens (take count (drop taken order)) → count ≡ all → taken + length commands ≡ length order
+whole_count order commands taken count all within whole is same =
+    omega (arith, within, whole, same, ap length is, takens-long (take count (drop taken order)), ap length (take_all count (drop taken order) (omega (arith, whole, same))), length-drop taken order)

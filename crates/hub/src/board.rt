@@ -249,7 +249,8 @@ impl<D, J: Site> Board<D, J> {
         if !are_all {
             return MadeDocuments::none(alloc);
         }
-        self.state().made(alloc, commands)
+        let made = self.state().made(alloc, commands)?;
+        Ok(made)
     }
 
     /// Settles a batch that was committed, by its receipt and the token of its publish. Refused with `Stranger` exactly where the batch isn't the
