@@ -247,7 +247,7 @@ impl<D, J: Site> Board<D, J> {
         ensures only { IsOkUnless result Refusal.NoMemory }
     {
         if !are_all {
-            return MadeDocuments::none(alloc);
+            return Ok(MadeDocuments::none(alloc)?);
         }
         let made = self.state().made(alloc, commands)?;
         Ok(made)

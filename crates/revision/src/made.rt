@@ -86,7 +86,7 @@ impl MadeDocuments {
         ensures same { IfOk result (λ made. made ≡ []) }
         ensures only { IsOkUnless result Refusal.NoMemory }
     {
-        MadeDocuments::of(alloc, Vec::new(alloc))
+        Ok(MadeDocuments::of(alloc, Vec::new(alloc))?)
     }
 
     /// One more owner of them. Refused as NoMemory, where they can have no more owners.
@@ -118,10 +118,10 @@ impl State {
         for taken in batch {
             let there = self.gather(alloc, taken, &mut list)?;
             if !there {
-                return MadeDocuments::none(alloc);
+                return Ok(MadeDocuments::none(alloc)?);
             }
         }
-        MadeDocuments::of(alloc, list)
+        Ok(MadeDocuments::of(alloc, list)?)
     }
 
     // Adds the document that a command changes, where it isn't among them yet, and says whether it is then. Refused out of memory alone, and
