@@ -2,6 +2,7 @@
 use Rattle.std.proofs.Common.{◌≡◌, ℕ, zero, suc, ◌+◌, ◌<◌, get_or, Bool, true, false, List, [], ◌∷◌, ◌++◌, length, map, Option, Some, None, refl, sym, ap, ap₂, subst, ◌∙◌, append_assoc, append-nil}
 use Rattle.std.specs.Prelude.{◌==◌, if◌then◌else◌, slice_get, option_map}
 use Rattle.std.proofs.lemmas.Option.{same_Some, slice_get-map, slice_get_read}
+use Rattle.std.proofs.lemmas.Bool.{eq-eqb, ne_eqb}
 use Rattle.std.proofs.lemmas.List.{map-append}
 use Rattle.delta.specs.Element.{Element}
 use Rattle.revision.specs.Command.{Taken}
@@ -115,3 +116,22 @@ pub found_here : (keep : ℕ) (documents : List PendingDocument) (i : ℕ) (d : 
 found_here keep documents i d found inside is there =
     same_Some found (with_prepared keep d)
     (sym there ∙ slice_get-map (with_prepared keep) documents i ∙ ap (option_map (with_prepared keep)) (slice_get_read documents (length documents) i d refl inside is))
+
+-- one command, which is of the number or isn't
+pub own_one : (number : ℕ) (taken : Taken) → taken.document ≡ number → of_number number (taken ∷ []) ≡ taken ∷ []
+own_one number taken is = ap (λ (b : Bool). if b then taken ∷ [] else []) (eq-eqb taken.document number is)
+
+pub own_none : (number : ℕ) (taken : Taken) → (taken.document ≡ number → ⊥) → of_number number (taken ∷ []) ≡ []
+own_none number taken apart = ap (λ (b : Bool). if b then taken ∷ [] else []) (ne_eqb taken.document number apart)
+
+pub further_one : (number : ℕ) (taken : Taken) (past noted : Prepared) → taken.document ≡ number → noted ≡ with_further (change_of taken ∷ []) past
+    → noted ≡ with_further (changes_in number (taken ∷ [])) past
+further_one number taken past noted is noted_is = noted_is ∙ ap (λ (l : List Taken). with_further (map change_of l) past) (sym (own_one number taken is))
+
+pub further_none : (number : ℕ) (taken : Taken) (past : Prepared) → (taken.document ≡ number → ⊥) → past ≡ with_further (changes_in number (taken ∷ [])) past
+further_none number taken past apart =
+    sym (ap (λ (l : List Taken). with_further (map change_of l) past) (own_none number taken apart) ∙ further-none past)
+
+pub follow_one : (limits : Limits) (past : Past) (number : ℕ) (taken : Taken) → taken.document ≡ number → FollowAll limits past (of_number number (taken ∷ []))
+    → follows limits (record { name = []; past = past }) taken ≡ true
+follow_one limits past number taken is follow = (subst (FollowAll limits past) (own_one number taken is) follow).0

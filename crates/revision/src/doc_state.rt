@@ -618,7 +618,8 @@ fn note_own(
     if taken.document_number() != number {
         return Ok(());
     }
-    note_next(alloc, limits, past, sources, taken)
+    note_next(alloc, limits, past, sources, taken)?;
+    Ok(())
 }
 
 // Prepares a change in the past and in the table of sources, where its source is searched for once. Refused for want of memory alone, and
