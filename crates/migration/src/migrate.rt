@@ -1,7 +1,8 @@
 //! Reading a store of the first format, and putting it on a new device.
-ghost use Rattle.std.specs.Prelude.{◌≡◌, ◌⊎◌, ◌<◌, ◌^◌, [], true, length, Err, OnOk, IfOk, IfErr};
+ghost use Rattle.std.specs.Prelude.{◌≡◌, ◌⊎◌, ◌<◌, ◌^◌, [], true, length, Err, OnOk, IfOk, IfErr, IsErrOf};
 ghost use Rattle.disk.specs.Calls.{CountsFaultsAs};
 ghost use Rattle.disk.specs.Crash.{history_of};
+ghost use Rattle.disk.specs.Device.{Rose};
 ghost use Rattle.history.specs.declared.pick.Pick.TheVariants.{Newer};
 ghost use Rattle.milestone.specs.declared.format.Format.TheVariants.{One, Two};
 ghost use Rattle.revision.specs.State.{State as StateValue};
@@ -33,6 +34,7 @@ pub struct Old {
 pub fn migrate<A: Disk, B: Disk>(alloc: Global, old: &mut A, new: &mut B) -> Result<(), Refusal>
     // The old device is read alone.
     ensures old { IsOnlySynced (history_of ⟦<A as Disk>⟧ old.old) (history_of ⟦<A as Disk>⟧ old.new) }
+    ensures synced_old { OnOk result (A.unsynced old.new ≡ []) }
     ensures not_formatted { result ≡ Err Refusal.NotFormatted → A.honest old.new → ¬ IsFormatted (A.seen old.old) }
     ensures not_old { result ≡ Err Refusal.NotOld → A.honest old.new → IsOfFormat Two (A.seen old.old) }
     ensures damaged { result ≡ Err Refusal.Damaged → A.honest old.new → IsFormatted (A.seen old.old)
@@ -58,11 +60,16 @@ pub fn migrate<A: Disk, B: Disk>(alloc: Global, old: &mut A, new: &mut B) -> Res
         → IsOnlySynced (history_of ⟦<B as Disk>⟧ new.old) (history_of ⟦<B as Disk>⟧ new.new) }
     ensures bad_shape { result ≡ Err Refusal.BadShape → A.honest old.new → (state : StateValue)
         → (is : FoundIn One (A.seen old.old) Newer state) → ¬ Fits is.shape (length (B.seen new.old)) }
+    // All but `Fault` and `NoMemory` come before the first write.
+    ensures refused { IfErr result (λ e. (e ≡ Refusal.Fault) ⊎ ((e ≡ Refusal.NoMemory)
+        ⊎ IsOnlySynced (history_of ⟦<B as Disk>⟧ new.old) (history_of ⟦<B as Disk>⟧ new.new))) }
     // Neither is told of before the old store is found.
     ensures old_first { IfErr result (λ e. (e ≡ Refusal.AlreadyFormatted) ⊎ (e ≡ Refusal.BadShape) → A.honest old.new
         → (state : StateValue) × FoundIn One (A.seen old.old) Newer state) }
     ensures memory { result ≡ Err Refusal.NoMemory → IsUnformatted (B.seen new.old) → IsUnformatted (B.seen new.new) }
     ensures length { length (B.seen new.new) ≡ length (B.seen new.old) }
+    ensures failed { IsErrOf result Refusal.Fault → Rose (A.faults old.old) (A.faults old.new)
+        ⊎ Rose (B.faults new.old) (B.faults new.new) }
     ensures only { IfErr result (λ e. (e ≡ Refusal.NotFormatted) ⊎ ((e ≡ Refusal.NotOld) ⊎ ((e ≡ Refusal.Damaged)
         ⊎ ((e ≡ Refusal.BadShape) ⊎ ((e ≡ Refusal.AlreadyFormatted) ⊎ ((e ≡ Refusal.NoMemory)
         ⊎ (e ≡ Refusal.Fault))))))) }
@@ -92,6 +99,7 @@ impl Old {
         ensures only { IfErr result (λ e. (e ≡ Refusal.NotFormatted) ⊎ ((e ≡ Refusal.NotOld)
             ⊎ ((e ≡ Refusal.Damaged) ⊎ ((e ≡ Refusal.NoMemory) ⊎ (e ≡ Refusal.Fault))))) }
         ensures only_synced { IsOnlySynced (history_of ⟦<A as Disk>⟧ disk.old) (history_of ⟦<A as Disk>⟧ disk.new) }
+        ensures synced { OnOk result (A.unsynced disk.new ≡ []) }
         ensures honest { A.honest disk.new → A.honest disk.old }
         ensures faults { CountsFaultsAs ⟦<A as Disk>⟧ Refusal.Fault result disk.old disk.new }
     {
@@ -122,6 +130,8 @@ impl Old {
         ensures formatted { B.honest disk.new → IsFormatted (B.seen disk.old)
             → (result ≡ Err Refusal.AlreadyFormatted) ⊎ (result ≡ Err Refusal.Fault) }
         ensures bad_shape { result ≡ Err Refusal.BadShape → ¬ Fits (shape_of self.now) (length (B.seen disk.old)) }
+        ensures refused { IfErr result (λ e. (e ≡ Refusal.Fault) ⊎ ((e ≡ Refusal.NoMemory)
+            ⊎ IsOnlySynced (history_of ⟦<B as Disk>⟧ disk.old) (history_of ⟦<B as Disk>⟧ disk.new))) }
         ensures memory { result ≡ Err Refusal.NoMemory → IsUnformatted (B.seen disk.old) → IsUnformatted (B.seen disk.new) }
         ensures only { IfErr result (λ e. (e ≡ Refusal.BadShape) ⊎ ((e ≡ Refusal.AlreadyFormatted)
             ⊎ ((e ≡ Refusal.NoMemory) ⊎ (e ≡ Refusal.Fault)))) }

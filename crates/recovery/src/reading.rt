@@ -119,6 +119,7 @@ pub fn read_old<D: Disk>(alloc: Global, disk: &mut D) -> Result<OldStore, Refusa
 
     // The sync alone moves the device on.
     ensures only_synced { IsOnlySynced (history_of ⟦<D as Disk>⟧ disk.old) (history_of ⟦<D as Disk>⟧ disk.new) }
+    ensures synced { OnOk result (D.unsynced disk.new ≡ []) }
     ensures honest { D.honest disk.new → D.honest disk.old }
     ensures faults { CountsFaultsAs ⟦<D as Disk>⟧ Refusal.Fault result disk.old disk.new }
 {
