@@ -18,7 +18,7 @@ use Rattle.milestone.specs.Job.{Job, cell_of_job}
 use Rattle.recovery.specs.declared.shape.Shape.{Shape}
 use Rattle.recovery.specs.declared.store.Store.{Store}
 use Rattle.recovery.specs.Faults.{FailsAtFaults}
-use Rattle.recovery.specs.Found.{HoldsParts}
+use Rattle.recovery.specs.Found.{commands_of, HoldsParts}
 use Rattle.recovery.specs.Jobs.{highest}
 use Rattle.recovery.specs.Goes.{Goes}
 use Rattle.recovery.specs.Open.{IsOpen, AreBothNewest, IsOnePut, newest_cell, device_of, state_of}
