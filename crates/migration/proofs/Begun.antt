@@ -29,7 +29,7 @@ there_is (x ∷ xs) (suc i) inside = there_is xs i (omega (arith, inside))
 from_map : (start : List Cell) (i : ℕ) (found : DocumentRecord) → slice_get (map record_of_cell start) i ≡ Some found
     → (cell : Cell) × (slice_get start i ≡ Some cell) × (record_of_cell cell ≡ found)
 from_map [] i found is = absurd (cc)
-from_map (first ∷ others) zero found is = let same : record_of_cell first ≡ found = cc in (first, (refl, same))
+from_map (first ∷ others) zero found is = let same : record_of_cell first ≡ found = cc in (first, refl, same)
 from_map (first ∷ others) (suc i) found is = from_map others i found is
 
 -- ---- one document
@@ -113,11 +113,11 @@ module _ (shape : Shape) (state : State) (start : List Cell) (is : IsState state
     names = λ i j a b here there same.
         let one = from_map start i a here in
         let other = from_map start j b there in
-        is.names i j (from i one.0 one.1.0).0 (from j other.0 other.1.0).0 (from i one.0 one.1.0).1 (from j other.0 other.1.0).1
-        (sym (name_of i one.0 one.1.0) ∙ (ap (λ (d : DocumentRecord). d.name) one.1.1 ∙ (same ∙ (sym (ap (λ (d : DocumentRecord). d.name) other.1.1) ∙ name_of j other.0 other.1.0))));
+        is.names i j (from i one.0 one.1).0 (from j other.0 other.1).0 (from i one.0 one.1).1 (from j other.0 other.1).1
+        (sym (name_of i one.0 one.1) ∙ (ap (λ (d : DocumentRecord). d.name) one.2 ∙ (same ∙ (sym (ap (λ (d : DocumentRecord). d.name) other.2) ∙ name_of j other.0 other.1))));
     each = λ number found here.
         let one = from_map start number found here in
-        subst (λ (d : DocumentRecord). IsPast (limits_of shape) d.past) one.1.1 (alone (limits_of shape) one.0 are (each_kept number one.0 one.1.0));
+        subst (λ (d : DocumentRecord). IsPast (limits_of shape) d.past) one.2 (alone (limits_of shape) one.0 are (each_kept number one.0 one.1));
   }
 
   pub may_begin : AreSpelled start → MayBegin shape start
