@@ -1,5 +1,5 @@
 -- What a document's newest revision keeps that a cell is made of.
-use Rattle.std.proofs.Common.{◌≡◌, ℕ, ◌+◌, ◌*◌, ◌^◌, ◌≤◌, ◌<◌, true, List, map, sym, ◌∙◌, ap, subst, arith}
+use Rattle.std.proofs.Common.{◌≡◌, ℕ, ◌^◌, ◌≤◌, ◌<◌, true, List, map, sym, ap, subst, arith}
 use Rattle.delta.specs.Element.{Element}
 use Rattle.document.specs.Weight.{weight_of}
 use Rattle.revision.specs.Window.{Window}

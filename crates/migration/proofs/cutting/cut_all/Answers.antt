@@ -1,10 +1,10 @@
-use Rattle.std.proofs.Common.{◌≡◌, ◌∙◌, ◌+◌, ◌<◌, ℕ, Some, List, [], ◌∷◌, ◌++◌, length, map, get_or, sym, ap, subst, arith, length-append}
+use Rattle.std.proofs.Common.{◌≡◌, ◌∙◌, ◌+◌, Some, List, [], ◌∷◌, ◌++◌, length, map, sym, ap, subst, arith, length-append}
 use Rattle.std.specs.Prelude.{slice_get}
 use Rattle.std.proofs.lemmas.List.{length-map}
-use Rattle.revision.specs.Pending.{PendingDocument, record_of}
+use Rattle.revision.specs.Pending.{record_of}
 use Rattle.revision.specs.State.{DocumentRecord}
 use Rattle.history.specs.Cell.{Cell}
-use Rattle.migration.specs.Migrated.{IsCutTo, AreSpelled}
+use Rattle.migration.specs.Migrated.{AreSpelled}
 use Rattle.migration.proofs.Cut.{AreCutTo, record_at_place, cut_more, spelled_more}
 use Rattle.migration.proofs.cutting.cut_all.Goals as goal
 

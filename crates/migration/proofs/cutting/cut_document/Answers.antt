@@ -1,9 +1,8 @@
-use Rattle.std.proofs.Common.{◌≡◌, inl, inr, ℕ, true, Err, List, map, refl, sym, ◌∙◌, ap, subst, arith}
+use Rattle.std.proofs.Common.{◌≡◌, inl, inr, true, Err, map, sym, ◌∙◌, ap, subst}
 use Rattle.std.proofs.lemmas.Result.{err_from_is_err_and}
-use Rattle.refusal.specs.declared.Refusal.TheVariants.{NoMemory, TooHeavy}
 use Rattle.revision.specs.Sources.{Sources, cut}
 use Rattle.revision.specs.Pending.{record_of}
-use Rattle.revision.specs.State.{units_of, sources_of, are_sources}
+use Rattle.revision.specs.State.{are_sources}
 use Rattle.history.specs.Cell.{Cell}
 use Rattle.migration.proofs.Light.{sources_cut, light_enough}
 use Rattle.migration.proofs.cutting.cut_document.Goals as goal
